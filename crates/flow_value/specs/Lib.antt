@@ -1,2 +1,4 @@
 pub mod Bounds
+pub mod Leaves
+pub mod Scalar
 pub mod formers
