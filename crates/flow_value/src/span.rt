@@ -1,12 +1,27 @@
 //! An array: a list with a lower bound, within the limits.
 ghost use Rattle.std.specs.Prelude.{◌≡◌, ◌<◌, ◌↔◌, length, slice_get, slice_set, Some, IsOk, IsTrue, IfOk, IfErr, []};
-ghost use Rattle.flow_value.specs.Bounds.{bounded, IsWithin};
+ghost use Rattle.flow_value.specs.Bounds.{bounded, IsWithin, is_in_range, is_within};
 
 use crate::seq::Seq;
 use std::marker::Model;
 
 /// The most elements of one aggregate.
 pub const MOST_ELEMENTS: usize = 4194304;
+
+/// Whether the last place of so many elements from `lo` fits 64 signed bits.
+pub fn has_range(lo: i64, count: usize) -> bool
+    ensures { result ≡ is_in_range lo count }
+{
+    let end = i128::from(lo) + count as i128;
+    -9223372036854775807 <= end && end <= 9223372036854775808
+}
+
+/// Whether so many elements from `lo` are within the limits of an array.
+pub fn fits(lo: i64, count: usize) -> bool
+    ensures { result ≡ is_within lo count }
+{
+    count <= MOST_ELEMENTS && has_range(lo, count)
+}
 
 /// A list with a lower bound. It has at most 4,194,304 elements, and its lower bound `lo` and its
 /// last place `lo + n - 1` fit 64 signed bits.
@@ -82,9 +97,7 @@ impl<T> Span<T> {
         ensures refused { IfErr result (λ back. back ≡ items) }
         ensures exactly { IsOk result ↔ IsWithin lo items }
     {
-        if items.len() > MOST_ELEMENTS
-            || i128::from(lo) + items.len() as i128 > 9223372036854775808
-        {
+        if !fits(lo, items.len()) {
             return Err(items);
         }
         Ok(Span { lo, items })
