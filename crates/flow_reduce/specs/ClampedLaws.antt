@@ -23,7 +23,7 @@ grows limit m n past = omega (arith, mul-suc n m)
 stays_past : (a b : ℤ) (m : ℕ) → unsigned_abs a ≡ suc m → 2 ^ 63 < unsigned_abs b → clamped (a *ℤ b) ≡ None
 stays_past a b m nonzero past =
     let size : unsigned_abs (a *ℤ b) ≡ unsigned_abs b * suc m =
-        unsigned_abs-mul a b ∙ ap (λ n. n * unsigned_abs b) nonzero ∙ mul_comm (suc m) (unsigned_abs b) in
+    unsigned_abs-mul a b ∙ ap (λ n. n * unsigned_abs b) nonzero ∙ mul_comm (suc m) (unsigned_abs b) in
     clamped-past (a *ℤ b) (subst (λ n. 2 ^ 63 < n) (sym size) (grows (2 ^ 63) m (unsigned_abs b) past))
 
 clamped-times_past : (a b : ℤ) → 2 ^ 63 < unsigned_abs b → clamped (a *ℤ b) ≡ past_times a

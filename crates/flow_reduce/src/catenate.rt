@@ -95,7 +95,8 @@ impl Reduction for Catenate {
     }
 
     fn done(self) -> Val {
-        self.seen.checked(whole_list(self.lo, self.streams, self.items))
+        self.seen
+            .checked(whole_list(self.lo, self.streams, self.items))
     }
 }
 

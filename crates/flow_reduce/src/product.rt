@@ -1,5 +1,5 @@
 //! The product of integers.
-ghost use Rattle.std.specs.Prelude.{◌≡◌};
+ghost use Rattle.std.specs.Prelude.{◌≡◌, ◌≤◌, ◌^◌, ◌*ℤ◌, unsigned_abs};
 ghost use Rattle.flow_reduce.specs.Folds.{factor_of};
 ghost use Rattle.flow_reduce.specs.Clamped.{clamped, times, fitted_clamped, IsClamped};
 
@@ -100,19 +100,23 @@ fn multiply(a: Option<i128>, b: Option<i128>) -> Option<i128>
     ensures small { IsClamped result }
 {
     match (a, b) {
-        (Some(m), Some(n)) => clamp(m * n),
+        (Some(m), Some(n)) => exact_product(m, n),
         (Some(0), None) => Some(0),
         (None, Some(0)) => Some(0),
         _ => None,
     }
 }
 
-fn clamp(z: i128) -> Option<i128>
-    ensures value { result ≡ clamped z }
+/// The product of two numbers that are at most 2^63 in absolute value, where it is so too.
+fn exact_product(m: i128, n: i128) -> Option<i128>
+    requires first { unsigned_abs m ≤ 2 ^ 63 }
+    requires second { unsigned_abs n ≤ 2 ^ 63 }
+    ensures value { result ≡ clamped (m *ℤ n) }
     ensures small { IsClamped result }
 {
-    if -9223372036854775808 <= z && z <= 9223372036854775808 {
-        Some(z)
+    let product = m * n;
+    if -9223372036854775808 <= product && product <= 9223372036854775808 {
+        Some(product)
     } else {
         None
     }
