@@ -37,7 +37,7 @@ impl Model for Catenate {
 }
 
 impl Reduction for Catenate {
-    ghost use Rattle.std.specs.Prelude.{[]};
+    ghost use Rattle.std.specs.Prelude.{[], true};
     ghost use Rattle.flow_reduce.specs.Folds.{catenate_fold};
     ghost use Rattle.flow_reduce.specs.CatenateState.{state_of, joined_state, catenate_laws};
 
@@ -50,6 +50,8 @@ impl Reduction for Catenate {
     ghost empty = { state_of [] };
 
     ghost joined = { joined_state };
+
+    ghost refusable = { true };
 
     ghost laws = { catenate_laws };
 

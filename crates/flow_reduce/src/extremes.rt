@@ -28,7 +28,7 @@ impl Model for Least {
 }
 
 impl Reduction for Least {
-    ghost use Rattle.std.specs.Prelude.{[]};
+    ghost use Rattle.std.specs.Prelude.{[], false};
     ghost use Rattle.flow_reduce.specs.Folds.{least_fold};
     ghost use Rattle.flow_reduce.specs.ExtremeState.{state_of, joined_state, least_laws};
 
@@ -41,6 +41,8 @@ impl Reduction for Least {
     ghost empty = { state_of int_min [] };
 
     ghost joined = { joined_state int_min };
+
+    ghost refusable = { false };
 
     ghost laws = { least_laws };
 
@@ -87,7 +89,7 @@ impl Model for Greatest {
 }
 
 impl Reduction for Greatest {
-    ghost use Rattle.std.specs.Prelude.{[]};
+    ghost use Rattle.std.specs.Prelude.{[], false};
     ghost use Rattle.flow_reduce.specs.Folds.{greatest_fold};
     ghost use Rattle.flow_reduce.specs.ExtremeState.{state_of, joined_state, greatest_laws};
 
@@ -100,6 +102,8 @@ impl Reduction for Greatest {
     ghost empty = { state_of int_max [] };
 
     ghost joined = { joined_state int_max };
+
+    ghost refusable = { false };
 
     ghost laws = { greatest_laws };
 

@@ -28,7 +28,7 @@ impl Model for Gather {
 }
 
 impl Reduction for Gather {
-    ghost use Rattle.std.specs.Prelude.{◌≡◌, []};
+    ghost use Rattle.std.specs.Prelude.{◌≡◌, [], true};
     ghost use Rattle.flow_reduce.specs.Folds.{gather_fold};
     ghost use Rattle.flow_reduce.specs.GatherState.{state_of, joined_state, gather_laws};
 
@@ -41,6 +41,8 @@ impl Reduction for Gather {
     ghost empty = { state_of [] };
 
     ghost joined = { joined_state };
+
+    ghost refusable = { true };
 
     ghost laws = { gather_laws };
 

@@ -27,7 +27,7 @@ impl Model for Last {
 }
 
 impl Reduction for Last {
-    ghost use Rattle.std.specs.Prelude.{◌≡◌, []};
+    ghost use Rattle.std.specs.Prelude.{◌≡◌, [], false};
     ghost use Rattle.flow_reduce.specs.Folds.{last_fold};
     ghost use Rattle.flow_reduce.specs.LastState.{state_of, joined_state, last_laws};
 
@@ -40,6 +40,8 @@ impl Reduction for Last {
     ghost empty = { state_of [] };
 
     ghost joined = { joined_state };
+
+    ghost refusable = { false };
 
     ghost laws = { last_laws };
 

@@ -31,7 +31,7 @@ impl Model for Product {
 }
 
 impl Reduction for Product {
-    ghost use Rattle.std.specs.Prelude.{[]};
+    ghost use Rattle.std.specs.Prelude.{[], false};
     ghost use Rattle.flow_reduce.specs.Folds.{product_fold};
     ghost use Rattle.flow_reduce.specs.ProductState.{state_of, joined_state, product_laws};
 
@@ -44,6 +44,8 @@ impl Reduction for Product {
     ghost empty = { state_of [] };
 
     ghost joined = { joined_state };
+
+    ghost refusable = { false };
 
     ghost laws = { product_laws };
 

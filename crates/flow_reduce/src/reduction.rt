@@ -1,5 +1,5 @@
 //! What a reduction is.
-ghost use Rattle.std.specs.Prelude.{◌≡◌, ℕ, ◌+◌, ◌^◌, ◌<◌, ◌≤◌, List, [], ◌∷◌, ◌++◌, OnOk, IfErr};
+ghost use Rattle.std.specs.Prelude.{◌≡◌, ℕ, Bool, IsTrue, IsErr, ◌+◌, ◌^◌, ◌<◌, ◌≤◌, List, [], ◌∷◌, ◌++◌, OnOk, IfErr};
 ghost use Rattle.flow_value.specs.declared.value.Val.{Val};
 ghost use Rattle.flow_reduce.specs.Laws.{JoinLaws};
 
@@ -25,6 +25,9 @@ pub trait Reduction: Sized {
     // The reduction of the elements of two, in order.
     ghost joined: { Self → Self → Self };
 
+    // Whether want of memory can refuse an element.
+    ghost refusable: { Bool };
+
     /// The reduction of no elements; takes no memory.
     fn unit(alloc: Global) -> Self
         ensures stands { stands result [] }
@@ -37,7 +40,8 @@ pub trait Reduction: Sized {
         requires { count self.old < 2 ^ 62 }
         ensures added { OnOk result ((xs : List Val) → stands self.old xs → stands self.new (xs ++ v ∷ [])) }
         ensures counted { OnOk result (count self.new ≡ count self.old + 1) }
-        ensures refused { IfErr result (λ back. (back ≡ v) × (self.new ≡ self.old)) };
+        ensures refused { IfErr result (λ back. (back ≡ v) × (self.new ≡ self.old)) }
+        ensures refused_if_refusable { IsErr result → IsTrue refusable };
 
     /// Adds the elements of `later` at the end. On want of memory `later` comes back, and the
     /// reduction is as it was.
@@ -46,7 +50,8 @@ pub trait Reduction: Sized {
         ensures added { OnOk result ((xs : List Val) (ys : List Val) → stands self.old xs → stands later ys → stands self.new (xs ++ ys)) }
         ensures counted { OnOk result (count self.new ≡ count self.old + count later) }
         ensures same { OnOk result (self.new ≡ joined self.old later) }
-        ensures refused { IfErr result (λ back. (back ≡ later) × (self.new ≡ self.old)) };
+        ensures refused { IfErr result (λ back. (back ≡ later) × (self.new ≡ self.old)) }
+        ensures refused_if_refusable { IsErr result → IsTrue refusable };
 
     /// The value of the list, which takes no memory.
     fn done(self) -> Val

@@ -27,7 +27,7 @@ impl Model for Sum {
 }
 
 impl Reduction for Sum {
-    ghost use Rattle.std.specs.Prelude.{[]};
+    ghost use Rattle.std.specs.Prelude.{[], false};
     ghost use Rattle.flow_reduce.specs.Folds.{sum_fold};
     ghost use Rattle.flow_reduce.specs.SumState.{state_of, joined_state, sum_laws};
 
@@ -40,6 +40,8 @@ impl Reduction for Sum {
     ghost empty = { state_of [] };
 
     ghost joined = { joined_state };
+
+    ghost refusable = { false };
 
     ghost laws = { sum_laws };
 
