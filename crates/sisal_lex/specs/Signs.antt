@@ -1,0 +1,36 @@
+-- The signs of SISAL 1.2 (manual M-146, special symbols), as they are spelled.
+use Rattle.std.specs.Prelude.{ℕ, List, [], ◌∷◌, take, Option, Some, None, codes}
+use Rattle.sisal_lex.specs.Words.{beside}
+use Rattle.sisal_lex.specs.declared.token.Sign.{Sign}
+use Rattle.sisal_lex.specs.declared.token.Sign.TheVariants.{SOpenParen, SCloseParen, SOpenBracket, SCloseBracket, SComma, SSemicolon, SColon, SAssign, SDot, SPlus, SMinus, STimes, SDivide, SCatenate, SOr, SAnd, SNot, SEqual, SNotEqual, SLess, SLessEqual, SGreater, SGreaterEqual}
+
+abbrev pub signs : List (List ℕ × Sign)
+signs =
+    (codes "(", SOpenParen) ∷
+    (codes ")", SCloseParen) ∷
+    (codes "[", SOpenBracket) ∷
+    (codes "]", SCloseBracket) ∷
+    (codes ",", SComma) ∷
+    (codes ";", SSemicolon) ∷
+    (codes ":", SColon) ∷
+    (codes ":=", SAssign) ∷
+    (codes ".", SDot) ∷
+    (codes "+", SPlus) ∷
+    (codes "-", SMinus) ∷
+    (codes "*", STimes) ∷
+    (codes "/", SDivide) ∷
+    (codes "||", SCatenate) ∷
+    (codes "|", SOr) ∷
+    (codes "&", SAnd) ∷
+    (codes "~", SNot) ∷
+    (codes "=", SEqual) ∷
+    (codes "~=", SNotEqual) ∷
+    (codes "<", SLess) ∷
+    (codes "<=", SLessEqual) ∷
+    (codes ">", SGreater) ∷
+    (codes ">=", SGreaterEqual) ∷
+    []
+
+-- the sign that the first n bytes of a text are
+abbrev pub sign_of : ℕ → List ℕ → Option Sign
+sign_of n s = beside (take n s) signs
