@@ -2,4 +2,5 @@ pub mod Words
 pub mod Signs
 pub mod Quotes
 pub mod Names
+pub mod Heads
 pub mod Tokens

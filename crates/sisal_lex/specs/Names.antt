@@ -17,18 +17,20 @@ pub record Lexed : Type 0 where
 abbrev pub used : List (List ℕ) → List ℕ → List (List ℕ)
 used names name = if list_any (bytes_eq name) names then names else names ++ name ∷ []
 
-abbrev pub used_in : List (List ℕ) → Lexed → List (List ℕ)
-used_in names l = elim l.lexeme [ Named name ↦ used names name | Plain k ↦ names ]
+abbrev pub used_by : List (List ℕ) → Lexeme → List (List ℕ)
+used_by names (Named name) = used names name
+used_by names (Plain k) = names
 
 abbrev pub names_of : List Lexed → List (List ℕ)
-names_of ls = fold used_in [] ls
+names_of ls = fold (λ names l. used_by names l.lexeme) [] ls
 
 -- a name is known by its place in the list of names
+abbrev pub kind_in : List (List ℕ) → Lexeme → Kind
+kind_in names (Named name) = kind.Id (position_or_len (bytes_eq name) names)
+kind_in names (Plain k) = k
+
 abbrev pub numbered : List (List ℕ) → Lexed → Token
-numbered names l = record {
-  kind = elim l.lexeme [ Named name ↦ kind.Id (position_or_len (bytes_eq name) names) | Plain k ↦ k ];
-  line = l.line;
-}
+numbered names l = record { kind = kind_in names l.lexeme; line = l.line }
 
 abbrev pub with_names : List Lexed → Tokens
-with_names ls = record { list = map (numbered (names_of ls)) ls; names = names_of ls }
+with_names ls = let names = names_of ls in record { list = map (numbered names) ls; names = names }

@@ -1,14 +1,7 @@
 -- Characters and texts in quotes (manual M-146, constants): items between two quotes, in one line.
-use Rattle.std.specs.Prelude.{ℕ, zero, suc, ◌+◌, ◌-◌, ◌*◌, Bool, not, ◌&&◌, nat_eq, nat_le, List, [], ◌∷◌, Option, Some, None, if◌then◌else◌, slice_get, option_map}
-use Rattle.std.specs.Char.{is_ascii_digit, to_ascii_lowercase}
-
--- an item or what it stands in: a value, and how many bytes it takes
-pub record Taken (A : Type 0) : Type 0 where
-  pub value : A
-  pub bytes : ℕ
-
-abbrev pub taking : {A : Type 0} → A → ℕ → Option (Taken A)
-taking value bytes = Some (record { value = value; bytes = bytes })
+use Rattle.std.specs.Prelude.{ℕ, zero, suc, ◌+◌, ◌-◌, ◌*◌, Bool, not, ◌&&◌, nat_eq, nat_le, ◌≤◌, List, [], ◌∷◌, Option, Some, None, if◌then◌else◌, slice_get, option_map}
+use Rattle.sisal_lex.specs.declared.quotes.Item.{Item}
+use Rattle.sisal_lex.specs.declared.quotes.Codes.{Codes}
 
 -- what the letter after a `\` stands for: n, t, r, \, ' and "
 abbrev pub escaped : ℕ → Option ℕ
@@ -35,50 +28,59 @@ hex_code (Some high) (Some low) = if nat_le (16 * high + low) 127 then Some (16 
 hex_code (Some high) None = None
 hex_code None low = None
 
-abbrev pub hex_item : List ℕ → Option (Taken ℕ)
-hex_item (h ∷ l ∷ s) = option_map (λ code. record { value = code; bytes = 4 }) (hex_code (hex_digit h) (hex_digit l))
+abbrev pub hex_item : List ℕ → Option Item
+hex_item (h ∷ l ∷ s) = option_map (λ code. record { code = code; bytes = 4 }) (hex_code (hex_digit h) (hex_digit l))
 hex_item (h ∷ []) = None
 hex_item [] = None
 
 -- an item that begins with `\`, by what comes after that
-abbrev pub escape : List ℕ → Option (Taken ℕ)
+abbrev pub escape : List ℕ → Option Item
 escape [] = None
 escape (b ∷ s) =
     if nat_eq b 120 then hex_item s
-    else option_map (λ code. record { value = code; bytes = 2 }) (escaped b)
+    else option_map (λ code. record { code = code; bytes = 2 }) (escaped b)
 
 -- the item at the head of a text between two of `quote`
-abbrev pub item : ℕ → List ℕ → Option (Taken ℕ)
+abbrev pub item : ℕ → List ℕ → Option Item
 item quote [] = None
 item quote (b ∷ s) =
     if nat_eq b 92 then escape s
-    else (if nat_le 32 b && nat_le b 126 && not (nat_eq b quote) then taking b 1
+    else (if nat_le 32 b && nat_le b 126 && not (nat_eq b quote) then Some (record { code = b; bytes = 1 })
     else None)
 
+-- an item has at least one byte, and at most n
+abbrev pub IsWithin : Item → ℕ → Type 0
+IsWithin one n = (1 ≤ one.bytes) × (one.bytes ≤ n)
+
 -- a character, by what comes after its opening quote: one item and the closing quote
-abbrev pub character_closed : List ℕ → Taken ℕ → Option (Taken ℕ)
+abbrev pub character_closed : List ℕ → Item → Option Item
 character_closed s one = elim (slice_get s one.bytes) [
   | None ↦ None
-  | Some b ↦ if nat_eq b 39 then taking one.value (one.bytes + 1) else None
+  | Some b ↦ if nat_eq b 39 then Some (record { code = one.code; bytes = one.bytes + 1 }) else None
 ]
 
-abbrev pub character : List ℕ → Option (Taken ℕ)
+abbrev pub character : List ℕ → Option Item
 character s = elim (item 39 s) [ None ↦ None | Some one ↦ character_closed s one ]
 
 -- a text after one more byte of an item, and after one more item, of which this is the first byte
-abbrev pub byte_more : Option (Taken (List ℕ)) → Option (Taken (List ℕ))
+abbrev pub byte_more : Option Codes → Option Codes
 byte_more None = None
-byte_more (Some t) = taking t.value (t.bytes + 1)
+byte_more (Some t) = Some (record { codes = t.codes; bytes = t.bytes + 1 })
 
-abbrev pub item_more : ℕ → Option (Taken (List ℕ)) → Option (Taken (List ℕ))
+abbrev pub item_more : ℕ → Option Codes → Option Codes
 item_more code None = None
-item_more code (Some t) = taking (code ∷ t.value) (t.bytes + 1)
+item_more code (Some t) = Some (record { codes = code ∷ t.codes; bytes = t.bytes + 1 })
+
+-- the item at the head of a text, if there is one, and then what stands after its bytes
+abbrev pub then_items : Option Item → (ℕ → Option Codes) → Option Codes
+then_items None after = None
+then_items (Some one) after = item_more one.code (after (one.bytes - 1))
 
 -- a text, by what comes after its opening quote: items up to the closing quote.
 -- The first `left` bytes belong to the item that was taken before.
-abbrev pub items : List ℕ → ℕ → Option (Taken (List ℕ))
+abbrev pub items : List ℕ → ℕ → Option Codes
 items [] left = None
 items (b ∷ s) (suc left) = byte_more (items s left)
 items (b ∷ s) zero =
-    if nat_eq b 34 then taking [] 1
-    else elim (item 34 (b ∷ s)) [ None ↦ None | Some one ↦ item_more one.value (items s (one.bytes - 1)) ]
+    if nat_eq b 34 then Some (record { codes = []; bytes = 1 })
+    else then_items (item 34 (b ∷ s)) (items s)

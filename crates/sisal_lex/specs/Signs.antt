@@ -1,5 +1,5 @@
 -- The signs of SISAL 1.2 (manual M-146, special symbols), as they are spelled.
-use Rattle.std.specs.Prelude.{ℕ, List, [], ◌∷◌, take, Option, Some, None, codes}
+use Rattle.std.specs.Prelude.{ℕ, List, [], ◌∷◌, Option, None, codes}
 use Rattle.sisal_lex.specs.Words.{beside}
 use Rattle.sisal_lex.specs.declared.token.Sign.{Sign}
 use Rattle.sisal_lex.specs.declared.token.Sign.TheVariants.{SOpenParen, SCloseParen, SOpenBracket, SCloseBracket, SComma, SSemicolon, SColon, SAssign, SDot, SPlus, SMinus, STimes, SDivide, SCatenate, SOr, SAnd, SNot, SEqual, SNotEqual, SLess, SLessEqual, SGreater, SGreaterEqual}
@@ -31,6 +31,10 @@ signs =
     (codes ">=", SGreaterEqual) ∷
     []
 
--- the sign that the first n bytes of a text are
-abbrev pub sign_of : ℕ → List ℕ → Option Sign
-sign_of n s = beside (take n s) signs
+-- the sign of two bytes at the head of a text that begins with b, and the sign of one
+abbrev pub long_sign : ℕ → List ℕ → Option Sign
+long_sign b [] = None
+long_sign b (c ∷ s) = beside (b ∷ c ∷ []) signs
+
+abbrev pub short_sign : ℕ → Option Sign
+short_sign b = beside (b ∷ []) signs

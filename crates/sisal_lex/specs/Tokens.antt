@@ -1,10 +1,10 @@
 -- The tokens of a SISAL text (manual M-146, lexical elements), taken from left to right, each as long as it can be.
-use Rattle.std.specs.Prelude.{ℕ, zero, suc, ◌+◌, ◌-◌, ◌*◌, Bool, not, ◌&&◌, ◌||◌, nat_eq, nat_le, nat_lt, List, [], ◌∷◌, map, take, length, fold, Option, Some, None, Result, Ok, Err, if◌then◌else◌, pos}
+use Rattle.std.specs.Prelude.{ℕ, zero, suc, ◌+◌, ◌-◌, ◌*◌, Bool, not, ◌&&◌, ◌||◌, nat_eq, nat_le, nat_lt, List, [], ◌∷◌, map, take, length, fold, Option, Some, None, Result, Ok, Err, if◌then◌else◌, ℤ, pos}
 use Rattle.std.specs.List.{prefix_len}
 use Rattle.std.specs.Char.{is_ascii_alphabetic, is_ascii_digit, to_ascii_lowercase}
 use Rattle.sisal_lex.specs.Words.{words, beside}
-use Rattle.sisal_lex.specs.Signs.{sign_of}
-use Rattle.sisal_lex.specs.Quotes.{Taken, character, items}
+use Rattle.sisal_lex.specs.Signs.{long_sign, short_sign}
+use Rattle.sisal_lex.specs.Quotes.{character, items}
 use Rattle.sisal_lex.specs.Names.{Lexed, with_names}
 use Rattle.sisal_lex.specs.declared.head.Head.{Head}
 use Rattle.sisal_lex.specs.declared.head.Head.TheVariants as head
@@ -43,35 +43,37 @@ name_at b s =
 abbrev pub number_value : List ℕ → ℕ
 number_value digits = fold (λ n d. 10 * n + (d - 48)) 0 digits
 
+abbrev pub number_in_range : ℕ → Option ℤ
+number_in_range n = if nat_le n 9223372036854775807 then Some (pos n) else None
+
 abbrev pub number_at : ℕ → ℕ → List ℕ → Head
 number_at line b s =
     let more = prefix_len is_ascii_digit s in
-    let n = number_value (b ∷ take more s) in
-    if nat_le n 9223372036854775807 then head.Found (lexeme.Plain (kind.Number (pos n))) more
-    else head.Fault (fault.NumberTooWide line)
+    elim (number_in_range (number_value (b ∷ take more s))) [
+      Some n ↦ head.Found (lexeme.Plain (kind.Number n)) more
+    | None ↦ head.Fault (fault.NumberTooWide line) ]
 
 -- a character or a text
 abbrev pub character_at : ℕ → List ℕ → Head
 character_at line s = elim (character s) [
-  | Some t ↦ head.Found (lexeme.Plain (kind.Letter t.value)) t.bytes
+  | Some t ↦ head.Found (lexeme.Plain (kind.Letter t.code)) t.bytes
   | None ↦ head.Fault (fault.OpenText line)
 ]
 
 abbrev pub text_at : ℕ → List ℕ → Head
 text_at line s = elim (items s 0) [
-  | Some t ↦ head.Found (lexeme.Plain (kind.Quoted t.value)) t.bytes
+  | Some t ↦ head.Found (lexeme.Plain (kind.Quoted t.codes)) t.bytes
   | None ↦ head.Fault (fault.OpenText line)
 ]
 
 -- a sign has one byte or two, and the longer one is taken
-abbrev pub sign_at : ℕ → List ℕ → Head
-sign_at line s = elim (sign_of 2 s) [
-  | Some x ↦ head.Found (lexeme.Plain (kind.Sign x)) 1
-  | None ↦ elim (sign_of 1 s) [
-    | Some x ↦ head.Found (lexeme.Plain (kind.Sign x)) 0
-    | None ↦ head.Fault (fault.BadByte line)
-  ]
-]
+abbrev pub sign_at : ℕ → ℕ → List ℕ → Head
+sign_at line b s =
+    elim (long_sign b s) [
+      Some x ↦ head.Found (lexeme.Plain (kind.Sign x)) 1
+    | None ↦ elim (short_sign b) [
+          Some x ↦ head.Found (lexeme.Plain (kind.Sign x)) 0
+        | None ↦ head.Fault (fault.BadByte line) ] ]
 
 -- what stands at the head of a text whose first byte is b: a blank, a comment, a token or a fault
 abbrev pub head_of : ℕ → ℕ → List ℕ → Head
@@ -82,7 +84,7 @@ head_of line b s =
     else (if is_ascii_digit b then number_at line b s
     else (if nat_eq b 39 then character_at line s
     else (if nat_eq b 34 then text_at line s
-    else sign_at line (b ∷ s))))))
+    else sign_at line b s)))))
 
 -- the tokens after the first one
 abbrev pub followed : {E : Type 0} → Lexed → Result (List Lexed) E → Result (List Lexed) E

@@ -1,5 +1,6 @@
 -- The reserved words of SISAL 1.2 (manual M-146, reserved words), as they are spelled.
 use Rattle.std.specs.Prelude.{ℕ, List, [], ◌∷◌, Option, Some, None, if◌then◌else◌, bytes_eq, codes}
+use denote.Ref.{Bor}
 use Rattle.sisal_lex.specs.declared.token.Word.{Word}
 use Rattle.sisal_lex.specs.declared.token.Word.TheVariants.{WArray, WAt, WBoolean, WCatenate, WCharacter, WCross, WDefine, WDot, WDoubleReal, WElse, WElseif, WEnd, WError, WFalse, WFor, WForward, WFunction, WGlobal, WGreatest, WIf, WIn, WInitial, WInteger, WIs, WLeast, WLeft, WLet, WNil, WNull, WOf, WOld, WOtherwise, WProduct, WReal, WRecord, WRepeat, WReplace, WReturns, WRight, WStream, WSum, WTag, WTagcase, WThen, WTree, WTrue, WType, WUnion, WUnless, WUntil, WValue, WWhen, WWhile}
 
@@ -63,4 +64,8 @@ words =
 -- what a table has beside a spelling
 abbrev pub beside : {A : Type 0} → List ℕ → List (List ℕ × A) → Option A
 beside s [] = None
-beside s (row ∷ rows) = if bytes_eq s row.0 then Some row.1 else beside s rows
+beside s (row ∷ rows) = if bytes_eq row.0 s then Some row.1 else beside s rows
+
+-- a row of such a table in a program, which lends the spelling
+abbrev pub plain_row : {A : Type 0} → Bor (List ℕ) × A → List ℕ × A
+plain_row row = (row.0.now, row.1)

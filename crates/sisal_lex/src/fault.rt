@@ -1,4 +1,7 @@
 //! Why a text has no tokens.
+ghost use Rattle.std.specs.Prelude.{◌≡◌};
+ghost use Rattle.sisal_lex.specs.declared.fault.LexFault.TheVariants.{NoMemory};
+
 use flow_value::NoMemory;
 use thiserror::Error;
 
@@ -23,6 +26,8 @@ pub enum LexFault {
 }
 
 impl From<NoMemory> for LexFault {
+    ghost from_gives = { λ _ e. e ≡ NoMemory };
+
     fn from(_e: NoMemory) -> LexFault {
         LexFault::NoMemory
     }

@@ -3,7 +3,14 @@
 
 mod fault;
 mod head;
+mod lexer;
+mod names;
+mod quotes;
+mod rows;
+mod signs;
 mod token;
+mod words;
 
 pub use fault::LexFault;
+pub use lexer::lex;
 pub use token::{Kind, Sign, Token, Tokens, Word};
