@@ -1,11 +1,12 @@
 -- The reading, turn by turn: what is left of the text decides what is still to come.
-use Rattle.std.proofs.Common.{◌≡◌, ℕ, zero, suc, ◌+◌, ◌≤◌, ◌<◌, Bool, true, false, cond, not, ◌||◌, true≢false, List, [], ◌∷◌, ◌++◌, map, drop, drop-cons, length, get_or, Result, Ok, Err, refl, sym, ap, ◌∙◌, subst, arith, append_assoc, append-nil, bytes_eq, if◌then◌else◌, add-one}
-use Rattle.std.proofs.lemmas.List.{drop-drop, length-append}
-use Rattle.std.proofs.lemmas.Slice.Eq.{bytes_eq-refl}
+use Rattle.std.proofs.Common.{◌≡◌, ℕ, zero, suc, ◌+◌, ◌≤◌, ◌<◌, Bool, true, false, cond, not, ◌||◌, ◌&&◌, true≢false, List, [], ◌∷◌, ◌++◌, map, drop, drop-cons, length, get_or, Result, Ok, Err, IfErr, IsErrAnd, refl, sym, ap, ◌∙◌, subst, arith, append_assoc, append-nil, bytes_eq, nat_eq, nat_lt, if◌then◌else◌, add-one}
+use Rattle.std.proofs.lemmas.List.{drop-drop, length-append, length-drop}
+use Rattle.std.proofs.lemmas.Bool.{eq-eqb, lt-leb}
+use Rattle.std.proofs.lemmas.List.Sums.{prefix_len-le-length}
 use Rattle.std.specs.List.{fold, list_any, position_or_len, prefix_len}
 use Rattle.sisal_lex.specs.Names.{Lexed, used, used_by, kind_in, names_of, numbered, with_names}
-use Rattle.sisal_lex.specs.Heads.{bytes_after, tokens_in, used_at}
-use Rattle.sisal_lex.specs.Tokens.{head_of, line_after, followed, in_turn, lexed, named}
+use Rattle.sisal_lex.specs.Heads.{bytes_after, tokens_in, used_at, IsNoFault}
+use Rattle.sisal_lex.specs.Tokens.{is_in_line, tokens_of, head_of, line_after, followed, in_turn, lexed, named}
 use Rattle.sisal_lex.proofs.Lines.{skip_bytes, head_within}
 use Rattle.sisal_lex.specs.declared.head.Head.{Head}
 use Rattle.sisal_lex.specs.declared.head.Head.TheVariants as head
@@ -15,6 +16,11 @@ use Rattle.sisal_lex.specs.declared.token.Kind.TheVariants as kind
 use Rattle.sisal_lex.specs.declared.token.Token.{Token}
 use Rattle.sisal_lex.specs.declared.token.Tokens.{Tokens}
 use Rattle.sisal_lex.specs.declared.fault.LexFault.{LexFault}
+use Rattle.sisal_lex.specs.declared.fault.LexFault.TheVariants as fault
+
+same_bytes : (xs : List ℕ) → bytes_eq xs xs ≡ true
+same_bytes [] = refl
+same_bytes (x ∷ xs) = ap (λ t. t && bytes_eq xs xs) (eq-eqb x x refl) ∙ same_bytes xs
 
 -- a place is that of the first that passes: what comes later leaves it
 place_stays : (p : List ℕ → Bool) (xs ys : List (List ℕ)) → list_any p xs ≡ true → position_or_len p (xs ++ ys) ≡ position_or_len p xs
@@ -52,14 +58,14 @@ place_used names name = by (list_any (bytes_eq name) names)
   where
     by : (t : Bool) → position_or_len (bytes_eq name) (if t then names else names ++ name ∷ []) ≡ position_or_len (bytes_eq name) names
     by true = refl
-    by false = place_last (bytes_eq name) names name (bytes_eq-refl name)
+    by false = place_last (bytes_eq name) names name (same_bytes name)
 
 any_used : (names : List (List ℕ)) (name : List ℕ) → list_any (bytes_eq name) (used names name) ≡ true
 any_used names name = by (list_any (bytes_eq name) names) refl
   where
     by : (t : Bool) → list_any (bytes_eq name) names ≡ t → list_any (bytes_eq name) (if t then names else names ++ name ∷ []) ≡ true
     by true h = h
-    by false h = any_last (bytes_eq name) names name (bytes_eq-refl name)
+    by false h = any_last (bytes_eq name) names name (same_bytes name)
 
 place_kept : (p : List ℕ → Bool) (names : List (List ℕ)) (x : Lexeme) → list_any p names ≡ true → position_or_len p (used_by names x) ≡ position_or_len p names
 place_kept p names (Plain k) h = refl
@@ -132,12 +138,41 @@ turn list names text line at h inside is =
     let s = drop (at + 1) text in
     let n = bytes_after h in
     let from : drop at text ≡ b ∷ s = drop-cons text at 0 inside ∙ ap (λ k. b ∷ drop k text) (sym (add-one at)) in
-    let within : n ≤ prefix_len _ s = subst (λ x. bytes_after x ≤ prefix_len _ s) (sym is) (head_within line b s) in
+    let within : n ≤ prefix_len is_in_line s = subst (λ x. bytes_after x ≤ prefix_len is_in_line s) (sym is) (head_within line b s) in
     let rest : drop n s ≡ drop (at + (1 + n)) text = drop-drop n (at + 1) text ∙ ap (λ k. drop k text) (let e : at + 1 + n ≡ at + (1 + n) = omega arith in e) in
     ap (λ r. continued list names (lexed r line 0)) from
     ∙ ap (λ x. continued list names (in_turn x line (lexed s (line_after line b)))) (sym is)
     ∙ in_one_turn list names line h (lexed s (line_after line b))
     ∙ ap (turned list names line h) (skip_bytes s (line_after line b) n within ∙ ap (λ r. lexed r (line_after line b) 0) rest)
+
+pub turned-entered : (list : List Token) (names : List (List ℕ)) (line : ℕ) (h : Head) (r : Result (List Lexed) LexFault) → IsNoFault h
+    → turned list names line h r ≡ continued (list ++ tokens_in names line h) (used_at names h) r
+turned-entered list names line (head.Gap more) r h = ap (λ l. continued l names r) (sym (append-nil list))
+turned-entered list names line (head.Found x more) r h = refl
+turned-entered list names line (head.Fault e) r h = absurd h
+
+-- what stands at a place lies within the text
+pub within_text : (text : List ℕ) (line at : ℕ) (h : Head) → at < length text → h ≡ head_of line (get_or text at 0) (drop (at + 1) text) → at + (1 + bytes_after h) ≤ length text
+within_text text line at h inside is =
+    let s = drop (at + 1) text in
+    let within = subst (λ (x : Head). bytes_after x ≤ prefix_len is_in_line s) (sym is) (head_within line (get_or text at 0) s) in
+    omega (arith, within, prefix_len-le-length is_in_line s, length-drop (at + 1) text, inside)
+
+pub line_within : (line b : ℕ) → line_after line b ≤ line + 1
+line_within line b = by (nat_eq b 10)
+  where
+    by : (t : Bool) → (if t then line + 1 else line) ≤ line + 1
+    by true = omega arith
+    by false = omega arith
+
+-- a text that is not too long
+pub tokens_of-short : (text : List ℕ) → length text ≤ 4194304 → tokens_of text ≡ named (lexed text 1 0)
+tokens_of-short text h = let e : nat_lt 4194304 (length text) ≡ false = lt-leb (suc 4194304) (length text) (omega (arith, h)) in ap (λ t. if t then Err fault.TooLong else named (lexed text 1 0)) e
+
+-- an error that is passed on
+pub passed_on : {A : Type 0} (P : LexFault → Type 0) (r : Result A LexFault) (x : LexFault) → IsErrAnd r (λ e. e ≡ x) → P x → IfErr r P
+passed_on P (Ok a) x h p = tt
+passed_on P (Err e) x h p = subst P (sym h) p
 
 -- one more name at most
 pub names_grow : (names : List (List ℕ)) (h : Head) → length (used_at names h) ≤ length names + 1

@@ -1,5 +1,4 @@
 use Rattle.std.proofs.Common.{◌≡◌, ◌∷◌, ◌∙◌, ap, map, take}
-use Rattle.std.proofs.Math.Nat.{sub-zero}
 use Rattle.std.specs.Char.{to_ascii_lowercase}
 use Rattle.sisal_lex.specs.Tokens.{word_or_name, name_at}
 use Rattle.sisal_lex.specs.declared.head.Head.TheVariants.{Found}
@@ -9,5 +8,4 @@ pub returns : goal.returns
 returns c =
     let n = c.bytes_in_name-more.result in
     ap (λ x. Found x n) (c.word_or_name.ensures ∙ ap word_or_name c.in_ok-name.ensures)
-    ∙ ap (λ k. Found (word_or_name (map to_ascii_lowercase (c.args.first ∷ take k c.args.after.now))) n) (sub-zero n)
     ∙ ap (λ k. Found (word_or_name (map to_ascii_lowercase (c.args.first ∷ take k c.args.after.now))) k) c.bytes_in_name-more.ensures
