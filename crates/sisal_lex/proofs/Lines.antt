@@ -82,6 +82,7 @@ hex_fits (h ∷ l ∷ s) = by_feed (λ h. Fits (2 + prefix_len is_in_line (h ∷
         let e = one_more h (l ∷ s) ne in
         let f = one_more l s me in
         fits_map 4 _ (hex_code (hex_digit h) (hex_digit l)) (omega arith) (omega (arith, e, f))
+
     high : (h : ℕ) → nat_eq h 10 ≡ false → Fits (2 + prefix_len is_in_line (h ∷ l ∷ s)) (hex_item (h ∷ l ∷ s))
     high h ne =
         by_feed (λ l. Fits (2 + prefix_len is_in_line (h ∷ l ∷ s)) (hex_item (h ∷ l ∷ s)))
@@ -109,7 +110,7 @@ item_fits quote (b ∷ s) = by_feed (λ b. Fits (prefix_len is_in_line (b ∷ s)
     other b ne =
         subst (λ n. Fits n (item quote (b ∷ s))) (sym (one_more b s ne))
         (fits_if (nat_eq b 92) (1 + prefix_len is_in_line s) (escape s) _ (escape_fits s)
-         (fits_if (nat_le 32 b && nat_le b 126 && not (nat_eq b quote)) (1 + prefix_len is_in_line s) (Some (record { code = b; bytes = 1 })) None (omega arith, omega arith) tt))
+        (fits_if (nat_le 32 b && nat_le b 126 && not (nat_eq b quote)) (1 + prefix_len is_in_line s) (Some (record { code = b; bytes = 1 })) None (omega arith, omega arith) tt))
 
 -- a text has at most n bytes
 abbrev CodesFit : ℕ → Option Codes → Type 0
@@ -142,9 +143,9 @@ items_fit (b ∷ s) (suc k) h =
 items_fit (b ∷ s) zero h =
     by_feed (λ b. CodesFit (prefix_len is_in_line (b ∷ s)) (items (b ∷ s) 0)) tt
     (λ b ne. subst (λ n. CodesFit n (items (b ∷ s) 0)) (sym (one_more b s ne))
-     (codes_fit_if (nat_eq b 34) (1 + prefix_len is_in_line s) (Some (record { codes = []; bytes = 1 })) (then_items (item 34 (b ∷ s)) (items s))
-      (omega arith)
-      (then_items_fit (prefix_len is_in_line s) (item 34 (b ∷ s)) (items s) (subst (λ n. Fits n (item 34 (b ∷ s))) (one_more b s ne) (item_fits 34 (b ∷ s))) (items_fit s))))
+    (codes_fit_if (nat_eq b 34) (1 + prefix_len is_in_line s) (Some (record { codes = []; bytes = 1 })) (then_items (item 34 (b ∷ s)) (items s))
+    (omega arith)
+    (then_items_fit (prefix_len is_in_line s) (item 34 (b ∷ s)) (items s) (subst (λ n. Fits n (item 34 (b ∷ s))) (one_more b s ne) (item_fits 34 (b ∷ s))) (items_fit s))))
     b
 
 -- the closing quote of a character
@@ -163,9 +164,9 @@ closing (b ∷ s) (suc k) h =
     by_feed (λ b. suc k ≤ prefix_len is_in_line (b ∷ s) → Closes (prefix_len is_in_line (b ∷ s)) (1 + suc k) (slice_get s k))
     (λ h. absurd (omega (arith, h)))
     (λ b ne h.
-      let step : 1 + (1 + k) ≡ 1 + suc k = omega arith in
-      let rest = closes_later (prefix_len is_in_line s) (1 + k) (slice_get s k) (closing s k (omega (arith, h, one_more b s ne))) in
-      subst (λ n. Closes n (1 + suc k) (slice_get s k)) (sym (one_more b s ne)) (subst (λ m. Closes (1 + prefix_len is_in_line s) m (slice_get s k)) step rest))
+    let step : 1 + (1 + k) ≡ 1 + suc k = omega arith in
+    let rest = closes_later (prefix_len is_in_line s) (1 + k) (slice_get s k) (closing s k (omega (arith, h, one_more b s ne))) in
+    subst (λ n. Closes n (1 + suc k) (slice_get s k)) (sym (one_more b s ne)) (subst (λ m. Closes (1 + prefix_len is_in_line s) m (slice_get s k)) step rest))
     b h
 
 abbrev AtMost : ℕ → Option Item → Type 0
@@ -178,6 +179,7 @@ closed_fits s one h = by (slice_get s one.bytes) (closing s one.bytes h)
     ends : (t : Bool) → (t ≡ true → 1 + one.bytes ≤ prefix_len is_in_line s) → AtMost (prefix_len is_in_line s) (if t then Some (record { code = one.code; bytes = one.bytes + 1 }) else None)
     ends true h = let k = h refl in omega (arith, k)
     ends false h = tt
+
     by : (o : Option ℕ) → Closes (prefix_len is_in_line s) (1 + one.bytes) o
         → AtMost (prefix_len is_in_line s) (elim o [ None ↦ None | Some b ↦ if nat_eq b 39 then Some (record { code = one.code; bytes = one.bytes + 1 }) else None ])
     by None h = tt
@@ -244,7 +246,7 @@ pub head_within : (line b : ℕ) (s : List ℕ) → bytes_after (head_of line b 
 head_within line b s =
     after_if (is_blank b) _ _ _ (omega arith)
     (after_if (nat_eq b 37) _ _ _ (omega arith)
-     (after_if (is_ascii_alphabetic b) _ _ _ (name_within s)
-      (after_if (is_ascii_digit b) _ _ _ (number_after line b s)
-       (after_if (nat_eq b 39) _ _ _ (character_after line s)
-        (after_if (nat_eq b 34) _ _ _ (text_after line s) (sign_after line b s))))))
+    (after_if (is_ascii_alphabetic b) _ _ _ (name_within s)
+    (after_if (is_ascii_digit b) _ _ _ (number_after line b s)
+    (after_if (nat_eq b 39) _ _ _ (character_after line s)
+    (after_if (nat_eq b 34) _ _ _ (text_after line s) (sign_after line b s))))))

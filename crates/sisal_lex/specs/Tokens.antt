@@ -50,8 +50,9 @@ abbrev pub number_at : ℕ → ℕ → List ℕ → Head
 number_at line b s =
     let more = prefix_len is_ascii_digit s in
     elim (number_in_range (number_value (b ∷ take more s))) [
-      Some n ↦ head.Found (lexeme.Plain (kind.Number n)) more
-    | None ↦ head.Fault (fault.NumberTooWide line) ]
+      | Some n ↦ head.Found (lexeme.Plain (kind.Number n)) more
+      | None ↦ head.Fault (fault.NumberTooWide line)
+    ]
 
 -- a character or a text
 abbrev pub character_at : ℕ → List ℕ → Head
@@ -70,10 +71,12 @@ text_at line s = elim (items s 0) [
 abbrev pub sign_at : ℕ → ℕ → List ℕ → Head
 sign_at line b s =
     elim (long_sign b s) [
-      Some x ↦ head.Found (lexeme.Plain (kind.Sign x)) 1
-    | None ↦ elim (short_sign b) [
-          Some x ↦ head.Found (lexeme.Plain (kind.Sign x)) 0
-        | None ↦ head.Fault (fault.BadByte line) ] ]
+      | Some x ↦ head.Found (lexeme.Plain (kind.Sign x)) 1
+      | None ↦ elim (short_sign b) [
+        | Some x ↦ head.Found (lexeme.Plain (kind.Sign x)) 0
+        | None ↦ head.Fault (fault.BadByte line)
+      ]
+    ]
 
 -- what stands at the head of a text whose first byte is b: a blank, a comment, a token or a fault
 abbrev pub head_of : ℕ → ℕ → List ℕ → Head

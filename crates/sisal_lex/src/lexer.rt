@@ -38,12 +38,7 @@ pub fn lex(alloc: Global, text: &[u8]) -> Result<Tokens, LexFault>
 }
 
 /// Adds what stands at the head of the rest, and gives how many bytes it has after its first.
-fn enter(
-    list: &mut Seq<Token>,
-    names: &mut Names,
-    head: Head,
-    line: u32,
-) -> Result<usize, LexFault>
+fn enter(list: &mut Seq<Token>, names: &mut Names, head: Head, line: u32) -> Result<usize, LexFault>
     requires { length names.old < 2 ^ 32 }
     ensures bytes { IfOk result (λ more. more ≡ bytes_after head) }
     ensures list { OnOk result (list.new ≡ list.old ++ tokens_in names.old line head) }
@@ -61,12 +56,7 @@ fn enter(
     }
 }
 
-fn add(
-    list: &mut Seq<Token>,
-    names: &mut Names,
-    lexeme: Lexeme,
-    line: u32,
-) -> Result<(), NoMemory>
+fn add(list: &mut Seq<Token>, names: &mut Names, lexeme: Lexeme, line: u32) -> Result<(), NoMemory>
     requires { length names.old < 2 ^ 32 }
     ensures list { OnOk result (list.new ≡ list.old ++ record { kind = kind_in names.old lexeme; line = line } ∷ []) }
     ensures names { OnOk result (names.new ≡ used_by names.old lexeme) }

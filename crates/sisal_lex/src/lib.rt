@@ -14,3 +14,6 @@ mod words;
 pub use fault::LexFault;
 pub use lexer::lex;
 pub use token::{Kind, Sign, Token, Tokens, Word};
+
+#[cfg(test)]
+mod tests;

@@ -87,7 +87,10 @@ fn next_item(quote: u8, text: &[u8]) -> Option<Item>
         [b'\\', after @ ..] => escape(after),
         [byte, ..] => {
             if 32 <= *byte && *byte <= 126 && *byte != quote {
-                Some(Item { code: *byte, bytes: 1 })
+                Some(Item {
+                    code: *byte,
+                    bytes: 1,
+                })
             } else {
                 None
             }
@@ -101,7 +104,10 @@ pub fn character(text: &[u8]) -> Option<Item>
 {
     let one = next_item(b'\'', text)?;
     match text.get(one.bytes) {
-        Some(b'\'') => Some(Item { code: one.code, bytes: one.bytes + 1 }),
+        Some(b'\'') => Some(Item {
+            code: one.code,
+            bytes: one.bytes + 1,
+        }),
         _ => None,
     }
 }
@@ -114,7 +120,10 @@ pub fn text_in_quotes(alloc: Global, text: &[u8]) -> Result<Option<Codes>, NoMem
     let mut at = 0;
     while at < text.len() {
         if text[at] == b'"' {
-            return Ok(Some(Codes { codes, bytes: at + 1 }));
+            return Ok(Some(Codes {
+                codes,
+                bytes: at + 1,
+            }));
         }
         let Some(one) = next_item(b'"', &text[at..]) else {
             return Ok(None);

@@ -14,7 +14,8 @@ loop-at-init c =
       within = omega arith;
       lines = omega arith;
       few = omega (arith, none);
-      rest = begun r ∙ ap (λ l. continued l [] r) (sym c.new-list.ensures) ∙ ap (λ n. continued c.new-list.result n r) (sym c.new-names.ensures) }
+      rest = begun r ∙ ap (λ l. continued l [] r) (sym c.new-list.ensures) ∙ ap (λ n. continued c.new-list.result n r) (sym c.new-names.ensures);
+    }
 
 pub returns-in_err-at-clause-fault : goal.returns-in_err-at-clause-fault
 returns-in_err-at-clause-fault c =
@@ -28,8 +29,9 @@ returns-in_err-at-clause-fault c =
     let all = tokens_of-short text c.if-text-gt-LONGEST.false ∙ c.loop-at.invariant.rest ∙ turn c.loop-at.list c.loop-at.names text line at h c.loop-at-test.true is in
     passed_on (λ e. (e ≡ fault.NoMemory) ⊎ (tokens_of text ≡ Err e)) _ e c.from_residual-in_err-at.ensures.1
     (elim c.in_err-at.ensures.fault [
-        inl none ↦ inl none
-      | inr bad ↦ inr (all ∙ ap (λ x. turned c.loop-at.list c.loop-at.names line x r) bad) ])
+      | inl none ↦ inl none
+      | inr bad ↦ inr (all ∙ ap (λ x. turned c.loop-at.list c.loop-at.names line x r) bad)
+    ])
 
 pub overflow_add-at-in-loop-at : goal.overflow_add-at-in-loop-at
 overflow_add-at-in-loop-at c =
@@ -67,10 +69,11 @@ loop-at-preserved c =
       lines = omega (arith, end, line_within line (get_or text at 0), c.loop-at.invariant.lines);
       few = omega (arith, ap length c.in_ok-at.ensures.names, names_grow names h, c.loop-at.invariant.few);
       rest =
-        c.loop-at.invariant.rest
-        ∙ turn list names text line at h c.loop-at-test.true is
-        ∙ turned-entered list names line h r c.in_ok-at.ensures.no_fault
-        ∙ ap (λ l. continued l (used_at names h) r) (sym c.in_ok-at.ensures.list)
-        ∙ ap (λ n. continued c.enter.new.list n r) (sym c.in_ok-at.ensures.names)
-        ∙ ap (λ k. continued c.enter.new.list c.enter.new.names (lexed (drop (at + (1 + k)) text) (line_after line (get_or text at 0)) 0)) (sym bytes)
-        ∙ ap (λ k. continued c.enter.new.list c.enter.new.names (lexed (drop (at + (1 + c.in_ok-at.field-0)) text) k 0)) (sym end) }
+          c.loop-at.invariant.rest
+          ∙ turn list names text line at h c.loop-at-test.true is
+          ∙ turned-entered list names line h r c.in_ok-at.ensures.no_fault
+          ∙ ap (λ l. continued l (used_at names h) r) (sym c.in_ok-at.ensures.list)
+          ∙ ap (λ n. continued c.enter.new.list n r) (sym c.in_ok-at.ensures.names)
+          ∙ ap (λ k. continued c.enter.new.list c.enter.new.names (lexed (drop (at + (1 + k)) text) (line_after line (get_or text at 0)) 0)) (sym bytes)
+          ∙ ap (λ k. continued c.enter.new.list c.enter.new.names (lexed (drop (at + (1 + c.in_ok-at.field-0)) text) k 0)) (sym end);
+    }
