@@ -3,3 +3,4 @@ pub mod Keys
 pub mod Numbers
 pub mod Lines
 pub mod Turns
+pub mod Kept

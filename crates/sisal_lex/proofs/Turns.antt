@@ -53,14 +53,14 @@ any_last p (x ∷ xs) y h = by (p x) (any_last p xs y h)
     by false h = h
 
 -- a name that is used has its place, and a further name leaves it
-place_used : (names : List (List ℕ)) (name : List ℕ) → position_or_len (bytes_eq name) (used names name) ≡ position_or_len (bytes_eq name) names
+pub place_used : (names : List (List ℕ)) (name : List ℕ) → position_or_len (bytes_eq name) (used names name) ≡ position_or_len (bytes_eq name) names
 place_used names name = by (list_any (bytes_eq name) names)
   where
     by : (t : Bool) → position_or_len (bytes_eq name) (if t then names else names ++ name ∷ []) ≡ position_or_len (bytes_eq name) names
     by true = refl
     by false = place_last (bytes_eq name) names name (same_bytes name)
 
-any_used : (names : List (List ℕ)) (name : List ℕ) → list_any (bytes_eq name) (used names name) ≡ true
+pub any_used : (names : List (List ℕ)) (name : List ℕ) → list_any (bytes_eq name) (used names name) ≡ true
 any_used names name = by (list_any (bytes_eq name) names) refl
   where
     by : (t : Bool) → list_any (bytes_eq name) names ≡ t → list_any (bytes_eq name) (if t then names else names ++ name ∷ []) ≡ true

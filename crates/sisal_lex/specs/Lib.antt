@@ -4,3 +4,4 @@ pub mod Quotes
 pub mod Names
 pub mod Heads
 pub mod Tokens
+pub mod Sound

@@ -1,7 +1,8 @@
 //! The whole text, from left to right.
-ghost use Rattle.std.specs.Prelude.{◌≡◌, ◌<◌, ◌-◌, ◌^◌, ◌⊎◌, ◌++◌, ◌∷◌, [], length, Ok, Err, IfOk, IfErr, OnOk};
+ghost use Rattle.std.specs.Prelude.{◌≡◌, ◌≤◌, ◌<◌, ◌-◌, ◌^◌, ◌⊎◌, ◌++◌, ◌∷◌, [], length, Ok, Err, IfOk, IfErr, OnOk};
 ghost use Rattle.sisal_lex.specs.Names.{kind_in, used_by};
 ghost use Rattle.sisal_lex.specs.Tokens.{line_after, tokens_of};
+ghost use Rattle.sisal_lex.specs.Sound.{AreSound, AreFolded};
 ghost use Rattle.sisal_lex.specs.Heads.{bytes_after, tokens_in, used_at, IsNoFault};
 
 use crate::fault::LexFault;
@@ -19,6 +20,9 @@ const LONGEST: usize = 4194304;
 pub fn lex(alloc: Global, text: &[u8]) -> Result<Tokens, LexFault>
     ensures tokens { IfOk result (λ t. tokens_of text.now ≡ Ok t) }
     ensures fault { IfErr result (λ e. (e ≡ LexFault.NoMemory) ⊎ (tokens_of text.now ≡ Err e)) }
+    ensures few { IfOk result (λ t. length t.list ≤ length text.now) }
+    ensures sound { IfOk result (λ t. AreSound (length t.names) t.list) }
+    ensures folded { IfOk result (λ t. AreFolded t.names) }
 {
     if text.len() > LONGEST {
         return Err(LexFault::TooLong);

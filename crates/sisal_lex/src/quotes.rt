@@ -8,14 +8,18 @@ use std::alloc::Global;
 /// A character between quotes: its code, and how many bytes spell it.
 #[derive(Clone, Copy)]
 pub struct Item {
+    /// The code, from 0 to 127.
     pub code: u8,
+    /// The number of bytes.
     pub bytes: usize,
 }
 
 /// The characters of a text in quotes, and how many bytes spell them with the closing quote.
 #[derive(Drop)]
 pub struct Codes {
+    /// The codes of the characters.
     pub codes: Text,
+    /// The number of bytes.
     pub bytes: usize,
 }
 

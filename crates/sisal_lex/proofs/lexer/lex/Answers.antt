@@ -1,19 +1,26 @@
-use Rattle.std.proofs.Common.{◌≡◌, ◌∙◌, ℕ, ◌+◌, ◌-◌, ◌≤◌, List, [], length, drop, take, get_or, Err, sym, ap, arith, ◌⊎◌, inl, inr}
+use Rattle.std.proofs.Common.{◌≡◌, ◌∙◌, ℕ, ◌+◌, ◌-◌, ◌≤◌, List, [], length, drop, take, get_or, Err, sym, ap, subst, arith, ◌⊎◌, inl, inr}
 use Rattle.sisal_lex.specs.Tokens.{lexed, named, tokens_of, head_of, line_after}
 use Rattle.sisal_lex.specs.Heads.{bytes_after, tokens_in, used_at}
 use Rattle.sisal_lex.specs.declared.fault.LexFault.TheVariants as fault
 use Rattle.sisal_lex.proofs.Grown.{rest_is}
 use Rattle.sisal_lex.proofs.Turns.{continued, begun, turn, turned, turned-entered, within_text, line_within, names_grow, tokens_of-short, passed_on}
+use Rattle.sisal_lex.specs.Sound.{AreSound, AreFolded}
+use Rattle.sisal_lex.specs.declared.token.Token.{Token}
+use Rattle.sisal_lex.proofs.Kept.{SoundHead, head_sound, sound_more, folded_more, tokens_grow}
 use Rattle.sisal_lex.proofs.lexer.lex.Goals as goal
 
 pub loop-at-init : goal.loop-at-init
 loop-at-init c =
     let r = lexed c.args.text.now 1 0 in
     let none : length c.new-names.result ≡ 0 = ap length c.new-names.ensures in
+    let nothing : length c.new-list.result ≡ 0 = ap length c.new-list.ensures in
     record {
       within = omega arith;
       lines = omega arith;
       few = omega (arith, none);
+      tokens = omega (arith, nothing);
+      sound = λ k d i. absurd (omega (arith, i, nothing));
+      folded = λ k d i. absurd (omega (arith, i, none));
       rest = begun r ∙ ap (λ l. continued l [] r) (sym c.new-list.ensures) ∙ ap (λ n. continued c.new-list.result n r) (sym c.new-names.ensures);
     }
 
@@ -64,10 +71,16 @@ loop-at-preserved c =
     let bytes = c.in_ok-at.ensures.bytes in
     let end = c.line_after-line.ensures in
     let r = lexed (drop (at + (1 + bytes_after h)) text) (line_after line (get_or text at 0)) 0 in
+    let sound = subst SoundHead (sym is) (head_sound line (get_or text at 0) (drop (at + 1) text)) in
     record {
       within = omega (arith, within, bytes);
       lines = omega (arith, end, line_within line (get_or text at 0), c.loop-at.invariant.lines);
       few = omega (arith, ap length c.in_ok-at.ensures.names, names_grow names h, c.loop-at.invariant.few);
+      tokens = omega (arith, ap length c.in_ok-at.ensures.list, tokens_grow list names line h, c.loop-at.invariant.tokens);
+      sound =
+        subst (λ (ns : List (List ℕ)). AreSound (length ns) c.enter.new.list) (sym c.in_ok-at.ensures.names)
+        (subst (λ (ts : List Token). AreSound (length (used_at names h)) ts) (sym c.in_ok-at.ensures.list) (sound_more list names line h sound c.loop-at.invariant.sound));
+      folded = subst (λ (ns : List (List ℕ)). AreFolded ns) (sym c.in_ok-at.ensures.names) (folded_more names h sound c.loop-at.invariant.folded);
       rest =
           c.loop-at.invariant.rest
           ∙ turn list names text line at h c.loop-at-test.true is
