@@ -41,10 +41,10 @@ escaped_below : (b : ℕ) → CodeBelow (escaped b)
 escaped_below b =
     code_if (nat_eq b 110) _ _ (omega arith)
     (code_if (nat_eq b 116) _ _ (omega arith)
-     (code_if (nat_eq b 114) _ _ (omega arith)
-      (code_if (nat_eq b 92) _ _ (omega arith)
-       (code_if (nat_eq b 39) _ _ (omega arith)
-        (code_if (nat_eq b 34) (Some 34) None (omega arith) tt)))))
+    (code_if (nat_eq b 114) _ _ (omega arith)
+    (code_if (nat_eq b 92) _ _ (omega arith)
+    (code_if (nat_eq b 39) _ _ (omega arith)
+    (code_if (nat_eq b 34) (Some 34) None (omega arith) tt)))))
 
 hex_below : (o p : Option ℕ) → CodeBelow (hex_code o p)
 hex_below None p = tt
@@ -86,7 +86,7 @@ item_below quote [] = tt
 item_below quote (b ∷ s) =
     item_if (nat_eq b 92) (escape s) _ (λ e. escape_below s)
     (item_if (nat_le 32 b && nat_le b 126 && not (nat_eq b quote)) (Some (record { code = b; bytes = 1 })) None
-     (λ e. let h = leb-true b 126 (middle (nat_le 32 b) (nat_le b 126) (not (nat_eq b quote)) e) in omega (arith, h)) tt)
+    (λ e. let h = leb-true b 126 (middle (nat_le 32 b) (nat_le b 126) (not (nat_eq b quote)) e) in omega (arith, h)) tt)
 
 character_below : (s : List ℕ) → ItemBelow (character s)
 character_below s = by (item 39 s) (item_below 39 s)
@@ -94,6 +94,7 @@ character_below s = by (item 39 s) (item_below 39 s)
     closed : (one : Item) → one.code < 128 → (o : Option ℕ) → ItemBelow (elim o [ None ↦ None | Some b ↦ if nat_eq b 39 then Some (record { code = one.code; bytes = one.bytes + 1 }) else None ])
     closed one h None = tt
     closed one h (Some b) = item_if (nat_eq b 39) (Some (record { code = one.code; bytes = one.bytes + 1 })) None (λ e. h) tt
+
     by : (o : Option Item) → ItemBelow o → ItemBelow (elim o [ None ↦ None | Some one ↦ character_closed s one ])
     by None h = tt
     by (Some one) h = closed one h (slice_get s one.bytes)
@@ -163,6 +164,7 @@ name_sound b s h =
   where
     name : List ℕ
     name = map to_ascii_lowercase (b ∷ take (prefix_len is_in_name s) s)
+
     by : (o : Option Word) → IsTrue (is_folded name) → SoundHead (head.Found (elim o [ Some w ↦ lexeme.Plain (kind.Word w) | None ↦ lexeme.Named name ]) (prefix_len is_in_name s))
     by (Some w) k = tt
     by None k = k
@@ -171,8 +173,9 @@ number_sound : (line b : ℕ) (s : List ℕ) → SoundHead (number_at line b s)
 number_sound line b s = by (number_value (b ∷ take (prefix_len is_ascii_digit s) s)) (nat_le (number_value (b ∷ take (prefix_len is_ascii_digit s) s)) 9223372036854775807)
   where
     by : (value : ℕ) (t : Bool) → SoundHead (elim (if t then Some (pos value) else None) [
-          Some n ↦ head.Found (lexeme.Plain (kind.Number n)) (prefix_len is_ascii_digit s)
-        | None ↦ head.Fault (fault.NumberTooWide line) ])
+      | Some n ↦ head.Found (lexeme.Plain (kind.Number n)) (prefix_len is_ascii_digit s)
+      | None ↦ head.Fault (fault.NumberTooWide line)
+    ])
     by value true = omega (arith, ints)
     by value false = tt
 
@@ -202,10 +205,10 @@ pub head_sound : (line b : ℕ) (s : List ℕ) → SoundHead (head_of line b s)
 head_sound line b s =
     sound_if (is_blank b) _ _ (λ e. tt)
     (sound_if (nat_eq b 37) _ _ (λ e. tt)
-     (sound_if (is_ascii_alphabetic b) _ _ (name_sound b s)
-      (sound_if (is_ascii_digit b) _ _ (λ e. number_sound line b s)
-       (sound_if (nat_eq b 39) _ _ (λ e. character_sound line s)
-        (sound_if (nat_eq b 34) _ _ (λ e. text_sound line s) (sign_sound line b s))))))
+    (sound_if (is_ascii_alphabetic b) _ _ (name_sound b s)
+    (sound_if (is_ascii_digit b) _ _ (λ e. number_sound line b s)
+    (sound_if (nat_eq b 39) _ _ (λ e. character_sound line s)
+    (sound_if (nat_eq b 34) _ _ (λ e. text_sound line s) (sign_sound line b s))))))
 
 -- the tokens and names that are read
 wider : (m n : ℕ) (k : Kind) → m ≤ n → IsSoundKind m k → IsSoundKind n k

@@ -40,7 +40,7 @@ escape (b ∷ s) =
     if nat_eq b 120 then hex_item s
     else option_map (λ code. record { code = code; bytes = 2 }) (escaped b)
 
--- the item at the head of a text between two of `quote`
+-- the item at the head of a text between two of `quote`: an escape, or a printable byte that is not the quote
 abbrev pub item : ℕ → List ℕ → Option Item
 item quote [] = None
 item quote (b ∷ s) =

@@ -16,7 +16,7 @@ use Rattle.sisal_lex.specs.declared.token.Tokens.{Tokens}
 use Rattle.sisal_lex.specs.declared.fault.LexFault.{LexFault}
 use Rattle.sisal_lex.specs.declared.fault.LexFault.TheVariants as fault
 
--- the classes of bytes
+-- the classes of bytes: blanks are tab, line feed, carriage return and space; 95 is `_`
 abbrev pub is_blank : ℕ → Bool
 is_blank b = nat_eq b 9 || nat_eq b 10 || nat_eq b 13 || nat_eq b 32
 
@@ -78,7 +78,8 @@ sign_at line b s =
       ]
     ]
 
--- what stands at the head of a text whose first byte is b: a blank, a comment, a token or a fault
+-- what stands at the head of a text whose first byte is b: a blank, a comment, a token or a fault.
+-- 37 is `%`, 39 is `'` and 34 is `"`.
 abbrev pub head_of : ℕ → ℕ → List ℕ → Head
 head_of line b s =
     if is_blank b then head.Gap 0
@@ -100,7 +101,8 @@ in_turn (head.Gap more) line after = after more
 in_turn (head.Found x more) line after = followed (record { lexeme = x; line = line }) (after more)
 in_turn (head.Fault e) line after = Err e
 
--- the tokens of a text that begins on a line, of which the first `left` bytes belong to what was taken before
+-- The tokens of a text that begins on a line, of which the first `left` bytes belong to what was taken before.
+-- A token's line is that of its first byte: one more for each line feed before it.
 abbrev pub lexed : List ℕ → ℕ → ℕ → Result (List Lexed) LexFault
 lexed [] line left = Ok []
 lexed (b ∷ s) line (suc left) = lexed s (line_after line b) left

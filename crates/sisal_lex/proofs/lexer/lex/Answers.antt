@@ -78,8 +78,8 @@ loop-at-preserved c =
       few = omega (arith, ap length c.in_ok-at.ensures.names, names_grow names h, c.loop-at.invariant.few);
       tokens = omega (arith, ap length c.in_ok-at.ensures.list, tokens_grow list names line h, c.loop-at.invariant.tokens);
       sound =
-        subst (λ (ns : List (List ℕ)). AreSound (length ns) c.enter.new.list) (sym c.in_ok-at.ensures.names)
-        (subst (λ (ts : List Token). AreSound (length (used_at names h)) ts) (sym c.in_ok-at.ensures.list) (sound_more list names line h sound c.loop-at.invariant.sound));
+          subst (λ (ns : List (List ℕ)). AreSound (length ns) c.enter.new.list) (sym c.in_ok-at.ensures.names)
+          (subst (λ (ts : List Token). AreSound (length (used_at names h)) ts) (sym c.in_ok-at.ensures.list) (sound_more list names line h sound c.loop-at.invariant.sound));
       folded = subst (λ (ns : List (List ℕ)). AreFolded ns) (sym c.in_ok-at.ensures.names) (folded_more names h sound c.loop-at.invariant.folded);
       rest =
           c.loop-at.invariant.rest

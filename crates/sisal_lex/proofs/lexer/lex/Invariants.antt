@@ -10,9 +10,9 @@ invariant-loop-at l = record {
   within : l.at ≤ length l.text;
   lines : l.line ≤ l.at + 1;
   few : length l.names ≤ l.at;
-    tokens : length l.list ≤ l.at;
-    sound : AreSound (length l.names) l.list;
-    folded : AreFolded l.names;
+  tokens : length l.list ≤ l.at;
+  sound : AreSound (length l.names) l.list;
+  folded : AreFolded l.names;
   rest : named (lexed l.text 1 0) ≡ continued l.list l.names (lexed (drop l.at l.text) l.line 0);
 }
 
