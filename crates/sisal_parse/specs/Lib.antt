@@ -1,1 +1,3 @@
-pub mod Value
+pub mod Closed
+pub mod Form
+pub mod Grammar
