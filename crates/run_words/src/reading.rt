@@ -1,8 +1,12 @@
 //! Reads the words from left to right.
-ghost use Rattle.std.specs.Prelude.{◌≡◌, IfOk, unwrap_or, codes};
+ghost use Rattle.std.specs.Prelude.{◌≡◌, ◌≢◌, IfOk, IfErr, unwrap_or, codes, Ok, Err};
 ghost use Rattle.run_words.specs.Commands.{bytes_of, begins_with_dash, run_set, mean_set};
 ghost use Rattle.run_words.specs.Options.{no_options};
 ghost use Rattle.run_words.specs.Reading.{Gives, reads, reads_gen, reads_after, reads_alone, reads_words, AnOption};
+ghost use Rattle.run_words.specs.Words.{IsCommand, HasFault};
+ghost use Rattle.run_words.specs.declared.fault.WordFault.TheVariants.{NoMemory as no_memory};
+ghost use Rattle.run_words.specs.declared.fault.WordFault.{WordFault};
+ghost use Rattle.run_words.specs.declared.command.Command.{Command};
 ghost use Rattle.run_words.specs.declared.command.Keyword.TheVariants as keyword;
 
 use crate::command::{Command, Keyword, MeanSet, RunSet, keyword_named};
@@ -18,8 +22,18 @@ const MAIN: &[u8] = b"main";
 /// The limit where no other is given.
 const LIMIT: u64 = 10000000;
 
-/// The command that the words are.
+/// The command that the words after the program's name are, or their first fault from the left.
 pub fn read_words(alloc: Global, words: &[String]) -> Result<Command, WordFault>
+    ensures command { IfOk result (λ found. IsCommand (bytes_of words.now) found) }
+    ensures fault { IfErr result (λ f. f ≢ no_memory → HasFault (bytes_of words.now) f) }
+    // Words that are a command are read as it, and others give their first fault, unless memory runs out.
+    ensures only_command { (found : Command) → IsCommand (bytes_of words.now) found → Gives result (Ok found) }
+    ensures only_fault { (f : WordFault) → HasFault (bytes_of words.now) f → Gives result (Err f) }
+{
+    read(alloc, words)
+}
+
+fn read(alloc: Global, words: &[String]) -> Result<Command, WordFault>
     ensures { Gives result (reads_words (bytes_of words.now)) }
 {
     let Some((word, later)) = words.split_first() else {
