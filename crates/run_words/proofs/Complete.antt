@@ -6,9 +6,9 @@ use Rattle.std.proofs.lemmas.Slice.Eq.{bytes_eq-Decides}
 use Rattle.std.proofs.lemmas.Bool.Decides.{nat_tests}
 use mathlib.Core.Bool.{cond}
 use Rattle.run_words.specs.Numbers.{is_numeral, number_of}
-use Rattle.run_words.specs.Options.{setting_word, flag_word, option_word, takes, taken, option_named, option_of, no_options, has_flag, has_setting, with_flag}
-use Rattle.run_words.specs.Commands.{begins_with_dash, keyword_word, keyword_named, run_set, mean_set}
-use Rattle.run_words.specs.Reading.{◌>>=◌, number_at, with_setting, Wanted, AnOption, ItsValue, after_option, reads, reads_gen, reads_alone, reads_after, reads_first, reads_words}
+use Rattle.run_words.specs.Options.{setting_word, flag_word, option_word, takes, no_options, has_flag, has_setting, with_flag}
+use Rattle.run_words.specs.Commands.{begins_with_dash, keyword_word, run_set, mean_set}
+use Rattle.run_words.specs.Reading.{taken, option_named, option_of, keyword_named, ◌>>=◌, number_at, with_setting, Wanted, AnOption, ItsValue, after_option, reads, reads_gen, reads_alone, reads_after, reads_first, reads_words}
 use Rattle.run_words.specs.Words.{Choice, Alone, Set, words_of, range_of, IsInRange, IsNumber, IsOpen, MayFollow, with_value, with_choice, Follow, Leads, BeginsPlain, AreValues, Say, IsCommand, IsNoOption, has_option, IsWrong, OptionFault, GenFault, IsFurther, FaultBehind, HasFault}
 use Rattle.run_words.specs.declared.fault.WordFault.{WordFault}
 use Rattle.run_words.specs.declared.fault.WordFault.TheVariants as fault
@@ -42,9 +42,9 @@ number_refused low high k word none =
 out_of_range : (low high n : ℕ) → ¬ ((low ≤ n) × (n ≤ high)) → (nat_le low n && nat_le n high) ≡ false
 out_of_range low high n out = by_test (nat_le low n && nat_le n high) refl
   where
-  by_test : (b : Bool) → (nat_le low n && nat_le n high) ≡ b → b ≡ false
-  by_test true e = absurd (out (grind (arith, nat_tests), grind (arith, nat_tests)))
-  by_test false e = refl
+    by_test : (b : Bool) → (nat_le low n && nat_le n high) ≡ b → b ≡ false
+    by_test true e = absurd (out (grind (arith, nat_tests), grind (arith, nat_tests)))
+    by_test false e = refl
 
 number_past : (low high k : ℕ) (word : List ℕ) → is_numeral word ≡ true → ¬ IsInRange (low, high) word → number_at low high k word ≡ Err (fault.OutOfRange k)
 number_past low high k word numeral out =
@@ -105,7 +105,7 @@ choices_read [] runner given all k rest follow =
     ap (λ g. reads rest runner AnOption g k) follow ∙ ap (λ k. reads rest runner AnOption all k) none
 choices_read (choice ∷ later) runner given all k rest follow =
     let at : k + length (words_of choice) + length (flat_map words_of later) ≡ k + length (words_of choice ++ flat_map words_of later) =
-      omega (arith, length-append (words_of choice) (flat_map words_of later)) in
+    omega (arith, length-append (words_of choice) (flat_map words_of later)) in
     ap (λ l. reads l runner AnOption given k) (append_assoc (words_of choice) (flat_map words_of later) rest)
     ∙ choice_read choice runner given k (flat_map words_of later ++ rest) follow.0
     ∙ choices_read later runner (with_choice given choice) all (k + length (words_of choice)) rest follow.1
@@ -126,7 +126,7 @@ values_read runner all k rest values (inr (same, plain)) = ap (λ l. reads l run
 said_read : (runner : Runner) (given all : Options) (k : ℕ) (words values : List (List ℕ)) → Say runner given words all values → reads words runner AnOption given k ≡ Ok (all, values)
 said_read runner given all k words values (count, rest, leads, are) = led_read runner given all k count words rest leads ∙ values_read runner all (k + count) rest values are
 
--- a word that is unnamed option of the command
+-- a word that names no option of the command
 unknown_named : (runner : Runner) (word : List ℕ) → IsNoOption runner word → (found : Option Named) → option_of runner word ≡ found → found ≡ None
 unknown_named runner word unnamed None is = refl
 unknown_named runner word unnamed (Some option) is = let known = option_of_is runner word option is in absurd (unnamed.2 option known.1 known.0)
@@ -137,9 +137,9 @@ unknown_read runner all k word later unnamed =
     ∙ ap (λ b. cond b (Ok (all, later)) (after_option (option_of runner word) all k (goes_on runner k later))) (other (bytes_eq word (codes "--")) refl)
     ∙ ap (λ o. after_option o all k (goes_on runner k later)) (unknown_named runner word unnamed (option_of runner word) refl)
   where
-  other : (b : Bool) → bytes_eq word (codes "--") ≡ b → b ≡ false
-  other true e = absurd (unnamed.1 ((bytes_eq-Decides word (codes "--")).0 e))
-  other false e = refl
+    other : (b : Bool) → bytes_eq word (codes "--") ≡ b → b ≡ false
+    other true e = absurd (unnamed.1 ((bytes_eq-Decides word (codes "--")).0 e))
+    other false e = refl
 
 repeated_read : (option : Named) (runner : Runner) (all : Options) (k : ℕ) (later : List (List ℕ)) → takes runner option ≡ true → has_option all option ≡ true → reads (option_word option ∷ later) runner AnOption all k ≡ Err (fault.Repeated k)
 repeated_read (named.Flag f) runner all k later takes_it has =
@@ -185,14 +185,14 @@ gen_read later (fault.Unknown place) (word, more, others, is, number, at) =
 gen_read later (fault.Repeated place) wrong = absurd wrong
 gen_read later (fault.NotANumber place) (word, others, is, none, at) = ap reads_gen is ∙ size_refused others ∙ ap (λ k. Err (fault.NotANumber k)) (sym at)
   where
-  size_refused : (others : List (List ℕ)) → reads_gen (word ∷ others) ≡ Err (fault.NotANumber 2)
-  size_refused [] = ap (λ r. r >>= λ n. Ok (command.Gen n)) (number_refused 1 500 2 word none)
-  size_refused (more ∷ others) = ap (λ r. r >>= λ n. Err (fault.Unknown 3)) (number_refused 1 500 2 word none)
+    size_refused : (others : List (List ℕ)) → reads_gen (word ∷ others) ≡ Err (fault.NotANumber 2)
+    size_refused [] = ap (λ r. r >>= λ n. Ok (command.Gen n)) (number_refused 1 500 2 word none)
+    size_refused (more ∷ others) = ap (λ r. r >>= λ n. Err (fault.Unknown 3)) (number_refused 1 500 2 word none)
 gen_read later (fault.OutOfRange place) (word, others, is, numeral, out, at) = ap reads_gen is ∙ size_past others ∙ ap (λ k. Err (fault.OutOfRange k)) (sym at)
   where
-  size_past : (others : List (List ℕ)) → reads_gen (word ∷ others) ≡ Err (fault.OutOfRange 2)
-  size_past [] = ap (λ r. r >>= λ n. Ok (command.Gen n)) (number_past 1 500 2 word numeral out)
-  size_past (more ∷ others) = ap (λ r. r >>= λ n. Err (fault.Unknown 3)) (number_past 1 500 2 word numeral out)
+    size_past : (others : List (List ℕ)) → reads_gen (word ∷ others) ≡ Err (fault.OutOfRange 2)
+    size_past [] = ap (λ r. r >>= λ n. Ok (command.Gen n)) (number_past 1 500 2 word numeral out)
+    size_past (more ∷ others) = ap (λ r. r >>= λ n. Err (fault.Unknown 3)) (number_past 1 500 2 word numeral out)
 gen_read later fault.NoMemory wrong = absurd wrong
 
 alone_read : (found : Command) (later : List (List ℕ)) (f : WordFault) → IsFurther later f → reads_alone found later ≡ Err f

@@ -3,8 +3,9 @@ use Rattle.std.proofs.Common.{◌≡◌, ◌≢◌, ℕ, Bool, true, false, ◌�
 use Rattle.std.specs.Str.{bytes_eq}
 use Rattle.std.proofs.lemmas.Slice.Eq.{bytes_eq-Decides}
 use mathlib.Core.Bool.{cond}
-use Rattle.run_words.specs.Options.{option_word, option_named, option_of, taken, takes}
-use Rattle.run_words.specs.Commands.{keyword_word, keyword_named}
+use Rattle.run_words.specs.Options.{option_word, takes}
+use Rattle.run_words.specs.Commands.{keyword_word}
+use Rattle.run_words.specs.Reading.{option_named, option_of, taken, keyword_named}
 use Rattle.run_words.specs.declared.command.Keyword.{Keyword}
 use Rattle.run_words.specs.declared.command.Keyword.TheVariants as keyword
 use Rattle.run_words.specs.declared.options.Runner.{Runner}
@@ -32,13 +33,31 @@ named_keyword keyword.Version = refl
 
 pub keyword_is : (word : List ℕ) (first : Keyword) → keyword_named word ≡ Some first → word ≡ keyword_word first
 keyword_is word first h =
-    elim (chosen word (codes "run") keyword.Run _ first h) [ inl e ↦ e.0 ∙ ap keyword_word e.1 | inr h ↦
-    elim (chosen word (codes "compile") keyword.Compile _ first h) [ inl e ↦ e.0 ∙ ap keyword_word e.1 | inr h ↦
-    elim (chosen word (codes "if1") keyword.If1 _ first h) [ inl e ↦ e.0 ∙ ap keyword_word e.1 | inr h ↦
-    elim (chosen word (codes "mean") keyword.Mean _ first h) [ inl e ↦ e.0 ∙ ap keyword_word e.1 | inr h ↦
-    elim (chosen word (codes "gen") keyword.Gen _ first h) [ inl e ↦ e.0 ∙ ap keyword_word e.1 | inr h ↦
-    elim (chosen word (codes "--help") keyword.Help _ first h) [ inl e ↦ e.0 ∙ ap keyword_word e.1 | inr h ↦
-    elim (chosen word (codes "--version") keyword.Version None first h) [ inl e ↦ e.0 ∙ ap keyword_word e.1 | inr h ↦ absurd (cc) ] ] ] ] ] ] ]
+    elim (chosen word (codes "run") keyword.Run _ first h) [
+      | inl e ↦ e.0 ∙ ap keyword_word e.1
+      | inr h ↦
+          elim (chosen word (codes "compile") keyword.Compile _ first h) [
+            | inl e ↦ e.0 ∙ ap keyword_word e.1
+            | inr h ↦
+                elim (chosen word (codes "if1") keyword.If1 _ first h) [
+                  | inl e ↦ e.0 ∙ ap keyword_word e.1
+                  | inr h ↦
+                      elim (chosen word (codes "mean") keyword.Mean _ first h) [
+                        | inl e ↦ e.0 ∙ ap keyword_word e.1
+                        | inr h ↦
+                            elim (chosen word (codes "gen") keyword.Gen _ first h) [
+                              | inl e ↦ e.0 ∙ ap keyword_word e.1
+                              | inr h ↦
+                                  elim (chosen word (codes "--help") keyword.Help _ first h) [
+                                    | inl e ↦ e.0 ∙ ap keyword_word e.1
+                                    | inr h ↦
+                                        elim (chosen word (codes "--version") keyword.Version None first h) [ inl e ↦ e.0 ∙ ap keyword_word e.1 | inr h ↦ absurd (cc) ]
+                                  ]
+                            ]
+                      ]
+                ]
+          ]
+    ]
 
 pub named_option : (option : Named) → option_named (option_word option) ≡ Some option
 named_option (named.Flag flag.If1) = refl
@@ -50,20 +69,35 @@ named_option (named.Setting setting.Order) = refl
 
 option_is : (word : List ℕ) (option : Named) → option_named word ≡ Some option → word ≡ option_word option
 option_is word option h =
-    elim (chosen word (codes "--if1") (named.Flag flag.If1) _ option h) [ inl e ↦ e.0 ∙ ap option_word e.1 | inr h ↦
-    elim (chosen word (codes "--stats") (named.Flag flag.Stats) _ option h) [ inl e ↦ e.0 ∙ ap option_word e.1 | inr h ↦
-    elim (chosen word (codes "--entry") (named.Setting setting.Entry) _ option h) [ inl e ↦ e.0 ∙ ap option_word e.1 | inr h ↦
-    elim (chosen word (codes "--workers") (named.Setting setting.Workers) _ option h) [ inl e ↦ e.0 ∙ ap option_word e.1 | inr h ↦
-    elim (chosen word (codes "--limit") (named.Setting setting.Limit) _ option h) [ inl e ↦ e.0 ∙ ap option_word e.1 | inr h ↦
-    elim (chosen word (codes "--order") (named.Setting setting.Order) None option h) [ inl e ↦ e.0 ∙ ap option_word e.1 | inr h ↦ absurd (cc) ] ] ] ] ] ]
+    elim (chosen word (codes "--if1") (named.Flag flag.If1) _ option h) [
+      | inl e ↦ e.0 ∙ ap option_word e.1
+      | inr h ↦
+          elim (chosen word (codes "--stats") (named.Flag flag.Stats) _ option h) [
+            | inl e ↦ e.0 ∙ ap option_word e.1
+            | inr h ↦
+                elim (chosen word (codes "--entry") (named.Setting setting.Entry) _ option h) [
+                  | inl e ↦ e.0 ∙ ap option_word e.1
+                  | inr h ↦
+                      elim (chosen word (codes "--workers") (named.Setting setting.Workers) _ option h) [
+                        | inl e ↦ e.0 ∙ ap option_word e.1
+                        | inr h ↦
+                            elim (chosen word (codes "--limit") (named.Setting setting.Limit) _ option h) [
+                              | inl e ↦ e.0 ∙ ap option_word e.1
+                              | inr h ↦
+                                  elim (chosen word (codes "--order") (named.Setting setting.Order) None option h) [ inl e ↦ e.0 ∙ ap option_word e.1 | inr h ↦ absurd (cc) ]
+                            ]
+                      ]
+                ]
+          ]
+    ]
 
 taken_is : (runner : Runner) (found : Option Named) (option : Named) → taken runner found ≡ Some option → (found ≡ Some option) × (takes runner option ≡ true)
 taken_is runner None option h = absurd (cc)
 taken_is runner (Some other) option h = taken_by (takes runner other) refl h
   where
-  taken_by : (b : Bool) → takes runner other ≡ b → cond b (Some other) None ≡ Some option → (Some other ≡ Some option) × (takes runner option ≡ true)
-  taken_by true e h = (h, (ap (takes runner) (sym (let same : other ≡ option = cc in same)) ∙ e))
-  taken_by false e h = absurd (cc)
+    taken_by : (b : Bool) → takes runner other ≡ b → cond b (Some other) None ≡ Some option → (Some other ≡ Some option) × (takes runner option ≡ true)
+    taken_by true e h = (h, (ap (takes runner) (sym (let same : other ≡ option = cc in same)) ∙ e))
+    taken_by false e h = absurd (cc)
 
 -- the option of a command that a word names
 pub option_of_is : (runner : Runner) (word : List ℕ) (option : Named) → option_of runner word ≡ Some option → (word ≡ option_word option) × (takes runner option ≡ true)

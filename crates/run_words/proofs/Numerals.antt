@@ -32,7 +32,7 @@ refused_is_big : {E : Type 0} (word : List ℕ) (r : Result ℕ E) (e : E) → P
 refused_is_big word r e h is numeral =
     let parts = numeral_parts word numeral in
     let not_below : OkIff (Err e) ((0 < length word) × (number_of word < 2 ^ 64)) (number_of word) =
-      subst (λ r. OkIff r ((0 < length word) × (number_of word < 2 ^ 64)) (number_of word)) is (parse_digits own 64 word r h parts.1) in
+    subst (λ r. OkIff r ((0 < length word) × (number_of word < 2 ^ 64)) (number_of word)) is (parse_digits own 64 word r h parts.1) in
     elim (cases_lt (number_of word) (2 ^ 64)) [ inl below ↦ absurd (not_below (parts.0, below)) | inr big ↦ big ]
 
 pub refused : {E : Type 0} (low high k : ℕ) (word : List ℕ) (r : Result ℕ E) (e : E) → high < 2 ^ 64 → ParsesUnsigned 64 10 word r → r ≡ Err e → is_numeral word ≡ true → Err (fault.OutOfRange k) ≡ number_at low high k word

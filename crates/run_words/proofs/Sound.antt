@@ -6,9 +6,9 @@ use Rattle.std.proofs.lemmas.Slice.Eq.{bytes_eq-Decides}
 use Rattle.std.proofs.lemmas.Bool.Decides.{nat_tests}
 use mathlib.Core.Bool.{cond}
 use Rattle.run_words.specs.Numbers.{is_numeral, number_of}
-use Rattle.run_words.specs.Options.{setting_word, flag_word, option_word, takes, option_of, no_options, has_flag, has_setting, with_flag}
-use Rattle.run_words.specs.Commands.{begins_with_dash, keyword_word, keyword_named, run_set, mean_set}
-use Rattle.run_words.specs.Reading.{◌>>=◌, number_at, with_setting, Wanted, AnOption, ItsValue, after_option, reads, reads_gen, reads_after, reads_first, reads_words}
+use Rattle.run_words.specs.Options.{setting_word, flag_word, option_word, takes, no_options, has_flag, has_setting, with_flag}
+use Rattle.run_words.specs.Commands.{begins_with_dash, keyword_word, run_set, mean_set}
+use Rattle.run_words.specs.Reading.{option_of, keyword_named, ◌>>=◌, number_at, with_setting, Wanted, AnOption, ItsValue, after_option, reads, reads_gen, reads_after, reads_first, reads_words}
 use Rattle.run_words.specs.Words.{Choice, Alone, Set, words_of, range_of, IsInRange, IsNumber, IsOpen, MayFollow, with_value, with_choice, Follow, Leads, AreValues, Say, IsCommand, IsWrong, OptionFault, GenFault, IsFurther, FaultBehind, HasFault}
 use Rattle.run_words.specs.declared.fault.WordFault.{WordFault}
 use Rattle.run_words.specs.declared.fault.WordFault.TheVariants as fault
@@ -48,8 +48,8 @@ number_told : (low high k : ℕ) (word : List ℕ) → NumberTold (low, high) k 
 number_told low high k word =
     either (NumberTold (low, high) k word) (is_numeral word) _ _
     (λ numeral. either (NumberTold (low, high) k word) (nat_le low (number_of word) && nat_le (number_of word) high) _ _
-      (λ fits. ((numeral, in_range low high (number_of word) fits), refl))
-      (λ fits. inr (refl, numeral, not_in_range low high (number_of word) fits)))
+    (λ fits. ((numeral, in_range low high (number_of word) fits), refl))
+    (λ fits. inr (refl, numeral, not_in_range low high (number_of word) fits)))
     (λ none. inl (refl, none))
 
 -- what a setting's word gives
@@ -61,7 +61,7 @@ ValueTold given s k word (Err f) =
 
 -- a number goes into the options
 value_told_by : (given : Options) (s : Setting) (range : ℕ × ℕ) (k : ℕ) (word : List ℕ) (put : ℕ → Options) → range_of s ≡ Some range → put (number_of word) ≡ with_value given s word →
-  (r : Result ℕ WordFault) → NumberTold range k word r → ValueTold given s k word (r >>= λ n. Ok (put n))
+    (r : Result ℕ WordFault) → NumberTold range k word r → ValueTold given s k word (r >>= λ n. Ok (put n))
 value_told_by given s range k word put is same (Ok n) told = (subst (λ o. IfSome o (λ range. IsNumber range word)) (sym is) told.0, ap put told.1 ∙ same)
 value_told_by given s range k word put is same (Err f) told =
     elim told [ inl none ↦ inl (none.0, subst (λ o. IsSome o) (sym is) refl, none.1) | inr out ↦ inr (range, out.0, is, out.1, out.2) ]
@@ -85,17 +85,17 @@ bare runner given words = record { choices = []; spelled = refl; counted = refl;
 
 -- one option more
 led : (runner : Runner) (given all : Options) (choice : Choice) (count : ℕ) (later rest : List (List ℕ)) → MayFollow runner given choice → Leads runner (with_choice given choice) later all count rest
-  → Leads runner given (words_of choice ++ later) all (length (words_of choice) + count) rest
+    → Leads runner given (words_of choice ++ later) all (length (words_of choice) + count) rest
 led runner given all choice count later rest may leads = record {
   choices = choice ∷ leads.choices;
   spelled = ap (λ l. words_of choice ++ l) leads.spelled ∙ sym (append_assoc (words_of choice) (flat_map words_of leads.choices) rest);
   counted = ap (λ n. length (words_of choice) + n) leads.counted ∙ sym (length-append (words_of choice) (flat_map words_of leads.choices));
-  follow = (may, leads.follow)
+  follow = (may, leads.follow);
 }
 
 -- behind one option more
 told_more : (runner : Runner) (given : Options) (k n : ℕ) (choice : Choice) (later : List (List ℕ)) (r : Result (Options × List (List ℕ)) WordFault) → n ≡ length (words_of choice) → MayFollow runner given choice
-  → Told runner (with_choice given choice) (k + n) later r → Told runner given k (words_of choice ++ later) r
+    → Told runner (with_choice given choice) (k + n) later r → Told runner given k (words_of choice ++ later) r
 told_more runner given k n choice later (Ok found) long may (count, rest, leads, values) = (length (words_of choice) + count, rest, led runner given found.0 choice count later rest may leads, values)
 told_more runner given k n choice later (Err f) long may (all, count, rest, leads, wrong) =
     let at : k + n + count ≡ k + (length (words_of choice) + count) = omega arith in
@@ -112,20 +112,20 @@ ToldAt runner (ItsValue s) given k words r = (first : ℕ) → k ≡ first + 1 �
 
 -- behind a setting's word
 by_value : (runner : Runner) (given : Options) (s : Setting) (first k : ℕ) (word : List ℕ) (later : List (List ℕ)) (go : Options → Result (Options × List (List ℕ)) WordFault) → k ≡ first + 1 → IsOpen runner given s
-  → ((more : Options) → Told runner more (k + 1) later (go more)) → (r : Result Options WordFault) → ValueTold given s k word r → Told runner given first (setting_word s ∷ word ∷ later) (r >>= go)
+    → ((more : Options) → Told runner more (k + 1) later (go more)) → (r : Result Options WordFault) → ValueTold given s k word r → Told runner given first (setting_word s ∷ word ∷ later) (r >>= go)
 by_value runner given s first k word later go at may told (Ok more) value =
     told_more runner given first 2 (Set s word) later (go more) refl (may, value.0)
     (subst (λ g. Told runner g (first + 2) later (go more)) value.1 (subst (λ k. Told runner more k later (go more)) (omega arith) (told more)))
 by_value runner given s first k word later go at may told (Err f) value =
     let place : k ≡ first + 0 + 1 = omega arith in
     elim value [
-      inl none ↦ subst (λ f. Told runner given first (setting_word s ∷ word ∷ later) (Err f)) (sym none.0) (wrong_here runner given first _ (fault.NotANumber k) (s, word, later, refl, may, none.1, none.2, place))
-    | inr out ↦ subst (λ f. Told runner given first (setting_word s ∷ word ∷ later) (Err f)) (sym out.1) (wrong_here runner given first _ (fault.OutOfRange k) (s, word, later, out.0, refl, may, out.2, out.3, out.4, place))
+      | inl none ↦ subst (λ f. Told runner given first (setting_word s ∷ word ∷ later) (Err f)) (sym none.0) (wrong_here runner given first _ (fault.NotANumber k) (s, word, later, refl, may, none.1, none.2, place))
+      | inr out ↦ subst (λ f. Told runner given first (setting_word s ∷ word ∷ later) (Err f)) (sym out.1) (wrong_here runner given first _ (fault.OutOfRange k) (s, word, later, out.0, refl, may, out.2, out.3, out.4, place))
     ]
 
 -- behind the test of which option a word is
 by_option : (runner : Runner) (given : Options) (k : ℕ) (word : List ℕ) (later : List (List ℕ)) (go : Wanted → Options → Result (Options × List (List ℕ)) WordFault) → begins_with_dash word ≡ true → word ≢ codes "--"
-  → ((next : Wanted) (more : Options) → ToldAt runner next more (k + 1) later (go next more)) → (found : Option Named) → option_of runner word ≡ found → Told runner given k (word ∷ later) (after_option found given k go)
+    → ((next : Wanted) (more : Options) → ToldAt runner next more (k + 1) later (go next more)) → (found : Option Named) → option_of runner word ≡ found → Told runner given k (word ∷ later) (after_option found given k go)
 by_option runner given k word later go dash no_end told None is =
     wrong_here runner given k _ (fault.Unknown k) (word, later, refl, (dash, no_end, no_option runner word is), omega arith)
 by_option runner given k word later go dash no_end told (Some (named.Flag f)) is =
@@ -134,7 +134,7 @@ by_option runner given k word later go dash no_end told (Some (named.Flag f)) is
     either (Told runner given k (word ∷ later)) (has_flag given f) _ _
     (λ has. wrong_here runner given k _ (fault.Repeated k) (named.Flag f, later, front, known.1, has, omega arith))
     (λ new. subst (λ words. Told runner given k words (go AnOption (with_flag given f))) (sym front)
-      (told_more runner given k 1 (Alone f) later _ refl (known.1, new) (told AnOption (with_flag given f))))
+    (told_more runner given k 1 (Alone f) later _ refl (known.1, new) (told AnOption (with_flag given f))))
 by_option runner given k word later go dash no_end told (Some (named.Setting s)) is =
     let known = option_of_is runner word (named.Setting s) is in
     let front : word ∷ later ≡ setting_word s ∷ later = ap (λ w. w ∷ later) known.0 in
@@ -148,9 +148,9 @@ told_at [] runner (ItsValue s) given k = λ first at may. wrong_here runner give
 told_at (word ∷ later) runner AnOption given k =
     either (Told runner given k (word ∷ later)) (begins_with_dash word) _ _
     (λ dash. either (Told runner given k (word ∷ later)) (bytes_eq word (codes "--")) _ _
-      (λ end. (0, word ∷ later, bare runner given (word ∷ later), inl (ap (λ w. w ∷ later) ((bytes_eq-Decides word (codes "--")).0 end))))
-      (λ other. by_option runner given k word later _ dash (λ is. let end : bytes_eq word (codes "--") ≡ true = (bytes_eq-Decides word (codes "--")).1 is in cc)
-        (λ next more. told_at later runner next more (k + 1)) (option_of runner word) refl))
+    (λ end. (0, word ∷ later, bare runner given (word ∷ later), inl (ap (λ w. w ∷ later) ((bytes_eq-Decides word (codes "--")).0 end))))
+    (λ other. by_option runner given k word later _ dash (λ is. let end : bytes_eq word (codes "--") ≡ true = (bytes_eq-Decides word (codes "--")).1 is in cc)
+    (λ next more. told_at later runner next more (k + 1)) (option_of runner word) refl))
     (λ plain. (0, word ∷ later, bare runner given (word ∷ later), inr (refl, plain)))
 told_at (word ∷ later) runner (ItsValue s) given k = λ first at may.
     by_value runner given s first k word later _ at may (λ more. told_at later runner AnOption more (k + 1)) _ (value_told given s k word)
@@ -175,9 +175,9 @@ told_mean later (Err f) wrong = inr (keyword.Mean, refl, wrong)
 -- the faults of the number of `gen`
 gen_fault : (word : List ℕ) (others : List (List ℕ)) (f : WordFault) → NumberTold (1, 500) 2 word (Err f) → HasFault (codes "gen" ∷ word ∷ others) f
 gen_fault word others f told = elim told [
-    inl none ↦ subst (λ f. HasFault (codes "gen" ∷ word ∷ others) f) (sym none.0) (inr (keyword.Gen, refl, (word, others, refl, none.1, refl)))
+  | inl none ↦ subst (λ f. HasFault (codes "gen" ∷ word ∷ others) f) (sym none.0) (inr (keyword.Gen, refl, (word, others, refl, none.1, refl)))
   | inr out ↦ subst (λ f. HasFault (codes "gen" ∷ word ∷ others) f) (sym out.0) (inr (keyword.Gen, refl, (word, others, refl, out.1, out.2, refl)))
-  ]
+]
 
 told_size : (word : List ℕ) (r : Result ℕ WordFault) → NumberTold (1, 500) 2 word r → AllTold (codes "gen" ∷ word ∷ []) (r >>= λ n. Ok (command.Gen n))
 told_size word (Ok n) told = (word, refl, told.0, told.1)

@@ -1,6 +1,5 @@
 -- The commands.
-use Rattle.std.specs.Prelude.{◌≡◌, ℕ, Bool, true, false, ◌==◌, List, [], ◌∷◌, map, Option, Some, None, unwrap_or, codes, if◌then◌else◌}
-use Rattle.std.specs.Str.{bytes_eq}
+use Rattle.std.specs.Prelude.{◌≡◌, ℕ, Bool, true, false, ◌==◌, List, [], ◌∷◌, map, Option, Some, None, unwrap_or, codes}
 use Rattle.std.specs.String.{string_bytes}
 use Rattle.std.specs.declared.string.String.{String}
 use Rattle.std.specs.declared.alloc.Global.{Global}
@@ -28,18 +27,6 @@ keyword_word keyword.Mean = codes "mean"
 keyword_word keyword.Gen = codes "gen"
 keyword_word keyword.Help = codes "--help"
 keyword_word keyword.Version = codes "--version"
-
--- the command that a word names
-abbrev pub keyword_named : List ℕ → Option Keyword
-keyword_named word =
-    if bytes_eq word (codes "run") then Some keyword.Run
-    else if bytes_eq word (codes "compile") then Some keyword.Compile
-    else if bytes_eq word (codes "if1") then Some keyword.If1
-    else if bytes_eq word (codes "mean") then Some keyword.Mean
-    else if bytes_eq word (codes "gen") then Some keyword.Gen
-    else if bytes_eq word (codes "--help") then Some keyword.Help
-    else if bytes_eq word (codes "--version") then Some keyword.Version
-    else None
 
 -- What `run` and `mean` are to do: what the options say, and otherwise this.
 abbrev pub run_set : Options → List (List ℕ) → RunSet

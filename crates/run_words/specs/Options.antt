@@ -1,6 +1,5 @@
 -- The options of `run` and `mean`.
-use Rattle.std.specs.Prelude.{◌≡◌, ℕ, Bool, true, false, List, [], ◌∷◌, Option, Some, None, is_some, codes, if◌then◌else◌}
-use Rattle.std.specs.Str.{bytes_eq}
+use Rattle.std.specs.Prelude.{◌≡◌, ℕ, Bool, true, false, List, [], ◌∷◌, Option, Some, None, is_some, codes}
 use Rattle.run_words.specs.declared.options.Runner.{Runner}
 use Rattle.run_words.specs.declared.options.Runner.TheVariants as runner
 use Rattle.run_words.specs.declared.options.Flag.{Flag}
@@ -34,24 +33,6 @@ takes runner.Mean (named.Setting setting.Entry) = true
 takes runner.Mean (named.Setting setting.Workers) = false
 takes runner.Mean (named.Setting setting.Limit) = true
 takes runner.Mean (named.Setting setting.Order) = false
-
--- the option that a word names
-abbrev pub option_named : List ℕ → Option Named
-option_named word =
-    if bytes_eq word (codes "--if1") then Some (named.Flag flag.If1)
-    else if bytes_eq word (codes "--stats") then Some (named.Flag flag.Stats)
-    else if bytes_eq word (codes "--entry") then Some (named.Setting setting.Entry)
-    else if bytes_eq word (codes "--workers") then Some (named.Setting setting.Workers)
-    else if bytes_eq word (codes "--limit") then Some (named.Setting setting.Limit)
-    else if bytes_eq word (codes "--order") then Some (named.Setting setting.Order)
-    else None
-
-abbrev pub taken : Runner → Option Named → Option Named
-taken runner None = None
-taken runner (Some option) = if takes runner option then Some option else None
-
-abbrev pub option_of : Runner → List ℕ → Option Named
-option_of runner word = taken runner (option_named word)
 
 -- before any option
 abbrev pub no_options : Options

@@ -2,8 +2,8 @@
 use Rattle.std.specs.Prelude.{◌≡◌, ℕ, ◌+◌, Bool, true, false, ◌&&◌, nat_le, List, [], ◌∷◌, Option, Some, None, Result, Ok, Err, codes, if◌then◌else◌}
 use Rattle.std.specs.Str.{bytes_eq}
 use Rattle.run_words.specs.Numbers.{is_numeral, number_of}
-use Rattle.run_words.specs.Options.{option_of, no_options, has_flag, has_setting, with_flag}
-use Rattle.run_words.specs.Commands.{begins_with_dash, keyword_named, run_set, mean_set}
+use Rattle.run_words.specs.Options.{takes, no_options, has_flag, has_setting, with_flag}
+use Rattle.run_words.specs.Commands.{begins_with_dash, run_set, mean_set}
 use Rattle.run_words.specs.declared.fault.WordFault.{WordFault}
 use Rattle.run_words.specs.declared.fault.WordFault.TheVariants as fault
 use Rattle.run_words.specs.declared.command.Command.{Command}
@@ -12,6 +12,7 @@ use Rattle.run_words.specs.declared.command.Keyword.{Keyword}
 use Rattle.run_words.specs.declared.command.Keyword.TheVariants as keyword
 use Rattle.run_words.specs.declared.options.Runner.{Runner}
 use Rattle.run_words.specs.declared.options.Runner.TheVariants as runner
+use Rattle.run_words.specs.declared.options.Flag.TheVariants as flag
 use Rattle.run_words.specs.declared.options.Named.{Named}
 use Rattle.run_words.specs.declared.options.Named.TheVariants as named
 use Rattle.run_words.specs.declared.options.Setting.{Setting}
@@ -49,6 +50,36 @@ with_setting given setting.Entry k word = Ok (record given { entry = Some word }
 with_setting given setting.Workers k word = number_at 1 16 k word >>= λ n. Ok (record given { workers = Some n })
 with_setting given setting.Limit k word = number_at 1 1099511627776 k word >>= λ n. Ok (record given { limit = Some n })
 with_setting given setting.Order k word = number_at 0 4294967295 k word >>= λ n. Ok (record given { order = Some n })
+
+-- the option that a word names
+abbrev pub option_named : List ℕ → Option Named
+option_named word =
+    if bytes_eq word (codes "--if1") then Some (named.Flag flag.If1)
+    else if bytes_eq word (codes "--stats") then Some (named.Flag flag.Stats)
+    else if bytes_eq word (codes "--entry") then Some (named.Setting setting.Entry)
+    else if bytes_eq word (codes "--workers") then Some (named.Setting setting.Workers)
+    else if bytes_eq word (codes "--limit") then Some (named.Setting setting.Limit)
+    else if bytes_eq word (codes "--order") then Some (named.Setting setting.Order)
+    else None
+
+abbrev pub taken : Runner → Option Named → Option Named
+taken runner None = None
+taken runner (Some option) = if takes runner option then Some option else None
+
+abbrev pub option_of : Runner → List ℕ → Option Named
+option_of runner word = taken runner (option_named word)
+
+-- the command that a word names
+abbrev pub keyword_named : List ℕ → Option Keyword
+keyword_named word =
+    if bytes_eq word (codes "run") then Some keyword.Run
+    else if bytes_eq word (codes "compile") then Some keyword.Compile
+    else if bytes_eq word (codes "if1") then Some keyword.If1
+    else if bytes_eq word (codes "mean") then Some keyword.Mean
+    else if bytes_eq word (codes "gen") then Some keyword.Gen
+    else if bytes_eq word (codes "--help") then Some keyword.Help
+    else if bytes_eq word (codes "--version") then Some keyword.Version
+    else None
 
 -- What is wanted next: an option or the first value, or the value of a setting.
 pub data Wanted : Type 0 where

@@ -1,6 +1,6 @@
 //! The commands.
 ghost use Rattle.std.specs.Prelude.{◌≡◌};
-ghost use Rattle.run_words.specs.Commands.{keyword_named};
+ghost use Rattle.run_words.specs.Reading.{keyword_named};
 
 use flow_value::{Name, Texts};
 

@@ -1,7 +1,7 @@
 //! The options of the commands that run a program.
 ghost use Rattle.std.specs.Prelude.{◌≡◌};
-ghost use Rattle.run_words.specs.Options.{takes, option_named, option_of, has_flag, with_flag, has_setting, no_options};
-ghost use Rattle.run_words.specs.Reading.{Gives, with_setting};
+ghost use Rattle.run_words.specs.Options.{takes, has_flag, with_flag, has_setting, no_options};
+ghost use Rattle.run_words.specs.Reading.{Gives, option_named, option_of, with_setting};
 
 use crate::fault::WordFault;
 use crate::number::number_in;

@@ -1,5 +1,5 @@
 //! Reads the words from left to right.
-ghost use Rattle.std.specs.Prelude.{◌≡◌, ◌≢◌, IfOk, IfErr, unwrap_or, codes, Ok, Err};
+ghost use Rattle.std.specs.Prelude.{◌≡◌, ◌≢◌, ◌⊎◌, ℕ, List, IfOk, IfErr, unwrap_or, codes, Ok, Err};
 ghost use Rattle.run_words.specs.Commands.{bytes_of, begins_with_dash, run_set, mean_set};
 ghost use Rattle.run_words.specs.Options.{no_options};
 ghost use Rattle.run_words.specs.Reading.{Gives, reads, reads_gen, reads_after, reads_alone, reads_words, AnOption};
@@ -32,6 +32,14 @@ pub fn read_words(alloc: Global, words: &[String]) -> Result<Command, WordFault>
 {
     read(alloc, words)
 }
+
+/// Words have one meaning: each list of them is one command or has one first fault.
+pub fn words_have_one_meaning()
+    ensures some { (words : List (List ℕ)) → ((found : Command) × IsCommand words found) ⊎ ((f : WordFault) × HasFault words f) }
+    ensures one_command { (words : List (List ℕ)) (a b : Command) → IsCommand words a → IsCommand words b → a ≡ b }
+    ensures one_fault { (words : List (List ℕ)) (a b : WordFault) → HasFault words a → HasFault words b → a ≡ b }
+    ensures not_both { (words : List (List ℕ)) (found : Command) (f : WordFault) → IsCommand words found → HasFault words f → ⊥ }
+{}
 
 fn read(alloc: Global, words: &[String]) -> Result<Command, WordFault>
     ensures { Gives result (reads_words (bytes_of words.now)) }

@@ -7,9 +7,9 @@ use Rattle.run_words.proofs.reading.read_options.Given as goal
 -- What is still to be read decides the whole, and the next word is word `place`.
 abbrev pub invariant-loop-word : goal.invariant-loop-word
 invariant-loop-word l = record {
-    decides : reads (bytes_of l.words) l.runner AnOption no_options 2 ≡ reads (bytes_of l.rest) l.runner AnOption l.given l.place;
-    counted : l.place + length l.rest ≡ length l.words + 2;
-  }
+  decides : reads (bytes_of l.words) l.runner AnOption no_options 2 ≡ reads (bytes_of l.rest) l.runner AnOption l.given l.place;
+  counted : l.place + length l.rest ≡ length l.words + 2;
+}
 
 abbrev pub decreases-loop-word : goal.decreases-loop-word
 decreases-loop-word l = length l.rest
