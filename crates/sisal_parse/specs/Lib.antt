@@ -1,2 +1,3 @@
+pub mod Closed
 pub mod Form
 pub mod Grammar
