@@ -1,5 +1,5 @@
 -- What `parse` says of a numeral.
-use Rattle.std.proofs.Common.{◌≡◌, ℕ, ◌<◌, ◌≤◌, ◌^◌, Bool, true, false, List, [], ◌∷◌, length, Result, Ok, Err, rules, arith, refl, inl, inr, subst, nat_le, sym, ap, ◌∙◌}
+use Rattle.std.proofs.Common.{◌≡◌, ℕ, ◌<◌, ◌≤◌, ◌^◌, true, false, List, [], ◌∷◌, length, Result, Err, rules, arith, refl, inl, inr, subst}
 use Rattle.std.specs.Char.{is_ascii_digit}
 use Rattle.std.specs.List.{list_all}
 use Rattle.std.specs.Result.{OkIff}
@@ -7,7 +7,6 @@ use Rattle.std.specs.Str.Parse.{ParsesUnsigned, digits_value}
 use Rattle.std.proofs.lemmas.Str.Parse.{IsNumeralModel, numerals_by_value, parse_digits}
 use Rattle.std.proofs.lemmas.Bool.Decides.{nat_tests}
 use Rattle.std.proofs.lemmas.Bool.{cases_lt}
-use Rattle.run_words.specs.declared.fault.WordFault.{WordFault}
 use Rattle.run_words.specs.declared.fault.WordFault.TheVariants as fault
 use Rattle.run_words.specs.Numbers.{is_numeral, number_of}
 use Rattle.run_words.specs.Reading.{number_at}
@@ -22,10 +21,6 @@ numeral_parts (digit ∷ digits) h = (search rules, h)
 pub numeral_is : (word : List ℕ) → (0 < length word) → list_all is_ascii_digit word ≡ is_numeral word
 numeral_is [] h = absurd (omega arith)
 numeral_is (digit ∷ digits) h = refl
-
-pub no_numeral_is : (word : List ℕ) → length word ≡ 0 → false ≡ is_numeral word
-no_numeral_is [] h = refl
-no_numeral_is (digit ∷ digits) h = absurd (omega arith)
 
 -- what a numeral that `parse` refuses is
 refused_is_big : {E : Type 0} (word : List ℕ) (r : Result ℕ E) (e : E) → ParsesUnsigned 64 10 word r → r ≡ Err e → is_numeral word ≡ true → 2 ^ 64 ≤ number_of word

@@ -1,15 +1,15 @@
 -- What reading gives is in the relations.
-use Rattle.std.proofs.Common.{◌≡◌, ◌≢◌, ℕ, ◌+◌, ◌≤◌, Bool, true, false, ◌⊎◌, inl, inr, List, [], ◌∷◌, ◌++◌, length, Option, Some, None, IfSome, IsSome, Result, Ok, Err, refl, ap, sym, ◌∙◌, subst, codes, arith, rules, nat_le, ◌&&◌, append_assoc, length-append}
+use Rattle.std.proofs.Common.{◌≡◌, ◌≢◌, ℕ, ◌+◌, ◌≤◌, Bool, true, false, ◌⊎◌, inl, inr, List, [], ◌∷◌, ◌++◌, length, Option, Some, None, IfSome, IsSome, Result, Ok, Err, refl, ap, sym, ◌∙◌, subst, codes, arith, nat_le, ◌&&◌, append_assoc, length-append}
 use Rattle.std.specs.List.{flat_map}
 use Rattle.std.specs.Str.{bytes_eq}
 use Rattle.std.proofs.lemmas.Slice.Eq.{bytes_eq-Decides}
 use Rattle.std.proofs.lemmas.Bool.Decides.{nat_tests}
 use mathlib.Core.Bool.{cond}
 use Rattle.run_words.specs.Numbers.{is_numeral, number_of}
-use Rattle.run_words.specs.Options.{setting_word, flag_word, option_word, takes, no_options, has_flag, has_setting, with_flag}
+use Rattle.run_words.specs.Options.{setting_word, flag_word, no_options, has_flag, has_setting, with_flag}
 use Rattle.run_words.specs.Commands.{begins_with_dash, keyword_word, run_set, mean_set}
 use Rattle.run_words.specs.Reading.{option_of, keyword_named, ◌>>=◌, number_at, with_setting, Wanted, AnOption, ItsValue, after_option, reads, reads_gen, reads_after, reads_first, reads_words}
-use Rattle.run_words.specs.Words.{Choice, Alone, Set, words_of, range_of, IsInRange, IsNumber, IsOpen, MayFollow, with_value, with_choice, Follow, Leads, AreValues, Say, IsCommand, IsWrong, OptionFault, GenFault, IsFurther, FaultBehind, HasFault}
+use Rattle.run_words.specs.Words.{Choice, Alone, Set, words_of, range_of, IsInRange, IsNumber, IsOpen, MayFollow, with_value, with_choice, Leads, Say, IsCommand, IsWrong, OptionFault, HasFault}
 use Rattle.run_words.specs.declared.fault.WordFault.{WordFault}
 use Rattle.run_words.specs.declared.fault.WordFault.TheVariants as fault
 use Rattle.run_words.specs.declared.command.Keyword.{Keyword}
@@ -18,7 +18,6 @@ use Rattle.run_words.specs.declared.command.Command.{Command}
 use Rattle.run_words.specs.declared.command.Command.TheVariants as command
 use Rattle.run_words.specs.declared.options.Runner.{Runner}
 use Rattle.run_words.specs.declared.options.Runner.TheVariants as runner
-use Rattle.run_words.specs.declared.options.Flag.{Flag}
 use Rattle.run_words.specs.declared.options.Setting.{Setting}
 use Rattle.run_words.specs.declared.options.Setting.TheVariants as setting
 use Rattle.run_words.specs.declared.options.Named.{Named}

@@ -1,5 +1,5 @@
 -- The options of `run` and `mean`.
-use Rattle.std.specs.Prelude.{◌≡◌, ℕ, Bool, true, false, List, [], ◌∷◌, Option, Some, None, is_some, codes}
+use Rattle.std.specs.Prelude.{ℕ, Bool, true, false, List, None, is_some, codes}
 use Rattle.run_words.specs.declared.options.Runner.{Runner}
 use Rattle.run_words.specs.declared.options.Runner.TheVariants as runner
 use Rattle.run_words.specs.declared.options.Flag.{Flag}
