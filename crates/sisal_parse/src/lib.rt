@@ -1,6 +1,10 @@
 //! From the tokens of a SISAL text to its tree.
 #![tactic(auto)]
 
+mod mark;
+mod sizes;
+mod table;
 mod tree;
+mod values;
 
 pub use tree::Expr;
