@@ -6,3 +6,4 @@ pub mod Actions
 pub mod Stack
 pub mod Plan
 pub mod Sizes
+pub mod Saying
