@@ -1,3 +1,6 @@
 pub mod Chains
 pub mod TokenClasses
 pub mod Sound
+pub mod Complete
+pub mod Depths
+pub mod Plans

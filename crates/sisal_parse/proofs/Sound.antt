@@ -400,7 +400,7 @@ keeps_each : EachBelow 22 (λ p. KeepsAt (language.head p) (language.body p) (pl
 unfolding language plan
 keeps_each = (keeps_0, (keeps_1, (keeps_2, (keeps_3, (keeps_4, (keeps_5, (keeps_6, (keeps_7, (keeps_8, (keeps_9, (keeps_10, (keeps_11, (keeps_12, (keeps_13, (keeps_14, (keeps_15, (keeps_16, (keeps_17, (keeps_18, (keeps_19, (keeps_20, (keeps_21, tt))))))))))))))))))))))
 
-productions_are : language.productions ≡ 22
+pub productions_are : language.productions ≡ 22
 unfolding language
 productions_are = refl
 

@@ -1,6 +1,7 @@
 //! From the tokens of a SISAL text to its tree.
 #![tactic(auto)]
 
+mod build;
 mod mark;
 mod sizes;
 mod table;
