@@ -369,7 +369,7 @@ words_built (suc n) =
       reads = word_reads (further n) w.marks w.reads;
     }
 
-integers_are : (e : Expr) (es : List Expr) → integers (e ∷ es) ≡ kind.Word word.WInteger ∷ further (length es)
+pub integers_are : (e : Expr) (es : List Expr) → integers (e ∷ es) ≡ kind.Word word.WInteger ∷ further (length es)
 integers_are e [] = refl
 integers_are e (f ∷ es) = ap (λ l. kind.Word word.WInteger ∷ kind.Sign sign.SComma ∷ l) (integers_are f es)
 
@@ -408,10 +408,10 @@ unit_reads x n us es count l =
     }
 
 -- a list of results has a first
-Filled : List Expr → Type 0
+pub Filled : List Expr → Type 0
 Filled es = (e : Expr) × (fs : List Expr) × (es ≡ e ∷ fs)
 
-filled : {ts : List Kind} {es : List Expr} → IsList ts es → Filled es
+pub filled : {ts : List Kind} {es : List Expr} → IsList ts es → Filled es
 unfolding Filled
 filled (only {ts} {e} d) = (e, [], refl)
 filled (next {ts} {us} {e} {es} d k) = (e, es, refl)

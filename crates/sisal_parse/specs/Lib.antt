@@ -1,3 +1,4 @@
+pub mod Closed
 pub mod Form
 pub mod Grammar
 pub mod Language
@@ -7,3 +8,4 @@ pub mod Stack
 pub mod Plan
 pub mod Sizes
 pub mod Saying
+pub mod Reading

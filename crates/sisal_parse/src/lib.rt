@@ -2,10 +2,13 @@
 #![tactic(auto)]
 
 mod build;
+mod closed;
+mod first;
 mod mark;
 mod sizes;
 mod table;
 mod tree;
 mod values;
 
+pub use first::{first_form, one_program};
 pub use tree::Expr;
