@@ -408,11 +408,10 @@ unit_reads x n us es count l =
     }
 
 -- a list of results has a first
-pub Filled : List Expr → Type 0
+abbrev pub Filled : List Expr → Type 0
 Filled es = (e : Expr) × (fs : List Expr) × (es ≡ e ∷ fs)
 
 pub filled : {ts : List Kind} {es : List Expr} → IsList ts es → Filled es
-unfolding Filled
 filled (only {ts} {e} d) = (e, [], refl)
 filled (next {ts} {us} {e} {es} d k) = (e, es, refl)
 
@@ -425,5 +424,4 @@ unit_of x us es e fs is l =
     subst (λ ks. UnitBuilt x (kind.Word word.WDefine ∷ kind.Id x ∷ kind.Word word.WFunction ∷ kind.Id x ∷ kind.Sign sign.SOpenParen ∷ kind.Word word.WReturns ∷ (ks ++ close)) es) (sym words) (unit_reads x (length fs) us es count l)
 
 pub unit_built : {x : ℕ} {ts : List Kind} {es : List Expr} → IsUnit x ts es → UnitBuilt x ts es
-unfolding Filled
 unit_built (unit {x} {ts} {es} d) = let f : Filled es = filled d in unit_of x ts es f.0 f.1 f.2 (list_built d)

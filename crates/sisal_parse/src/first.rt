@@ -78,7 +78,7 @@ fn is_named_main(tokens: &Tokens, name: u32) -> bool
     ensures { IsTrue result ↔ (slice_get tokens.now.names name ≡ Some (codes "main")) }
 {
     match item_at(tokens.names.as_slice(), name as usize) {
-        Some(text) => text.as_slice() == b"main",
+        Some(text) => text.as_slice() == b"main".as_slice(),
         None => false,
     }
 }
