@@ -1,3 +1,11 @@
 pub mod Closed
 pub mod Form
 pub mod Grammar
+pub mod Language
+pub mod Marks
+pub mod Actions
+pub mod Stack
+pub mod Plan
+pub mod Sizes
+pub mod Saying
+pub mod Reading
