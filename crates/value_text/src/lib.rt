@@ -2,5 +2,7 @@
 #![tactic(auto)]
 
 mod print;
+mod scalars;
+mod token;
 
 pub use print::print_value;
