@@ -1,1 +1,4 @@
 pub mod Numbers
+pub mod Parts
+pub mod Steps
+pub mod Sound

@@ -10,6 +10,10 @@ use Rattle.flow_value.specs.declared.ty.Ty.TheOpen.{Ty-F}
 use Rattle.flow_value.specs.declared.ty.Ty.TheViews.{out-Ty}
 use Rattle.value_text.specs.Tokens.{◌>>=◌, or_else, past_blanks, sign_in, word_in, number_in, integer_in, item_in}
 
+abbrev pub is_nil : List ℕ → Bool
+is_nil [] = true
+is_nil (c ∷ t) = false
+
 abbrev pub Reader : Type 0
 Reader = List ℕ → Option (Val × List ℕ)
 
@@ -66,8 +70,8 @@ with_part v (Some p) = Some (v ∷ p.0, p.1)
 
 -- parts up to the closing byte, at most so many; `gap` drops what may stand between them
 unfoldable pub many_in : (List ℕ → List ℕ) → Reader → ℕ → ℕ → List ℕ → Option (List Val × List ℕ)
-many_in gap part close zero t = with_rest [] (sign_in close (gap t))
-many_in gap part close (suc n) t = or_else (with_rest [] (sign_in close (gap t))) (part (gap t) >>= λ p. with_part p.0 (many_in gap part close n p.1))
+many_in gap part close zero s = with_rest [] (sign_in close s)
+many_in gap part close (suc n) s = or_else (with_rest [] (sign_in close s)) (part s >>= λ p. with_part p.0 (many_in gap part close n (gap p.1)))
 
 -- one part for each field
 abbrev pub fields_in : (Ty → Reader) → List (List ℕ × Ty) → List ℕ → Option (List Val × List ℕ)
@@ -91,10 +95,10 @@ abbrev pub bound_in : List ℕ → Option (ℤ × List ℕ)
 bound_in s = sign_in 91 s >>= λ a. integer_in (past_blanks a) >>= λ p. with_rest p.0 (sign_in 58 (past_blanks p.1))
 
 unfoldable pub array_in : Reader → Reader
-array_in part s = bound_in s >>= λ p. many_in past_blanks part 93 4194304 p.1 >>= array_read p.0
+array_in part s = bound_in s >>= λ p. many_in past_blanks part 93 4194304 (past_blanks p.1) >>= array_read p.0
 
 unfoldable pub stream_in : Reader → Reader
-stream_in part s = sign_in 123 s >>= λ a. many_in past_blanks part 125 4194304 a >>= λ p. Some (val.Stream p.0, p.1)
+stream_in part s = sign_in 123 s >>= λ a. many_in past_blanks part 125 4194304 (past_blanks a) >>= λ p. Some (val.Stream p.0, p.1)
 
 -- a character between the quotes of a text
 abbrev pub char_of : ℕ × List ℕ → Option (Val × List ℕ)
@@ -112,7 +116,7 @@ has_room below [] = true
 has_room below (v ∷ vs) = nat_lt 0 below
 
 abbrev pub text_read : ℕ → List Val × List ℕ → Option (Val × List ℕ)
-text_read below p = if has_room below p.0 then Some (val.Arr (bounded (pos 1) p.0), p.1) else None
+text_read below p = if has_room below p.0 then array_read (pos 1) p else None
 
 unfoldable pub text_in : ℕ → Reader
 text_in below s = sign_in 34 s >>= λ a. many_in no_gap char_item 34 4194304 a >>= text_read below
@@ -166,3 +170,10 @@ part_in (suc n) ty s = level_in n (part_in n) ty s
 
 abbrev pub value_in : ℕ → Ty → Reader
 value_in below ty s = level_in below (part_in below) ty s
+
+abbrev pub at_end : Val × List ℕ → Option Val
+at_end p = if is_nil (past_blanks p.1) then Some p.0 else None
+
+-- the value that the whole text spells at the type, with at most 63 levels below its own
+abbrev pub text_value : List ℕ → Ty → Option Val
+text_value text ty = value_in 63 ty (past_blanks text) >>= at_end

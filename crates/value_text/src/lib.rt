@@ -1,8 +1,14 @@
 //! The text of values: how a value is printed, and what a text spells.
 #![tactic(auto)]
 
+mod fault;
 mod print;
+mod read;
 mod scalars;
+mod spelling;
+mod survey;
 mod token;
 
+pub use fault::ValueFault;
 pub use print::print_value;
+pub use read::read_value;

@@ -13,7 +13,7 @@ pub fn front(text: &[u8], at: usize) -> Option<u8>
     if at < text.len() { Some(text[at]) } else { None }
 }
 
-fn is_blank(c: u8) -> bool
+pub fn is_blank(c: u8) -> bool
     ensures { result ≡ is_blank c }
 {
     c == b' ' || c == b'\n' || c == b'\r' || c == b'\t'
@@ -49,13 +49,13 @@ fn is_row_end(text: &[u8], at: usize) -> bool
     }
 }
 
-fn is_digit(c: u8) -> bool
+pub fn is_digit(c: u8) -> bool
     ensures { result ≡ is_digit c }
 {
     48 <= c && c <= 57
 }
 
-fn is_letter(c: u8) -> bool
+pub fn is_letter(c: u8) -> bool
     ensures { result ≡ is_letter c }
 {
     65 <= c && c <= 90 || 97 <= c && c <= 122
@@ -174,7 +174,7 @@ fn escape(text: &[u8], at: usize) -> Option<(u8, usize)>
     Some((c, at + 1))
 }
 
-fn is_plain(quote: u8, c: u8) -> bool
+pub fn is_plain(quote: u8, c: u8) -> bool
     ensures { result ≡ is_plain quote c }
 {
     32 <= c && c <= 126 && c != b'\\' && c != quote
