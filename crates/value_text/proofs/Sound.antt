@@ -15,7 +15,7 @@ use Rattle.flow_value.specs.declared.ty.Ty.TheViews.{out-Ty, roll-Ty, the_lemmas
 use Rattle.value_text.specs.Tokens.{◌>>=◌, or_else, past_blanks, sign_in, word_in, number_in, integer_in, signed_by, not_negative, negated, fitting, fits_64, item_in, escape_in, escape_of, hex_in, hex_digit, is_plain}
 use Rattle.value_text.specs.Reading.{Reader, with_rest, cause_in, cause_after, closed_error, error_in, int_of, int_in, bool_in, null_in, char_in, with_part, many_in, fields_in, is_within, array_of, array_read, bound_in, array_in, stream_in, char_of, char_item, no_gap, has_room, text_read, text_in, record_in, tag_in, small_tag, content_in, union_in, text_at, typed_in, level_in, part_in, value_in, at_end, text_value, is_nil}
 use Rattle.value_text.specs.Grammar.{Sign, Word, Number, Integer, plain, minus, Item, itself, escaped, coded, cause_word, Spelling, Because, Values, FieldValues, CharacterItem, Alternative, error, error_because, integer, yes, no, character, nil, array, text, stream, fields, union, PartAt, reads_value}
-use Rattle.value_text.proofs.Steps.{bind_some, or_else_some, with_rest_some, sign_sound, word_sound, number_sound}
+use Rattle.value_text.proofs.Steps.{bind_some, or_else_some, with_rest_some, sign_sound, sign_complete, word_sound, number_sound}
 
 -- ---- integers
 
@@ -113,3 +113,71 @@ pub because_sound : (s : List ℕ) (c : Cause) (r : List ℕ) → cause_after s 
 because_sound s c r e =
     let b = bind_some (sign_in 40 (past_blanks s)) (λ (t : List ℕ). cause_in (past_blanks t)) (c, r) e in
     record { inner = b.0; opened = sign_sound 40 (past_blanks s) b.0 b.1; word = cause_sound (past_blanks b.0) c r b.2 }
+
+because_complete_word : (c : Cause) (s r : List ℕ) → Word (cause_word c) s r → cause_in s ≡ Some (c, r)
+because_complete_word cause.Overflow s r h = rw (h.spelled, h.alone) refl
+because_complete_word cause.Zero s r h = rw (h.spelled, h.alone) refl
+because_complete_word cause.Bounds s r h = rw (h.spelled, h.alone) refl
+because_complete_word cause.Empty s r h = rw (h.spelled, h.alone) refl
+because_complete_word cause.Size s r h = rw (h.spelled, h.alone) refl
+because_complete_word cause.Tag s r h = rw (h.spelled, h.alone) refl
+because_complete_word cause.Explicit s r h = rw (h.spelled, h.alone) refl
+
+pub because_complete : (c : Cause) (s r : List ℕ) → Because c s r → cause_after s ≡ Some (c, r)
+because_complete c s r h = rw (sign_complete 40 (past_blanks s) h.inner h.opened) (because_complete_word c (past_blanks h.inner) r h.word)
+
+none_some : {A : Type 0} (x : A) → None ≡ Some x → ⊥
+none_some x e = cc
+
+closed_sound : (below : ℕ) (Part : Spelling) (ty : Ty) (s a : List ℕ) (o : Option (Cause × List ℕ)) (v : Val) (r : List ℕ) → Word (codes "error") s a → cause_after a ≡ o → closed_error a o ≡ Some (v, r) → Alternative below Part ty s v r
+closed_sound below Part ty s a None v r w e h =
+    let p = some_pair_parts (val.Err cause.Explicit) v a r h in
+    error (subst (λ (x : List ℕ). Word (codes "error") s x) p.1 w) (λ c t b. none_some (c, t) (sym e ∙ because_complete c a t (rw p.1 b))) (sym p.0)
+closed_sound below Part ty s a (Some q) v r w e h =
+    let p = with_rest_some (val.Err q.0) v (sign_in 41 (past_blanks q.1)) r h in
+    error_because q.0 a q.1 w (because_sound a q.0 q.1 e) (sign_sound 41 (past_blanks q.1) r p.0) (sym p.1)
+
+pub error_sound : (below : ℕ) (Part : Spelling) (ty : Ty) (s : List ℕ) (v : Val) (r : List ℕ) → error_in s ≡ Some (v, r) → Alternative below Part ty s v r
+unfolding error_in
+error_sound below Part ty s v r e =
+    let b = bind_some (word_in (codes "error") s) (λ (a : List ℕ). closed_error a (cause_after a)) (v, r) e in
+    closed_sound below Part ty s b.0 (cause_after b.0) v r (word_sound (codes "error") s b.0 b.1) refl b.2
+
+-- ---- parts
+
+with_part_some : (v : Val) (o : Option (List Val × List ℕ)) (vs : List Val) (r : List ℕ) → with_part v o ≡ Some (vs, r) → (ws : List Val) × (o ≡ Some (ws, r)) × (v ∷ ws ≡ vs)
+with_part_some v None vs r e = absurd cc
+with_part_some v (Some p) vs r e = let q = some_pair_parts (v ∷ p.0) vs p.1 r e in (p.0, ap (λ (x : List ℕ). Some (p.0, x)) q.1, q.0)
+
+pub many_sound : (gap : List ℕ → List ℕ) (part : Reader) (Part : List ℕ → Val → List ℕ → Type 0) → ((s : List ℕ) (v : Val) (r : List ℕ) → part s ≡ Some (v, r) → Part s v r) → (close n : ℕ) (s : List ℕ) (vs : List Val) (r : List ℕ) → many_in gap part close n s ≡ Some (vs, r) → Values gap Part close s vs r × (length vs ≤ n)
+unfolding many_in
+many_sound gap part Part ih close zero s vs r e =
+    let p = with_rest_some [] vs (sign_in close s) r e in
+    subst (λ (x : List Val). Values gap Part close s x r × (length x ≤ 0)) p.1 (sign_sound close s r p.0, omega arith)
+many_sound gap part Part ih close (suc n) s vs r e =
+    elim (or_else_some _ _ _ e) [
+      | inl h ↦
+        let p = with_rest_some [] vs (sign_in close s) r h in
+        subst (λ (x : List Val). Values gap Part close s x r × (length x ≤ suc n)) p.1 (sign_sound close s r p.0, omega arith)
+      | inr h ↦
+        let b = bind_some (part s) (λ (p : Val × List ℕ). with_part p.0 (many_in gap part close n (gap p.1))) (vs, r) h.1 in
+        let w = with_part_some b.0.0 (many_in gap part close n (gap b.0.1)) vs r b.2 in
+        let rest = many_sound gap part Part ih close n (gap b.0.1) w.0 r w.1 in
+        subst (λ (x : List Val). Values gap Part close s x r × (length x ≤ suc n)) w.2 ((b.0.1, ih s b.0.0 b.0.1 b.1, rest.0), omega (arith, rest.1))
+    ]
+
+pub fields_sound : (part : Ty → Reader) (Part : Spelling) → ((ty : Ty) (s : List ℕ) (v : Val) (r : List ℕ) → part ty s ≡ Some (v, r) → Part ty s v r) → (fs : List (List ℕ × Ty)) (s : List ℕ) (vs : List Val) (r : List ℕ) → fields_in part fs s ≡ Some (vs, r) → FieldValues Part fs s vs r
+fields_sound part Part ih [] s vs r e =
+    let p = some_pair_parts [] vs s r e in
+    subst (λ (x : List Val). FieldValues Part [] s x r) p.0 p.1
+fields_sound part Part ih (f ∷ fs) s vs r e =
+    let b = bind_some (part f.1 (past_blanks s)) (λ (p : Val × List ℕ). with_part p.0 (fields_in part fs p.1)) (vs, r) e in
+    let w = with_part_some b.0.0 (fields_in part fs b.0.1) vs r b.2 in
+    let rest = fields_sound part Part ih fs b.0.1 w.0 r w.1 in
+    subst (λ (x : List Val). FieldValues Part (f ∷ fs) s x r) w.2 (b.0.1, ih f.1 (past_blanks s) b.0.0 b.0.1 b.1, rest)
+
+pub char_item_sound : (s : List ℕ) (v : Val) (r : List ℕ) → char_item s ≡ Some (v, r) → CharacterItem s v r
+char_item_sound s v r e =
+    let b = bind_some (item_in 34 s) char_of (v, r) e in
+    let p = some_pair_parts (val.Char b.0.0) v b.0.1 r b.2 in
+    (b.0.0, sym p.0, item_sound 34 b.0.0 s r (b.1 ∙ ap (λ (x : List ℕ). Some (b.0.0, x)) p.1))
