@@ -3,3 +3,4 @@ pub mod Parts
 pub mod Steps
 pub mod Sound
 pub mod Levels
+pub mod Complete
