@@ -4,7 +4,8 @@ use Rattle.std.specs.Prelude.{codes, nat_le}
 use Rattle.std.specs.List.{list_all}
 use Rattle.std.proofs.lemmas.Bool.{eqb-true, eq-eqb, eqb_tells, ltb-true, lt-ltb, leb-true, le-leb}
 use Rattle.std.proofs.lemmas.Option.{same_Some, some_pair_parts, cond_some}
-use Rattle.flow_value.specs.Bounds.{bounded}
+use Rattle.flow_value.specs.Bounds.{bounded, is_few, is_within}
+use Rattle.flow_value.specs.Scalar.{fits_64}
 use Rattle.flow_value.specs.declared.cause.Cause.{Cause}
 use Rattle.flow_value.specs.declared.cause.Cause.TheVariants as cause
 use Rattle.flow_value.specs.declared.value.Val.{Val}
@@ -13,8 +14,8 @@ use Rattle.flow_value.specs.declared.ty.Ty.{Ty}
 use Rattle.flow_value.specs.declared.ty.Ty.TheVariants as type
 use Rattle.flow_value.specs.declared.ty.Ty.TheOpen.{Ty-F}
 use Rattle.flow_value.specs.declared.ty.Ty.TheViews.{out-Ty}
-use Rattle.value_text.specs.Tokens.{◌>>=◌, or_else, past_blanks, sign_in, word_in, number_in, integer_in, signed_by, not_negative, negated, fitting, fits_64, is_digit, item_in, escape_in, escape_of, hex_in, hex_digit, is_plain}
-use Rattle.value_text.specs.Reading.{Reader, with_rest, cause_in, cause_after, closed_error, error_in, int_of, int_in, bool_in, null_in, char_in, with_part, many_in, fields_in, is_within, array_of, array_read, bound_in, array_in, stream_in, char_of, char_item, no_gap, has_room, text_read, text_in, record_in, tag_in, small_tag, content_in, union_in, text_at, typed_in, level_in, part_in, value_in}
+use Rattle.value_text.specs.Tokens.{◌>>=◌, or_else, past_blanks, sign_in, word_in, number_in, integer_in, signed_by, not_negative, negated, fitting, is_digit, item_in, escape_in, escape_of, hex_in, hex_digit, is_plain}
+use Rattle.value_text.specs.Reading.{Reader, with_rest, cause_in, cause_after, closed_error, error_in, int_of, int_in, bool_in, null_in, char_in, with_part, many_in, fields_in, array_of, array_read, bound_in, array_in, stream_in, char_of, char_item, no_gap, has_room, text_read, text_in, record_in, tag_in, small_tag, content_in, union_in, text_at, typed_in, level_in, part_in, value_in}
 use Rattle.value_text.specs.Grammar.{Sign, Word, Number, Integer, plain, minus, Item, itself, escaped, coded, cause_word, Spelling, Because, Values, FieldValues, CharacterItem, Alternative, error, error_because, integer, yes, no, character, nil, array, text, stream, fields, union, PartAt}
 use Rattle.value_text.proofs.Steps.{sign_complete, sign_sound, word_complete, number_complete}
 use Rattle.value_text.proofs.Sound.{because_sound, because_complete}
@@ -109,7 +110,7 @@ typed_e below part Ty-F.Char t = refl
 typed_e below part Ty-F.Null t = refl
 typed_e below part (Ty-F.Arr u) t = text_at_e below (out-Ty u) t
 typed_e below part (Ty-F.Stream u) t = refl
-typed_e below part (Ty-F.Rec fs) t = both_none (nat_le (length fs) 4194304)
+typed_e below part (Ty-F.Rec fs) t = both_none (is_few (length fs))
 typed_e below part (Ty-F.Uni fs) t = refl
 
 -- nothing begins as an array ends
@@ -132,7 +133,7 @@ typed_b below part Ty-F.Char t = refl
 typed_b below part Ty-F.Null t = refl
 typed_b below part (Ty-F.Arr u) t = text_at_b below (out-Ty u) t
 typed_b below part (Ty-F.Stream u) t = refl
-typed_b below part (Ty-F.Rec fs) t = both_none (nat_le (length fs) 4194304)
+typed_b below part (Ty-F.Rec fs) t = both_none (is_few (length fs))
 typed_b below part (Ty-F.Uni fs) t = refl
 
 -- nothing begins as a stream ends
@@ -155,7 +156,7 @@ typed_s below part Ty-F.Char t = refl
 typed_s below part Ty-F.Null t = refl
 typed_s below part (Ty-F.Arr u) t = text_at_s below (out-Ty u) t
 typed_s below part (Ty-F.Stream u) t = refl
-typed_s below part (Ty-F.Rec fs) t = both_none (nat_le (length fs) 4194304)
+typed_s below part (Ty-F.Rec fs) t = both_none (is_few (length fs))
 typed_s below part (Ty-F.Uni fs) t = refl
 
 pub part_b : (n : ℕ) (ty : Ty) (t : List ℕ) → part_in n ty (93 ∷ t) ≡ None
@@ -250,7 +251,7 @@ module _ (below : ℕ) (part : Ty → Reader) (Part : Spelling) (ih : (ty : Ty) 
   unfolding stream_in
   stream_read element vs s a r o h few = rw (sign_complete 123 s a o, many_complete past_blanks (part element) (Part element) (ih element) 125 (s_none element) 4194304 (past_blanks a) vs r few h) refl
 
-  record_read : (fs : List (List ℕ × Ty)) (vs : List Val) (s a b r : List ℕ) → Sign 60 s a → FieldValues Part fs a vs b → nat_le (length fs) 4194304 ≡ true → Sign 62 (past_blanks b) r → record_in part fs s ≡ Some (val.Rec vs, r)
+  record_read : (fs : List (List ℕ × Ty)) (vs : List Val) (s a b r : List ℕ) → Sign 60 s a → FieldValues Part fs a vs b → is_few (length fs) ≡ true → Sign 62 (past_blanks b) r → record_in part fs s ≡ Some (val.Rec vs, r)
   unfolding record_in
   record_read fs vs s a b r o h few e = rw (few, sign_complete 60 s a o, fields_complete part Part ih fs a vs b h, sign_complete 62 (past_blanks b) r e) refl
 

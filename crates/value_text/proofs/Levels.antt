@@ -3,7 +3,8 @@ use Rattle.std.proofs.Common.{◌≡◌, ℕ, zero, suc, ◌+◌, ◌-◌, ◌*�
 use Rattle.std.specs.Prelude.{codes, nat_le}
 use Rattle.std.proofs.lemmas.Bool.{eqb-true, eq-eqb, ltb-true, leb-true}
 use Rattle.std.proofs.lemmas.Option.{same_Some, some_pair_parts, cond_some}
-use Rattle.flow_value.specs.Bounds.{bounded}
+use Rattle.flow_value.specs.Bounds.{bounded, is_few, is_within}
+use Rattle.flow_value.specs.Scalar.{fits_64}
 use Rattle.flow_value.specs.declared.cause.Cause.{Cause}
 use Rattle.flow_value.specs.declared.cause.Cause.TheVariants as cause
 use Rattle.flow_value.specs.declared.value.Val.{Val}
@@ -12,8 +13,8 @@ use Rattle.flow_value.specs.declared.ty.Ty.{Ty}
 use Rattle.flow_value.specs.declared.ty.Ty.TheVariants as type
 use Rattle.flow_value.specs.declared.ty.Ty.TheOpen.{Ty-F}
 use Rattle.flow_value.specs.declared.ty.Ty.TheViews.{out-Ty, roll-Ty, the_lemmas}
-use Rattle.value_text.specs.Tokens.{◌>>=◌, or_else, past_blanks, sign_in, word_in, number_in, integer_in, fits_64, item_in}
-use Rattle.value_text.specs.Reading.{Reader, with_rest, error_in, int_of, int_in, bool_in, null_in, char_in, many_in, fields_in, is_within, array_of, array_read, bound_in, array_in, stream_in, char_item, no_gap, has_room, text_read, text_in, record_in, tag_in, small_tag, content_in, union_in, text_at, typed_in, level_in, part_in, value_in}
+use Rattle.value_text.specs.Tokens.{◌>>=◌, or_else, past_blanks, sign_in, word_in, number_in, integer_in, item_in}
+use Rattle.value_text.specs.Reading.{Reader, with_rest, error_in, int_of, int_in, bool_in, null_in, char_in, many_in, fields_in, array_of, array_read, bound_in, array_in, stream_in, char_item, no_gap, has_room, text_read, text_in, record_in, tag_in, small_tag, content_in, union_in, text_at, typed_in, level_in, part_in, value_in}
 use Rattle.value_text.specs.Grammar.{Sign, Word, Number, Integer, Item, Spelling, Values, FieldValues, CharacterItem, Alternative, error, error_because, integer, yes, no, character, nil, array, text, stream, fields, union, PartAt}
 use Rattle.value_text.proofs.Steps.{bind_some, or_else_some, with_rest_some, sign_sound, word_sound, number_sound}
 use Rattle.value_text.proofs.Sound.{integer_sound, item_sound, error_sound, many_sound, fields_sound, char_item_sound}
@@ -125,7 +126,7 @@ module _ (below : ℕ) (part : Ty → Reader) (Part : Spelling) (ih : (ty : Ty) 
   record_sound : (ty : Ty) (fs : List (List ℕ × Ty)) (s : List ℕ) (v : Val) (r : List ℕ) → ty ≡ type.Rec fs → record_in part fs s ≡ Some (v, r) → Alternative below Part ty s v r
   unfolding record_in
   record_sound ty fs s v r t e =
-      let g = guard_some (nat_le (length fs) 4194304) (sign_in 60 s >>= (λ (a : List ℕ). fields_in part fs a >>= (λ (p : List Val × List ℕ). with_rest (val.Rec p.0) (sign_in 62 (past_blanks p.1))))) (v, r) e in
+      let g = guard_some (is_few (length fs)) (sign_in 60 s >>= (λ (a : List ℕ). fields_in part fs a >>= (λ (p : List Val × List ℕ). with_rest (val.Rec p.0) (sign_in 62 (past_blanks p.1))))) (v, r) e in
       let b = bind_some (sign_in 60 s) (λ (a : List ℕ). fields_in part fs a >>= (λ (p : List Val × List ℕ). with_rest (val.Rec p.0) (sign_in 62 (past_blanks p.1)))) (v, r) g.1 in
       let m = bind_some (fields_in part fs b.0) (λ (p : List Val × List ℕ). with_rest (val.Rec p.0) (sign_in 62 (past_blanks p.1))) (v, r) b.2 in
       let w = with_rest_some (val.Rec m.0.0) v (sign_in 62 (past_blanks m.0.1)) r m.2 in

@@ -3,7 +3,8 @@ use Rattle.std.proofs.Common.{◌≡◌, ℕ, zero, suc, ◌+◌, ◌-◌, ◌*�
 use Rattle.std.specs.Prelude.{codes, nat_le}
 use Rattle.std.proofs.lemmas.Bool.{eqb-true, eq-eqb, ltb-true, leb-true}
 use Rattle.std.proofs.lemmas.Option.{same_Some, some_pair_parts, cond_some}
-use Rattle.flow_value.specs.Bounds.{bounded}
+use Rattle.flow_value.specs.Bounds.{bounded, is_few, is_within}
+use Rattle.flow_value.specs.Scalar.{fits_64}
 use Rattle.flow_value.specs.declared.cause.Cause.{Cause}
 use Rattle.flow_value.specs.declared.cause.Cause.TheVariants as cause
 use Rattle.flow_value.specs.declared.value.Val.{Val}
@@ -12,8 +13,8 @@ use Rattle.flow_value.specs.declared.ty.Ty.{Ty}
 use Rattle.flow_value.specs.declared.ty.Ty.TheVariants as type
 use Rattle.flow_value.specs.declared.ty.Ty.TheOpen.{Ty-F}
 use Rattle.flow_value.specs.declared.ty.Ty.TheViews.{out-Ty, roll-Ty, the_lemmas}
-use Rattle.value_text.specs.Tokens.{◌>>=◌, or_else, past_blanks, sign_in, word_in, number_in, integer_in, signed_by, not_negative, negated, fitting, fits_64, item_in, escape_in, escape_of, hex_in, hex_digit, is_plain}
-use Rattle.value_text.specs.Reading.{Reader, with_rest, cause_in, cause_after, closed_error, error_in, int_of, int_in, bool_in, null_in, char_in, with_part, many_in, fields_in, is_within, array_of, array_read, bound_in, array_in, stream_in, char_of, char_item, no_gap, has_room, text_read, text_in, record_in, tag_in, small_tag, content_in, union_in, text_at, typed_in, level_in, part_in, value_in, at_end, text_value, is_nil}
+use Rattle.value_text.specs.Tokens.{◌>>=◌, or_else, past_blanks, sign_in, word_in, number_in, integer_in, signed_by, not_negative, negated, fitting, item_in, escape_in, escape_of, hex_in, hex_digit, is_plain}
+use Rattle.value_text.specs.Reading.{Reader, with_rest, cause_in, cause_after, closed_error, error_in, int_of, int_in, bool_in, null_in, char_in, with_part, many_in, fields_in, array_of, array_read, bound_in, array_in, stream_in, char_of, char_item, no_gap, has_room, text_read, text_in, record_in, tag_in, small_tag, content_in, union_in, text_at, typed_in, level_in, part_in, value_in, at_end, text_value, is_nil}
 use Rattle.value_text.specs.Grammar.{Sign, Word, Number, Integer, plain, minus, Item, itself, escaped, coded, cause_word, Spelling, Because, Values, FieldValues, CharacterItem, Alternative, error, error_because, integer, yes, no, character, nil, array, text, stream, fields, union, PartAt, reads_value}
 use Rattle.value_text.proofs.Steps.{bind_some, or_else_some, with_rest_some, sign_sound, sign_complete, word_sound, number_sound}
 

@@ -8,15 +8,16 @@
 -- may stand before and after every token.
 use Rattle.std.specs.Prelude.{◌≡◌, ◌≢◌, ◌<◌, ◌≤◌, ◌+◌, ◌-◌, ◌*◌, ◌^◌, ℕ, zero, suc, ℤ, pos, ◌-ℤ◌, Bool, true, false, List, [], ◌∷◌, ◌++◌, length, Some, slice_get, codes, nat_le, ◌&&◌}
 use Rattle.std.specs.List.{list_all}
-use Rattle.flow_value.specs.Bounds.{bounded}
+use Rattle.flow_value.specs.Bounds.{bounded, is_few, is_within}
 use Rattle.flow_value.specs.declared.cause.Cause.{Cause}
 use Rattle.flow_value.specs.declared.cause.Cause.TheVariants as cause
 use Rattle.flow_value.specs.declared.value.Val.{Val}
 use Rattle.flow_value.specs.declared.value.Val.TheVariants as val
 use Rattle.flow_value.specs.declared.ty.Ty.{Ty}
 use Rattle.flow_value.specs.declared.ty.Ty.TheVariants as type
-use Rattle.value_text.specs.Tokens.{past_blanks, ends_row, is_digit, is_plain, escape_of, hex_digit, fits_64}
-use Rattle.value_text.specs.Reading.{is_within, has_room, no_gap}
+use Rattle.value_text.specs.Tokens.{past_blanks, ends_row, is_digit, is_plain, escape_of, hex_digit}
+use Rattle.flow_value.specs.Scalar.{fits_64}
+use Rattle.value_text.specs.Reading.{has_room, no_gap}
 
 -- ---- tokens
 
@@ -103,7 +104,7 @@ pub data Alternative (below : ℕ) (Part : Spelling) (ty : Ty) (s : List ℕ) (v
   array : (element : Ty) (lo : ℤ) (vs : List Val) (a b c : List ℕ) → ty ≡ type.Arr element → Sign 91 s a → Integer lo (past_blanks a) b → fits_64 lo ≡ true → Sign 58 (past_blanks b) c → Values past_blanks (Part element) 93 (past_blanks c) vs r → is_within lo (length vs) ≡ true → v ≡ val.Arr (bounded lo vs) → Alternative below Part ty s v r
   text : (vs : List Val) (a : List ℕ) → ty ≡ type.Arr type.Char → Sign 34 s a → Values no_gap CharacterItem 34 a vs r → is_within (pos 1) (length vs) ≡ true → has_room below vs ≡ true → v ≡ val.Arr (bounded (pos 1) vs) → Alternative below Part ty s v r
   stream : (element : Ty) (vs : List Val) (a : List ℕ) → ty ≡ type.Stream element → Sign 123 s a → Values past_blanks (Part element) 125 (past_blanks a) vs r → length vs ≤ 4194304 → v ≡ val.Stream vs → Alternative below Part ty s v r
-  fields : (fs : List (List ℕ × Ty)) (vs : List Val) (a b : List ℕ) → ty ≡ type.Rec fs → Sign 60 s a → FieldValues Part fs a vs b → nat_le (length fs) 4194304 ≡ true → Sign 62 (past_blanks b) r → v ≡ val.Rec vs → Alternative below Part ty s v r
+  fields : (fs : List (List ℕ × Ty)) (vs : List Val) (a b : List ℕ) → ty ≡ type.Rec fs → Sign 60 s a → FieldValues Part fs a vs b → is_few (length fs) ≡ true → Sign 62 (past_blanks b) r → v ≡ val.Rec vs → Alternative below Part ty s v r
   union : (tags : List (List ℕ × Ty)) (n : ℕ) (tag : List ℕ × Ty) (w : Val) (a b c d : List ℕ) → ty ≡ type.Uni tags → Sign 40 s a → Number n (past_blanks a) b → n < 2 ^ 32 → Sign 58 (past_blanks b) c → slice_get tags n ≡ Some tag → Part tag.1 (past_blanks c) w d → Sign 41 (past_blanks d) r → v ≡ val.Uni n w → Alternative below Part ty s v r
 
 -- a part, where so many levels are left

@@ -1,6 +1,6 @@
 -- How a value is read at a type from the front of a text, one token after another.
-use Rattle.std.specs.Prelude.{ℕ, zero, suc, ◌^◌, ℤ, pos, ◌+ℤ◌, int_le, Bool, true, false, ◌&&◌, not, nat_lt, nat_le, if◌then◌else◌, List, [], ◌∷◌, length, Option, Some, None, slice_get, codes}
-use Rattle.flow_value.specs.Bounds.{bounded}
+use Rattle.std.specs.Prelude.{ℕ, zero, suc, ◌^◌, ℤ, pos, Bool, true, false, nat_lt, if◌then◌else◌, List, [], ◌∷◌, length, Option, Some, None, slice_get, codes}
+use Rattle.flow_value.specs.Bounds.{bounded, is_few, is_within}
 use Rattle.flow_value.specs.declared.cause.Cause.{Cause}
 use Rattle.flow_value.specs.declared.cause.Cause.TheVariants as cause
 use Rattle.flow_value.specs.declared.value.Val.{Val}
@@ -80,10 +80,6 @@ fields_in part (f ∷ fs) t = part f.1 (past_blanks t) >>= λ p. with_part p.0 (
 
 -- ---- aggregates
 
--- the limits of an array of n elements from `lo`
-abbrev pub is_within : ℤ → ℕ → Bool
-is_within lo n = nat_le n 4194304 && int_le (lo +ℤ pos n) (pos 9223372036854775808)
-
 abbrev pub array_of : ℤ → List Val → Option Val
 array_of lo vs = if is_within lo (length vs) then Some (val.Arr (bounded lo vs)) else None
 
@@ -123,7 +119,7 @@ text_in below s = sign_in 34 s >>= λ a. many_in no_gap char_item 34 4194304 a >
 
 unfoldable pub record_in : (Ty → Reader) → List (List ℕ × Ty) → Reader
 record_in part fs s =
-    if nat_le (length fs) 4194304
+    if is_few (length fs)
     then sign_in 60 s >>= (λ a. fields_in part fs a >>= λ p. with_rest (val.Rec p.0) (sign_in 62 (past_blanks p.1)))
     else None
 

@@ -1,5 +1,6 @@
 -- The tokens of a value text, read from the front. What is read comes with the text behind it.
-use Rattle.std.specs.Prelude.{ℕ, ◌+◌, ◌-◌, ◌*◌, ◌^◌, ℤ, pos, negsuc, ◌-ℤ◌, Bool, true, false, ◌&&◌, ◌||◌, not, ◌==◌, nat_lt, nat_le, if◌then◌else◌, List, [], ◌∷◌, Option, Some, None, option_map, drop}
+use Rattle.std.specs.Prelude.{ℕ, ◌+◌, ◌-◌, ◌*◌, ◌^◌, ℤ, pos, ◌-ℤ◌, Bool, true, false, ◌&&◌, ◌||◌, not, ◌==◌, nat_lt, nat_le, if◌then◌else◌, List, [], ◌∷◌, Option, Some, None, option_map, drop}
+use Rattle.flow_value.specs.Scalar.{fits_64}
 
 infixl 10 ◌>>=◌
 abbrev pub ◌>>=◌ : {A B : Type 0} → Option A → (A → Option B) → Option B
@@ -88,10 +89,6 @@ signed_by s None = option_map not_negative (number_in s)
 signed_by s (Some t) = option_map negated (number_in (past_blanks t))
 
 -- one that fits 64 signed bits
-abbrev pub fits_64 : ℤ → Bool
-fits_64 (pos n) = nat_lt n (2 ^ 63)
-fits_64 (negsuc n) = nat_lt n (2 ^ 63)
-
 abbrev pub fitting : ℤ × List ℕ → Option (ℤ × List ℕ)
 fitting p = if fits_64 p.0 then Some p else None
 

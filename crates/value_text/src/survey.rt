@@ -4,7 +4,7 @@ ghost use Rattle.std.specs.Prelude.{◌<◌};
 
 use crate::scalars::{bound, boolean, character, error, int, null, tag};
 use crate::token::{item, sign, skip};
-use flow_value::{Name, Ty};
+use flow_value::{Name, Ty, array_fits};
 
 /// The most elements of one aggregate.
 const MOST_ELEMENTS: usize = 4194304;
@@ -134,7 +134,7 @@ fn array(ty: Option<&Ty>, levels: usize, text: &[u8], at: usize) -> Option<Seen>
         _ => Wanted::Any,
     };
     let found = parts(&wanted, levels - 1, b']', text, behind)?;
-    if i128::from(lo) + found.count as i128 > 9223372036854775808 {
+    if !array_fits(lo, found.count) {
         return None;
     }
     let fits = matches!(ty, None | Some(Ty::Arr(_)));

@@ -1,6 +1,7 @@
 //! The tokens of a value text, each read at a place of the text.
 ghost use Rattle.std.specs.Prelude.{◌≡◌, ◌+◌, ◌<◌, [], ◌∷◌, drop, length, MatchOption, IfSome, IsTrue, Some, None, if◌then◌else◌};
-ghost use Rattle.value_text.specs.Tokens.{placed, from_place, is_blank, is_digit, is_letter, past_blanks, ends_row, sign_in, word_in, number_from, number_in, in_64_bits, with_digit, fits_64, integer_in, is_plain, hex_digit, hex_in, escape_of, escape_in, item_in};
+ghost use Rattle.value_text.specs.Tokens.{placed, from_place, is_blank, is_digit, is_letter, past_blanks, ends_row, sign_in, word_in, number_from, number_in, in_64_bits, with_digit, integer_in, is_plain, hex_digit, hex_in, escape_of, escape_in, item_in};
+ghost use Rattle.flow_value.specs.Scalar.{fits_64};
 
 /// The byte at a place, if the text goes on there.
 pub fn front(text: &[u8], at: usize) -> Option<u8>
