@@ -199,7 +199,6 @@ few_of : (lo : ℤ) (n : ℕ) → is_within lo n ≡ true → n ≤ 4194304
 few_of lo n h = leb-true _ _ (and_left (nat_le n 4194304) _ h).0
 
 module _ (below : ℕ) (part : Ty → Reader) (Part : Spelling) (ih : (ty : Ty) (s : List ℕ) (v : Val) (r : List ℕ) → Part ty s v r → part ty s ≡ Some (v, r)) (b_none : (ty : Ty) (t : List ℕ) → part ty (93 ∷ t) ≡ None) (s_none : (ty : Ty) (t : List ℕ) → part ty (125 ∷ t) ≡ None) where
-
   typed_level : (ty : Ty) (x : Ty-F Ty) (s : List ℕ) (v : Val) (r : List ℕ) → out-Ty ty ≡ x → typed_in below part x s ≡ Some (v, r) → level_in below part ty s ≡ Some (v, r)
   typed_level ty x s v r o e = rw (o, e) refl
 

@@ -90,7 +90,6 @@ array_read_some lo p v r e =
     (a.0, sym q.0 ∙ a.1, q.1)
 
 module _ (below : ℕ) (part : Ty → Reader) (Part : Spelling) (ih : (ty : Ty) (s : List ℕ) (v : Val) (r : List ℕ) → part ty s ≡ Some (v, r) → Part ty s v r) where
-
   array_sound : (ty element : Ty) (s : List ℕ) (v : Val) (r : List ℕ) → ty ≡ type.Arr element → array_in (part element) s ≡ Some (v, r) → Alternative below Part ty s v r
   unfolding array_in
   array_sound ty element s v r t e =

@@ -4,3 +4,4 @@ pub mod Steps
 pub mod Sound
 pub mod Levels
 pub mod Complete
+pub mod Whole

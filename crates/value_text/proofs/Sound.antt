@@ -53,8 +53,8 @@ hex_sound quote c (h ∷ l ∷ t) r e =
     let w : (cond (nat_le 48 h && nat_le h 55) (option_map (λ low. ((h - 48) * 16 + low, t)) (hex_digit l)) None) ≡ Some (c, r) = e in
     elim (choose_some (nat_le 48 h && nat_le h 55) (option_map (λ (low : ℕ). ((h - 48) * 16 + low, t)) (hex_digit l)) None (c, r) w) [
       | inl p ↦
-        let m = map_some (λ (low : ℕ). ((h - 48) * 16 + low, t)) (hex_digit l) (c, r) p.1 in
-        coded h l m.0 p.0 m.1 (sym (ap (λ (q : ℕ × List ℕ). q.0) m.2)) (ap (λ (q : ℕ × List ℕ). 92 ∷ 120 ∷ h ∷ l ∷ q.1) m.2)
+          let m = map_some (λ (low : ℕ). ((h - 48) * 16 + low, t)) (hex_digit l) (c, r) p.1 in
+          coded h l m.0 p.0 m.1 (sym (ap (λ (q : ℕ × List ℕ). q.0) m.2)) (ap (λ (q : ℕ × List ℕ). 92 ∷ 120 ∷ h ∷ l ∷ q.1) m.2)
       | inr p ↦ absurd (none_some (c, r) p.1)
     ]
   where
@@ -67,8 +67,8 @@ escape_sound quote c (d ∷ t) r e =
     elim (choose_some (eqb d 120) (hex_in t) (option_map (λ (x : ℕ). (x, t)) (escape_of d)) (c, r) e) [
       | inl p ↦ rw (eqb-true d 120 p.0) (hex_sound quote c t r p.1)
       | inr p ↦
-        let m = map_some (λ (x : ℕ). (x, t)) (escape_of d) (c, r) p.1 in
-        escaped d (m.1 ∙ ap (λ (q : ℕ × List ℕ). Some q.0) m.2) (ap (λ (q : ℕ × List ℕ). 92 ∷ d ∷ q.1) m.2)
+          let m = map_some (λ (x : ℕ). (x, t)) (escape_of d) (c, r) p.1 in
+          escaped d (m.1 ∙ ap (λ (q : ℕ × List ℕ). Some q.0) m.2) (ap (λ (q : ℕ × List ℕ). 92 ∷ d ∷ q.1) m.2)
     ]
 
 pub item_sound : (quote c : ℕ) (s r : List ℕ) → item_in quote s ≡ Some (c, r) → Item quote c s r
@@ -77,8 +77,8 @@ item_sound quote c (d ∷ t) r e =
     elim (choose_some (eqb d 92) (escape_in t) (cond (is_plain quote d) (Some (d, t)) None) (c, r) e) [
       | inl p ↦ rw (eqb-true d 92 p.0) (escape_sound quote c t r p.1)
       | inr p ↦
-        let g = cond_some (is_plain quote d) (d, t) (c, r) p.1 in
-        itself (rw (← ap (λ (q : ℕ × List ℕ). q.0) g.1) g.0) (ap (λ (q : ℕ × List ℕ). q.0 ∷ q.1) g.1)
+          let g = cond_some (is_plain quote d) (d, t) (c, r) p.1 in
+          itself (rw (← ap (λ (q : ℕ × List ℕ). q.0) g.1) g.0) (ap (λ (q : ℕ × List ℕ). q.0 ∷ q.1) g.1)
     ]
 
 -- ---- errors
@@ -158,13 +158,13 @@ many_sound gap part Part ih close zero s vs r e =
 many_sound gap part Part ih close (suc n) s vs r e =
     elim (or_else_some _ _ _ e) [
       | inl h ↦
-        let p = with_rest_some [] vs (sign_in close s) r h in
-        subst (λ (x : List Val). Values gap Part close s x r × (length x ≤ suc n)) p.1 (sign_sound close s r p.0, omega arith)
+          let p = with_rest_some [] vs (sign_in close s) r h in
+          subst (λ (x : List Val). Values gap Part close s x r × (length x ≤ suc n)) p.1 (sign_sound close s r p.0, omega arith)
       | inr h ↦
-        let b = bind_some (part s) (λ (p : Val × List ℕ). with_part p.0 (many_in gap part close n (gap p.1))) (vs, r) h.1 in
-        let w = with_part_some b.0.0 (many_in gap part close n (gap b.0.1)) vs r b.2 in
-        let rest = many_sound gap part Part ih close n (gap b.0.1) w.0 r w.1 in
-        subst (λ (x : List Val). Values gap Part close s x r × (length x ≤ suc n)) w.2 ((b.0.1, ih s b.0.0 b.0.1 b.1, rest.0), omega (arith, rest.1))
+          let b = bind_some (part s) (λ (p : Val × List ℕ). with_part p.0 (many_in gap part close n (gap p.1))) (vs, r) h.1 in
+          let w = with_part_some b.0.0 (many_in gap part close n (gap b.0.1)) vs r b.2 in
+          let rest = many_sound gap part Part ih close n (gap b.0.1) w.0 r w.1 in
+          subst (λ (x : List Val). Values gap Part close s x r × (length x ≤ suc n)) w.2 ((b.0.1, ih s b.0.0 b.0.1 b.1, rest.0), omega (arith, rest.1))
     ]
 
 pub fields_sound : (part : Ty → Reader) (Part : Spelling) → ((ty : Ty) (s : List ℕ) (v : Val) (r : List ℕ) → part ty s ≡ Some (v, r) → Part ty s v r) → (fs : List (List ℕ × Ty)) (s : List ℕ) (vs : List Val) (r : List ℕ) → fields_in part fs s ≡ Some (vs, r) → FieldValues Part fs s vs r

@@ -93,9 +93,10 @@ number_sound n (c ∷ t) r e =
     let small = cond_some (ltb (number_from 0 (c ∷ t)).0 (2 ^ 64)) (number_from 0 (c ∷ t)) b.0 b.1 in
     let ended = cond_some (ends_row b.0.1) b.0 (n, r) b.2 in
     let from : number_from (c - 48) t ≡ (n, r) = number_first c t p.0 ∙ small.1 ∙ ended.1 in
-    let d : Digits (c - 48) n t r = subst (λ (q : ℕ × List ℕ). Digits (c - 48) q.0 t q.1) from (digits_of (c - 48) t) in
-    (record { first = c; more = d.row; spelled = ap (λ (x : List ℕ). c ∷ x) d.spelled; digits = rw p.0 d.digits; value = ap (λ (m : ℕ). row_value m d.row) (zero_is (c - 48)) ∙ d.value; alone = rw (← ap (λ (q : ℕ × List ℕ). q.1) ended.1) ended.0 },
-        rw (← ap (λ (q : ℕ × List ℕ). q.0) ended.1, ← ap (λ (q : ℕ × List ℕ). q.0) small.1) (ltb-true _ _ small.0))
+    let d : Digits (c - 48) n t r = subst (λ (q : ℕ × List ℕ). Digits (c - 48) q.0 t q.1) from (digits_of (c - 48) t) in (
+      record { first = c; more = d.row; spelled = ap (λ (x : List ℕ). c ∷ x) d.spelled; digits = rw p.0 d.digits; value = ap (λ (m : ℕ). row_value m d.row) (zero_is (c - 48)) ∙ d.value; alone = rw (← ap (λ (q : ℕ × List ℕ). q.1) ended.1) ended.0 },
+      rw (← ap (λ (q : ℕ × List ℕ). q.0) ended.1, ← ap (λ (q : ℕ × List ℕ). q.0) small.1) (ltb-true _ _ small.0),
+    )
   where
     cond_bind : {A : Type 0} (b : Bool) (o : Option A) (y : A) → cond b o None ≡ Some y → (b ≡ true) × (o ≡ Some y)
     cond_bind true o y e = (refl, e)

@@ -7,6 +7,8 @@ mod read;
 mod scalars;
 mod spelling;
 mod survey;
+#[cfg(test)]
+mod tests;
 mod token;
 
 pub use fault::ValueFault;

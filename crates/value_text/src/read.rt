@@ -1,24 +1,30 @@
 //! What a text spells at a type.
-ghost use Rattle.std.specs.Prelude.{◌≡◌, ◌+◌, ◌<◌, ◌≤◌, ℕ, IfOk, MatchResult, Some, None, ◌⊎◌, drop, length, slice_get};
+ghost use Rattle.std.specs.Prelude.{◌≡◌, ◌+◌, ◌<◌, ◌≤◌, ℕ, IfOk, MatchResult, Some, None, List, drop, length, slice_get};
 ghost use Rattle.std.specs.Option.{option_copied};
 ghost use Rattle.value_text.specs.Tokens.{placed, past_blanks};
 ghost use Rattle.value_text.specs.Reading.{value_in, part_in, many_in, fields_in, array_in, stream_in, record_in, union_in, content_in, typed_in, text_in, text_at, no_gap, char_item, text_value};
+ghost use Rattle.value_text.specs.Grammar.{reads_value};
+ghost use Rattle.flow_value.specs.declared.value.Val.{Val};
+ghost use Rattle.flow_value.specs.declared.ty.Ty.{Ty};
 ghost use Rattle.flow_value.specs.declared.ty.Ty.TheViews.{out-Ty};
 
 use crate::fault::ValueFault;
-use crate::scalars::{array_of, bound, boolean, character, error, int, null, small, tag};
+use crate::scalars::{array_of, boolean, bound, character, error, int, null, small, tag};
 use crate::spelling::first_bad;
 use crate::survey::survey;
 use crate::token::{front, item, sign, skip};
-use flow_value::{Held, Items, Name, NoMemory, Ty, Val, item_at};
+use flow_value::{Held, Items, MOST_ELEMENTS, Name, NoMemory, Ty, Val, item_at};
 use std::alloc::Global;
-
-/// The most elements of one aggregate.
-const MOST_ELEMENTS: usize = 4194304;
 
 /// The value at a place, with so many levels below it.
 #[cycle(value)]
-fn value(alloc: Global, ty: &Ty, below: usize, text: &[u8], at: usize) -> Result<Option<(Val, usize)>, NoMemory>
+fn value(
+    alloc: Global,
+    ty: &Ty,
+    below: usize,
+    text: &[u8],
+    at: usize,
+) -> Result<Option<(Val, usize)>, NoMemory>
     ensures { IfOk result (λ found. value_in below ty.now (drop at text.now) ≡ placed text.now found) }
 {
     match typed(alloc, ty, below, text, at)? {
@@ -28,7 +34,13 @@ fn value(alloc: Global, ty: &Ty, below: usize, text: &[u8], at: usize) -> Result
 }
 
 #[cycle(value)]
-fn typed(alloc: Global, ty: &Ty, below: usize, text: &[u8], at: usize) -> Result<Option<(Val, usize)>, NoMemory>
+fn typed(
+    alloc: Global,
+    ty: &Ty,
+    below: usize,
+    text: &[u8],
+    at: usize,
+) -> Result<Option<(Val, usize)>, NoMemory>
     ensures { IfOk result (λ found. typed_in below (part_in below) (out-Ty ty.now) (drop at text.now) ≡ placed text.now found) }
 {
     match ty {
@@ -48,7 +60,13 @@ fn typed(alloc: Global, ty: &Ty, below: usize, text: &[u8], at: usize) -> Result
 
 /// A part, where so many levels are left.
 #[cycle(value)]
-fn part(alloc: Global, ty: &Ty, levels: usize, text: &[u8], at: usize) -> Result<Option<(Val, usize)>, NoMemory>
+fn part(
+    alloc: Global,
+    ty: &Ty,
+    levels: usize,
+    text: &[u8],
+    at: usize,
+) -> Result<Option<(Val, usize)>, NoMemory>
     ensures { IfOk result (λ found. part_in levels ty.now (drop at text.now) ≡ placed text.now found) }
 {
     if levels == 0 {
@@ -59,7 +77,15 @@ fn part(alloc: Global, ty: &Ty, levels: usize, text: &[u8], at: usize) -> Result
 
 #[cycle(value)]
 #[tactic(auto, unfolding(crate::specs::Reading::many_in))]
-fn parts(alloc: Global, ty: &Ty, levels: usize, close: u8, most: usize, text: &[u8], from: usize) -> Result<Option<(Items, usize)>, NoMemory>
+fn parts(
+    alloc: Global,
+    ty: &Ty,
+    levels: usize,
+    close: u8,
+    most: usize,
+    text: &[u8],
+    from: usize,
+) -> Result<Option<(Items, usize)>, NoMemory>
     ensures { IfOk result (λ found. many_in past_blanks (part_in levels ty.now) close most (drop from text.now) ≡ placed text.now found) }
 {
     let mut items = Items::new(alloc);
@@ -81,7 +107,13 @@ fn parts(alloc: Global, ty: &Ty, levels: usize, close: u8, most: usize, text: &[
 }
 
 #[cycle(value)]
-fn fields_of(alloc: Global, fields: &[(Name, Ty)], levels: usize, text: &[u8], from: usize) -> Result<Option<(Items, usize)>, NoMemory>
+fn fields_of(
+    alloc: Global,
+    fields: &[(Name, Ty)],
+    levels: usize,
+    text: &[u8],
+    from: usize,
+) -> Result<Option<(Items, usize)>, NoMemory>
     ensures { IfOk result (λ found. fields_in (part_in levels) fields.now (drop from text.now) ≡ placed text.now found) }
 {
     let mut items = Items::new(alloc);
@@ -99,13 +131,28 @@ fn fields_of(alloc: Global, fields: &[(Name, Ty)], levels: usize, text: &[u8], f
 
 #[cycle(value)]
 #[tactic(auto, unfolding(crate::specs::Reading::array_in))]
-fn array(alloc: Global, element: &Ty, below: usize, text: &[u8], at: usize) -> Result<Option<(Val, usize)>, NoMemory>
+fn array(
+    alloc: Global,
+    element: &Ty,
+    below: usize,
+    text: &[u8],
+    at: usize,
+) -> Result<Option<(Val, usize)>, NoMemory>
     ensures { IfOk result (λ found. array_in (part_in below element.now) (drop at text.now) ≡ placed text.now found) }
 {
     let Some((lo, behind)) = bound(text, at) else {
         return Ok(None);
     };
-    let Some((items, end)) = parts(alloc, element, below, b']', MOST_ELEMENTS, text, skip(text, behind))? else {
+    let Some((items, end)) = parts(
+        alloc,
+        element,
+        below,
+        b']',
+        MOST_ELEMENTS,
+        text,
+        skip(text, behind),
+    )?
+    else {
         return Ok(None);
     };
     let Some(v) = array_of(lo, items) else {
@@ -116,13 +163,28 @@ fn array(alloc: Global, element: &Ty, below: usize, text: &[u8], at: usize) -> R
 
 #[cycle(value)]
 #[tactic(auto, unfolding(crate::specs::Reading::stream_in))]
-fn stream(alloc: Global, element: &Ty, below: usize, text: &[u8], at: usize) -> Result<Option<(Val, usize)>, NoMemory>
+fn stream(
+    alloc: Global,
+    element: &Ty,
+    below: usize,
+    text: &[u8],
+    at: usize,
+) -> Result<Option<(Val, usize)>, NoMemory>
     ensures { IfOk result (λ found. stream_in (part_in below element.now) (drop at text.now) ≡ placed text.now found) }
 {
     let Some(open) = sign(text, at, b'{') else {
         return Ok(None);
     };
-    let Some((items, end)) = parts(alloc, element, below, b'}', MOST_ELEMENTS, text, skip(text, open))? else {
+    let Some((items, end)) = parts(
+        alloc,
+        element,
+        below,
+        b'}',
+        MOST_ELEMENTS,
+        text,
+        skip(text, open),
+    )?
+    else {
         return Ok(None);
     };
     Ok(Some((Val::Stream(items), end)))
@@ -130,7 +192,13 @@ fn stream(alloc: Global, element: &Ty, below: usize, text: &[u8], at: usize) -> 
 
 #[cycle(value)]
 #[tactic(auto, unfolding(crate::specs::Reading::record_in))]
-fn record(alloc: Global, fields: &[(Name, Ty)], below: usize, text: &[u8], at: usize) -> Result<Option<(Val, usize)>, NoMemory>
+fn record(
+    alloc: Global,
+    fields: &[(Name, Ty)],
+    below: usize,
+    text: &[u8],
+    at: usize,
+) -> Result<Option<(Val, usize)>, NoMemory>
     ensures { IfOk result (λ found. record_in (part_in below) fields.now (drop at text.now) ≡ placed text.now found) }
 {
     if fields.len() > MOST_ELEMENTS {
@@ -150,7 +218,13 @@ fn record(alloc: Global, fields: &[(Name, Ty)], below: usize, text: &[u8], at: u
 
 #[cycle(value)]
 #[tactic(auto, unfolding(crate::specs::Reading::union_in))]
-fn union(alloc: Global, tags: &[(Name, Ty)], below: usize, text: &[u8], at: usize) -> Result<Option<(Val, usize)>, NoMemory>
+fn union(
+    alloc: Global,
+    tags: &[(Name, Ty)],
+    below: usize,
+    text: &[u8],
+    at: usize,
+) -> Result<Option<(Val, usize)>, NoMemory>
     ensures { IfOk result (λ found. union_in (part_in below) tags.now (drop at text.now) ≡ placed text.now found) }
 {
     let Some((n, behind)) = tag(text, at) else {
@@ -163,7 +237,14 @@ fn union(alloc: Global, tags: &[(Name, Ty)], below: usize, text: &[u8], at: usiz
 }
 
 #[cycle(value)]
-fn content(alloc: Global, tags: &[(Name, Ty)], n: u32, below: usize, text: &[u8], at: usize) -> Result<Option<(Val, usize)>, NoMemory>
+fn content(
+    alloc: Global,
+    tags: &[(Name, Ty)],
+    n: u32,
+    below: usize,
+    text: &[u8],
+    at: usize,
+) -> Result<Option<(Val, usize)>, NoMemory>
     ensures { IfOk result (λ found. content_in (part_in below) n (slice_get tags.now n) (drop at text.now) ≡ placed text.now found) }
 {
     let Some((_, ty)) = item_at(tags, n as usize) else {
@@ -179,7 +260,13 @@ fn content(alloc: Global, tags: &[(Name, Ty)], n: u32, below: usize, text: &[u8]
 }
 
 /// The text at a place, where the elements are characters.
-fn text_of(alloc: Global, element: &Ty, below: usize, text: &[u8], at: usize) -> Result<Option<(Val, usize)>, NoMemory>
+fn text_of(
+    alloc: Global,
+    element: &Ty,
+    below: usize,
+    text: &[u8],
+    at: usize,
+) -> Result<Option<(Val, usize)>, NoMemory>
     ensures { IfOk result (λ found. text_at below (out-Ty element.now) (drop at text.now) ≡ placed text.now found) }
 {
     match element {
@@ -189,7 +276,12 @@ fn text_of(alloc: Global, element: &Ty, below: usize, text: &[u8], at: usize) ->
 }
 
 #[tactic(auto, unfolding(crate::specs::Reading::text_in))]
-fn quoted(alloc: Global, below: usize, text: &[u8], at: usize) -> Result<Option<(Val, usize)>, NoMemory>
+fn quoted(
+    alloc: Global,
+    below: usize,
+    text: &[u8],
+    at: usize,
+) -> Result<Option<(Val, usize)>, NoMemory>
     ensures { IfOk result (λ found. text_in below (drop at text.now) ≡ placed text.now found) }
 {
     let Some(open) = sign(text, at, b'"') else {
@@ -208,7 +300,12 @@ fn quoted(alloc: Global, below: usize, text: &[u8], at: usize) -> Result<Option<
 }
 
 #[tactic(auto, unfolding(crate::specs::Reading::many_in))]
-fn characters(alloc: Global, most: usize, text: &[u8], from: usize) -> Result<Option<(Items, usize)>, NoMemory>
+fn characters(
+    alloc: Global,
+    most: usize,
+    text: &[u8],
+    from: usize,
+) -> Result<Option<(Items, usize)>, NoMemory>
     ensures { IfOk result (λ found. many_in no_gap char_item 34 most (drop from text.now) ≡ placed text.now found) }
 {
     let mut items = Items::new(alloc);
@@ -254,12 +351,25 @@ fn fault_of(alloc: Global, text: &[u8], ty: &Ty) -> ValueFault {
     }
 }
 
-/// The value that the text spells at the type.
+/// The value that the text spells at the type, or why it spells none. Blanks may stand before and
+/// after every token.
 pub fn read_value(alloc: Global, text: &[u8], ty: &Ty) -> Result<Val, ValueFault>
-    ensures { MatchResult result (λ v. text_value text.now ty.now ≡ Some v) (λ e. (e ≡ ValueFault.NoMemory) ⊎ (text_value text.now ty.now ≡ None)) }
+    // What is read is in the grammar.
+    ensures ok { IfOk result (λ v. reads_value text.now ty.now v) }
+    // What is in the grammar is read, unless memory runs out.
+    ensures only { (v : Val) → reads_value text.now ty.now v → MatchResult
+        result
+        (λ w. w ≡ v)
+        (λ e. e ≡ ValueFault.NoMemory) }
 {
     match read(alloc, text, ty)? {
         Some(v) => Ok(v),
         None => Err(fault_of(alloc, text, ty)),
     }
+}
+
+/// A text spells one value at a type.
+pub fn spells_one_value()
+    ensures { (text : List ℕ) (ty : Ty) (v w : Val) → reads_value text ty v → reads_value text ty w → v ≡ w }
+{
 }

@@ -4,7 +4,7 @@ ghost use Rattle.value_text.specs.Tokens.{placed, sign_in, past_blanks};
 ghost use Rattle.value_text.specs.Reading.{cause_in, cause_after, closed_error, error_in, int_in, bool_in, null_in, char_in, array_of, text_in, many_in, no_gap, char_item, has_room, bound_in, tag_in, small_tag};
 
 use crate::token::{integer, item, number, sign, skip, word};
-use flow_value::{Cause, Items, Span, Val, array_fits};
+use flow_value::{Cause, Items, Span, Val};
 
 /// The cause of an error that stands at a place.
 fn cause(text: &[u8], at: usize) -> Option<(Cause, usize)>
@@ -132,9 +132,8 @@ pub fn small(n: u64) -> Option<u32>
 pub fn array_of(lo: i64, items: Items) -> Option<Val>
     ensures { array_of lo items ≡ result }
 {
-    if array_fits(lo, items.len()) {
-        Some(Val::Arr(Span::made(lo, items)))
-    } else {
-        None
+    match Span::new(lo, items) {
+        Ok(array) => Some(Val::Arr(array)),
+        Err(_) => None,
     }
 }

@@ -167,7 +167,11 @@ fn go_on(inside: Option<Enclosure>, c: u8) -> Move {
 }
 
 fn ended(inside: Option<Enclosure>, c: u8) -> Move {
-    if is_blank(c) { Move::To(Mode::Ended) } else { go_on(inside, c) }
+    if is_blank(c) {
+        Move::To(Mode::Ended)
+    } else {
+        go_on(inside, c)
+    }
 }
 
 fn behind_error(inside: Option<Enclosure>, c: u8) -> Move {
@@ -237,7 +241,11 @@ fn behind_number(number: Number, inside: Option<Enclosure>, c: u8) -> Move {
 }
 
 fn first_digit(number: Number, c: u8) -> Move {
-    if is_digit(c) { Move::To(Mode::Digits(number)) } else { Move::Bad }
+    if is_digit(c) {
+        Move::To(Mode::Digits(number))
+    } else {
+        Move::Bad
+    }
 }
 
 fn after_item(quoted: Quoted) -> Mode {
@@ -367,5 +375,9 @@ pub fn first_bad(alloc: Global, text: &[u8]) -> Result<Option<usize>, NoMemory> 
             Move::Bad => return Ok(Some(i)),
         }
     }
-    if open.is_empty() && may_end(mode) { Ok(None) } else { Ok(Some(text.len())) }
+    if open.is_empty() && may_end(mode) {
+        Ok(None)
+    } else {
+        Ok(Some(text.len()))
+    }
 }

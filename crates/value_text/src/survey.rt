@@ -2,12 +2,9 @@
 //! than that of its type.
 ghost use Rattle.std.specs.Prelude.{◌<◌};
 
-use crate::scalars::{bound, boolean, character, error, int, null, tag};
+use crate::scalars::{boolean, bound, character, error, int, null, tag};
 use crate::token::{item, sign, skip};
-use flow_value::{Name, Ty, array_fits};
-
-/// The most elements of one aggregate.
-const MOST_ELEMENTS: usize = 4194304;
+use flow_value::{MOST_ELEMENTS, Name, Ty};
 
 /// What was found of a part: where it ends, and the leftmost part in it of another form than that
 /// of its type.
@@ -124,6 +121,12 @@ fn whole(fits: bool, at: usize, end: usize, inside: Option<usize>) -> Seen {
     Seen { end, wrong }
 }
 
+/// Whether the last place of so many elements from `lo` fits 64 signed bits.
+fn bounds_fit(lo: i64, count: usize) -> bool {
+    let last = i128::from(lo) + count as i128 - 1;
+    i64::try_from(last).is_ok()
+}
+
 #[cycle(survey)]
 fn array(ty: Option<&Ty>, levels: usize, text: &[u8], at: usize) -> Option<Seen>
     requires { 0 < levels }
@@ -134,7 +137,7 @@ fn array(ty: Option<&Ty>, levels: usize, text: &[u8], at: usize) -> Option<Seen>
         _ => Wanted::Any,
     };
     let found = parts(&wanted, levels - 1, b']', text, behind)?;
-    if !array_fits(lo, found.count) {
+    if !bounds_fit(lo, found.count) {
         return None;
     }
     let fits = matches!(ty, None | Some(Ty::Arr(_)));

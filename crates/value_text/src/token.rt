@@ -11,7 +11,11 @@ pub fn front(text: &[u8], at: usize) -> Option<u8>
         (λ c. drop at text.now ≡ c ∷ drop (at + 1) text.now) }
     ensures within { IfSome result (λ _. at < length text.now) }
 {
-    if at < text.len() { Some(text[at]) } else { None }
+    if at < text.len() {
+        Some(text[at])
+    } else {
+        None
+    }
 }
 
 pub fn is_blank(c: u8) -> bool
@@ -100,7 +104,11 @@ pub fn number(text: &[u8], from: usize) -> Option<(u64, usize)>
         return None;
     }
     let (n, at) = digits(text, from)?;
-    if is_row_end(text, at) { Some((n, at)) } else { None }
+    if is_row_end(text, at) {
+        Some((n, at))
+    } else {
+        None
+    }
 }
 
 fn narrow(z: i128) -> Option<i64>
@@ -189,5 +197,9 @@ pub fn item(text: &[u8], at: usize, quote: u8) -> Option<(u8, usize)>
     if c == b'\\' {
         return escape(text, at + 1);
     }
-    if is_plain(quote, c) { Some((c, at + 1)) } else { None }
+    if is_plain(quote, c) {
+        Some((c, at + 1))
+    } else {
+        None
+    }
 }
