@@ -1,8 +1,9 @@
 -- What is in the grammar is read.
-use Rattle.std.proofs.Common.{◌≡◌, ◌≢◌, ℕ, zero, suc, ◌+◌, ◌-◌, ◌*◌, ◌^◌, ◌<◌, ◌≤◌, ℤ, pos, negsuc, ◌-ℤ◌, Bool, true, false, cond, not, ◌||◌, ◌&&◌, eqb, ltb, leb, List, [], ◌∷◌, ◌++◌, length, Option, Some, None, refl, sym, ap, subst, ◌∙◌, inl, inr, ◌⊎◌, arith, rules, option_map, slice_get}
+use Rattle.std.proofs.Common.{◌≡◌, ◌≢◌, ℕ, zero, suc, ◌+◌, ◌-◌, ◌*◌, ◌^◌, ◌<◌, ◌≤◌, ℤ, pos, negsuc, neg_ℤ, Bool, true, false, cond, not, ◌||◌, ◌&&◌, eqb, ltb, leb, List, [], ◌∷◌, ◌++◌, length, Option, Some, None, refl, sym, ap, subst, ◌∙◌, inl, inr, ◌⊎◌, arith, rules, option_map, slice_get}
 use Rattle.std.specs.Prelude.{codes, nat_le}
 use Rattle.std.specs.List.{list_all}
-use Rattle.std.proofs.lemmas.Bool.{eqb-true, eq-eqb, eqb_tells, ltb-true, lt-ltb, leb-true, le-leb}
+use Rattle.std.proofs.lemmas.Bool.{eqb-true, eq-eqb, ltb-true, lt-ltb, leb-true, le-leb}
+use Rattle.std.proofs.lemmas.Bool.Decides.{eqb_tells}
 use Rattle.std.proofs.lemmas.Option.{same_Some, some_pair_parts, cond_some}
 use Rattle.flow_value.specs.Bounds.{bounded, is_few, is_within}
 use Rattle.flow_value.specs.Scalar.{fits_64}
@@ -40,20 +41,20 @@ and_left : (a b : Bool) → (a && b) ≡ true → (a ≡ true) × (b ≡ true)
 and_left true b e = (refl, e)
 and_left false b e = absurd cc
 
-minus_small : (n : ℕ) → fits_64 (pos 0 -ℤ pos n) ≡ true → n < 2 ^ 64
+minus_small : (n : ℕ) → fits_64 (neg_ℤ (pos n)) ≡ true → n < 2 ^ 64
 minus_small zero h = omega arith
 minus_small (suc n) h = let p : n < 2 ^ 63 = ltb-true n (2 ^ 63) h in omega (arith, p)
 
 pub integer_complete : (z : ℤ) (s r : List ℕ) → Integer z s r → fits_64 z ≡ true → integer_in s ≡ Some (z, r)
 integer_complete z s r (plain n h e) f =
     let first = (and_left (is_digit h.first) (list_all is_digit h.more) h.digits).0 in
-    let fits : fits_64 (pos n) ≡ true = rw (← e) f in
+    let fits : fits_64 (pos n) ≡ true = subst (λ (x : ℤ). fits_64 x ≡ true) e f in
     let small : n < 2 ^ 63 = ltb-true n (2 ^ 63) fits in
     let none : sign_in 45 s ≡ None = rw (h.spelled, not_minus h.first first) refl in
     let read : number_in s ≡ Some (n, r) = number_complete n s r h (omega (arith, small)) in
     rw (none, read, fits, e) refl
 integer_complete z s r (minus n t o h e) f =
-    let fits : fits_64 (pos 0 -ℤ pos n) ≡ true = rw (← e) f in
+    let fits : fits_64 (neg_ℤ (pos n)) ≡ true = subst (λ (x : ℤ). fits_64 x ≡ true) e f in
     let read : number_in (past_blanks t) ≡ Some (n, r) = number_complete n (past_blanks t) r h (minus_small n fits) in
     rw (sign_complete 45 s t o, read, fits, e) refl
 
@@ -66,7 +67,8 @@ not_x : (d c : ℕ) → escape_of d ≡ Some c → eqb d 120 ≡ false
 not_x d c h = differs d 120 (λ e. none_some c (subst (λ (x : ℕ). escape_of x ≡ Some c) e h))
 
 pub item_complete : (quote c : ℕ) (s r : List ℕ) → Item quote c s r → item_in quote s ≡ Some (c, r)
-item_complete quote c s r (itself p e) = rw (e, not_backslash quote c p, p) refl
+item_complete quote c s r (itself p e) =
+    ap (item_in quote) e ∙ ap (λ (b : Bool). cond b (escape_in r) (cond (is_plain quote c) (Some (c, r)) None)) (not_backslash quote c p) ∙ ap (λ (b : Bool). cond b (Some (c, r)) None) p
 item_complete quote c s r (escaped d p e) = rw (e, not_x d c p, p) refl
 item_complete quote c s r (coded high low n p d v e) = rw (e, p, d, v) refl
 
@@ -86,9 +88,9 @@ error_in_alone s r w h = rw (word_complete (codes "error") s r w, no_cause r (ca
 
 -- ---- what begins otherwise
 
-both_none : {A : Type 0} (b : Bool) → cond b None None ≡ None {A = A}
-both_none true = refl
-both_none false = refl
+both_none : {A : Type 0} (o : Option A) (b : Bool) → cond b o o ≡ o
+both_none o true = refl
+both_none o false = refl
 
 -- nothing of a type begins as an error does
 text_at_e : (below : ℕ) (x : Ty-F Ty) (t : List ℕ) → text_at below x (101 ∷ t) ≡ None
@@ -110,7 +112,7 @@ typed_e below part Ty-F.Char t = refl
 typed_e below part Ty-F.Null t = refl
 typed_e below part (Ty-F.Arr u) t = text_at_e below (out-Ty u) t
 typed_e below part (Ty-F.Stream u) t = refl
-typed_e below part (Ty-F.Rec fs) t = both_none (is_few (length fs))
+typed_e below part (Ty-F.Rec fs) t = both_none None (is_few (length fs))
 typed_e below part (Ty-F.Uni fs) t = refl
 
 -- nothing begins as an array ends
@@ -133,7 +135,7 @@ typed_b below part Ty-F.Char t = refl
 typed_b below part Ty-F.Null t = refl
 typed_b below part (Ty-F.Arr u) t = text_at_b below (out-Ty u) t
 typed_b below part (Ty-F.Stream u) t = refl
-typed_b below part (Ty-F.Rec fs) t = both_none (is_few (length fs))
+typed_b below part (Ty-F.Rec fs) t = both_none None (is_few (length fs))
 typed_b below part (Ty-F.Uni fs) t = refl
 
 -- nothing begins as a stream ends
@@ -156,7 +158,7 @@ typed_s below part Ty-F.Char t = refl
 typed_s below part Ty-F.Null t = refl
 typed_s below part (Ty-F.Arr u) t = text_at_s below (out-Ty u) t
 typed_s below part (Ty-F.Stream u) t = refl
-typed_s below part (Ty-F.Rec fs) t = both_none (is_few (length fs))
+typed_s below part (Ty-F.Rec fs) t = both_none None (is_few (length fs))
 typed_s below part (Ty-F.Uni fs) t = refl
 
 pub part_b : (n : ℕ) (ty : Ty) (t : List ℕ) → part_in n ty (93 ∷ t) ≡ None

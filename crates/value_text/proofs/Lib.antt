@@ -5,3 +5,5 @@ pub mod Sound
 pub mod Levels
 pub mod Complete
 pub mod Whole
+pub mod Printing
+pub mod RoundTrip

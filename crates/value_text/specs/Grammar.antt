@@ -6,7 +6,7 @@
 --
 -- A phrase is said of the text s from its first token on and of the text r behind its last one. Blanks
 -- may stand before and after every token.
-use Rattle.std.specs.Prelude.{◌≡◌, ◌≢◌, ◌<◌, ◌≤◌, ◌+◌, ◌-◌, ◌*◌, ◌^◌, ℕ, zero, suc, ℤ, pos, ◌-ℤ◌, Bool, true, false, List, [], ◌∷◌, ◌++◌, length, Some, slice_get, codes, nat_le, ◌&&◌}
+use Rattle.std.specs.Prelude.{◌≡◌, ◌≢◌, ◌<◌, ◌≤◌, ◌+◌, ◌-◌, ◌*◌, ◌^◌, ℕ, zero, suc, ℤ, pos, neg_ℤ, Bool, true, false, List, [], ◌∷◌, ◌++◌, length, Some, slice_get, codes, nat_le, ◌&&◌}
 use Rattle.std.specs.List.{list_all}
 use Rattle.flow_value.specs.Bounds.{bounded, is_few, is_within}
 use Rattle.flow_value.specs.declared.cause.Cause.{Cause}
@@ -46,7 +46,7 @@ pub record Number (n : ℕ) (s r : List ℕ) : Type 0 where
 
 pub data Integer (z : ℤ) (s r : List ℕ) : Type 0 where
   plain : (n : ℕ) → Number n s r → z ≡ pos n → Integer z s r
-  minus : (n : ℕ) (t : List ℕ) → Sign 45 s t → Number n (past_blanks t) r → z ≡ pos 0 -ℤ pos n → Integer z s r
+  minus : (n : ℕ) (t : List ℕ) → Sign 45 s t → Number n (past_blanks t) r → z ≡ neg_ℤ (pos n) → Integer z s r
 
 -- an item between quotes: a byte from 32 to 126 other than the backslash and the closing quote, an
 -- escape, or a code of two hexadecimal digits of value at most 7f

@@ -1,5 +1,5 @@
 -- The tokens of a value text, read from the front. What is read comes with the text behind it.
-use Rattle.std.specs.Prelude.{ℕ, ◌+◌, ◌-◌, ◌*◌, ◌^◌, ℤ, pos, ◌-ℤ◌, Bool, true, false, ◌&&◌, ◌||◌, not, ◌==◌, nat_lt, nat_le, if◌then◌else◌, List, [], ◌∷◌, Option, Some, None, option_map, drop}
+use Rattle.std.specs.Prelude.{ℕ, ◌+◌, ◌-◌, ◌*◌, ◌^◌, ℤ, pos, neg_ℤ, Bool, true, false, ◌&&◌, ◌||◌, not, ◌==◌, nat_lt, nat_le, if◌then◌else◌, List, [], ◌∷◌, Option, Some, None, option_map, drop}
 use Rattle.flow_value.specs.Scalar.{fits_64}
 
 infixl 10 ◌>>=◌
@@ -81,7 +81,7 @@ abbrev pub not_negative : ℕ × List ℕ → ℤ × List ℕ
 not_negative p = (pos p.0, p.1)
 
 abbrev pub negated : ℕ × List ℕ → ℤ × List ℕ
-negated p = (pos 0 -ℤ pos p.0, p.1)
+negated p = (neg_ℤ (pos p.0), p.1)
 
 -- a whole number, where blanks may stand behind the minus
 abbrev pub signed_by : List ℕ → Option (List ℕ) → Option (ℤ × List ℕ)

@@ -1,9 +1,12 @@
 //! What a text spells at a type.
-ghost use Rattle.std.specs.Prelude.{◌≡◌, ◌+◌, ◌<◌, ◌≤◌, ℕ, IfOk, MatchResult, Some, None, List, drop, length, slice_get};
+ghost use Rattle.std.specs.Prelude.{◌≡◌, ◌+◌, ◌<◌, ◌≤◌, ℕ, IfOk, MatchResult, Some, None, IsTrue, List, drop, length, slice_get};
 ghost use Rattle.std.specs.Option.{option_copied};
 ghost use Rattle.value_text.specs.Tokens.{placed, past_blanks};
 ghost use Rattle.value_text.specs.Reading.{value_in, part_in, many_in, fields_in, array_in, stream_in, record_in, union_in, content_in, typed_in, text_in, text_at, no_gap, char_item, text_value};
 ghost use Rattle.value_text.specs.Grammar.{reads_value};
+ghost use Rattle.value_text.specs.Nesting.{nesting, has_small_tags};
+ghost use Rattle.value_text.specs.Printed.{value_bytes};
+ghost use Rattle.flow_value.specs.Well.{is_well};
 ghost use Rattle.flow_value.specs.declared.value.Val.{Val};
 ghost use Rattle.flow_value.specs.declared.ty.Ty.{Ty};
 ghost use Rattle.flow_value.specs.declared.ty.Ty.TheViews.{out-Ty};
@@ -371,5 +374,12 @@ pub fn read_value(alloc: Global, text: &[u8], ty: &Ty) -> Result<Val, ValueFault
 /// A text spells one value at a type.
 pub fn spells_one_value()
     ensures { (text : List ℕ) (ty : Ty) (v w : Val) → reads_value text ty v → reads_value text ty w → v ≡ w }
+{
+}
+
+/// A well typed value of at most 64 levels is read from what is printed of it. Its tags have 32 bits,
+/// as those of every `Val` have.
+pub fn printed_is_read()
+    ensures { (ty : Ty) (v : Val) → IsTrue (is_well ty v) → nesting v ≤ 64 → IsTrue (has_small_tags v) → reads_value (value_bytes v) ty v }
 {
 }

@@ -129,7 +129,7 @@ pub fn integer(text: &[u8], at: usize) -> Option<(i64, usize)>
         }
         Some(behind) => {
             let (n, end) = number(text, skip(text, behind))?;
-            let z = narrow(0 - i128::from(n))?;
+            let z = narrow(-i128::from(n))?;
             Some((z, end))
         }
     }
