@@ -158,7 +158,7 @@ char_printed c r h =
     between : (b : Bool) → eqb c 92 ≡ false → eqb c 39 ≡ false → (leb 32 c && leb c 126) ≡ b → Between c (char_bytes c ++ r) r
     between true p q e = record { from = c ∷ 39 ∷ r; to = 39 ∷ r; opened = rw (p, q, e) refl; item = itself (rw (e, p, q) refl) refl; closed = refl }
     between false p q e =
-        let sixteenth : c / 16 < 8 = div_below c 8 16 (omega arith) (omega (arith, h)) in
+        let sixteenth : c / 16 < 8 = div_below c 16 8 (omega arith) (omega (arith, h)) in
         let ten : ltb (c / 16) 10 ≡ true = lt-ltb (c / 16) 10 (omega (arith, sixteenth)) in
         let high : (leb 48 (48 + c / 16) && leb (48 + c / 16) 55) ≡ true = and_true _ _ (le-leb 48 (48 + c / 16) (omega arith)) (le-leb (48 + c / 16) 55 (omega (arith, sixteenth))) in
         record {

@@ -169,8 +169,8 @@ tag_known fs (Some f) v w = (f, refl, w)
 array_text : (sd ab r : List ℕ) → (codes "[" ++ sd ++ codes ":" ++ ab ++ codes "]") ++ r ≡ 91 ∷ (sd ++ (58 ∷ (ab ++ (93 ∷ r))))
 array_text sd ab r = ap (λ (x : List ℕ). 91 ∷ x) (append_assoc (sd ++ 58 ∷ [] ++ ab) (93 ∷ []) r ∙ append_assoc (sd ++ 58 ∷ []) ab (93 ∷ r) ∙ append_assoc sd (58 ∷ []) (ab ++ (93 ∷ r)))
 
-list_text : (open close : ℕ) (ab r : List ℕ) → (open ∷ [] ++ ab ++ close ∷ []) ++ r ≡ open ∷ (ab ++ (close ∷ r))
-list_text open close ab r = ap (λ (x : List ℕ). open ∷ x) (append_assoc ab (close ∷ []) r)
+list_text : (first close : ℕ) (ab r : List ℕ) → (first ∷ [] ++ ab ++ close ∷ []) ++ r ≡ first ∷ (ab ++ (close ∷ r))
+list_text first close ab r = ap (λ (x : List ℕ). first ∷ x) (append_assoc ab (close ∷ []) r)
 
 union_text : (d p r : List ℕ) → (codes "(" ++ d ++ codes ": " ++ p ++ codes ")") ++ r ≡ 40 ∷ (d ++ (58 ∷ 32 ∷ (p ++ (41 ∷ r))))
 union_text d p r = ap (λ (x : List ℕ). 40 ∷ x) (append_assoc (d ++ 58 ∷ 32 ∷ [] ++ p) (41 ∷ []) r ∙ append_assoc (d ++ 58 ∷ 32 ∷ []) p (41 ∷ r) ∙ append_assoc d (58 ∷ 32 ∷ []) (p ++ (41 ∷ r)))
