@@ -10,5 +10,5 @@ returns-clause-bytes c = λ told is.
     let told_is : drop at bytes ≡ told = cc is in
     let lent : c.as_slice.result.now ≡ bytes = c.as_slice.ensures in
     let moved : take n c.move_front-n.new.to ≡ take n (drop at bytes) =
-        c.move_front-n.ensures.moved ∙ ap (take n) (take-rest at c.as_slice.result.now ∙ ap (drop at) lent) in
+    c.move_front-n.ensures.moved ∙ ap (take n) (take-rest at c.as_slice.result.now ∙ ap (drop at) lent) in
     (drop (at + n) bytes, sym told_is ∙ parted at n bytes ∙ ap (λ ys. ys ++ drop (at + n) bytes) (sym moved), refl)
