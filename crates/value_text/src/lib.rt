@@ -1,0 +1,8 @@
+//! The text of values: how a value is printed, and what a text spells.
+#![tactic(auto)]
+
+mod print;
+mod scalars;
+mod token;
+
+pub use print::print_value;
