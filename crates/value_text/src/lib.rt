@@ -2,7 +2,5 @@
 #![tactic(auto)]
 
 mod print;
-mod scalars;
-mod token;
 
 pub use print::print_value;

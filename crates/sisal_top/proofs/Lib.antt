@@ -1,0 +1,3 @@
+pub mod Graphs
+pub mod Makes
+pub mod Names
