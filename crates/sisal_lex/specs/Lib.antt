@@ -1,0 +1,6 @@
+pub mod Words
+pub mod Signs
+pub mod Quotes
+pub mod Names
+pub mod Heads
+pub mod Tokens

@@ -1,0 +1,5 @@
+pub mod Grown
+pub mod Keys
+pub mod Numbers
+pub mod Lines
+pub mod Turns
