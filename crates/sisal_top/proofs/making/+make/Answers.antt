@@ -48,17 +48,18 @@ define_all-loop-name-preserved t c =
     let old = named c.loop-name.names in
     let now = named c.define.new.names in
     let defines : (y : ℕ) → now y ≡ cond (nat_eq y d.0) c.in_ok-input.input (old y) =
-        λ y. c.in_ok-before.ensures.now y ∙ ap (cond (nat_eq y d.0) c.in_ok-input.input) (c.in_ok-input.ensures.names y) in
+    λ y. c.in_ok-before.ensures.now y ∙ ap (cond (nat_eq y d.0) c.in_ok-input.input) (c.in_ok-input.ensures.names y) in
     let before : c.in_ok-before.before ≡ old d.0 = c.in_ok-before.ensures.before ∙ c.in_ok-input.ensures.names d.0 in
     record {
       scope = λ s h.
-        let u = c.loop-name.invariant.scope s h in
-        let v : Val = value_in d.1 u.0 in
-        ( (d.0, v) ∷ u.0
-        , scope_step c.args.definitions.now k d u.0 within c.loop-name-item.is ∙ u.1
-        , stands-defined (fired c.loop-name.nodes) (fired c.make.new.nodes) old now u.0 d.0 c.in_ok-input.input v c.in_ok-input.ensures.grows defines (c.in_ok-input.ensures.value u.0 u.2) u.2 );
+          let u = c.loop-name.invariant.scope s h in
+          let v : Val = value_in d.1 u.0 in (
+            (d.0, v) ∷ u.0,
+            scope_step c.args.definitions.now k d u.0 within c.loop-name-item.is ∙ u.1,
+            stands-defined (fired c.loop-name.nodes) (fired c.make.new.nodes) old now u.0 d.0 c.in_ok-input.input v c.in_ok-input.ensures.grows defines (c.in_ok-input.ensures.value u.0 u.2) u.2,
+          );
       hidden = λ y.
-        ap (λ (hs : List (ℕ × Input)). undone hs now y) (c.in_ok-add.ensures.ok ∙ ap (λ (b : Input). c.loop-name.hidden ++ (d.0, b) ∷ []) before)
+          ap (λ (hs : List (ℕ × Input)). undone hs now y) (c.in_ok-add.ensures.ok ∙ ap (λ (b : Input). c.loop-name.hidden ++ (d.0, b) ∷ []) before)
           ∙ undone-more c.loop-name.hidden d.0 c.in_ok-input.input old now defines y
           ∙ c.loop-name.invariant.hidden y;
       grows = grows_all (fired c.args.nodes.now) (fired c.loop-name.nodes) (fired c.make.new.nodes) c.loop-name.invariant.grows c.in_ok-input.ensures.grows;

@@ -20,10 +20,11 @@ loop-e-preserved c =
     let after : List Val = fired c.make.new.nodes in
     let given = c.in_ok-input.ensures.value [] (stands-none before (named c.loop-e.names) c.loop-e.invariant.no_names) in
     record {
-      values =
-        ( u.0 ++ v ∷ []
-        , append_assoc u.0 (v ∷ []) (values_of (drop (k + 1) es)) ∙ ap (λ vs. u.0 ++ vs) (sym (values_step es k e within c.e-item.is)) ∙ u.1
-        , subst (λ (is : List Input). GiveAll after is (u.0 ++ v ∷ [])) (sym c.in_ok-add.ensures.ok)
-          (give_all-snoc after c.loop-e.results u.0 c.in_ok-input.input v (give_all-more before after c.loop-e.results u.0 c.in_ok-input.ensures.grows u.2) given) );
+      values = (
+        u.0 ++ v ∷ [],
+        append_assoc u.0 (v ∷ []) (values_of (drop (k + 1) es)) ∙ ap (λ vs. u.0 ++ vs) (sym (values_step es k e within c.e-item.is)) ∙ u.1,
+        subst (λ (is : List Input). GiveAll after is (u.0 ++ v ∷ [])) (sym c.in_ok-add.ensures.ok)
+            (give_all-snoc after c.loop-e.results u.0 c.in_ok-input.input v (give_all-more before after c.loop-e.results u.0 c.in_ok-input.ensures.grows u.2) given),
+      );
       no_names = λ y. c.in_ok-input.ensures.names y ∙ c.loop-e.invariant.no_names y;
     }
