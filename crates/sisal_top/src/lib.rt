@@ -11,3 +11,6 @@ mod status;
 
 pub use call::sisal;
 pub use status::Status;
+
+#[cfg(test)]
+mod tests;
