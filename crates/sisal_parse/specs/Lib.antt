@@ -9,3 +9,4 @@ pub mod Plan
 pub mod Sizes
 pub mod Saying
 pub mod Reading
+pub mod Value
