@@ -120,7 +120,7 @@ fn texts_have_these_tokens_and_names(rt: HostRuntime) -> Result<(), Fail> {
                 let got = shown(rt.alloc(), &tokens)?;
                 assert_eq!(rt; got.as_str(), want);
             }
-            Err(fault) => assert!(rt; false, "{fault:?} in the text of {want}"),
+            Err(fault) => assert!(rt; false, "{fault:?}"),
         }
     }
     Ok(())
