@@ -12,3 +12,6 @@ mod values;
 
 pub use first::{first_form, one_program};
 pub use tree::Expr;
+
+#[cfg(test)]
+mod tests;
