@@ -168,7 +168,8 @@ fn the_first_error_is_given(rt: HostRuntime) -> Result<(), Fail> {
         let all = array_of(1, spoiled(alloc, place)?);
         assert!(rt; agrees::<Gather>(alloc, items.as_slice(), &all)?);
     }
-    let foreign = Items::from_vec(vec![in alloc; Val::Int(1), Val::Null]?);
+    let mut foreign = integers(alloc, &[1])?;
+    foreign.add(Val::Null)?;
     assert!(rt; agrees::<Sum>(alloc, foreign.as_slice(), &Val::Err(Cause::Explicit))?);
     assert!(rt; agrees::<Catenate>(alloc, foreign.as_slice(), &Val::Err(Cause::Explicit))?);
     Ok(())
@@ -186,9 +187,10 @@ fn arrays(alloc: Global, parts: &[(i64, &[i64])]) -> Result<Items, Fail> {
 #[test]
 fn arrays_are_joined_from_the_first_lower_bound(rt: HostRuntime) -> Result<(), Fail> {
     let alloc = rt.alloc();
+    let nothing = Items::new(alloc);
     let none = array_of(1, Items::new(alloc));
-    assert!(rt; agrees::<Catenate>(alloc, [].as_slice(), &none)?);
-    assert!(rt; agrees::<Gather>(alloc, [].as_slice(), &none)?);
+    assert!(rt; agrees::<Catenate>(alloc, nothing.as_slice(), &none)?);
+    assert!(rt; agrees::<Gather>(alloc, nothing.as_slice(), &none)?);
     let three = arrays(
         alloc,
         &[
