@@ -12,7 +12,6 @@ mod product;
 mod reduction;
 mod seen;
 mod sum;
-
 #[cfg(test)]
 mod tests;
 

@@ -7,6 +7,7 @@ use std::process::Abort;
 use std::test::Fail;
 
 const GREATEST: i64 = i64::MAX;
+
 const LEAST: i64 = i64::MIN;
 
 /// The value of three parts, of which the first two are joined first.
@@ -114,7 +115,12 @@ fn products_are_exact_over_the_whole_list(rt: HostRuntime) -> Result<(), Fail> {
     check::<Product>(&rt, alloc, &[3, -1, 4, 1], Ok(-12))?;
     check::<Product>(&rt, alloc, &[4294967296, 2147483648, -1], Ok(LEAST))?;
     check::<Product>(&rt, alloc, &[4611686018427387904, 4, 0], Ok(0))?;
-    check::<Product>(&rt, alloc, &[4611686018427387904, 4, 1], Err(Cause::Overflow))?;
+    check::<Product>(
+        &rt,
+        alloc,
+        &[4611686018427387904, 4, 1],
+        Err(Cause::Overflow),
+    )?;
     check::<Product>(&rt, alloc, &[LEAST, -1], Err(Cause::Overflow))?;
     check::<Product>(&rt, alloc, &[LEAST, -1, -1], Ok(LEAST))?;
     Ok(())
@@ -162,7 +168,8 @@ fn the_first_error_is_given(rt: HostRuntime) -> Result<(), Fail> {
         let all = array_of(1, spoiled(alloc, place)?);
         assert!(rt; agrees::<Gather>(alloc, items.as_slice(), &all)?);
     }
-    let foreign = Items::from_vec(vec![in alloc; Val::Int(1), Val::Null]?);
+    let mut foreign = integers(alloc, &[1])?;
+    foreign.add(Val::Null)?;
     assert!(rt; agrees::<Sum>(alloc, foreign.as_slice(), &Val::Err(Cause::Explicit))?);
     assert!(rt; agrees::<Catenate>(alloc, foreign.as_slice(), &Val::Err(Cause::Explicit))?);
     Ok(())
@@ -171,7 +178,8 @@ fn the_first_error_is_given(rt: HostRuntime) -> Result<(), Fail> {
 fn arrays(alloc: Global, parts: &[(i64, &[i64])]) -> Result<Items, Fail> {
     let mut items = Items::new(alloc);
     for (lo, numbers) in parts {
-        items.add(array_of(*lo, integers(alloc, numbers)?))?;
+        let elements = integers(alloc, numbers)?;
+        items.add(array_of(*lo, elements))?;
     }
     Ok(items)
 }
@@ -179,17 +187,27 @@ fn arrays(alloc: Global, parts: &[(i64, &[i64])]) -> Result<Items, Fail> {
 #[test]
 fn arrays_are_joined_from_the_first_lower_bound(rt: HostRuntime) -> Result<(), Fail> {
     let alloc = rt.alloc();
+    let nothing = Items::new(alloc);
     let none = array_of(1, Items::new(alloc));
-    assert!(rt; agrees::<Catenate>(alloc, [].as_slice(), &none)?);
-    assert!(rt; agrees::<Gather>(alloc, [].as_slice(), &none)?);
-    let three = arrays(alloc, &[(3, [1].as_slice()), (1, [2, 3].as_slice()), (-1, [].as_slice())])?;
+    assert!(rt; agrees::<Catenate>(alloc, nothing.as_slice(), &none)?);
+    assert!(rt; agrees::<Gather>(alloc, nothing.as_slice(), &none)?);
+    let three = arrays(
+        alloc,
+        &[
+            (3, [1].as_slice()),
+            (1, [2, 3].as_slice()),
+            (-1, [].as_slice()),
+        ],
+    )?;
     let whole = array_of(3, integers(alloc, &[1, 2, 3])?);
     assert!(rt; agrees::<Catenate>(alloc, three.as_slice(), &whole)?);
     let far = arrays(alloc, &[(GREATEST, [1].as_slice()), (1, [2].as_slice())])?;
     assert!(rt; agrees::<Catenate>(alloc, far.as_slice(), &Val::Err(Cause::Bounds))?);
     let mut streams = Items::new(alloc);
-    streams.add(stream_of(integers(alloc, &[1])?))?;
-    streams.add(stream_of(integers(alloc, &[2, 3])?))?;
+    let one = integers(alloc, &[1])?;
+    streams.add(stream_of(one))?;
+    let two = integers(alloc, &[2, 3])?;
+    streams.add(stream_of(two))?;
     let stream = stream_of(integers(alloc, &[1, 2, 3])?);
     assert!(rt; agrees::<Catenate>(alloc, streams.as_slice(), &stream)?);
     streams.add(array_of(1, Items::new(alloc)))?;
