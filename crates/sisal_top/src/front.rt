@@ -1,6 +1,5 @@
 //! From the bytes of a text to its trees.
-ghost use Rattle.std.specs.Prelude.{◌≡◌, List, IfOk, Some, None};
-ghost use Rattle.sisal_parse.specs.declared.tree.Expr.{Expr};
+ghost use Rattle.std.specs.Prelude.{◌≡◌, IfOk, IfSome, Ok, None};
 ghost use Rattle.sisal_top.specs.Program.{IsFirstForm, IsText};
 
 use flow_value::{NoMemory, Seq};
@@ -11,8 +10,8 @@ use std::alloc::Global;
 /// The results of the program that a text is, or none exactly where it is no program of the first
 /// form.
 pub fn trees(alloc: Global, text: &[u8]) -> Result<Option<Seq<Expr>>, NoMemory>
-    ensures some { IfOk result (λ read. (es : List Expr) → read ≡ Some es → IsText text.now es) }
-    ensures none { IfOk result (λ read. read ≡ None → IsFirstForm text.now → ⊥) }
+    ensures found { IfOk result (λ read. IfSome read (IsText text.now)) }
+    ensures none { result ≡ Ok None → IsFirstForm text.now → ⊥ }
 {
     match lex(alloc, text) {
         Ok(tokens) => first_form(alloc, &tokens),

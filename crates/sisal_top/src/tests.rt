@@ -21,6 +21,7 @@ fn plan(alloc: Global, calls: &[u64]) -> Result<Plan, Fail> {
 }
 
 /// What a call did: its status, and what its two sinks took.
+#[derive(Drop)]
 struct Ended {
     status: Status,
     out: MemSink,

@@ -1,5 +1,4 @@
 use Rattle.std.proofs.Common.{◌≡◌, List, None, Ok, sym, subst, ◌∙◌}
-use Rattle.std.proofs.lemmas.Result.{IfOk-weaker}
 use Rattle.sisal_lex.specs.declared.token.Tokens.{Tokens}
 use Rattle.sisal_parse.specs.declared.tree.Expr.{Expr}
 use Rattle.sisal_parse.specs.Form.{IsProgram}
@@ -7,10 +6,7 @@ use Rattle.sisal_top.specs.Program.{IsFirstForm, IsText}
 use Rattle.sisal_top.proofs.front.trees.Goals as goal
 
 pub returns-in-Ok-clause-none : goal.returns-in-Ok-clause-none
-returns-in-Ok-clause-none c =
-    IfOk-weaker c.first_form.result (λ read. read ≡ None → (es : List Expr) → IsProgram c.in-Ok.tokens es → ⊥) (λ read. read ≡ None → IsFirstForm c.args.text.now → ⊥)
-    (λ read none is_none form.
+returns-in-Ok-clause-none c = λ is_none form.
     let text : IsText c.args.text.now form.0 = form.1 in
     let same : text.tokens ≡ c.in-Ok.tokens = cc (sym text.lexed ∙ c.in-Ok.ensures.tokens) in
-    none is_none form.0 (subst (λ (t : Tokens). IsProgram t form.0) same text.program))
-    c.first_form.ensures.none
+    c.first_form.ensures.none is_none form.0 (subst (λ (t : Tokens). IsProgram t form.0) same text.program)
