@@ -29,9 +29,9 @@ abbrev pub is_among : ℕ → List ℕ → Bool
 is_among x xs = list_any (nat_eq x) xs
 
 -- no name of a list of definitions stands there twice
-abbrev pub differ : List ℕ → Bool
-differ [] = true
-differ (x ∷ xs) = not (is_among x xs) && differ xs
+abbrev pub all_differ : List ℕ → Bool
+all_differ [] = true
+all_differ (x ∷ xs) = not (is_among x xs) && all_differ xs
 
 -- each definition names only what is defined before it, and then the rest does
 abbrev pub closed_along : List (ℕ × (List ℕ → Bool)) → (List ℕ → Bool) → List ℕ → Bool
@@ -48,7 +48,7 @@ closed_step (Expr-F.Group e) names = e names
 closed_step (Expr-F.Sum a b) names = a names && b names
 closed_step (Expr-F.Difference a b) names = a names && b names
 closed_step (Expr-F.Product a b) names = a names && b names
-closed_step (Expr-F.Let ds e) names = differ (names_of ds) && closed_along ds e names
+closed_step (Expr-F.Let ds e) names = all_differ (names_of ds) && closed_along ds e names
 
 -- each name was defined before in an enclosing `let`, and no list of definitions has a name twice
 abbrev pub is_closed : Expr → List ℕ → Bool
