@@ -64,7 +64,7 @@ more_digits : (n : ℕ) (ds : List ℕ) → 10 ≤ n → Row (n / 10) ds → Row
 more_digits n ds h row =
     let d : ℕ = 48 + n % 10 in
     let value : row_value 0 ((row.first ∷ row.more) ++ d ∷ []) ≡ n =
-        row_value-append 0 (row.first ∷ row.more) d ∙ ap (λ (x : ℕ). x * 10 + (d - 48)) row.value ∙ last (n / 10) (n % 10) ∙ div-add-mod' n 10 in
+    row_value-append 0 (row.first ∷ row.more) d ∙ ap (λ (x : ℕ). x * 10 + (d - 48)) row.value ∙ last (n / 10) (n % 10) ∙ div-add-mod' n 10 in
     record {
       first = row.first;
       more = row.more ++ d ∷ [];
@@ -116,13 +116,13 @@ hex_again m h =
     elim (cases_lt m 10) [
       | inl lt ↦ rw (lt-ltb m 10 lt, digit_is m lt) (ap (λ (x : ℕ). Some x) (low m))
       | inr le ↦
-        let not_digit : leb (87 + m) 57 ≡ false = lt-leb-false (87 + m) 57 (omega (arith, le)) in
-        let not_upper : leb (87 + m) 70 ≡ false = lt-leb-false (87 + m) 70 (omega (arith, le)) in
-        let a : leb 48 (87 + m) ≡ true = le-leb 48 (87 + m) (omega arith) in
-        let b : leb 65 (87 + m) ≡ true = le-leb 65 (87 + m) (omega arith) in
-        let c : leb 97 (87 + m) ≡ true = le-leb 97 (87 + m) (omega (arith, le)) in
-        let d : leb (87 + m) 102 ≡ true = le-leb (87 + m) 102 (omega (arith, h)) in
-        rw (le-ltb m 10 le, a, not_digit, b, not_upper, c, d) (ap (λ (x : ℕ). Some x) (high m))
+          let not_digit : leb (87 + m) 57 ≡ false = lt-leb-false (87 + m) 57 (omega (arith, le)) in
+          let not_upper : leb (87 + m) 70 ≡ false = lt-leb-false (87 + m) 70 (omega (arith, le)) in
+          let a : leb 48 (87 + m) ≡ true = le-leb 48 (87 + m) (omega arith) in
+          let b : leb 65 (87 + m) ≡ true = le-leb 65 (87 + m) (omega arith) in
+          let c : leb 97 (87 + m) ≡ true = le-leb 97 (87 + m) (omega (arith, le)) in
+          let d : leb (87 + m) 102 ≡ true = le-leb (87 + m) 102 (omega (arith, h)) in
+          rw (le-ltb m 10 le, a, not_digit, b, not_upper, c, d) (ap (λ (x : ℕ). Some x) (high m))
     ]
   where
     low : (m : ℕ) → 48 + m - 48 ≡ m

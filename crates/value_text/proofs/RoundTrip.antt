@@ -178,7 +178,6 @@ union_text d p r = ap (λ (x : List ℕ). 40 ∷ x) (append_assoc (d ++ 58 ∷ 3
 -- ---- levels
 
 module _ (n : ℕ) (ih : (u : Ty) (v : Val) → Printed n u v) where
-
   printed_array : (ty u : Ty) (lo : ℤ) (vs : List Val) (r : List ℕ) → ty ≡ type.Arr u → fits_64 lo ≡ true → is_within lo (length vs) ≡ true → list_all (is_well u) vs ≡ true → greatest (map nesting vs) ≤ n → list_all is_so (map has_small_tags vs) ≡ true → Alternative n (PartAt n) ty ((codes "[" ++ signed_decimal lo ++ codes ":" ++ after_blanks (map value_bytes vs) ++ codes "]") ++ r) (val.Arr (bounded lo vs)) r
   printed_array ty u lo vs r et f within w d t =
       let ab : List ℕ = after_blanks (map value_bytes vs) in

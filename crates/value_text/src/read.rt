@@ -374,12 +374,10 @@ pub fn read_value(alloc: Global, text: &[u8], ty: &Ty) -> Result<Val, ValueFault
 /// A text spells one value at a type.
 pub fn spells_one_value()
     ensures { (text : List ℕ) (ty : Ty) (v w : Val) → reads_value text ty v → reads_value text ty w → v ≡ w }
-{
-}
+{}
 
 /// A well typed value of at most 64 levels is read from what is printed of it. Its tags have 32 bits,
 /// as those of every `Val` have.
 pub fn printed_is_read()
     ensures { (ty : Ty) (v : Val) → IsTrue (is_well ty v) → nesting v ≤ 64 → IsTrue (has_small_tags v) → reads_value (value_bytes v) ty v }
-{
-}
+{}
