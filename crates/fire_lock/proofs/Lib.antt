@@ -1,0 +1,10 @@
+pub mod Closes
+pub mod Enters
+pub mod Joins
+pub mod Lists
+pub mod Opens
+pub mod Owned
+pub mod Seats
+pub mod Splits
+pub mod Takes
+pub mod Told
