@@ -68,7 +68,7 @@ module _ {M E R : Type 0} (starts : M → Type 0) (plays : M → ℕ → E → R
 
   -- the words that count sleepers and news are free
   pub counts_it : (slots id word : ℕ) → 0 < word → (me : Sat M E R) (f : ℕ → ℕ) → Allows (Kept starts plays passes origin) slots id me word f (λ _ m. m ≡ me)
-  counts_it slots id zero some_word me f = absurd (omega arith)
+  counts_it slots id zero some_word me f s b wide at small = absurd (omega arith)
   counts_it slots id (suc k) some_word me f s b wide at small = let n : ℕ = f (get_or s.words (suc k) 0) in (
     me.0,
     keeps,
