@@ -155,13 +155,13 @@ impl<M: Machine> FireLock<M> {
         requires lock { Of self.now pass.old }
         requires fits { M.fits (own pass.old.from (pass.old.from + 1) pass.old.seen) event }
         ensures step { Stepped M.starts M.plays self.now.start pass.old event result pass.new }
+        ensures mine { own pass.old.from pass.old.until pass.new.seen ≡ own pass.old.from pass.old.until pass.old.seen ++ entry pass.old.from event result ∷ [] }
+        ensures least { own pass.old.from (pass.old.from + 1) pass.new.seen ≡ own pass.old.from (pass.old.from + 1) pass.old.seen ++ entry pass.old.from event result ∷ [] }
     {
         pass.news = low(self.table.shared.peek(NEWS));
         self.take_turn(rt, &mut pass.seat);
         let reply = self.play(&mut pass.seat, pass.number, event);
-        if M::news(&reply) {
-            self.announce(&mut pass.seat);
-        }
+        self.announce(&mut pass.seat, &reply);
         reply
     }
 
@@ -287,12 +287,15 @@ impl<M: Machine> FireLock<M> {
         }
     }
 
-    // Counts a piece of news, and wakes those that sleep until there is some.
-    fn announce(&self, seat: &mut Seat<M>)
+    // Counts the reply if it is news, and wakes those that sleep until there is some.
+    fn announce(&self, seat: &mut Seat<M>, reply: &M::Reply)
         requires lock { seat.old.table_id ≡ self.now.id }
         ensures lock { seat.new.table_id ≡ seat.old.table_id }
         ensures same { seat.new.me ≡ seat.old.me }
     {
+        if !M::news(reply) {
+            return;
+        }
         let shared = &self.table.shared;
         shared.fetch_add::<Count>(seat, NEWS, 1);
         if shared.peek(IDLE) > 0 {
