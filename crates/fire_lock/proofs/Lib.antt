@@ -5,6 +5,7 @@ pub mod Lists
 pub mod Opens
 pub mod Owned
 pub mod Seats
+pub mod Sent
 pub mod Splits
 pub mod Takes
 pub mod Told

@@ -23,6 +23,10 @@ module _ {M E R : Type 0} where
   abbrev pub Of : LockView M → PassView M E R → Type 0
   Of l v = (v.lock ≡ l.id) × (v.start ≡ Some l.start)
 
+  -- it is the same pass, which may have seen more
+  abbrev pub Same : PassView M E R → PassView M E R → Type 0
+  Same v w = w ≡ record v { seen = w.seen }
+
   -- the pass of a new lock
   abbrev pub whole : LockView M → PassView M E R
   whole l = record { lock = l.id; start = Some l.start; from = 0; until = l.passes; seen = [] }

@@ -10,6 +10,8 @@ mod lock;
 mod machine;
 mod pass;
 mod plays;
+#[cfg(test)]
+mod tests;
 mod view;
 
 pub use entry::Entry;
