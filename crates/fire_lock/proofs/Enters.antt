@@ -1,15 +1,14 @@
 -- A seat enters its event, and gives the machine back.
-use Rattle.std.proofs.Common.{◌≡◌, ℕ, zero, suc, ◌+◌, ◌*◌, ◌%◌, ◌<◌, ◌≤◌, List, [], ◌∷◌, ◌++◌, length, get_or, set, sym, refl, ap, ◌∙◌, subst, arith, append_assoc, append-nil, length-append, le_refl, unwrap_or, Option, None, Some}
+use Rattle.std.proofs.Common.{◌≡◌, ℕ, zero, suc, ◌+◌, ◌*◌, ◌%◌, ◌<◌, List, [], ◌∷◌, ◌++◌, length, get_or, set, sym, refl, ap, ◌∙◌, subst, arith, length-append, le_refl, unwrap_or, Option, None, Some}
 use mathlib.Core.Option.{none, some}
-use lib.ListN.{get_elem?}
 use Rattle.atomic_table.specs.Table.{step, keeps, gives, put_back, rest, Allows}
 use Rattle.atomic_table.proofs.Lists.{set_again}
 use Rattle.fire_lock.specs.declared.entry.Entry.{Entry}
 use Rattle.fire_lock.specs.declared.view.View.{View}
 use Rattle.fire_lock.specs.declared.view.Place.{Place}
 use Rattle.fire_lock.specs.declared.view.Played.{Played}
-use Rattle.fire_lock.specs.History.{entry, own, Continues}
-use Rattle.fire_lock.specs.Rules.{Sat, Fits, Kept, stays, enters}
+use Rattle.fire_lock.specs.History.{entry, Continues}
+use Rattle.fire_lock.specs.Rules.{Sat, Fits, Kept, enters}
 use Rattle.fire_lock.proofs.Lists.{set_one, not_none}
 use Rattle.fire_lock.proofs.Owned.{own_append, own_one, seen_all, goes_on, reached_more}
 use Rattle.fire_lock.proofs.Seats.{seats_stay, single_set}

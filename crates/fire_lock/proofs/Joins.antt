@@ -1,5 +1,5 @@
 -- A seat takes in the next one, and then learns that what both had seen lives on.
-use Rattle.std.proofs.Common.{◌≡◌, ℕ, ◌+◌, ◌<◌, ◌≤◌, ◌≢◌, ◌⊎◌, inl, inr, List, [], get_or, set, sym, refl, ap, ◌∙◌, subst, ⊎_elim, arith, lt_of_not-le, unwrap_or, Option, None, Some}
+use Rattle.std.proofs.Common.{◌≡◌, ℕ, ◌<◌, ◌≤◌, ◌≢◌, ◌⊎◌, inl, inr, List, get_or, set, sym, refl, ap, ◌∙◌, subst, ⊎_elim, arith, lt_of_not-le, unwrap_or, Option, None}
 use mathlib.Core.Logic.{dite}
 use mathlib.Core.Option.{none, some}
 use native.Mathlib.Decide.{dec_le}
@@ -7,10 +7,9 @@ use lib.ListN.{get_elem?}
 use lib.Seq.{set-get_or}
 use Rattle.atomic_table.specs.Table.{step, keeps, Allows, Joins}
 use Rattle.atomic_table.proofs.Lists.{at_set, set_else}
-use Rattle.fire_lock.specs.declared.entry.Entry.{Entry}
 use Rattle.fire_lock.specs.declared.view.View.{View}
 use Rattle.fire_lock.specs.declared.view.Halves.{Halves}
-use Rattle.fire_lock.specs.History.{own, Continues}
+use Rattle.fire_lock.specs.History.{Continues}
 use Rattle.fire_lock.specs.Rules.{Sat, In, Rests, LivesOn, Fits, Kept, spent, glued, settles}
 use Rattle.fire_lock.proofs.Lists.{not_none}
 use Rattle.fire_lock.proofs.Owned.{own_nobody, longer_continues}
@@ -57,31 +56,31 @@ module _ {M E R : Type 0} (starts : M → Type 0) (plays : M → ℕ → E → R
       let l : List (View M E R) = set s.views id both in
       let whole = longer_continues v.seen w.seen b.log v.from v.until w.until fv.seen (subst (λ (z : ℕ). Continues z w.until w.seen b.log) next fw.seen) in
       other_views starts plays passes origin s (record { words = s.words; homes = s.homes; views = set l other spent }) b refl refl
-          (λ h. let o = b.owner h in (
-            o.0,
-            set_else l other b.holder spent (holds_not starts plays passes origin s b other w there' rests'.0 h)
-                ∙ (set_else s.views id b.holder both (holds_not starts plays passes origin s b id v at rests.0 h) ∙ o.1),
-            o.2,
-            o.3,
-          ))
-          (seats_stay (Fits b.log origin b.now b.held b.holder passes) l other spent
-              (record {
-                seen = (b.log, refl, own_nobody 0 b.log);
-                start = λ m e. not_none None m refl e;
-                turn = λ m e. not_none None m refl e;
-                halves = λ h e. not_none None h refl e;
-                until = omega arith;
-              })
-              (λ j y _ e. seats_stay (Fits b.log origin b.now b.held b.holder passes) s.views id both
-              (record {
-                seen = whole.2;
-                start = fv.start;
-                turn = λ m e. not_none v.turn m rests.0 e;
-                halves = λ h e. subst (LivesOn both) (ap (λ (o : Option (Halves E R)). unwrap_or o (record { middle = v.until; first = v.seen; second = w.seen })) e) (whole.0, whole.1);
-                until = fw.until;
-              })
-              (λ j y _ e. b.each j y e) j y e))
-          (single_joined s.views id other v w at there' next b.single)
+      (λ h. let o = b.owner h in (
+        o.0,
+        set_else l other b.holder spent (holds_not starts plays passes origin s b other w there' rests'.0 h)
+            ∙ (set_else s.views id b.holder both (holds_not starts plays passes origin s b id v at rests.0 h) ∙ o.1),
+        o.2,
+        o.3,
+      ))
+      (seats_stay (Fits b.log origin b.now b.held b.holder passes) l other spent
+      (record {
+        seen = (b.log, refl, own_nobody 0 b.log);
+        start = λ m e. not_none None m refl e;
+        turn = λ m e. not_none None m refl e;
+        halves = λ h e. not_none None h refl e;
+        until = omega arith;
+      })
+      (λ j y _ e. seats_stay (Fits b.log origin b.now b.held b.holder passes) s.views id both
+      (record {
+        seen = whole.2;
+        start = fv.start;
+        turn = λ m e. not_none v.turn m rests.0 e;
+        halves = λ h e. subst (LivesOn both) (ap (λ (o : Option (Halves E R)). unwrap_or o (record { middle = v.until; first = v.seen; second = w.seen })) e) (whole.0, whole.1);
+        until = fw.until;
+      })
+      (λ j y _ e. b.each j y e) j y e))
+      (single_joined s.views id other v w at there' next b.single)
 
   pub settles_it : (slots id : ℕ) (me : Sat M E R) → me.0.turn ≡ None → Allows (Kept starts plays passes origin) slots id me 0 (λ n. n) (settles (step slots 0 0 0 none) me)
   settles_it slots id me off s b wide at small = let v : View M E R = me.0 in let fit = b.each id v at in let w : View M E R = record v { halves = None } in (
@@ -91,14 +90,14 @@ module _ {M E R : Type 0} (starts : M → Type 0) (plays : M → ℕ → E → R
     other_views starts plays passes origin s (record { words = set s.words 0 (get_or s.words 0 0); homes = s.homes; views = set s.views id w }) b (set-get_or s.words 0 0) refl
         (λ h. let o = b.owner h in (o.0, set_else s.views id b.holder w (holds_not starts plays passes origin s b id v at off h) ∙ o.1, o.2, o.3))
         (seats_stay (Fits b.log origin b.now b.held b.holder passes) s.views id w
-            (record {
-              seen = fit.seen;
-              start = fit.start;
-              turn = fit.turn;
-              halves = λ h e. not_none None h refl e;
-              until = fit.until;
-            })
-            (λ j y _ e. b.each j y e))
+        (record {
+          seen = fit.seen;
+          start = fit.start;
+          turn = fit.turn;
+          halves = λ h e. not_none None h refl e;
+          until = fit.until;
+        })
+        (λ j y _ e. b.each j y e))
         (single_set s.views id v w at (λ n p. p) b.single),
     (refl, fit.halves),
   )

@@ -1,9 +1,7 @@
 -- The table of a new lock keeps the rule.
-use Rattle.std.proofs.Common.{◌≡◌, ℕ, ◌+◌, ◌<◌, ◌≤◌, List, [], ◌∷◌, sym, refl, ap, ◌∙◌, subst, arith, le_refl, unwrap_or, Option, None, Some}
+use Rattle.std.proofs.Common.{◌≡◌, ℕ, ◌<◌, [], ◌∷◌, sym, refl, ap, ◌∙◌, subst, arith, le_refl, unwrap_or, None}
 use Rattle.atomic_table.specs.Table.{opening}
-use Rattle.fire_lock.specs.declared.view.View.{View}
 use Rattle.fire_lock.specs.declared.view.Place.{Place}
-use Rattle.fire_lock.specs.History.{own}
 use Rattle.fire_lock.specs.Rules.{first, Fits, Kept}
 use Rattle.fire_lock.proofs.Lists.{only, not_none}
 use Rattle.fire_lock.proofs.Owned.{seen_all}

@@ -1,5 +1,5 @@
 -- A seat gives its greatest number away.
-use Rattle.std.proofs.Common.{◌≡◌, ℕ, ◌+◌, ◌-◌, ◌<◌, ◌≤◌, ◌⊎◌, List, [], ◌∷◌, ◌++◌, length, set, sym, refl, ap, ◌∙◌, subst, ⊎_elim, arith, le_refl, None}
+use Rattle.std.proofs.Common.{◌≡◌, ℕ, ◌+◌, ◌-◌, ◌≤◌, List, [], ◌∷◌, ◌++◌, length, set, sym, refl, ◌∙◌, subst, ⊎_elim, arith, le_refl}
 use mathlib.Core.Option.{some}
 use lib.ListN.{get_elem?}
 use Rattle.atomic_table.specs.Table.{Splits}
@@ -36,29 +36,29 @@ splits_it {M} {E} {R} starts plays passes origin id v rests two s b at =
     let fit = b.each id v at in let up = fit.until in
     let left : View M E R = cut_left v in let right : View M E R = cut_right v in
     other_views starts plays passes origin s (record { words = s.words; homes = s.homes; views = set s.views id left ++ right ∷ [] }) b refl refl
-        (λ h. let o = b.owner h in (
-          o.0,
-          at_longer (set s.views id left) (right ∷ []) b.holder o.0
-              (set_else s.views id b.holder left (holds_not starts plays passes origin s b id v at rests.0 h) ∙ o.1),
-          o.2,
-          o.3,
-        ))
-        (λ j y found. ⊎_elim
-            (λ l. seats_stay (Fits b.log origin b.now b.held b.holder passes) s.views id left
-            (record {
-              seen = within v.from v.until v.from (v.until - 1) (le_refl v.from) (omega arith) v.seen b.log fit.seen;
-              start = fit.start;
-              turn = fit.turn;
-              halves = λ h e. not_none v.halves h rests.1 e;
-              until = omega arith;
-            })
-            (λ j y other e. b.each j y e) j y l)
-            (λ (t : (j ≡ length (set s.views id left)) × (right ≡ y)). subst (Fits b.log origin b.now b.held b.holder passes j) t.1 (record {
-              seen = within v.from v.until (v.until - 1) v.until (omega arith) (le_refl v.until) v.seen b.log fit.seen;
-              start = fit.start;
-              turn = λ m e. not_none v.turn m rests.0 e;
-              halves = λ h e. not_none v.halves h rests.1 e;
-              until = fit.until;
-            }))
-            (at_end (set s.views id left) right y j found))
-        (single_apart s.views id v at two b.single)
+    (λ h. let o = b.owner h in (
+      o.0,
+      at_longer (set s.views id left) (right ∷ []) b.holder o.0
+          (set_else s.views id b.holder left (holds_not starts plays passes origin s b id v at rests.0 h) ∙ o.1),
+      o.2,
+      o.3,
+    ))
+    (λ j y found. ⊎_elim
+    (λ l. seats_stay (Fits b.log origin b.now b.held b.holder passes) s.views id left
+    (record {
+      seen = within v.from v.until v.from (v.until - 1) (le_refl v.from) (omega arith) v.seen b.log fit.seen;
+      start = fit.start;
+      turn = fit.turn;
+      halves = λ h e. not_none v.halves h rests.1 e;
+      until = omega arith;
+    })
+    (λ j y other e. b.each j y e) j y l)
+    (λ (t : (j ≡ length (set s.views id left)) × (right ≡ y)). subst (Fits b.log origin b.now b.held b.holder passes j) t.1 (record {
+      seen = within v.from v.until (v.until - 1) v.until (omega arith) (le_refl v.until) v.seen b.log fit.seen;
+      start = fit.start;
+      turn = λ m e. not_none v.turn m rests.0 e;
+      halves = λ h e. not_none v.halves h rests.1 e;
+      until = fit.until;
+    }))
+    (at_end (set s.views id left) right y j found))
+    (single_apart s.views id v at two b.single)

@@ -1,5 +1,5 @@
 -- What the turn of a step lets its machine do, and what a step adds to the entries of its pass.
-use Rattle.std.proofs.Common.{◌≡◌, ℕ, ◌+◌, ◌<◌, ◌≤◌, List, [], ◌∷◌, ◌++◌, sym, ap, ◌∙◌, subst, arith, append-nil, le_refl, unwrap_or, Option, None, Some}
+use Rattle.std.proofs.Common.{◌≡◌, ℕ, ◌+◌, ◌<◌, ◌≤◌, List, [], ◌∷◌, ◌++◌, sym, ap, ◌∙◌, subst, arith, append-nil, le_refl, unwrap_or, None, Some}
 use Rattle.atomic_table.specs.Seated.{TableId}
 use Rattle.fire_lock.specs.declared.entry.Entry.{Entry}
 use Rattle.fire_lock.specs.declared.view.View.{View}

@@ -6,7 +6,6 @@
 
 mod entry;
 mod lock;
-
 mod machine;
 mod pass;
 mod plays;
@@ -16,6 +15,5 @@ mod view;
 
 pub use entry::Entry;
 pub use lock::FireLock;
-
 pub use machine::Machine;
 pub use pass::Pass;

@@ -120,7 +120,6 @@ fn work<R: Wait>(rt: &R, lock: &FireLock<Desk>, pass: &mut Pass<Desk>, rounds: u
     unreachable!()
 }
 
-#[tactic(auto, using(crate::proofs::Sent::pass_send, crate::proofs::Sent::lock_sync))]
 fn team<R: Threads + Wait + Sync>(
     rt: &R,
     lock: &FireLock<Desk>,
@@ -175,7 +174,11 @@ fn each_item_is_finished_once_by_one_two_and_four_passes(rt: HostRuntime) -> Res
         let Ok(end) = run(&rt, rt.alloc(), Desk::new(1000, 1000), count, 0) else {
             panic!(rt; "no memory")
         };
-        assert_eq!(rt; (end.next, end.out, end.sum), (1000, 0, 499_500), "by {count}");
+        assert_eq!(rt;
+            (end.next, end.out, end.sum),
+            (1000, 0, 499_500),
+            "by {count}"
+        );
         assert!(rt; end.plays >= 2000 + count as u64, "by {count}");
     }
     Ok(())

@@ -1,4 +1,4 @@
-use Rattle.std.proofs.Common.{◌≡◌, List, [], ◌∷◌, None, sym, ap, ◌∙◌, subst}
+use Rattle.std.proofs.Common.{List, [], ◌∷◌, None, sym, ◌∙◌, subst}
 use Rattle.atomic_table.specs.Table.{opening}
 use Rattle.fire_lock.specs.declared.view.Place.{Place}
 use Rattle.fire_lock.specs.Rules.{first, Kept}

@@ -1,4 +1,4 @@
-use Rattle.std.proofs.Common.{◌≡◌, ℕ, ◌+◌, ◌<◌, ◌≤◌, arith, le_refl, sym, ap, ◌∙◌, subst}
+use Rattle.std.proofs.Common.{ℕ, ◌+◌, ◌<◌, arith, le_refl, sym, ap, ◌∙◌, subst}
 use Rattle.fire_lock.specs.Passes.{PassView}
 use Rattle.fire_lock.specs.History.{own}
 use Rattle.fire_lock.proofs.Told.{may_play, step_told, step_adds}
@@ -11,15 +11,15 @@ play-reply-requires-clause-turn g c = let t = c.take_turn.ensures.turn in let p 
   ap (λ v. v.turn) t.2.view,
   subst (λ (n : ℕ). g.M.Machine.can t.0.machine n c.args.event) (sym c.pass.invariant.0)
       (may_play g.M.Machine.starts g.M.Machine.plays g.M.Machine.can g.M.Machine.fits g.met.M.Machine.may c.args.self.now.start v _ t.0.machine c.args.event t.2
-          (ap (λ p. p.start) is ∙ c.requires.lock.1) c.pass.invariant.3.2
-          (subst (λ (q : PassView g.row.M.Denot g.row.M-Event.Denot g.row.M-Reply.Denot). g.M.Machine.fits (own q.from (q.from + 1) q.seen) c.args.event) (sym is) c.requires.fits)),
+      (ap (λ p. p.start) is ∙ c.requires.lock.1) c.pass.invariant.3.2
+      (subst (λ (q : PassView g.row.M.Denot g.row.M-Event.Denot g.row.M-Reply.Denot). g.M.Machine.fits (own q.from (q.from + 1) q.seen) c.args.event) (sym is) c.requires.fits)),
 )
 
 pub returns-clause-step : goal.returns-clause-step
 returns-clause-step g c = let v = c.pass.inside.seat.me.0 in let t = c.take_turn.ensures.turn in let played = c.play-reply.ensures.played in let is = c.pass.view_is in
     step_told g.M.Machine.starts g.M.Machine.plays c.pass.inside.seat.table_id c.announce.new.seat.table_id c.args.self.now.start c.args.pass.now v _ _ t.0.machine _ _ _ is
-        (c.announce.ensures.lock ∙ (c.play-reply.ensures.lock ∙ c.take_turn.ensures.lock)) t.2 (ap (λ p. p.start) is ∙ c.requires.lock.1) c.pass.invariant.0
-        played.0 played.1 played.2 played.3 (ap (λ m. m.0) c.announce.ensures.same ∙ c.play-reply.ensures.view)
+    (c.announce.ensures.lock ∙ (c.play-reply.ensures.lock ∙ c.take_turn.ensures.lock)) t.2 (ap (λ p. p.start) is ∙ c.requires.lock.1) c.pass.invariant.0
+    played.0 played.1 played.2 played.3 (ap (λ m. m.0) c.announce.ensures.same ∙ c.play-reply.ensures.view)
 
 pub returns-clause-mine : goal.returns-clause-mine
 returns-clause-mine g c = let is = c.pass.view_is in

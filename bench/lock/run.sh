@@ -1,0 +1,33 @@
+#!/bin/bash
+# Times 20 million steps of the lock with a history beside as many of std::sync::Mutex, one after the other, and prints
+# nanoseconds a step, the least of some rounds. Run it at the top of the repository, on an idle machine.
+set -e
+rounds=${1:-5}
+build=$(mktemp -d)
+trap 'rm -rf "$build"' EXIT
+rustc -O -o "$build/mutex" bench/lock/mutex.rs
+(cd crates/bench_lock && rt run >/dev/null </dev/null)
+lock=${BENCH_LOCK:-$(find crates/bench_lock/out -type f -perm -u+x -name 'bench_lock*' | head -1)}
+[ -x "$lock" ] || { echo "no program bench_lock in crates/bench_lock/out: set BENCH_LOCK" >&2; exit 1; }
+
+nanoseconds() { # the program, the number of workers
+    local begin end
+    begin=$(date +%s%N)
+    "$1" "$2" long >"$build/printed"
+    end=$(date +%s%N)
+    echo $(((end - begin) / 20000))
+}
+
+for workers in 1 2 4; do
+    best_lock= best_mutex=
+    for ((i = 0; i < rounds; i++)); do
+        a=$(nanoseconds "$lock" $workers)
+        cp "$build/printed" "$build/first"
+        b=$(nanoseconds "$build/mutex" $workers)
+        cmp "$build/first" "$build/printed"
+        [ -n "$best_lock" ] && [ "$best_lock" -le "$a" ] || best_lock=$a
+        [ -n "$best_mutex" ] && [ "$best_mutex" -le "$b" ] || best_mutex=$b
+    done
+    awk -v w=$workers -v a="$best_lock" -v b="$best_mutex" \
+        'BEGIN { printf "%d workers: %.1f ns a step, Mutex %.1f ns, ratio %.2f\n", w, a / 1000, b / 1000, a / b }'
+done
