@@ -1,0 +1,15 @@
+pub mod CatenateState
+pub mod Clamped
+pub mod ClampedLaws
+pub mod Elements
+pub mod ExtremeState
+pub mod Folds
+pub mod GatherState
+pub mod Kept
+pub mod LastState
+pub mod Laws
+pub mod ProductState
+pub mod Products
+pub mod Seen
+pub mod SeenLaws
+pub mod SumState

@@ -1,0 +1,103 @@
+//! Cuts the iterations of a `for` into slices that workers can take.
+#![tactic(auto)]
+
+ghost use Rattle.std.specs.Prelude.{◌≡◌, ◌+◌, ◌*◌, ◌/◌, ◌<◌, ◌≤◌, length, IfOk};
+ghost use Rattle.forall_slicer.specs.Slices.{slices, cut_point, Joins};
+
+use flow_value::{NoMemory, Seq};
+use std::alloc::Global;
+
+/// The most slices for each worker, so that a worker that is done early finds another one.
+const SLICES_PER_WORKER: u64 = 4;
+
+/// The iterations from `from` up to and without `to`, counted from 0.
+#[derive(Clone, Copy, Debug, PartialEq, Eq)]
+pub struct Slice {
+    /// The first iteration.
+    pub from: u64,
+    /// One more than the last iteration.
+    pub to: u64,
+}
+
+/// Slices in order.
+pub type Slices = Seq<Slice>;
+
+/// Cuts `n` iterations into at most four slices for each worker, of nearly equal lengths. None of
+/// them is empty, so there are no more slices than iterations, and none at all for `n = 0`.
+pub fn cut(alloc: Global, n: u64, workers: u32) -> Result<Slices, NoMemory>
+    requires { 0 < workers }
+    ensures exact { IfOk result (λ found. found ≡ slices n workers) }
+    // Each slice is non-empty and begins where the one before it ends, from 0 up to n.
+    ensures joins { IfOk result (λ found. Joins 0 n found) }
+    ensures few { IfOk result (λ found. length found ≤ 4 * workers) }
+{
+    let count = n.min(SLICES_PER_WORKER * u64::from(workers));
+    let mut found = Slices::new(alloc);
+    for k in 0..count {
+        found.add(Slice {
+            from: cut_point(n, count, k),
+            to: cut_point(n, count, k + 1),
+        })?;
+    }
+    Ok(found)
+}
+
+/// Where slice `k` of `count` begins, which is where the one before it ends.
+fn cut_point(n: u64, count: u64, k: u64) -> u64
+    requires some { 0 < count }
+    requires within { k ≤ count }
+    ensures { result ≡ cut_point n count k }
+{
+    (u128::from(k) * u128::from(n) / u128::from(count)) as u64
+}
+
+#[cfg(test)]
+mod tests {
+    use super::*;
+    use std::test::Fail;
+
+    #[test]
+    fn slices_of_few_iterations_are_single(rt: HostRuntime) -> Result<(), Fail> {
+        let slices = cut(rt.alloc(), 3, 16)?;
+        let wanted = [
+            Slice { from: 0, to: 1 },
+            Slice { from: 1, to: 2 },
+            Slice { from: 2, to: 3 },
+        ];
+        assert_eq!(rt; slices.as_slice(), wanted.as_slice());
+        assert!(rt; cut(rt.alloc(), 0, 16)?.is_empty());
+        Ok(())
+    }
+
+    #[test]
+    fn ten_iterations_for_one_worker(rt: HostRuntime) -> Result<(), Fail> {
+        let slices = cut(rt.alloc(), 10, 1)?;
+        let wanted = [
+            Slice { from: 0, to: 2 },
+            Slice { from: 2, to: 5 },
+            Slice { from: 5, to: 7 },
+            Slice { from: 7, to: 10 },
+        ];
+        assert_eq!(rt; slices.as_slice(), wanted.as_slice());
+        Ok(())
+    }
+
+    #[test]
+    fn any_workers_share_every_iteration(rt: HostRuntime) -> Result<(), Fail> {
+        for workers in 1..17u32 {
+            for n in 0..140u64 {
+                let slices = cut(rt.alloc(), n, workers)?;
+                let mut next = 0;
+                for slice in slices.as_slice() {
+                    assert_eq!(rt; slice.from, next, "{n} for {workers}");
+                    assert!(rt; slice.from < slice.to, "{n} for {workers}");
+                    next = slice.to;
+                }
+                assert_eq!(rt; next, n, "{n} for {workers}");
+                let wanted = n.min(4 * u64::from(workers));
+                assert_eq!(rt; slices.len() as u64, wanted, "{n} for {workers}");
+            }
+        }
+        Ok(())
+    }
+}

@@ -1,0 +1,5 @@
+pub mod Numerals
+pub mod Naming
+pub mod Sound
+pub mod Complete
+pub mod Answering

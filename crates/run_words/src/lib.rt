@@ -1,0 +1,16 @@
+//! Reads the words of the command line.
+#![tactic(auto)]
+
+mod command;
+mod fault;
+mod number;
+mod options;
+mod reading;
+
+pub use command::{Command, Keyword, MeanSet, RunSet};
+pub use fault::WordFault;
+pub use options::{Flag, Named, Options, Runner, Setting};
+pub use reading::{read_words, words_have_one_meaning};
+
+#[cfg(test)]
+mod tests;

@@ -1,0 +1,19 @@
+//! The tokens of a SISAL text, taken by longest match.
+#![tactic(auto)]
+
+mod fault;
+mod head;
+mod lexer;
+mod names;
+mod quotes;
+mod rows;
+mod signs;
+mod token;
+mod words;
+
+pub use fault::LexFault;
+pub use lexer::lex;
+pub use token::{Kind, Sign, Token, Tokens, Word};
+
+#[cfg(test)]
+mod tests;

@@ -1,0 +1,12 @@
+pub mod Closed
+pub mod Form
+pub mod Grammar
+pub mod Language
+pub mod Marks
+pub mod Actions
+pub mod Stack
+pub mod Plan
+pub mod Sizes
+pub mod Saying
+pub mod Reading
+pub mod Value

@@ -1,0 +1,5 @@
+pub mod Answer
+pub mod Graph
+pub mod Making
+pub mod Program
+pub mod Status

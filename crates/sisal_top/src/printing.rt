@@ -1,0 +1,35 @@
+//! Printing the results of a graph.
+ghost use Rattle.std.specs.Prelude.{◌≡◌, map, IfOk};
+ghost use Rattle.sisal_parse.specs.Value.{values_of};
+ghost use Rattle.sisal_top.specs.Answer.{lines};
+ghost use Rattle.sisal_top.specs.Graph.{input_value};
+
+use crate::firing::{fire, lent, literal};
+use crate::graph::Input;
+use crate::making::make_all;
+use flow_value::{NoMemory, Seq, Text, Val};
+use sisal_parse::Expr;
+use std::alloc::Global;
+use value_text::print_value;
+
+/// The values of the results, each on a line.
+fn print(alloc: Global, results: &[Input], values: &[Val]) -> Result<Text, NoMemory>
+    ensures { IfOk result (λ text. text ≡ lines (map (input_value values.now) results.now)) }
+{
+    let mut text = Seq::new(alloc);
+    for result in results {
+        let written = literal(*result);
+        print_value(lent(values, *result, &written), &mut text)?;
+        text.add(b'\n')?;
+    }
+    Ok(text)
+}
+
+/// What the program with these results prints: its graph is made, fired and printed.
+pub fn answer(alloc: Global, es: &[Expr]) -> Result<Text, NoMemory>
+    ensures { IfOk result (λ text. text ≡ lines (values_of es.now)) }
+{
+    let graph = make_all(alloc, es)?;
+    let values = fire(alloc, graph.nodes.as_slice())?;
+    print(alloc, graph.results.as_slice(), values.as_slice())
+}

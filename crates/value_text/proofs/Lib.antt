@@ -1,0 +1,9 @@
+pub mod Numbers
+pub mod Parts
+pub mod Steps
+pub mod Sound
+pub mod Levels
+pub mod Complete
+pub mod Whole
+pub mod Printing
+pub mod RoundTrip

@@ -1,0 +1,16 @@
+//! The text of values: how a value is printed, and what a text spells.
+#![tactic(auto)]
+
+mod fault;
+mod print;
+mod read;
+mod scalars;
+mod spelling;
+mod survey;
+#[cfg(test)]
+mod tests;
+mod token;
+
+pub use fault::ValueFault;
+pub use print::print_value;
+pub use read::read_value;
