@@ -1,0 +1,6 @@
+mod Crossing
+mod Fields
+pub mod Lists
+mod Rows
+mod Shells
+pub mod Words

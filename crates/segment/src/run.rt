@@ -1,0 +1,96 @@
+//! The pointers below a room. A run of places lies apart from the `Vec` that it comes from, and is cut and joined.
+ghost use Rattle.std.specs.Prelude.{◌≡◌, ℕ, ◌+◌, ◌≤◌, List, length, replicate, slice_get, slice_set, Some, IsTrue};
+ghost use Rattle.std.specs.Coded.{coded_list};
+ghost use Rattle.std.specs.List.{list_all};
+ghost use Rattle.std.specs.Vec.{vec_len, vec_ptr, with_items};
+ghost use denote.RawPtr.{Ptr};
+ghost use base.Fml.{ftrue, fex, fall, fwand, fsep, feq};
+ghost use Rattle.segment.specs.Places.{Place, away, unwritten, written, is_here, Fills, place_code};
+ghost use Rattle.segment.specs.Runs.{Extent, extent_code, array_owns, cut_owns, place_at, part, spliced};
+
+use std::alloc::Allocator;
+use std::marker::{Model, Move, Owns};
+
+/// The places from `at` on, side by side, without those that are away.
+pub(crate) struct Run<T> {
+    at: *mut T,
+    pub(crate) ghost places: { List (Place T) } by { coded_list (place_code T.code) },
+    // where the run begins that this was cut out of, and how many places into it this begins
+    pub(crate) ghost start: { Ptr },
+    pub(crate) ghost offset: { ℕ },
+}
+
+impl<T> Model for Run<T> {
+    ghost also_owns = { λ r. cut_owns T.row r.start r.offset r.at r.places };
+}
+
+/// A `Vec` without its elements. It owns the way back: from any elements of the same number in the same place, the
+/// `Vec` of these.
+pub(crate) struct Shell<T, A: Allocator> {
+    vec: Vec<T, A>,
+}
+
+impl<T, A: Allocator> Owns for Shell<T, A> {
+    ghost Value = { Extent };
+
+    ghost coded = { extent_code };
+
+    ghost shr_at = { λ _ _ _. ftrue };
+}
+
+impl<T, A: Allocator> Move for Shell<T, A> {
+    ghost own_val = { λ e vs. fex Inside (λ s. fsep (feq ℕ s.vec.len e.len) (fall (List T.row.Denot) (λ xs. fwand (fsep (feq ℕ (length xs) e.len) (array_owns T.row e.at xs)) (Fields.own_val (record { vec = with_items s.vec xs }) vs)))) };
+}
+
+/// Takes a `Vec` apart into its places and the way back.
+pub(crate) fn detach<T, A: Allocator>(vec: Vec<T, A>, at: *mut T) -> (Run<T>, Shell<T, A>)
+    requires { at ≡ vec_ptr vec }
+    ensures { (result.0.at ≡ at) × (result.0.places ≡ replicate (vec_len vec) unwritten) × (result.1 ≡ record { at = at; len = vec_len vec }) }
+{
+    (Run { at }, Shell { vec })
+}
+
+/// Puts a `Vec` together again, when every place is here.
+pub(crate) fn attach<T, A: Allocator>(run: Run<T>, shell: Shell<T, A>) -> Vec<T, A>
+    requires { (run.at ≡ shell.at) × (length run.places ≡ shell.len) × IsTrue (list_all is_here run.places) }
+    ensures { Fills run.places result.items }
+{
+    let Run { at: _ } = run;
+    let Shell { vec } = shell;
+    vec
+}
+
+impl<T> Run<T> {
+    pub(crate) fn cut(&mut self, from: usize, count: usize) -> Run<T>
+        requires { from + count ≤ length self.old.places }
+        ensures { (result ≡ record { at = place_at T.row self.old.at from; places = part self.old.places from count; start = self.old.at; offset = from }) × (self.new ≡ record self.old { places = spliced self.old.places from (replicate count away) }) }
+    {
+        Run {
+            at: unsafe { self.at.add(from) },
+        }
+    }
+
+    pub(crate) fn join(&mut self, other: Run<T>, from: usize)
+        requires { (other.start ≡ self.old.at) × (other.offset ≡ from) × (from + length other.places ≤ length self.old.places) }
+        ensures { self.new ≡ record self.old { places = spliced self.old.places from other.places } }
+    {
+        let Run { at: _ } = other;
+    }
+
+    /// Writes an unwritten place, and gives what it held till then.
+    pub(crate) fn replace(&mut self, i: usize, value: T) -> T
+        requires { slice_get self.old.places i ≡ Some unwritten }
+        ensures { self.new ≡ record self.old { places = slice_set self.old.places i (written value) } }
+    {
+        unsafe {
+            let place = self.at.add(i);
+            let held = place.read();
+            place.write(value);
+            held
+        }
+    }
+}
+
+unsafe impl<T: Send> Send for Run<T> {}
+
+unsafe impl<T: Send, A: Allocator + Send> Send for Shell<T, A> {}
