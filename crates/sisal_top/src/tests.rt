@@ -28,20 +28,22 @@ struct Ended {
     err: MemSink,
 }
 
-/// `sisal run` on a text in memory, read at most 16 bytes a call and written at most 4 bytes a
-/// call, where calls of the source and of the sink of results may fail.
-fn run(alloc: Global, bytes: &[u8], reads: &[u64], writes: &[u64]) -> Result<Ended, Fail> {
-    let words = [String::from_str(alloc, "run")?];
+/// `sisal` with one word, on a text in memory that is read at most 16 bytes a call, and with sinks
+/// of which that of results takes at most 4 bytes a call. The plans are of the calls that fail: of
+/// the source, of the sink of results and of that of errors.
+fn call(alloc: Global, word: &str, bytes: &[u8], plans: [&[u64]; 3]) -> Result<Ended, Fail> {
+    let words = [String::from_str(alloc, word)?];
+    let [reads, writes, reports] = plans;
     let mut from = MemSource::new(text(alloc, bytes)?, 16, plan(alloc, reads)?);
     let mut out = MemSink::new(alloc, 4, plan(alloc, writes)?);
-    let mut err = MemSink::new(alloc, 64, plan(alloc, &[])?);
+    let mut err = MemSink::new(alloc, 64, plan(alloc, reports)?);
     let status = sisal(alloc, &words, &mut from, &mut out, &mut err);
     Ok(Ended { status, out, err })
 }
 
 #[test]
 fn a_product_comes_before_a_sum(rt: HostRuntime) -> Result<(), Fail> {
-    let ended = run(rt.alloc(), SEVEN, &[], &[])?;
+    let ended = call(rt.alloc(), "run", SEVEN, [&[], &[], &[]])?;
     assert_eq!(rt; ended.status.code(), 0);
     assert_eq!(rt; ended.out.bytes().as_slice(), b"7\n".as_slice());
     assert_eq!(rt; ended.err.bytes().as_slice(), b"".as_slice());
@@ -50,7 +52,7 @@ fn a_product_comes_before_a_sum(rt: HostRuntime) -> Result<(), Fail> {
 
 #[test]
 fn a_let_and_an_overflow_are_two_results(rt: HostRuntime) -> Result<(), Fail> {
-    let ended = run(rt.alloc(), TWO, &[], &[])?;
+    let ended = call(rt.alloc(), "run", TWO, [&[], &[], &[]])?;
     assert_eq!(rt; ended.status.code(), 0);
     assert_eq!(rt;
         ended.out.bytes().as_slice(),
@@ -61,7 +63,7 @@ fn a_let_and_an_overflow_are_two_results(rt: HostRuntime) -> Result<(), Fail> {
 
 #[test]
 fn a_division_is_not_built_yet(rt: HostRuntime) -> Result<(), Fail> {
-    let ended = run(rt.alloc(), HALF, &[], &[])?;
+    let ended = call(rt.alloc(), "run", HALF, [&[], &[], &[]])?;
     assert_eq!(rt; ended.status.code(), 11);
     assert_eq!(rt; ended.out.bytes().as_slice(), b"".as_slice());
     assert_eq!(rt;
@@ -73,7 +75,7 @@ fn a_division_is_not_built_yet(rt: HostRuntime) -> Result<(), Fail> {
 
 #[test]
 fn a_fault_at_the_second_read_prints_nothing(rt: HostRuntime) -> Result<(), Fail> {
-    let ended = run(rt.alloc(), SEVEN, &[1], &[])?;
+    let ended = call(rt.alloc(), "run", SEVEN, [&[1], &[], &[]])?;
     assert_eq!(rt; ended.status.code(), 2);
     assert_eq!(rt; ended.out.bytes().as_slice(), b"".as_slice());
     assert_eq!(rt;
@@ -85,7 +87,7 @@ fn a_fault_at_the_second_read_prints_nothing(rt: HostRuntime) -> Result<(), Fail
 
 #[test]
 fn a_fault_at_the_second_write_leaves_a_prefix(rt: HostRuntime) -> Result<(), Fail> {
-    let ended = run(rt.alloc(), TWO, &[], &[1])?;
+    let ended = call(rt.alloc(), "run", TWO, [&[], &[1], &[]])?;
     assert_eq!(rt; ended.status.code(), 3);
     assert_eq!(rt; ended.out.bytes().as_slice(), b"15\ne".as_slice());
     assert_eq!(rt;
@@ -97,13 +99,16 @@ fn a_fault_at_the_second_write_leaves_a_prefix(rt: HostRuntime) -> Result<(), Fa
 
 #[test]
 fn other_words_are_not_built_yet(rt: HostRuntime) -> Result<(), Fail> {
-    let alloc = rt.alloc();
-    let words = [String::from_str(alloc, "mean")?];
-    let mut from = MemSource::new(text(alloc, SEVEN)?, 16, plan(alloc, &[])?);
-    let mut out = MemSink::new(alloc, 64, plan(alloc, &[])?);
-    let mut err = MemSink::new(alloc, 64, plan(alloc, &[0])?);
-    let status = sisal(alloc, &words, &mut from, &mut out, &mut err);
-    assert_eq!(rt; status, Status::Later);
-    assert_eq!(rt; err.bytes().as_slice(), b"".as_slice());
+    let ended = call(rt.alloc(), "mean", SEVEN, [&[], &[], &[]])?;
+    assert_eq!(rt; ended.status.code(), 11);
+    assert_eq!(rt; ended.out.bytes().as_slice(), b"".as_slice());
+    Ok(())
+}
+
+#[test]
+fn a_failed_report_leaves_the_status(rt: HostRuntime) -> Result<(), Fail> {
+    let ended = call(rt.alloc(), "run", HALF, [&[], &[], &[0]])?;
+    assert_eq!(rt; ended.status.code(), 11);
+    assert_eq!(rt; ended.err.bytes().as_slice(), b"".as_slice());
     Ok(())
 }
