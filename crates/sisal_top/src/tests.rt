@@ -5,12 +5,20 @@ use flow_value::{Seq, Text};
 use std::alloc::Global;
 use std::test::Fail;
 
-const SEVEN: &[u8] = b"define main\nfunction main(returns integer)\n1 + 2 * 3\nend function\n";
+/// `1 + 2 * 3`
+fn seven() -> &'static [u8] {
+    b"define main\nfunction main(returns integer)\n1 + 2 * 3\nend function\n"
+}
 
-const TWO: &[u8] =
-    b"define main\nfunction main(returns integer, integer)\nlet x := 4; y := x * x in y - 1 end let, 9223372036854775807 + 1\nend function\n";
+/// A `let`, and a sum that is too large.
+fn two() -> &'static [u8] {
+    b"define main\nfunction main(returns integer, integer)\nlet x := 4; y := x * x in y - 1 end let, 9223372036854775807 + 1\nend function\n"
+}
 
-const HALF: &[u8] = b"define main\nfunction main(returns integer)\n7 / 2\nend function\n";
+/// `7 / 2`
+fn half() -> &'static [u8] {
+    b"define main\nfunction main(returns integer)\n7 / 2\nend function\n"
+}
 
 fn text(alloc: Global, bytes: &[u8]) -> Result<Text, Fail> {
     Ok(Seq::from_slice(alloc, bytes)?)
@@ -43,7 +51,7 @@ fn call(alloc: Global, word: &str, bytes: &[u8], plans: [&[u64]; 3]) -> Result<E
 
 #[test]
 fn a_product_comes_before_a_sum(rt: HostRuntime) -> Result<(), Fail> {
-    let ended = call(rt.alloc(), "run", SEVEN, [&[], &[], &[]])?;
+    let ended = call(rt.alloc(), "run", seven(), [&[], &[], &[]])?;
     assert_eq!(rt; ended.status.code(), 0);
     assert_eq!(rt; ended.out.bytes().as_slice(), b"7\n".as_slice());
     assert_eq!(rt; ended.err.bytes().as_slice(), b"".as_slice());
@@ -52,7 +60,7 @@ fn a_product_comes_before_a_sum(rt: HostRuntime) -> Result<(), Fail> {
 
 #[test]
 fn a_let_and_an_overflow_are_two_results(rt: HostRuntime) -> Result<(), Fail> {
-    let ended = call(rt.alloc(), "run", TWO, [&[], &[], &[]])?;
+    let ended = call(rt.alloc(), "run", two(), [&[], &[], &[]])?;
     assert_eq!(rt; ended.status.code(), 0);
     assert_eq!(rt;
         ended.out.bytes().as_slice(),
@@ -63,7 +71,7 @@ fn a_let_and_an_overflow_are_two_results(rt: HostRuntime) -> Result<(), Fail> {
 
 #[test]
 fn a_division_is_not_built_yet(rt: HostRuntime) -> Result<(), Fail> {
-    let ended = call(rt.alloc(), "run", HALF, [&[], &[], &[]])?;
+    let ended = call(rt.alloc(), "run", half(), [&[], &[], &[]])?;
     assert_eq!(rt; ended.status.code(), 11);
     assert_eq!(rt; ended.out.bytes().as_slice(), b"".as_slice());
     assert_eq!(rt;
@@ -75,7 +83,7 @@ fn a_division_is_not_built_yet(rt: HostRuntime) -> Result<(), Fail> {
 
 #[test]
 fn a_fault_at_the_second_read_prints_nothing(rt: HostRuntime) -> Result<(), Fail> {
-    let ended = call(rt.alloc(), "run", SEVEN, [&[1], &[], &[]])?;
+    let ended = call(rt.alloc(), "run", seven(), [&[1], &[], &[]])?;
     assert_eq!(rt; ended.status.code(), 2);
     assert_eq!(rt; ended.out.bytes().as_slice(), b"".as_slice());
     assert_eq!(rt;
@@ -87,7 +95,7 @@ fn a_fault_at_the_second_read_prints_nothing(rt: HostRuntime) -> Result<(), Fail
 
 #[test]
 fn a_fault_at_the_second_write_leaves_a_prefix(rt: HostRuntime) -> Result<(), Fail> {
-    let ended = call(rt.alloc(), "run", TWO, [&[], &[1], &[]])?;
+    let ended = call(rt.alloc(), "run", two(), [&[], &[1], &[]])?;
     assert_eq!(rt; ended.status.code(), 3);
     assert_eq!(rt; ended.out.bytes().as_slice(), b"15\ne".as_slice());
     assert_eq!(rt;
@@ -99,7 +107,7 @@ fn a_fault_at_the_second_write_leaves_a_prefix(rt: HostRuntime) -> Result<(), Fa
 
 #[test]
 fn other_words_are_not_built_yet(rt: HostRuntime) -> Result<(), Fail> {
-    let ended = call(rt.alloc(), "mean", SEVEN, [&[], &[], &[]])?;
+    let ended = call(rt.alloc(), "mean", seven(), [&[], &[], &[]])?;
     assert_eq!(rt; ended.status.code(), 11);
     assert_eq!(rt; ended.out.bytes().as_slice(), b"".as_slice());
     Ok(())
@@ -107,7 +115,7 @@ fn other_words_are_not_built_yet(rt: HostRuntime) -> Result<(), Fail> {
 
 #[test]
 fn a_failed_report_leaves_the_status(rt: HostRuntime) -> Result<(), Fail> {
-    let ended = call(rt.alloc(), "run", HALF, [&[], &[], &[0]])?;
+    let ended = call(rt.alloc(), "run", half(), [&[], &[], &[0]])?;
     assert_eq!(rt; ended.status.code(), 11);
     assert_eq!(rt; ended.err.bytes().as_slice(), b"".as_slice());
     Ok(())
