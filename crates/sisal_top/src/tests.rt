@@ -5,12 +5,20 @@ use flow_value::{Seq, Text};
 use std::alloc::Global;
 use std::test::Fail;
 
-const SEVEN: &[u8] = b"define main\nfunction main(returns integer)\n1 + 2 * 3\nend function\n";
+/// `1 + 2 * 3`
+fn seven() -> &'static [u8] {
+    b"define main\nfunction main(returns integer)\n1 + 2 * 3\nend function\n"
+}
 
-const TWO: &[u8] =
-    b"define main\nfunction main(returns integer, integer)\nlet x := 4; y := x * x in y - 1 end let, 9223372036854775807 + 1\nend function\n";
+/// A `let`, and a sum that is too large.
+fn two() -> &'static [u8] {
+    b"define main\nfunction main(returns integer, integer)\nlet x := 4; y := x * x in y - 1 end let, 9223372036854775807 + 1\nend function\n"
+}
 
-const HALF: &[u8] = b"define main\nfunction main(returns integer)\n7 / 2\nend function\n";
+/// `7 / 2`
+fn half() -> &'static [u8] {
+    b"define main\nfunction main(returns integer)\n7 / 2\nend function\n"
+}
 
 fn text(alloc: Global, bytes: &[u8]) -> Result<Text, Fail> {
     Ok(Seq::from_slice(alloc, bytes)?)
@@ -28,20 +36,22 @@ struct Ended {
     err: MemSink,
 }
 
-/// `sisal run` on a text in memory, read at most 16 bytes a call and written at most 4 bytes a
-/// call, where calls of the source and of the sink of results may fail.
-fn run(alloc: Global, bytes: &[u8], reads: &[u64], writes: &[u64]) -> Result<Ended, Fail> {
-    let words = [String::from_str(alloc, "run")?];
+/// `sisal` with one word, on a text in memory that is read at most 16 bytes a call, and with sinks
+/// of which that of results takes at most 4 bytes a call. The plans are of the calls that fail: of
+/// the source, of the sink of results and of that of errors.
+fn call(alloc: Global, word: &str, bytes: &[u8], plans: [&[u64]; 3]) -> Result<Ended, Fail> {
+    let words = [String::from_str(alloc, word)?];
+    let [reads, writes, reports] = plans;
     let mut from = MemSource::new(text(alloc, bytes)?, 16, plan(alloc, reads)?);
     let mut out = MemSink::new(alloc, 4, plan(alloc, writes)?);
-    let mut err = MemSink::new(alloc, 64, plan(alloc, &[])?);
+    let mut err = MemSink::new(alloc, 64, plan(alloc, reports)?);
     let status = sisal(alloc, &words, &mut from, &mut out, &mut err);
     Ok(Ended { status, out, err })
 }
 
 #[test]
 fn a_product_comes_before_a_sum(rt: HostRuntime) -> Result<(), Fail> {
-    let ended = run(rt.alloc(), SEVEN, &[], &[])?;
+    let ended = call(rt.alloc(), "run", seven(), [&[], &[], &[]])?;
     assert_eq!(rt; ended.status.code(), 0);
     assert_eq!(rt; ended.out.bytes().as_slice(), b"7\n".as_slice());
     assert_eq!(rt; ended.err.bytes().as_slice(), b"".as_slice());
@@ -50,7 +60,7 @@ fn a_product_comes_before_a_sum(rt: HostRuntime) -> Result<(), Fail> {
 
 #[test]
 fn a_let_and_an_overflow_are_two_results(rt: HostRuntime) -> Result<(), Fail> {
-    let ended = run(rt.alloc(), TWO, &[], &[])?;
+    let ended = call(rt.alloc(), "run", two(), [&[], &[], &[]])?;
     assert_eq!(rt; ended.status.code(), 0);
     assert_eq!(rt;
         ended.out.bytes().as_slice(),
@@ -61,7 +71,7 @@ fn a_let_and_an_overflow_are_two_results(rt: HostRuntime) -> Result<(), Fail> {
 
 #[test]
 fn a_division_is_not_built_yet(rt: HostRuntime) -> Result<(), Fail> {
-    let ended = run(rt.alloc(), HALF, &[], &[])?;
+    let ended = call(rt.alloc(), "run", half(), [&[], &[], &[]])?;
     assert_eq!(rt; ended.status.code(), 11);
     assert_eq!(rt; ended.out.bytes().as_slice(), b"".as_slice());
     assert_eq!(rt;
@@ -73,7 +83,7 @@ fn a_division_is_not_built_yet(rt: HostRuntime) -> Result<(), Fail> {
 
 #[test]
 fn a_fault_at_the_second_read_prints_nothing(rt: HostRuntime) -> Result<(), Fail> {
-    let ended = run(rt.alloc(), SEVEN, &[1], &[])?;
+    let ended = call(rt.alloc(), "run", seven(), [&[1], &[], &[]])?;
     assert_eq!(rt; ended.status.code(), 2);
     assert_eq!(rt; ended.out.bytes().as_slice(), b"".as_slice());
     assert_eq!(rt;
@@ -85,7 +95,7 @@ fn a_fault_at_the_second_read_prints_nothing(rt: HostRuntime) -> Result<(), Fail
 
 #[test]
 fn a_fault_at_the_second_write_leaves_a_prefix(rt: HostRuntime) -> Result<(), Fail> {
-    let ended = run(rt.alloc(), TWO, &[], &[1])?;
+    let ended = call(rt.alloc(), "run", two(), [&[], &[1], &[]])?;
     assert_eq!(rt; ended.status.code(), 3);
     assert_eq!(rt; ended.out.bytes().as_slice(), b"15\ne".as_slice());
     assert_eq!(rt;
@@ -97,13 +107,16 @@ fn a_fault_at_the_second_write_leaves_a_prefix(rt: HostRuntime) -> Result<(), Fa
 
 #[test]
 fn other_words_are_not_built_yet(rt: HostRuntime) -> Result<(), Fail> {
-    let alloc = rt.alloc();
-    let words = [String::from_str(alloc, "mean")?];
-    let mut from = MemSource::new(text(alloc, SEVEN)?, 16, plan(alloc, &[])?);
-    let mut out = MemSink::new(alloc, 64, plan(alloc, &[])?);
-    let mut err = MemSink::new(alloc, 64, plan(alloc, &[0])?);
-    let status = sisal(alloc, &words, &mut from, &mut out, &mut err);
-    assert_eq!(rt; status, Status::Later);
-    assert_eq!(rt; err.bytes().as_slice(), b"".as_slice());
+    let ended = call(rt.alloc(), "mean", seven(), [&[], &[], &[]])?;
+    assert_eq!(rt; ended.status.code(), 11);
+    assert_eq!(rt; ended.out.bytes().as_slice(), b"".as_slice());
+    Ok(())
+}
+
+#[test]
+fn a_failed_report_leaves_the_status(rt: HostRuntime) -> Result<(), Fail> {
+    let ended = call(rt.alloc(), "run", half(), [&[], &[], &[0]])?;
+    assert_eq!(rt; ended.status.code(), 11);
+    assert_eq!(rt; ended.err.bytes().as_slice(), b"".as_slice());
     Ok(())
 }
