@@ -175,42 +175,62 @@ fn the_first_error_is_given(rt: HostRuntime) -> Result<(), Fail> {
     Ok(())
 }
 
-fn arrays(alloc: Global, parts: &[(i64, &[i64])]) -> Result<Items, Fail> {
+fn array(alloc: Global, lo: i64, numbers: &[i64]) -> Result<Val, Fail> {
+    Ok(array_of(lo, integers(alloc, numbers)?))
+}
+
+fn stream(alloc: Global, numbers: &[i64]) -> Result<Val, Fail> {
+    Ok(stream_of(integers(alloc, numbers)?))
+}
+
+/// The two values as a list.
+fn pair(alloc: Global, first: Val, second: Val) -> Result<Items, Fail> {
     let mut items = Items::new(alloc);
-    for (lo, numbers) in parts {
-        let elements = integers(alloc, numbers)?;
-        items.add(array_of(*lo, elements))?;
-    }
+    items.add(first)?;
+    items.add(second)?;
     Ok(items)
 }
 
 #[test]
 fn arrays_are_joined_from_the_first_lower_bound(rt: HostRuntime) -> Result<(), Fail> {
     let alloc = rt.alloc();
-    let nothing = Items::new(alloc);
-    let none = array_of(1, Items::new(alloc));
-    assert!(rt; agrees::<Catenate>(alloc, nothing.as_slice(), &none)?);
-    assert!(rt; agrees::<Gather>(alloc, nothing.as_slice(), &none)?);
-    let three = arrays(
-        alloc,
-        &[
-            (3, [1].as_slice()),
-            (1, [2, 3].as_slice()),
-            (-1, [].as_slice()),
-        ],
-    )?;
-    let whole = array_of(3, integers(alloc, &[1, 2, 3])?);
-    assert!(rt; agrees::<Catenate>(alloc, three.as_slice(), &whole)?);
-    let far = arrays(alloc, &[(GREATEST, [1].as_slice()), (1, [2].as_slice())])?;
-    assert!(rt; agrees::<Catenate>(alloc, far.as_slice(), &Val::Err(Cause::Bounds))?);
-    let mut streams = Items::new(alloc);
-    let one = integers(alloc, &[1])?;
-    streams.add(stream_of(one))?;
-    let two = integers(alloc, &[2, 3])?;
-    streams.add(stream_of(two))?;
-    let stream = stream_of(integers(alloc, &[1, 2, 3])?);
-    assert!(rt; agrees::<Catenate>(alloc, streams.as_slice(), &stream)?);
-    streams.add(array_of(1, Items::new(alloc)))?;
-    assert!(rt; agrees::<Catenate>(alloc, streams.as_slice(), &Val::Err(Cause::Explicit))?);
+    let parts = pair(alloc, array(alloc, 3, &[1])?, array(alloc, -1, &[2, 3])?)?;
+    let whole = array(alloc, 3, &[1, 2, 3])?;
+    assert!(rt; agrees::<Catenate>(alloc, parts.as_slice(), &whole)?);
+    Ok(())
+}
+
+#[test]
+fn no_arrays_are_joined_to_the_empty_one_from_1(rt: HostRuntime) -> Result<(), Fail> {
+    let alloc = rt.alloc();
+    let none = Items::new(alloc);
+    let empty = array(alloc, 1, &[])?;
+    assert!(rt; agrees::<Catenate>(alloc, none.as_slice(), &empty)?);
+    assert!(rt; agrees::<Gather>(alloc, none.as_slice(), &empty)?);
+    Ok(())
+}
+
+#[test]
+fn a_join_past_the_greatest_place_is_an_error(rt: HostRuntime) -> Result<(), Fail> {
+    let alloc = rt.alloc();
+    let parts = pair(alloc, array(alloc, GREATEST, &[1])?, array(alloc, 1, &[2])?)?;
+    assert!(rt; agrees::<Catenate>(alloc, parts.as_slice(), &Val::Err(Cause::Bounds))?);
+    Ok(())
+}
+
+#[test]
+fn streams_are_joined_to_a_stream(rt: HostRuntime) -> Result<(), Fail> {
+    let alloc = rt.alloc();
+    let parts = pair(alloc, stream(alloc, &[1])?, stream(alloc, &[2, 3])?)?;
+    let whole = stream(alloc, &[1, 2, 3])?;
+    assert!(rt; agrees::<Catenate>(alloc, parts.as_slice(), &whole)?);
+    Ok(())
+}
+
+#[test]
+fn an_array_and_a_stream_are_not_joined(rt: HostRuntime) -> Result<(), Fail> {
+    let alloc = rt.alloc();
+    let parts = pair(alloc, array(alloc, 1, &[1])?, stream(alloc, &[2])?)?;
+    assert!(rt; agrees::<Catenate>(alloc, parts.as_slice(), &Val::Err(Cause::Explicit))?);
     Ok(())
 }
