@@ -1,0 +1,233 @@
+//! The pool.
+ghost use Rattle.std.specs.Prelude.{◌≡◌, ℕ, ◌+◌, ◌-◌, ◌^◌, ◌<◌, ◌≤◌, List, [], ◌∷◌, ◌++◌, length, replicate, map, slice_set, Some, None, IsTrue, OnOk, OnErr, IfOk};
+ghost use Rattle.std.specs.List.{list_all};
+ghost use Rattle.std.specs.Vec.{vec_len, vec_capacity};
+ghost use denote.RawPtr.{Ptr};
+ghost use Rattle.flow_value.specs.Bounds.{IsWithinLength, bounded};
+ghost use Rattle.flow_value.specs.declared.value.Val.TheVariants as value;
+ghost use Rattle.segment.specs.Places.{away, unwritten, written, is_written, IsOf};
+ghost use Rattle.segment.specs.Runs.{part, spliced};
+ghost use Rattle.agg_pool.specs.Pools.{entry_at, HoldsAnd, IfHolds, BuildsAnd, IfBuilds, IsIdleIfAny};
+ghost use Rattle.agg_pool.specs.declared.entry.Entry.TheVariants as entry;
+
+use crate::entry::{Building, Entry};
+use crate::parts::{Key, Lease, Segment};
+use crate::table::{blanks, make_room};
+use flow_value::{NoMemory, Val};
+use lease::Owner;
+use segment::Room;
+use std::alloc::Global;
+use std::marker::Model;
+use std::mem::replace;
+
+/// Values and arrays that are being built, under keys. It cannot be dropped: it ends by [`Pool::end`]. Contracts see
+/// the entry of each number, and `spare`, the number of values that can be put in with no memory.
+///
+/// A lent value has to stay where it is, so each lies in a box of its own. The boxes are kept and used again.
+pub struct Pool {
+    entries: Vec<Option<Entry>>,
+    free: Vec<usize>,
+    spare: Vec<Box<Val>>,
+}
+
+impl Model for Pool {
+    ghost use Rattle.std.specs.Prelude.{◌≡◌, ◌≤◌, length};
+    ghost use Rattle.std.specs.Vec.{vec_len, vec_capacity};
+    ghost use Rattle.agg_pool.specs.Pools.{PoolView, pool_code};
+    ghost use Rattle.agg_pool.specs.contracts.entry.Entry as e;
+    ghost use Rattle.agg_pool.specs.Tables.{IsTable};
+
+    ghost Value = { PoolView };
+
+    ghost coded = { pool_code e.the_row.coded };
+
+    ghost view = { λ p. record { entries = p.entries.items; spare = vec_len p.spare } };
+
+    ghost invariant = { λ p. IsTable p.entries.items p.free.items × (vec_len p.spare ≡ vec_len p.free) × (length p.entries.items ≤ vec_capacity p.free) × (length p.entries.items ≤ vec_capacity p.spare) };
+}
+
+impl Pool {
+    /// An empty pool. It takes no memory.
+    pub fn new(alloc: Global) -> Pool
+        ensures empty { (result.entries ≡ []) × (result.spare ≡ 0) }
+    {
+        Pool {
+            entries: Vec::new(alloc),
+            free: Vec::new(alloc),
+            spare: Vec::new(alloc),
+        }
+    }
+
+    /// Makes it possible to put in `n` values with no memory. On want of memory some of that may have been done.
+    #[tactic(auto, using(crate::proofs::Tables::same_end))]
+    pub fn reserve(&mut self, alloc: Global, n: usize) -> Result<(), NoMemory>
+        ensures enough { OnOk result (n ≤ self.new.spare) }
+        ensures never_less { self.old.spare ≤ self.new.spare }
+        ensures entries { (number : ℕ) → entry_at self.new number ≡ entry_at self.old number }
+    {
+        while self.spare.len() < n {
+            self.add_spare(alloc)?;
+        }
+        Ok(())
+    }
+
+    /// One more box, and a number for what it will hold.
+    fn add_spare(&mut self, alloc: Global) -> Result<(), NoMemory>
+        ensures ok { OnOk result (self.new ≡ record self.old { entries = self.old.entries ++ None ∷ []; spare = self.old.spare + 1 }) }
+        ensures err { OnErr result (self.new ≡ self.old) }
+    {
+        let place = Box::new(alloc, Val::Null)?;
+        make_room(&mut self.entries, &mut self.free, &mut self.spare)?;
+        self.free.push_reserved(self.entries.len());
+        self.entries.push_reserved(None);
+        self.spare.push_reserved(place);
+        Ok(())
+    }
+
+    /// Puts a value in, under a key that was not in use. It takes no memory.
+    pub fn put(&mut self, value: Val) -> Key
+        requires spare { 0 < self.old.spare }
+        ensures held { (id : ℕ) × (self.new.entries ≡ slice_set self.old.entries result.number (Some (entry.Whole (record { value = value; out = 0; id = id })))) }
+        ensures was_vacant { entry_at self.old result.number ≡ None }
+        ensures known { result.number < length self.old.entries }
+        ensures spare { self.new.spare + 1 ≡ self.old.spare }
+    {
+        let Some(mut place) = self.spare.pop() else {
+            unreachable!()
+        };
+        let Some(number) = self.free.pop() else {
+            unreachable!()
+        };
+        drop(Box::replace(&mut place, value));
+        let old = replace(
+            &mut self.entries[number],
+            Some(Entry::Whole(Owner::new(place))),
+        );
+        let None = old else { unreachable!() };
+        Key { number }
+    }
+
+    /// Lends a value for reading, also in another thread.
+    pub fn lend(&mut self, key: Key) -> Lease
+        requires few { HoldsAnd (entry_at self.old key.number) (λ w. w.out < 2 ^ 100) }
+        ensures lease { IfHolds (entry_at self.old key.number) (λ w. result ≡ record { number = key.number; value = w.value; id = w.id }) }
+        ensures one_more { IfHolds (entry_at self.old key.number) (λ w. self.new ≡ record self.old { entries = slice_set self.old.entries key.number (Some (entry.Whole (record w { out = w.out + 1 }))) }) }
+    {
+        let Some(entry) = &mut self.entries[key.number] else {
+            unreachable!()
+        };
+        Lease {
+            key,
+            lease: entry.lend(),
+        }
+    }
+
+    /// Takes a lease of this pool back. That one was out is a consequence.
+    pub fn give_back(&mut self, lease: Lease)
+        requires of { HoldsAnd (entry_at self.old lease.number) (λ w. lease.id ≡ w.id) }
+        ensures was_out { IfHolds (entry_at self.old lease.number) (λ w. 0 < w.out) }
+        ensures one_fewer { IfHolds (entry_at self.old lease.number) (λ w. self.new ≡ record self.old { entries = slice_set self.old.entries lease.number (Some (entry.Whole (record w { out = w.out - 1 }))) }) }
+    {
+        let Lease { key, lease } = lease;
+        let Some(entry) = &mut self.entries[key.number] else {
+            unreachable!()
+        };
+        entry.give_back(lease);
+    }
+
+    /// Takes a value out, once no lease of it is out. Its box is spare again.
+    pub fn take(&mut self, key: Key) -> Val
+        requires none_out { HoldsAnd (entry_at self.old key.number) (λ w. w.out ≡ 0) }
+        ensures value { IfHolds (entry_at self.old key.number) (λ w. result ≡ w.value) }
+        ensures gone { self.new ≡ record self.old { entries = slice_set self.old.entries key.number None; spare = self.old.spare + 1 } }
+    {
+        let old = replace(&mut self.entries[key.number], None);
+        let Some(Entry::Whole(owner)) = old else {
+            unreachable!()
+        };
+        let mut place = owner.take();
+        let value = Box::replace(&mut place, Val::Null);
+        self.free.push_reserved(key.number);
+        self.spare.push_reserved(place);
+        value
+    }
+
+    /// Begins an array of `n` places, under a key that was not in use. On want of memory the entries are as before.
+    pub fn build(&mut self, alloc: Global, n: usize) -> Result<Key, NoMemory>
+        requires few { n ≤ 4194304 }
+        ensures ok { IfOk result (λ key. (start : Ptr) × (key.number ≡ length self.old.entries) × (self.new.entries ≡ self.old.entries ++ Some (entry.Parts (record { start = start; places = replicate n unwritten })) ∷ [])) }
+        ensures err { OnErr result (self.new.entries ≡ self.old.entries) }
+        ensures spare { self.new.spare ≡ self.old.spare }
+    {
+        let items = blanks(alloc, n)?;
+        let place = Box::new(alloc, Val::Null)?;
+        make_room(&mut self.entries, &mut self.free, &mut self.spare)?;
+        let number = self.entries.len();
+        let room = Room::new(items);
+        self.entries
+            .push_reserved(Some(Entry::Parts(Building { room, place })));
+        Ok(Key { number })
+    }
+
+    /// Cuts out the places of an array from `from` up to and without `to`, as they are. They are away until they
+    /// are joined again.
+    pub fn cut(&mut self, key: Key, from: usize, to: usize) -> Segment
+        requires fits { BuildsAnd (entry_at self.old key.number) (λ room. (from ≤ to) × (to ≤ length room.places)) }
+        ensures part { IfBuilds (entry_at self.old key.number) (λ room. result ≡ record { number = key.number; part = record { start = room.start; from = from; places = part room.places from (to - from) } }) }
+        ensures rest { IfBuilds (entry_at self.old key.number) (λ room. self.new ≡ record self.old { entries = slice_set self.old.entries key.number (Some (entry.Parts (record room { places = spliced room.places from (replicate (to - from) away) }))) }) }
+    {
+        let Some(entry) = &mut self.entries[key.number] else {
+            unreachable!()
+        };
+        Segment {
+            key,
+            segment: entry.cut(from, to - from),
+        }
+    }
+
+    /// Takes a segment of this pool back, with what was written in it.
+    pub fn join_segment(&mut self, part: Segment)
+        requires of { BuildsAnd (entry_at self.old part.number) (λ room. IsOf room part.part) }
+        ensures back { IfBuilds (entry_at self.old part.number) (λ room. self.new ≡ record self.old { entries = slice_set self.old.entries part.number (Some (entry.Parts (record room { places = spliced room.places part.part.from part.part.places }))) }) }
+    {
+        let Segment { key, segment } = part;
+        let Some(entry) = &mut self.entries[key.number] else {
+            unreachable!()
+        };
+        entry.join(segment);
+    }
+
+    /// Makes the array of its places, with the lower bound `lo`, once every place is written. It takes no memory, and
+    /// no element moves.
+    pub fn seal(&mut self, key: Key, lo: i64)
+        requires written { BuildsAnd (entry_at self.old key.number) (λ room. IsTrue (list_all is_written room.places)) }
+        requires fits { BuildsAnd (entry_at self.old key.number) (λ room. IsWithinLength lo (length room.places)) }
+        ensures array { IfBuilds (entry_at self.old key.number) (λ room. (items : List Val) × (id : ℕ) × (map written items ≡ room.places) × (self.new ≡ record self.old { entries = slice_set self.old.entries key.number (Some (entry.Whole (record { value = value.Arr (bounded lo items); out = 0; id = id }))) })) }
+    {
+        let old = replace(&mut self.entries[key.number], None);
+        let Some(Entry::Parts(building)) = old else {
+            unreachable!()
+        };
+        let whole = Entry::Whole(building.seal(lo));
+        let vacant = replace(&mut self.entries[key.number], Some(whole));
+        let None = vacant else { unreachable!() };
+    }
+
+    /// Ends the pool, with the values that are left in it.
+    pub fn end(self)
+        requires idle { (number : ℕ) → IsIdleIfAny (entry_at self number) }
+    {
+        let Pool {
+            mut entries,
+            free: _,
+            spare: _,
+        } = self;
+        while let Some(slot) = entries.pop() {
+            match slot {
+                None => {}
+                Some(entry) => entry.end(),
+            }
+        }
+        entries.destroy_empty();
+    }
+}
