@@ -2,8 +2,8 @@
 //! standard output and its refusals to standard error.
 #![tactic(auto)]
 
-use flow_io::{ReaderSource, WriterSink, write_all};
-use sisal_top::{Status, sisal};
+use flow_io::{ReaderSource, WriterSink};
+use sisal_top::{Status, report, sisal};
 use std::process::ExitCode;
 use std::{env, io};
 
@@ -18,14 +18,11 @@ fn main(rt: HostRuntime) -> ExitCode {
     let mut err = WriterSink::new(rt.stderr());
     let status = match words(&rt) {
         Ok(words) => sisal(rt.alloc(), words.as_slice(), &mut text, &mut out, &mut err),
-        // A word that is no text is not one of the words that the call knows.
+        // Words that are no text are taken as no words.
         Err(e) if e.kind() == io::ErrorKind::InvalidData => {
             sisal(rt.alloc(), &[], &mut text, &mut out, &mut err)
         }
-        Err(_) => {
-            let _ = write_all(&mut err, Status::NoMemory.line());
-            Status::NoMemory
-        }
+        Err(_) => report(Status::NoMemory, &mut err),
     };
     ExitCode::from(status.code())
 }

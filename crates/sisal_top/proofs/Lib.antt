@@ -1,5 +1,5 @@
 pub mod Graphs
 pub mod Makes
 pub mod Names
-pub mod Words
+pub mod Refusing
 pub mod Writes

@@ -1,53 +1,61 @@
 //! The call that does all that the program does.
-ghost use Rattle.std.specs.Prelude.{◌≡◌, ◌≢◌, ◌⊎◌, ◌↔◌, ℕ, List, take, map, string_bytes, Some, Err, IfOk, IfErr, OnOk, IsTrue};
+ghost use Rattle.std.specs.Prelude.{◌≡◌, ◌≢◌, ◌⊎◌, ◌↔◌, ℕ, List, take, map, Some, Ok, Err, IfOk, IfErr, OnOk, IsTrue};
 ghost use Rattle.flow_io.specs.Bytes.{TakesOff, IsAtEnd, AddsOn};
 ghost use Rattle.flow_io.specs.Count.{HasRisen};
-ghost use Rattle.sisal_top.specs.Answer.{Answers, Prints};
-ghost use Rattle.sisal_top.specs.Program.{IsFirstForm, IsRun};
-ghost use Rattle.sisal_top.specs.Status.{IsEarly, IsGiven, line_of};
+ghost use Rattle.run_words.specs.Commands.{bytes_of};
+ghost use Rattle.sisal_top.specs.Answer.{Answers, Gives, IsUsage, Replies, RunsPlain};
+ghost use Rattle.sisal_top.specs.Lines.{line_of};
+ghost use Rattle.sisal_top.specs.Program.{IsPlain, IsRefused, IsRun};
+ghost use Rattle.sisal_top.specs.Refusals.{IsEarly, IsReply, IsUnread, Means, Reads};
 
 use crate::front::trees;
+use crate::lines::report;
 use crate::printing::answer;
 use crate::status::Status;
+use crate::texts::{help, version};
+use flow_gen::make;
 use flow_io::{ReadFail, Sink, Source, read_all, write_all};
 use flow_value::Text;
+use run_words::{Command, RunSet, read_words};
 use std::alloc::Global;
 
 /// The most bytes of a text.
 const MOST_BYTES: usize = 4194304;
 
-/// Whether the words are the one word `run`.
-fn is_run(words: &[String]) -> bool
-    ensures { IsTrue result ↔ IsRun (map string_bytes words.now) }
+/// The limit of a run where none is given.
+const USUAL_LIMIT: u64 = 10000000;
+
+/// Whether a run is one of the function `main`, with no values, no totals and the usual limit.
+fn is_plain(set: &RunSet) -> bool
+    ensures { IsTrue result ↔ IsPlain set.now }
 {
-    match words {
-        [only] => only.as_str() == "run",
-        _ => false,
-    }
+    !set.if1
+        && set.entry.as_slice() == b"main".as_slice()
+        && set.limit == USUAL_LIMIT
+        && !set.stats
+        && set.values.is_empty()
 }
 
-/// Reads the text to its end. A text that is too long is of a kind that is not built yet.
+/// Reads the text to its end.
 fn read<S: Source>(alloc: Global, text: &mut S) -> Result<Text, Status>
     ensures bytes { IfOk result (λ bytes. TakesOff (S.left text.old) bytes (S.left text.new)) }
     ensures to_the_end { OnOk result (IsAtEnd (S.left text.new)) }
-    ensures later { result ≡ Err Status.Later → (told : List ℕ) → S.left text.old ≡ Some told → IsFirstForm told → ⊥ }
+    ensures too_long { result ≡ Err Status.TooLong → (told : List ℕ) → S.left text.old ≡ Some told → IsRefused told Status.TooLong }
     ensures fault { result ≡ Err Status.ReadFault → HasRisen (S.faults text.old) (S.faults text.new) }
     ensures no_fault { result ≢ Err Status.ReadFault → S.faults text.new ≡ S.faults text.old }
-    ensures refused { IfErr result IsEarly }
+    ensures refused { IfErr result IsUnread }
 {
     match read_all(alloc, text, MOST_BYTES) {
         Ok(bytes) => Ok(bytes),
         Err(ReadFail::ReadFault) => Err(Status::ReadFault),
-        Err(ReadFail::TooLong) => Err(Status::Later),
+        Err(ReadFail::TooLong) => Err(Status::TooLong),
         Err(ReadFail::NoMemory) => Err(Status::NoMemory),
     }
 }
 
 /// What the program that a text is prints.
 fn output(alloc: Global, bytes: &[u8]) -> Result<Text, Status>
-    ensures printed { IfOk result (λ printed. Prints bytes.now printed) }
-    ensures later { result ≡ Err Status.Later → IsFirstForm bytes.now → ⊥ }
-    ensures refused { IfErr result (λ s. (s ≡ Status.NoMemory) ⊎ (s ≡ Status.Later)) }
+    ensures { Means bytes.now result }
 {
     match trees(alloc, bytes)? {
         Some(es) => {
@@ -58,37 +66,60 @@ fn output(alloc: Global, bytes: &[u8]) -> Result<Text, Status>
     }
 }
 
-/// What the words and the text print.
-fn prepare<S: Source>(alloc: Global, words: &[String], text: &mut S) -> Result<Text, Status>
-    ensures words { OnOk result (IsRun (map string_bytes words.now)) }
-    ensures not_run { ¬ IsRun (map string_bytes words.now) → result ≡ Err Status.Later }
-    ensures printed { IfOk result (λ printed. (told : List ℕ) → S.left text.old ≡ Some told → Prints told printed) }
+/// Runs the program that the text is.
+fn run<S: Source>(alloc: Global, text: &mut S) -> Result<Text, Status>
+    ensures means { (told : List ℕ) → S.left text.old ≡ Some told → Reads told result }
+    ensures reply { IfErr result IsReply }
     ensures to_the_end { OnOk result (IsAtEnd (S.left text.new)) }
-    ensures later { result ≡ Err Status.Later → (told : List ℕ) → S.left text.old ≡ Some told → IsRun (map string_bytes words.now) → IsFirstForm told → ⊥ }
+    ensures read { IfErr result (λ s. IsUnread s ⊎ IsAtEnd (S.left text.new)) }
     ensures fault { result ≡ Err Status.ReadFault → HasRisen (S.faults text.old) (S.faults text.new) }
     ensures no_fault { result ≢ Err Status.ReadFault → S.faults text.new ≡ S.faults text.old }
-    ensures refused { IfErr result IsEarly }
 {
-    if !is_run(words) {
-        return Err(Status::Later);
-    }
     let bytes = read(alloc, text)?;
-    let printed = output(alloc, bytes.as_slice())?;
-    Ok(printed)
+    output(alloc, bytes.as_slice())
 }
 
-/// Writes the line of a status to the sink of errors, and gives the status back, whether the line
-/// was taken or not.
-fn report<E: Sink>(status: Status, err: &mut E) -> Status
-    ensures same { result ≡ status }
-    ensures line { ¬ HasRisen (E.faults err.old) (E.faults err.new) → AddsOn (E.taken err.old) (line_of status) (E.taken err.new) }
-    ensures prefix { (n : ℕ) × AddsOn (E.taken err.old) (take n (line_of status)) (E.taken err.new) }
+/// What a command prints.
+fn perform<S: Source>(alloc: Global, command: Command, text: &mut S) -> Result<Text, Status>
+    ensures replies { (told : List ℕ) → S.left text.old ≡ Some told → Replies command told result }
+    ensures reply { IfErr result IsReply }
+    ensures to_the_end { RunsPlain command → OnOk result (IsAtEnd (S.left text.new)) }
+    ensures read { RunsPlain command → IfErr result (λ s. IsUnread s ⊎ IsAtEnd (S.left text.new)) }
+    ensures unread { ¬ RunsPlain command → S.left text.new ≡ S.left text.old }
+    ensures fault { result ≡ Err Status.ReadFault → HasRisen (S.faults text.old) (S.faults text.new) }
+    ensures no_fault { result ≢ Err Status.ReadFault → S.faults text.new ≡ S.faults text.old }
 {
-    let _ = write_all(err, status.line());
-    status
+    match command {
+        Command::Help => Ok(help(alloc)?),
+        Command::Version => Ok(version(alloc)?),
+        Command::Gen(n) => Ok(make(alloc, n)?),
+        Command::Run(set) => {
+            if is_plain(&set) {
+                run(alloc, text)
+            } else {
+                Err(Status::Later)
+            }
+        }
+        Command::Compile | Command::If1 | Command::Mean(_) => Err(Status::Later),
+    }
 }
 
-/// Does what the words ask for. The text is read to its end, and the lines of its results are
+/// What the words and the text print.
+fn prepare<S: Source>(alloc: Global, words: &[String], text: &mut S) -> Result<Text, Status>
+    ensures gives { (told : List ℕ) → S.left text.old ≡ Some told → Gives (bytes_of words.now) told result }
+    ensures usage { IfErr result (IsUsage (bytes_of words.now)) }
+    ensures early { IfErr result IsEarly }
+    ensures to_the_end { IsRun (bytes_of words.now) → OnOk result (IsAtEnd (S.left text.new)) }
+    ensures read { IsRun (bytes_of words.now) → IfErr result (λ s. IsUnread s ⊎ IsAtEnd (S.left text.new)) }
+    ensures unread { ¬ IsRun (bytes_of words.now) → S.left text.new ≡ S.left text.old }
+    ensures fault { result ≡ Err Status.ReadFault → HasRisen (S.faults text.old) (S.faults text.new) }
+    ensures no_fault { result ≢ Err Status.ReadFault → S.faults text.new ≡ S.faults text.old }
+{
+    let command = read_words(alloc, words)?;
+    perform(alloc, command, text)
+}
+
+/// Does what the words ask for. For `run` the text is read to its end, and what is printed is
 /// written at once.
 pub fn sisal<S: Source, O: Sink, E: Sink>(
     alloc: Global,
@@ -99,10 +130,8 @@ pub fn sisal<S: Source, O: Sink, E: Sink>(
 ) -> Status
     ensures answers { (told : List ℕ)
         → S.left text.old ≡ Some told
-        → ¬ HasRisen (S.faults text.old) (S.faults text.new)
-        → ¬ HasRisen (O.faults out.old) (O.faults out.new)
-        → Answers (map string_bytes words.now) told result (O.taken out.old) (O.taken out.new) }
-    ensures not_run { ¬ IsRun (map string_bytes words.now) → result ≡ Status.Later }
+        → Answers (bytes_of words.now) told result (O.taken out.old) (O.taken out.new) }
+    ensures usage { IsUsage (bytes_of words.now) result }
     ensures read_fault { result ≡ Status.ReadFault → HasRisen (S.faults text.old) (S.faults text.new) }
     ensures no_read_fault { result ≢ Status.ReadFault → S.faults text.new ≡ S.faults text.old }
     ensures write_fault { result ≡ Status.WriteFault → HasRisen (O.faults out.old) (O.faults out.new) }
@@ -110,10 +139,10 @@ pub fn sisal<S: Source, O: Sink, E: Sink>(
     ensures prefix { result ≡ Status.WriteFault
         → (told : List ℕ)
         → S.left text.old ≡ Some told
-        → ((printed : List ℕ) × Prints told printed × ((n : ℕ) × AddsOn (O.taken out.old) (take n printed) (O.taken out.new))) }
+        → ((printed : List ℕ) × Gives (bytes_of words.now) told (Ok printed) × ((n : ℕ) × AddsOn (O.taken out.old) (take n printed) (O.taken out.new))) }
     ensures untouched { IsEarly result → O.taken out.new ≡ O.taken out.old }
-    ensures to_the_end { ¬ IsEarly result → IsAtEnd (S.left text.new) }
-    ensures statuses { IsGiven result }
+    ensures to_the_end { IsRun (bytes_of words.now) → IsUnread result ⊎ IsAtEnd (S.left text.new) }
+    ensures unread { ¬ IsRun (bytes_of words.now) → S.left text.new ≡ S.left text.old }
 
     // The sink of errors takes the line of the status, which is empty after `Done`.
     ensures line { ¬ HasRisen (E.faults err.old) (E.faults err.new) → AddsOn (E.taken err.old) (line_of result) (E.taken err.new) }

@@ -5,12 +5,15 @@ mod call;
 mod firing;
 mod front;
 mod graph;
+mod lines;
 mod making;
 mod printing;
 mod status;
+mod texts;
 
 pub use call::sisal;
-pub use status::Status;
+pub use lines::report;
+pub use status::{Status, SyntaxFault};
 
 #[cfg(test)]
 mod tests;

@@ -1,16 +1,18 @@
 //! How a call ends.
 ghost use Rattle.std.specs.Prelude.{◌≡◌};
-ghost use Rattle.sisal_top.specs.Status.{code_of, line_of};
+ghost use Rattle.sisal_top.specs.Status.{code_of};
 
 use flow_value::NoMemory;
+use run_words::WordFault;
+use sisal_lex::LexFault;
 
-/// How a call ends, by the number that the program ends with.
-#[derive(Clone, Copy, Debug, PartialEq, Eq)]
+/// How a call ends, with its cause.
+#[derive(Clone, Copy)]
 pub enum Status {
     /// All is done.
     Done,
-    /// The words are refused.
-    Usage,
+    /// The words are refused: their first fault from the left.
+    Usage(WordFault),
     /// A read of the text failed.
     ReadFault,
     /// A write of the results failed.
@@ -18,7 +20,7 @@ pub enum Status {
     /// Want of memory.
     NoMemory,
     /// The text is no unit of the grammar.
-    Syntax,
+    Syntax(SyntaxFault),
     /// The unit breaks a rule of typing.
     Typing,
     /// The text is no valid IF1 unit.
@@ -33,24 +35,35 @@ pub enum Status {
     Later,
 }
 
+/// Why a text is no unit of the grammar.
+#[derive(Clone, Copy)]
+pub enum SyntaxFault {
+    /// A byte that begins no token, by its line.
+    BadByte(u32),
+    /// A number that is too wide, by its line.
+    NumberTooWide(u32),
+    /// A character or text that is not closed in its line, or has another item, by its line.
+    OpenText(u32),
+}
+
 impl Status {
     /// The number that the program ends with, from 0 to 11.
     pub fn code(self) -> u8
         ensures { result ≡ code_of self }
     {
-        self as u8
-    }
-
-    /// The line that is written to the sink of errors.
-    pub fn line(self) -> &'static [u8]
-        ensures { result.now ≡ line_of self }
-    {
         match self {
-            Status::ReadFault => b"sisal: read fault\n",
-            Status::WriteFault => b"sisal: write fault\n",
-            Status::NoMemory => b"sisal: no memory\n",
-            Status::Later => b"sisal: not built yet\n",
-            _ => b"",
+            Status::Done => 0,
+            Status::Usage(_) => 1,
+            Status::ReadFault => 2,
+            Status::WriteFault => 3,
+            Status::NoMemory => 4,
+            Status::Syntax(_) => 5,
+            Status::Typing => 6,
+            Status::If1 => 7,
+            Status::Argument => 8,
+            Status::TurnLimit => 9,
+            Status::TooLong => 10,
+            Status::Later => 11,
         }
     }
 }
@@ -62,5 +75,34 @@ impl From<NoMemory> for Status {
 
     fn from(_: NoMemory) -> Status {
         Status::NoMemory
+    }
+}
+
+impl From<WordFault> for Status {
+    ghost use Rattle.sisal_top.specs.Status.{of_words};
+
+    ghost from_gives = { λ f s. s ≡ of_words f };
+
+    fn from(fault: WordFault) -> Status {
+        match fault {
+            WordFault::NoMemory => Status::NoMemory,
+            other => Status::Usage(other),
+        }
+    }
+}
+
+impl From<LexFault> for Status {
+    ghost use Rattle.sisal_top.specs.Status.{of_lexer};
+
+    ghost from_gives = { λ f s. s ≡ of_lexer f };
+
+    fn from(fault: LexFault) -> Status {
+        match fault {
+            LexFault::BadByte(line) => Status::Syntax(SyntaxFault::BadByte(line)),
+            LexFault::NumberTooWide(line) => Status::Syntax(SyntaxFault::NumberTooWide(line)),
+            LexFault::OpenText(line) => Status::Syntax(SyntaxFault::OpenText(line)),
+            LexFault::TooLong => Status::TooLong,
+            LexFault::NoMemory => Status::NoMemory,
+        }
     }
 }

@@ -105,6 +105,44 @@ fn a_fault_at_the_second_write_leaves_a_prefix(rt: HostRuntime) -> Result<(), Fa
     Ok(())
 }
 
+/// A byte that begins no token on line 3.
+fn bad_byte() -> &'static [u8] {
+    b"define main\nfunction main(returns integer)\n1 # 2\nend function\n"
+}
+
+#[test]
+fn a_bad_byte_is_named_by_its_line(rt: HostRuntime) -> Result<(), Fail> {
+    let ended = call(rt.alloc(), "run", bad_byte(), [&[], &[], &[]])?;
+    assert_eq!(rt; ended.status.code(), 5);
+    assert_eq!(rt;
+        ended.err.bytes().as_slice(),
+        b"sisal: syntax lex 1 line 3\n".as_slice()
+    );
+    Ok(())
+}
+
+#[test]
+fn an_unknown_word_is_named_by_its_place(rt: HostRuntime) -> Result<(), Fail> {
+    let ended = call(rt.alloc(), "print", seven(), [&[], &[], &[]])?;
+    assert_eq!(rt; ended.status.code(), 1);
+    assert_eq!(rt;
+        ended.err.bytes().as_slice(),
+        b"sisal: usage 2 word 1\n".as_slice()
+    );
+    Ok(())
+}
+
+#[test]
+fn the_version_needs_no_text(rt: HostRuntime) -> Result<(), Fail> {
+    let ended = call(rt.alloc(), "--version", b"", [&[0], &[], &[]])?;
+    assert_eq!(rt; ended.status.code(), 0);
+    assert_eq!(rt;
+        ended.out.bytes().as_slice(),
+        b"sisal 0.1 (SISAL 1.2 over whole numbers)\n".as_slice()
+    );
+    Ok(())
+}
+
 #[test]
 fn other_words_are_not_built_yet(rt: HostRuntime) -> Result<(), Fail> {
     let ended = call(rt.alloc(), "mean", seven(), [&[], &[], &[]])?;

@@ -1,12 +1,11 @@
-use Rattle.std.proofs.Common.{◌≡◌, List, None, Ok, sym, subst, ◌∙◌}
-use Rattle.sisal_lex.specs.declared.token.Tokens.{Tokens}
-use Rattle.sisal_parse.specs.declared.tree.Expr.{Expr}
-use Rattle.sisal_parse.specs.Form.{IsProgram}
-use Rattle.sisal_top.specs.Program.{IsFirstForm, IsText}
+use Rattle.std.proofs.Common.{◌≡◌, ◌∙◌, ap, Ok, None}
 use Rattle.sisal_top.proofs.front.trees.Goals as goal
 
-pub returns-in-Ok-clause-none : goal.returns-in-Ok-clause-none
-returns-in-Ok-clause-none c = λ is_none form.
-    let text : IsText c.args.text.now form.0 = form.1 in
-    let same : text.tokens ≡ c.in-Ok.tokens = cc (sym text.lexed ∙ c.in-Ok.ensures.tokens) in
-    c.first_form.ensures.none is_none form.0 (subst (λ (t : Tokens). IsProgram t form.0) same text.program)
+pub returns-clause-none : goal.returns-clause-none
+returns-clause-none c = λ is.
+    let none : c.in_ok-read.read ≡ None = cc is in
+    record {
+      tokens = c.in_ok-tokens.tokens;
+      lexed = c.in_ok-tokens.ensures.tokens;
+      other = c.first_form.ensures.none (c.in_ok-read.was ∙ ap Ok none);
+    }

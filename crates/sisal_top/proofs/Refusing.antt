@@ -1,0 +1,51 @@
+-- Refusals of a text and of a command.
+use Rattle.std.proofs.Common.{◌≡◌, ◌≢◌, ◌⊎◌, inl, List, ℕ, Result, Ok, Err, subst, sym}
+use Rattle.std.specs.Result.{IfErr, IsErrAnd}
+use Rattle.run_words.specs.Words.{IsCommand, HasFault}
+use Rattle.run_words.specs.declared.command.Command.{Command}
+use Rattle.run_words.specs.declared.command.Command.TheVariants as command
+use Rattle.run_words.specs.declared.fault.WordFault.{WordFault}
+use Rattle.run_words.specs.declared.fault.WordFault.TheVariants as word
+use Rattle.run_words.proofs.Answering.{one_command, not_both}
+use Rattle.sisal_top.specs.Answer.{RunsPlain}
+use Rattle.sisal_top.specs.Program.{IsRun}
+use Rattle.sisal_top.specs.Refusals.{IsReply, IsUnread, Means}
+use Rattle.sisal_top.specs.Status.{of_words}
+use Rattle.sisal_top.specs.declared.status.Status.{Status}
+use Rattle.sisal_top.specs.declared.status.Status.TheVariants as status
+
+pub means_no_fault : (bytes : List ℕ) (r : Result (List ℕ) Status) → r ≡ Err status.ReadFault → Means bytes r → ⊥
+means_no_fault bytes r is m = subst (λ x. Means bytes x) is m
+
+pub means_reply : (bytes : List ℕ) (r : Result (List ℕ) Status) → Means bytes r → IfErr r IsReply
+means_reply bytes (Ok printed) m = tt
+means_reply bytes (Err status.Done) m = m
+means_reply bytes (Err (status.Usage f)) m = m
+means_reply bytes (Err status.ReadFault) m = tt
+means_reply bytes (Err status.WriteFault) m = m
+means_reply bytes (Err status.NoMemory) m = tt
+means_reply bytes (Err (status.Syntax f)) m = tt
+means_reply bytes (Err status.Typing) m = tt
+means_reply bytes (Err status.If1) m = tt
+means_reply bytes (Err status.Argument) m = tt
+means_reply bytes (Err status.TurnLimit) m = tt
+means_reply bytes (Err status.TooLong) m = tt
+means_reply bytes (Err status.Later) m = tt
+
+-- words that ask for a plain run are no other command, and have no fault
+pub runs_plain : (words : List (List ℕ)) (c : Command) → IsRun words → IsCommand words c → RunsPlain c
+runs_plain words c r is = (r.0, one_command words c (command.Run r.0) is r.1, r.2)
+
+pub has_no_fault : (words : List (List ℕ)) (f : WordFault) → IsRun words → HasFault words f → ⊥
+has_no_fault words f r is = not_both words (command.Run r.0) f r.1 is
+
+-- a plain run whose words are not read for want of memory
+pub not_read : (X : Type 0) (words : List (List ℕ)) (f : WordFault) (r : Result (List ℕ) Status) → IsRun words
+    → (f ≢ word.NoMemory → HasFault words f) → IsErrAnd r (λ s. s ≡ of_words f) → IfErr r (λ s. IsUnread s ⊎ X)
+not_read X words f (Ok printed) run has is = tt
+not_read X words word.NoMemory (Err s) run has is = inl (subst IsUnread (sym is) tt)
+not_read X words word.Missing (Err s) run has is = absurd (has_no_fault words word.Missing run (has (λ e. cc e)))
+not_read X words (word.Unknown k) (Err s) run has is = absurd (has_no_fault words (word.Unknown k) run (has (λ e. cc e)))
+not_read X words (word.Repeated k) (Err s) run has is = absurd (has_no_fault words (word.Repeated k) run (has (λ e. cc e)))
+not_read X words (word.NotANumber k) (Err s) run has is = absurd (has_no_fault words (word.NotANumber k) run (has (λ e. cc e)))
+not_read X words (word.OutOfRange k) (Err s) run has is = absurd (has_no_fault words (word.OutOfRange k) run (has (λ e. cc e)))

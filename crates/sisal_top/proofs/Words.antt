@@ -1,7 +1,0 @@
--- A list of one word.
-use Rattle.std.proofs.Common.{◌≡◌, ℕ, ◌≤◌, ◌<◌, List, [], ◌∷◌, length, get_or, map, sym, ap, arith}
-
-pub map-one : {A B : Type 0} (f : A → B) (xs : List A) (x : A) → 1 ≤ length xs → length xs < 2 → x ≡ get_or xs 0 x → map f xs ≡ f x ∷ []
-map-one f [] x some few is = absurd (omega arith)
-map-one f (y ∷ []) x some few is = ap (λ z. f z ∷ []) (sym is)
-map-one f (y ∷ z ∷ xs) x some few is = absurd (omega arith)

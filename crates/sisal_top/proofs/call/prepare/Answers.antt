@@ -1,0 +1,16 @@
+use Rattle.flow_io.specs.Bytes.{IsAtEnd}
+use Rattle.run_words.specs.Commands.{bytes_of}
+use Rattle.sisal_top.proofs.Refusing.{not_read, runs_plain}
+use Rattle.sisal_top.proofs.call.prepare.Goals as goal
+
+pub returns-in_err-command-clause-read : goal.returns-in_err-command-clause-read
+returns-in_err-command-clause-read g c = λ run.
+    not_read (IsAtEnd (g.S.Source.left c.args.text.now)) (bytes_of c.args.words.now) c.in_err-command.field-0.0 c.from_residual.result run c.in_err-command.ensures.fault c.from_residual.ensures.1
+
+pub returns-clause-to_the_end : goal.returns-clause-to_the_end
+returns-clause-to_the_end g c = λ run.
+    c.perform.ensures.to_the_end (runs_plain (bytes_of c.args.words.now) c.in_ok-command.command run c.in_ok-command.ensures.command)
+
+pub returns-clause-read : goal.returns-clause-read
+returns-clause-read g c = λ run.
+    c.perform.ensures.read (runs_plain (bytes_of c.args.words.now) c.in_ok-command.command run c.in_ok-command.ensures.command)

@@ -1,0 +1,46 @@
+-- The lines of the statuses, which the sink of errors takes.
+use Rattle.std.specs.Prelude.{◌≤◌, ℕ, List, [], ◌∷◌, ◌++◌, take, length, codes, decimal, Option, Result, Ok, Err}
+use Rattle.flow_io.specs.Bytes.{AddsOn}
+use Rattle.flow_io.specs.declared.failed.Failed.{Failed}
+use Rattle.run_words.specs.declared.fault.WordFault.{WordFault}
+use Rattle.run_words.specs.declared.fault.WordFault.TheVariants as word
+use Rattle.sisal_top.specs.declared.status.Status.{Status}
+use Rattle.sisal_top.specs.declared.status.Status.TheVariants as status
+use Rattle.sisal_top.specs.declared.status.SyntaxFault.{SyntaxFault}
+use Rattle.sisal_top.specs.declared.status.SyntaxFault.TheVariants as syntax
+
+-- words and a line feed, and words, a number and a line feed
+abbrev pub plain_line : List ℕ → List ℕ
+plain_line words = words ++ 10 ∷ []
+
+abbrev pub numbered_line : List ℕ → ℕ → List ℕ
+numbered_line words n = words ++ (decimal n ++ 10 ∷ [])
+
+abbrev pub usage_line : WordFault → List ℕ
+usage_line (word.Unknown k) = numbered_line (codes "sisal: usage 2 word ") k
+usage_line (word.Repeated k) = numbered_line (codes "sisal: usage 3 word ") k
+usage_line (word.NotANumber k) = numbered_line (codes "sisal: usage 4 word ") k
+usage_line (word.OutOfRange k) = numbered_line (codes "sisal: usage 5 word ") k
+usage_line word.Missing = plain_line (codes "sisal: usage 1")
+usage_line word.NoMemory = plain_line (codes "sisal: usage 1")
+
+abbrev pub syntax_line : SyntaxFault → List ℕ
+syntax_line (syntax.BadByte l) = numbered_line (codes "sisal: syntax lex 1 line ") l
+syntax_line (syntax.NumberTooWide l) = numbered_line (codes "sisal: syntax lex 2 line ") l
+syntax_line (syntax.OpenText l) = numbered_line (codes "sisal: syntax lex 3 line ") l
+
+-- what is written to the sink of errors: nothing where all is done, nor for the statuses that are not given yet
+abbrev pub line_of : Status → List ℕ
+line_of (status.Usage f) = usage_line f
+line_of status.ReadFault = plain_line (codes "sisal: read fault")
+line_of status.WriteFault = plain_line (codes "sisal: write fault")
+line_of status.NoMemory = plain_line (codes "sisal: no memory")
+line_of (status.Syntax f) = syntax_line f
+line_of status.TooLong = plain_line (codes "sisal: text too long")
+line_of status.Later = plain_line (codes "sisal: not built yet")
+line_of _ = []
+
+-- A sink took these bytes, or a prefix of them before a write failed.
+abbrev pub Takes : Result (Unit {0}) Failed → Option (List ℕ) → List ℕ → Option (List ℕ) → Type 0
+Takes (Ok u) before bytes after = AddsOn before bytes after
+Takes (Err e) before bytes after = (n : ℕ) × (n ≤ length bytes) × AddsOn before (take n bytes) after

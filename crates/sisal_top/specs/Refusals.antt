@@ -1,0 +1,44 @@
+-- Results and refusals inside the call.
+use Rattle.std.specs.Prelude.{◌≡◌, ℕ, List, ◌⊎◌, Result, Ok, Err}
+use Rattle.sisal_top.specs.Answer.{Prints}
+use Rattle.sisal_top.specs.Program.{IsNotBuilt, IsRefused}
+use Rattle.sisal_top.specs.declared.status.Status.{Status}
+use Rattle.sisal_top.specs.declared.status.Status.TheVariants as status
+
+-- want of memory, or a fault of the bytes
+abbrev pub IsCause : List ℕ → Status → Type 0
+IsCause bytes s = (s ≡ status.NoMemory) ⊎ IsRefused bytes s
+
+-- the refusals after which the text may not be read to its end
+abbrev pub IsUnread : Status → Type 0
+IsUnread status.ReadFault = Unit {0}
+IsUnread status.NoMemory = Unit {0}
+IsUnread status.TooLong = Unit {0}
+IsUnread _ = ⊥
+
+-- the refusals before which nothing was written
+abbrev pub IsEarly : Status → Type 0
+IsEarly status.Done = ⊥
+IsEarly status.WriteFault = ⊥
+IsEarly _ = Unit {0}
+
+-- what bytes are found to mean: the lines of a program of the first form, or the cause of a refusal
+abbrev pub Means : List ℕ → Result (List ℕ) Status → Type 0
+Means bytes (Ok printed) = Prints bytes printed
+Means bytes (Err (status.Syntax f)) = IsRefused bytes (status.Syntax f)
+Means bytes (Err status.TooLong) = IsRefused bytes status.TooLong
+Means bytes (Err status.Later) = IsNotBuilt bytes
+Means bytes (Err status.NoMemory) = Unit {0}
+Means bytes (Err _) = ⊥
+
+-- what a text is found to mean, unless a read failed
+abbrev pub Reads : List ℕ → Result (List ℕ) Status → Type 0
+Reads bytes (Err status.ReadFault) = Unit {0}
+Reads bytes r = Means bytes r
+
+-- the refusals that a command gives
+abbrev pub IsReply : Status → Type 0
+IsReply status.Done = ⊥
+IsReply (status.Usage f) = ⊥
+IsReply status.WriteFault = ⊥
+IsReply _ = Unit {0}

@@ -1,0 +1,104 @@
+//! The line of a status.
+ghost use Rattle.std.specs.Prelude.{◌≡◌, ◌++◌, ◌∷◌, [], ℕ, take, decimal, OnOk, OnErr};
+ghost use Rattle.flow_io.specs.Bytes.{AddsOn};
+ghost use Rattle.flow_io.specs.Count.{HasRisen};
+ghost use Rattle.sisal_top.specs.Lines.{Takes, line_of, syntax_line, usage_line};
+
+use crate::status::{Status, SyntaxFault};
+use flow_io::{Failed, Sink, write_all};
+use itoa::Buffer;
+use run_words::WordFault;
+
+/// Writes words.
+fn write_words<E: Sink>(err: &mut E, words: &[u8]) -> Result<(), Failed>
+    ensures takes { Takes result (E.taken err.old) words.now (E.taken err.new) }
+    ensures fault { OnErr result (HasRisen (E.faults err.old) (E.faults err.new)) }
+    ensures no_fault { OnOk result (E.faults err.new ≡ E.faults err.old) }
+{
+    write_all(err, words)
+}
+
+/// Writes a number in decimal and a line feed.
+fn write_number<E: Sink>(err: &mut E, number: u64) -> Result<(), Failed>
+    ensures takes { Takes result (E.taken err.old) (decimal number ++ 10 ∷ []) (E.taken err.new) }
+    ensures fault { OnErr result (HasRisen (E.faults err.old) (E.faults err.new)) }
+    ensures no_fault { OnOk result (E.faults err.new ≡ E.faults err.old) }
+{
+    let mut buffer = Buffer::new();
+    write_all(err, buffer.format(number).as_bytes())?;
+    write_all(err, b"\n")
+}
+
+/// Writes words, a number and a line feed.
+fn write_numbered<E: Sink>(err: &mut E, words: &[u8], number: u64) -> Result<(), Failed>
+    ensures takes { Takes result (E.taken err.old) (words.now ++ (decimal number ++ 10 ∷ [])) (E.taken err.new) }
+    ensures fault { OnErr result (HasRisen (E.faults err.old) (E.faults err.new)) }
+    ensures no_fault { OnOk result (E.faults err.new ≡ E.faults err.old) }
+{
+    write_all(err, words)?;
+    write_number(err, number)
+}
+
+/// Writes the line of a fault of the words.
+fn write_usage<E: Sink>(err: &mut E, fault: WordFault) -> Result<(), Failed>
+    ensures takes { Takes result (E.taken err.old) (usage_line fault) (E.taken err.new) }
+    ensures fault { OnErr result (HasRisen (E.faults err.old) (E.faults err.new)) }
+    ensures no_fault { OnOk result (E.faults err.new ≡ E.faults err.old) }
+{
+    match fault {
+        WordFault::Unknown(word) => write_numbered(err, b"sisal: usage 2 word ", word as u64),
+        WordFault::Repeated(word) => write_numbered(err, b"sisal: usage 3 word ", word as u64),
+        WordFault::NotANumber(word) => write_numbered(err, b"sisal: usage 4 word ", word as u64),
+        WordFault::OutOfRange(word) => write_numbered(err, b"sisal: usage 5 word ", word as u64),
+        WordFault::Missing => write_words(err, b"sisal: usage 1\n"),
+        WordFault::NoMemory => write_words(err, b"sisal: usage 1\n"),
+    }
+}
+
+/// Writes the line of a fault of syntax.
+fn write_syntax<E: Sink>(err: &mut E, fault: SyntaxFault) -> Result<(), Failed>
+    ensures takes { Takes result (E.taken err.old) (syntax_line fault) (E.taken err.new) }
+    ensures fault { OnErr result (HasRisen (E.faults err.old) (E.faults err.new)) }
+    ensures no_fault { OnOk result (E.faults err.new ≡ E.faults err.old) }
+{
+    match fault {
+        SyntaxFault::BadByte(line) => {
+            write_numbered(err, b"sisal: syntax lex 1 line ", u64::from(line))
+        }
+        SyntaxFault::NumberTooWide(line) => {
+            write_numbered(err, b"sisal: syntax lex 2 line ", u64::from(line))
+        }
+        SyntaxFault::OpenText(line) => {
+            write_numbered(err, b"sisal: syntax lex 3 line ", u64::from(line))
+        }
+    }
+}
+
+/// Writes the line of a status.
+fn write_line<E: Sink>(err: &mut E, status: Status) -> Result<(), Failed>
+    ensures takes { Takes result (E.taken err.old) (line_of status) (E.taken err.new) }
+    ensures fault { OnErr result (HasRisen (E.faults err.old) (E.faults err.new)) }
+    ensures no_fault { OnOk result (E.faults err.new ≡ E.faults err.old) }
+{
+    match status {
+        Status::Usage(fault) => write_usage(err, fault),
+        Status::Syntax(fault) => write_syntax(err, fault),
+        Status::ReadFault => write_words(err, b"sisal: read fault\n"),
+        Status::WriteFault => write_words(err, b"sisal: write fault\n"),
+        Status::NoMemory => write_words(err, b"sisal: no memory\n"),
+        Status::TooLong => write_words(err, b"sisal: text too long\n"),
+        Status::Later => write_words(err, b"sisal: not built yet\n"),
+        _ => write_words(err, b""),
+    }
+}
+
+/// Writes the line of a status to the sink of errors, and gives the status back, whether the line
+/// was taken or not. Takes no memory.
+pub fn report<E: Sink>(status: Status, err: &mut E) -> Status
+    ensures same { result ≡ status }
+    ensures line { ¬ HasRisen (E.faults err.old) (E.faults err.new) → AddsOn (E.taken err.old) (line_of status) (E.taken err.new) }
+    ensures prefix { (n : ℕ) × AddsOn (E.taken err.old) (take n (line_of status)) (E.taken err.new) }
+{
+    let _ = write_line(err, status);
+    status
+}
