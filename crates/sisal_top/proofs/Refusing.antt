@@ -1,5 +1,5 @@
 -- Refusals of a text and of a command.
-use Rattle.std.proofs.Common.{◌≡◌, ◌≢◌, ◌⊎◌, inl, List, ℕ, Result, Ok, Err, subst, sym}
+use Rattle.std.proofs.Common.{◌≡◌, ◌≢◌, ◌⊎◌, inl, inr, List, ℕ, Result, Ok, Err, subst, sym}
 use Rattle.std.specs.Result.{IfErr, IsErrAnd}
 use Rattle.run_words.specs.Words.{IsCommand, HasFault}
 use Rattle.run_words.specs.declared.command.Command.{Command}
@@ -7,10 +7,15 @@ use Rattle.run_words.specs.declared.command.Command.TheVariants as command
 use Rattle.run_words.specs.declared.fault.WordFault.{WordFault}
 use Rattle.run_words.specs.declared.fault.WordFault.TheVariants as word
 use Rattle.run_words.proofs.Answering.{one_command, not_both}
+use Rattle.sisal_lex.specs.Tokens.{tokens_of}
+use Rattle.sisal_lex.specs.declared.token.Tokens.{Tokens}
+use Rattle.sisal_parse.specs.Faults.{DepthFault, SyntaxFault}
+use Rattle.sisal_parse.specs.declared.fault.ParseFault.{ParseFault}
+use Rattle.sisal_parse.specs.declared.fault.ParseFault.TheVariants as parser
 use Rattle.sisal_top.specs.Answer.{RunsPlain}
 use Rattle.sisal_top.specs.Program.{IsRun}
-use Rattle.sisal_top.specs.Refusals.{IsReply, IsUnread, Means}
-use Rattle.sisal_top.specs.Status.{of_words}
+use Rattle.sisal_top.specs.Refusals.{IsCause, IsReply, IsUnread, Means}
+use Rattle.sisal_top.specs.Status.{of_parser, of_words}
 use Rattle.sisal_top.specs.declared.status.Status.{Status}
 use Rattle.sisal_top.specs.declared.status.Status.TheVariants as status
 
@@ -49,3 +54,11 @@ not_read X words (word.Unknown k) (Err s) run has is = absurd (has_no_fault word
 not_read X words (word.Repeated k) (Err s) run has is = absurd (has_no_fault words (word.Repeated k) run (has (λ e. cc e)))
 not_read X words (word.NotANumber k) (Err s) run has is = absurd (has_no_fault words (word.NotANumber k) run (has (λ e. cc e)))
 not_read X words (word.OutOfRange k) (Err s) run has is = absurd (has_no_fault words (word.OutOfRange k) run (has (λ e. cc e)))
+
+-- a fault of the parser is one of the bytes
+pub parser_cause : {X : Type 0} (bytes : List ℕ) (tokens : Tokens) (f : ParseFault) (r : Result X Status) → tokens_of bytes ≡ Ok tokens
+    → SyntaxFault tokens.list f → DepthFault tokens.list f → IsErrAnd r (λ s. s ≡ of_parser f) → IfErr r (IsCause bytes)
+parser_cause bytes tokens f (Ok x) lexed syntax deep is = tt
+parser_cause bytes tokens parser.NoMemory (Err s) lexed syntax deep is = inl is
+parser_cause bytes tokens (parser.Syntax number line) (Err s) lexed syntax deep is = subst (IsCause bytes) (sym is) (inr (inr (tokens, lexed, syntax)))
+parser_cause bytes tokens (parser.TooDeep line) (Err s) lexed syntax deep is = subst (IsCause bytes) (sym is) (inr (inr (tokens, lexed, deep)))

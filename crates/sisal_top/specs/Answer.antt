@@ -7,8 +7,8 @@ use Rattle.run_words.specs.Words.{IsCommand, HasFault}
 use Rattle.run_words.specs.declared.command.Command.{Command}
 use Rattle.run_words.specs.declared.command.Command.TheVariants as command
 use Rattle.run_words.specs.declared.command.RunSet.{RunSet}
-use Rattle.sisal_parse.specs.Value.{values_of}
-use Rattle.sisal_parse.specs.declared.tree.Expr.{Expr}
+use Rattle.first_form.specs.Value.{values_of}
+use Rattle.first_form.specs.declared.tree.Expr.{Expr}
 use Rattle.sisal_top.specs.Program.{IsText, IsPlain, IsRefused, IsNotBuilt}
 use Rattle.sisal_top.specs.Texts.{help_text, version_text}
 use Rattle.sisal_top.specs.declared.status.Status.{Status}

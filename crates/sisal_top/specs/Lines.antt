@@ -28,6 +28,8 @@ abbrev pub syntax_line : SyntaxFault → List ℕ
 syntax_line (syntax.BadByte l) = numbered_line (codes "sisal: syntax lex 1 line ") l
 syntax_line (syntax.NumberTooWide l) = numbered_line (codes "sisal: syntax lex 2 line ") l
 syntax_line (syntax.OpenText l) = numbered_line (codes "sisal: syntax lex 3 line ") l
+syntax_line (syntax.Token t l) = codes "sisal: syntax token " ++ (decimal t ++ numbered_line (codes " line ") l)
+syntax_line (syntax.TooDeep l) = numbered_line (codes "sisal: syntax depth line ") l
 
 -- what is written to the sink of errors: nothing where all is done, nor for the statuses that are not given yet
 abbrev pub line_of : Status → List ℕ

@@ -1,15 +1,24 @@
 -- Which texts are programs of the first form, and which words ask to run them.
-use Rattle.std.specs.Prelude.{◌≡◌, ℕ, false, List, [], ◌∷◌, Ok, Err, codes}
+use Rattle.std.specs.Prelude.{◌≡◌, ◌≤◌, ◌⊎◌, ℕ, false, List, [], ◌∷◌, Ok, Err, codes}
 use Rattle.run_words.specs.Words.{IsCommand}
 use Rattle.run_words.specs.declared.command.Command.TheVariants as command
 use Rattle.run_words.specs.declared.command.RunSet.{RunSet}
 use Rattle.sisal_lex.specs.Tokens.{tokens_of}
 use Rattle.sisal_lex.specs.declared.fault.LexFault.{LexFault}
+use Rattle.sisal_lex.specs.declared.token.Token.{Token}
 use Rattle.sisal_lex.specs.declared.token.Tokens.{Tokens}
-use Rattle.sisal_parse.specs.Form.{IsProgram}
-use Rattle.sisal_parse.specs.declared.tree.Expr.{Expr}
+use Rattle.first_form.specs.Form.{IsProgram}
+use Rattle.first_form.specs.declared.tree.Expr.{Expr}
+use Rattle.sisal_grammar.specs.Phrases.{unit}
+use Rattle.sisal_grammar.specs.Placed.{placed}
+use Rattle.sisal_grammar.specs.Spells.{Spells}
+use Rattle.sisal_grammar.specs.declared.value.Outline.{Outline}
+use Rattle.sisal_parse.specs.Faults.{IsFirstBad, IsTooDeep}
+use Rattle.sisal_tree.specs.Depth.{depth_of}
 use Rattle.sisal_top.specs.Status.{of_lexer}
 use Rattle.sisal_top.specs.declared.status.Status.{Status}
+use Rattle.sisal_top.specs.declared.status.Status.TheVariants as status
+use Rattle.sisal_top.specs.declared.status.SyntaxFault.TheVariants as syntax
 
 -- these bytes are a program of the first form with these results
 pub record IsText (bytes : List ℕ) (results : List Expr) : Type 0 where
@@ -17,15 +26,32 @@ pub record IsText (bytes : List ℕ) (results : List Expr) : Type 0 where
   pub lexed : tokens_of bytes ≡ Ok tokens
   pub program : IsProgram tokens results
 
--- These bytes have tokens, and are no program of the first form.
+-- These bytes are a unit that nests at most 200 deep, and no program of the first form.
 pub record IsNotBuilt (bytes : List ℕ) : Type 0 where
   pub tokens : Tokens
   pub lexed : tokens_of bytes ≡ Ok tokens
+  pub outline : Outline
+  pub spelled : Spells unit (placed 0 tokens.list) outline
+  pub shallow : depth_of outline.items ≤ 200
   pub other : (results : List Expr) → IsProgram tokens results → ⊥
 
 -- these bytes have no tokens: there are too many, or the first fault of a token leads to this status
+abbrev pub HasNoTokens : List ℕ → Status → Type 0
+HasNoTokens bytes refusal = (e : LexFault) × (tokens_of bytes ≡ Err e) × (of_lexer e ≡ refusal)
+
+-- these tokens are no unit, or one that nests too deep
+abbrev pub IsBadUnit : List Token → Status → Type 0
+IsBadUnit ts (status.Syntax (syntax.Token number line)) = IsFirstBad ts number line
+IsBadUnit ts (status.Syntax (syntax.TooDeep line)) = IsTooDeep ts line
+IsBadUnit ts _ = ⊥
+
+-- these bytes have tokens that are no unit
+abbrev pub HasNoUnit : List ℕ → Status → Type 0
+HasNoUnit bytes refusal = (tokens : Tokens) × (tokens_of bytes ≡ Ok tokens) × IsBadUnit tokens.list refusal
+
+-- this is why these bytes are refused
 abbrev pub IsRefused : List ℕ → Status → Type 0
-IsRefused bytes refusal = (e : LexFault) × (tokens_of bytes ≡ Err e) × (of_lexer e ≡ refusal)
+IsRefused bytes refusal = HasNoTokens bytes refusal ⊎ HasNoUnit bytes refusal
 
 -- `run` of a SISAL text and its function `main`, with no values, no totals and the usual limit: the
 -- number of workers and the order may be given, since nothing depends on them

@@ -4,6 +4,8 @@ use Rattle.run_words.specs.declared.fault.WordFault.{WordFault}
 use Rattle.run_words.specs.declared.fault.WordFault.TheVariants as word
 use Rattle.sisal_lex.specs.declared.fault.LexFault.{LexFault}
 use Rattle.sisal_lex.specs.declared.fault.LexFault.TheVariants as lexer
+use Rattle.sisal_parse.specs.declared.fault.ParseFault.{ParseFault}
+use Rattle.sisal_parse.specs.declared.fault.ParseFault.TheVariants as parser
 use Rattle.sisal_top.specs.declared.status.Status.{Status}
 use Rattle.sisal_top.specs.declared.status.Status.TheVariants as status
 use Rattle.sisal_top.specs.declared.status.SyntaxFault.TheVariants as syntax
@@ -22,7 +24,7 @@ code_of status.TurnLimit = 9
 code_of status.TooLong = 10
 code_of status.Later = 11
 
--- the status of a fault of the words, and of one of the lexer
+-- the status of a fault of the words, of one of the lexer and of one of the parser
 abbrev pub of_words : WordFault → Status
 of_words word.NoMemory = status.NoMemory
 of_words word.Missing = status.Usage word.Missing
@@ -37,3 +39,8 @@ of_lexer (lexer.NumberTooWide l) = status.Syntax (syntax.NumberTooWide l)
 of_lexer (lexer.OpenText l) = status.Syntax (syntax.OpenText l)
 of_lexer lexer.TooLong = status.TooLong
 of_lexer lexer.NoMemory = status.NoMemory
+
+abbrev pub of_parser : ParseFault → Status
+of_parser (parser.Syntax t l) = status.Syntax (syntax.Token t l)
+of_parser (parser.TooDeep l) = status.Syntax (syntax.TooDeep l)
+of_parser parser.NoMemory = status.NoMemory

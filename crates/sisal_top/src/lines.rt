@@ -1,8 +1,8 @@
 //! The line of a status.
-ghost use Rattle.std.specs.Prelude.{◌≡◌, ◌++◌, ◌∷◌, [], ℕ, take, decimal, OnOk, OnErr};
+ghost use Rattle.std.specs.Prelude.{◌≡◌, ◌++◌, ◌∷◌, [], ℕ, take, codes, decimal, OnOk, OnErr};
 ghost use Rattle.flow_io.specs.Bytes.{AddsOn};
 ghost use Rattle.flow_io.specs.Count.{HasRisen};
-ghost use Rattle.sisal_top.specs.Lines.{Takes, line_of, syntax_line, usage_line};
+ghost use Rattle.sisal_top.specs.Lines.{Takes, line_of, numbered_line, syntax_line, usage_line};
 
 use crate::status::{Status, SyntaxFault};
 use flow_io::{Failed, Sink, write_all};
@@ -18,15 +18,24 @@ fn write_words<E: Sink>(err: &mut E, words: &[u8]) -> Result<(), Failed>
     write_all(err, words)
 }
 
+/// Writes a number in decimal.
+fn write_digits<E: Sink>(err: &mut E, number: u64) -> Result<(), Failed>
+    ensures takes { Takes result (E.taken err.old) (decimal number) (E.taken err.new) }
+    ensures fault { OnErr result (HasRisen (E.faults err.old) (E.faults err.new)) }
+    ensures no_fault { OnOk result (E.faults err.new ≡ E.faults err.old) }
+{
+    let mut buffer = Buffer::new();
+    write_words(err, buffer.format(number).as_bytes())
+}
+
 /// Writes a number in decimal and a line feed.
 fn write_number<E: Sink>(err: &mut E, number: u64) -> Result<(), Failed>
     ensures takes { Takes result (E.taken err.old) (decimal number ++ 10 ∷ []) (E.taken err.new) }
     ensures fault { OnErr result (HasRisen (E.faults err.old) (E.faults err.new)) }
     ensures no_fault { OnOk result (E.faults err.new ≡ E.faults err.old) }
 {
-    let mut buffer = Buffer::new();
-    write_all(err, buffer.format(number).as_bytes())?;
-    write_all(err, b"\n")
+    write_digits(err, number)?;
+    write_words(err, b"\n")
 }
 
 /// Writes words, a number and a line feed.
@@ -35,8 +44,28 @@ fn write_numbered<E: Sink>(err: &mut E, words: &[u8], number: u64) -> Result<(),
     ensures fault { OnErr result (HasRisen (E.faults err.old) (E.faults err.new)) }
     ensures no_fault { OnOk result (E.faults err.new ≡ E.faults err.old) }
 {
-    write_all(err, words)?;
+    write_words(err, words)?;
     write_number(err, number)
+}
+
+/// Writes the number of a token and its line.
+fn write_place<E: Sink>(err: &mut E, token: u64, line: u64) -> Result<(), Failed>
+    ensures takes { Takes result (E.taken err.old) (decimal token ++ numbered_line (codes " line ") line) (E.taken err.new) }
+    ensures fault { OnErr result (HasRisen (E.faults err.old) (E.faults err.new)) }
+    ensures no_fault { OnOk result (E.faults err.new ≡ E.faults err.old) }
+{
+    write_digits(err, token)?;
+    write_numbered(err, b" line ", line)
+}
+
+/// Writes the line of a token with which no unit goes on.
+fn write_token<E: Sink>(err: &mut E, token: u64, line: u64) -> Result<(), Failed>
+    ensures takes { Takes result (E.taken err.old) (codes "sisal: syntax token " ++ (decimal token ++ numbered_line (codes " line ") line)) (E.taken err.new) }
+    ensures fault { OnErr result (HasRisen (E.faults err.old) (E.faults err.new)) }
+    ensures no_fault { OnOk result (E.faults err.new ≡ E.faults err.old) }
+{
+    write_words(err, b"sisal: syntax token ")?;
+    write_place(err, token, line)
 }
 
 /// Writes the line of a fault of the words.
@@ -70,6 +99,12 @@ fn write_syntax<E: Sink>(err: &mut E, fault: SyntaxFault) -> Result<(), Failed>
         }
         SyntaxFault::OpenText(line) => {
             write_numbered(err, b"sisal: syntax lex 3 line ", u64::from(line))
+        }
+        SyntaxFault::Token { token, line } => {
+            write_token(err, u64::from(token), u64::from(line))
+        }
+        SyntaxFault::TooDeep(line) => {
+            write_numbered(err, b"sisal: syntax depth line ", u64::from(line))
         }
     }
 }

@@ -5,6 +5,7 @@ ghost use Rattle.sisal_top.specs.Status.{code_of};
 use flow_value::NoMemory;
 use run_words::WordFault;
 use sisal_lex::LexFault;
+use sisal_parse::ParseFault;
 
 /// How a call ends, with its cause.
 #[derive(Clone, Copy)]
@@ -44,6 +45,15 @@ pub enum SyntaxFault {
     NumberTooWide(u32),
     /// A character or text that is not closed in its line, or has another item, by its line.
     OpenText(u32),
+    /// The first token with which no unit goes on.
+    Token {
+        /// Its number, from 1; one more than there are tokens where the text ends early.
+        token: u32,
+        /// Its line.
+        line: u32,
+    },
+    /// An expression that nests deeper than 200, by the line on which it begins.
+    TooDeep(u32),
 }
 
 impl Status {
@@ -103,6 +113,20 @@ impl From<LexFault> for Status {
             LexFault::OpenText(line) => Status::Syntax(SyntaxFault::OpenText(line)),
             LexFault::TooLong => Status::TooLong,
             LexFault::NoMemory => Status::NoMemory,
+        }
+    }
+}
+
+impl From<ParseFault> for Status {
+    ghost use Rattle.sisal_top.specs.Status.{of_parser};
+
+    ghost from_gives = { λ f s. s ≡ of_parser f };
+
+    fn from(fault: ParseFault) -> Status {
+        match fault {
+            ParseFault::Syntax { token, line } => Status::Syntax(SyntaxFault::Token { token, line }),
+            ParseFault::TooDeep(line) => Status::Syntax(SyntaxFault::TooDeep(line)),
+            ParseFault::NoMemory => Status::NoMemory,
         }
     }
 }

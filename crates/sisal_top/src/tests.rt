@@ -121,6 +121,22 @@ fn a_bad_byte_is_named_by_its_line(rt: HostRuntime) -> Result<(), Fail> {
     Ok(())
 }
 
+/// A sum whose second operand is missing.
+fn no_operand() -> &'static [u8] {
+    b"define main\nfunction main(returns integer)\n1 +\nend function\n"
+}
+
+#[test]
+fn the_first_token_of_no_unit_is_named(rt: HostRuntime) -> Result<(), Fail> {
+    let ended = call(rt.alloc(), "run", no_operand(), [&[], &[], &[]])?;
+    assert_eq!(rt; ended.status.code(), 5);
+    assert_eq!(rt;
+        ended.err.bytes().as_slice(),
+        b"sisal: syntax token 11 line 4\n".as_slice()
+    );
+    Ok(())
+}
+
 #[test]
 fn an_unknown_word_is_named_by_its_place(rt: HostRuntime) -> Result<(), Fail> {
     let ended = call(rt.alloc(), "print", seven(), [&[], &[], &[]])?;
