@@ -1,0 +1,46 @@
+#!/bin/bash
+# Times lexing and parsing of a SISAL text of 4 MB beside CPython's ast.parse on a Python text of the same size and shape, in
+# turns, and prints seconds, the least of some rounds, and the memory of ours a byte of text. Both times are of the whole
+# program without its start. Run it at the top of the repository, on an idle machine; the argument is the rounds.
+set -e
+rounds=${1:-5}
+build=$(mktemp -d)
+trap 'rm -rf "$build"' EXIT
+python3 bench/parse/texts.py "$build/long.sis" "$build/long.py"
+printf 'define f1\n' >"$build/short.sis"
+printf 'x = 1\n' >"$build/short.py"
+(cd crates/bench_parse && rt run <stdin) >"$build/rt" 2>&1 || { cat "$build/rt" >&2; exit 1; }
+ours=${BENCH_PARSE:-$(find crates/bench_parse/out -type f -perm -u+x -name 'bench_parse*' | head -1)}
+[ -x "$ours" ] || { echo "no program bench_parse in crates/bench_parse/out: set BENCH_PARSE" >&2; exit 1; }
+cat >"$build/theirs.py" <<'PY'
+import ast, sys
+print(len(ast.parse(open(sys.argv[1]).read()).body))
+PY
+
+milliseconds() { # a command
+    local begin end
+    begin=$(date +%s%N)
+    "$@" >"$build/printed"
+    end=$(date +%s%N)
+    echo $(((end - begin) / 1000000))
+}
+ours_on() { "$ours" <"$1"; }
+
+declare -A least
+keep() { [ -n "${least[$1]}" ] && [ "${least[$1]}" -le "$2" ] || least[$1]=$2; }
+for ((i = 0; i < rounds; i++)); do
+    for size in short long; do
+        keep "ours $size" "$(milliseconds ours_on "$build/$size.sis")"
+        keep "theirs $size" "$(milliseconds python3 "$build/theirs.py" "$build/$size.py")"
+    done
+done
+a=$((least[ours long] - least[ours short]))
+b=$((least[theirs long] - least[theirs short]))
+awk -v a=$a -v b=$b 'BEGIN { printf "lex and parse %.3f s, ast.parse %.3f s, ratio %.2f\n", a / 1000, b / 1000, a / b }'
+peak=$(python3 - "$ours" "$build/long.sis" <<'PY'
+import resource, subprocess, sys
+subprocess.run([sys.argv[1]], stdin=open(sys.argv[2]), stdout=subprocess.DEVNULL, check=True)
+print(resource.getrusage(resource.RUSAGE_CHILDREN).ru_maxrss * 1024)
+PY
+)
+awk -v p="$peak" -v n="$(stat -c %s "$build/long.sis")" 'BEGIN { printf "memory %.1f bytes a byte of text\n", p / n }'
