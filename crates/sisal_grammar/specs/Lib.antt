@@ -1,0 +1,5 @@
+pub mod Acts
+pub mod Classes
+pub mod Language
+pub mod Plan
+pub mod Sorts
