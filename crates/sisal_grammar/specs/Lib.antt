@@ -1,5 +1,7 @@
 pub mod Acts
 pub mod Classes
 pub mod Language
+pub mod Phrases
 pub mod Plan
 pub mod Sorts
+pub mod Spells
