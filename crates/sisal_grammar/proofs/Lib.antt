@@ -1,0 +1,4 @@
+pub mod TokenClasses
+pub mod Saying
+pub mod Joins
+pub mod Keeps
