@@ -2,3 +2,4 @@ pub mod TokenClasses
 pub mod Saying
 pub mod Joins
 pub mod Keeps
+pub mod Keepings
