@@ -3,3 +3,5 @@ pub mod Saying
 pub mod Joins
 pub mod Keeps
 pub mod Keepings
+pub mod Raws
+pub mod Reading

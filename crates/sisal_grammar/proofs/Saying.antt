@@ -346,13 +346,12 @@ says_of is_fold ts v = Folds ts v
 says_of is_red ts v = Spells red ts v
 says_of is_mask ts v = Spells (maybe mask) ts v
 
-unfoldable pub role_at : ℕ → Role
+abbrev pub role_at : ℕ → Role
 role_at n = slice_index_or (is_unit ∷ is_names ∷ is_semi ∷ is_items ∷ is_item ∷ is_type ∷ is_fields ∷ is_fields_more ∷ is_field ∷ is_tagfs ∷ is_tagfs_more ∷ is_tagf ∷ is_tag_type ∷ is_header ∷ is_types ∷ is_exprs ∷ is_exprs_more ∷ is_args ∷ is_expr ∷ is_expr_more ∷ is_conj ∷ is_conj_more ∷ is_inv ∷ is_rel ∷ is_rel_more ∷ is_cat ∷ is_cat_more ∷ is_sum ∷ is_sum_more ∷ is_term ∷ is_term_more ∷ is_neg ∷ is_post ∷ is_posts ∷ is_selector ∷ is_index ∷ is_fv ∷ is_fvs ∷ is_fvs_more ∷ is_prim ∷ is_call ∷ is_other ∷ is_is_what ∷ is_named ∷ is_elements ∷ is_content ∷ is_elses ∷ is_subject ∷ is_subject_more ∷ is_o_expr ∷ is_o_conj ∷ is_o_inv ∷ is_o_rel ∷ is_o_cat ∷ is_o_sum ∷ is_o_term ∷ is_o_neg ∷ is_o_post ∷ is_arms ∷ is_arm ∷ is_otherwise ∷ is_loop ∷ is_groups ∷ is_group ∷ is_gens ∷ is_gen ∷ is_to ∷ is_at ∷ is_body ∷ is_defs ∷ is_defs_more ∷ is_defs_rest ∷ is_def ∷ is_targets ∷ is_target ∷ is_of_type ∷ is_turn ∷ is_test ∷ is_clauses ∷ is_clause ∷ is_fold ∷ is_red ∷ is_mask ∷ []) n is_unit
 
 -- the kind of value of each rule, as `plan` has it
-unfoldable pub roles : Scheme sisal
+abbrev pub roles : Scheme sisal
 roles = record { action = plan.action; kind = λ n. sort_of (role_at n) }
 
-unfoldable pub says : (n : ℕ) → List Placed → Val (roles.kind n) → Type 0
-unfolding roles
+abbrev pub says : (n : ℕ) → List Placed → Val (roles.kind n) → Type 0
 says n = says_of (role_at n)
