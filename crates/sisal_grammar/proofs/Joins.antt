@@ -85,7 +85,7 @@ more_places t u v ws us vs e f l i d j g k m =
     subst (λ z. Spells selector (t ∷ z) (select.At (e ∷ f ∷ l))) (append_assoc ws (u ∷ (us ++ vs)) (v ∷ []) ∙ ap (λ z. ws ++ (u ∷ z)) (append_assoc us vs (v ∷ [])))
     (spells.at_places i (spells.exprs_are d (spells.more (spells.comma_expr_is j g) k)) m)
 
-tail_is : (a : Expr) (c : Option (BinaryOperator × Expr)) → compared a c ≡ chained a (as_tail c)
+pub tail_is : (a : Expr) (c : Option (BinaryOperator × Expr)) → compared a c ≡ chained a (as_tail c)
 tail_is a None = refl
 tail_is a (Some c) = refl
 
@@ -132,7 +132,7 @@ case_said t u v ts vs ws xs s a l o i h d k m n p =
     subst (λ z. Spells prim (t ∷ z) (at t.line (tree.TagCase (tag_case s (a ∷ l) o)))) tokens (spells.tagcase i h.bound h.union d k m n p)
 
 -- eight parts, grouped to the right
-regrouped : (a b c d e f g h : List Placed) → (((((((a ++ b) ++ c) ++ d) ++ e) ++ f) ++ g) ++ h) ≡ a ++ (b ++ (c ++ (d ++ (e ++ (f ++ (g ++ h))))))
+pub regrouped : (a b c d e f g h : List Placed) → (((((((a ++ b) ++ c) ++ d) ++ e) ++ f) ++ g) ++ h) ≡ a ++ (b ++ (c ++ (d ++ (e ++ (f ++ (g ++ h))))))
 regrouped a b c d e f g h =
     append_assoc (((((a ++ b) ++ c) ++ d) ++ e) ++ f) g h ∙ (append_assoc ((((a ++ b) ++ c) ++ d) ++ e) f (g ++ h)
     ∙ (append_assoc (((a ++ b) ++ c) ++ d) e (f ++ (g ++ h)) ∙ (append_assoc ((a ++ b) ++ c) d (e ++ (f ++ (g ++ h)))

@@ -5,3 +5,5 @@ pub mod Keeps
 pub mod Keepings
 pub mod Raws
 pub mod Reading
+pub mod Goals
+pub mod Complete
