@@ -7,3 +7,4 @@ pub mod Raws
 pub mod Reading
 pub mod Goals
 pub mod Complete
+pub mod Units

@@ -1,5 +1,6 @@
 pub mod Acts
 pub mod Classes
+pub mod Derived
 pub mod Language
 pub mod Phrases
 pub mod Plan
