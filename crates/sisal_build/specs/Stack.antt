@@ -3,6 +3,8 @@ use Rattle.std.specs.Prelude.{List, [], ◌∷◌}
 use Rattle.sisal_grammar.specs.declared.value.Value.{Value}
 use Rattle.sisal_grammar.specs.declared.value.Value.TheVariants as value
 use Rattle.sisal_grammar.specs.Sorts.{Sort, a_token, nothing, an_outline, names, an_item, items, a_type, types, a_field, fields, a_header, an_expr, exprs, maybe_expr, maybe_exprs, tail, a_post, posts, a_bracket, a_value, values, maybe_name, maybe_elements, a_subject, a_rest, an_arm, arms, a_loop, a_gen, gens, groups, a_def, defs, a_target, targets, maybe_type, a_turn, a_test, a_clause, clauses, a_kind, a_reduction, maybe_mask}
+use Rattle.sisal_grammar.specs.declared.value.Placed.{Placed}
+use Rattle.sisal_lex.specs.declared.token.Kind.TheVariants.{Letter}
 
 -- The value is of this kind.
 abbrev pub IsSort : Sort → Value → Type 0
@@ -98,3 +100,7 @@ abbrev pub Tops : List Sort → List Value → Type 0
 Tops [] s = Unit {0}
 Tops (k ∷ ks) [] = ⊥
 Tops (k ∷ ks) (x ∷ s) = IsSort k x × Tops ks s
+
+-- no token
+abbrev pub nowhere : Placed
+nowhere = record { place = 0; kind = Letter 0; line = 0 }
