@@ -8,3 +8,4 @@ pub mod Reading
 pub mod Goals
 pub mod Complete
 pub mod Units
+pub mod Plans

@@ -3,6 +3,7 @@ pub mod Classes
 pub mod Derived
 pub mod Language
 pub mod Phrases
+pub mod Placed
 pub mod Plan
 pub mod Sorts
 pub mod Spells

@@ -9,7 +9,7 @@ mod law;
 mod table;
 mod value;
 
-pub use action::{ACTIONS, Action};
+pub use action::{ACTIONS, Action, action_of};
 pub use back::Back;
 pub use class::class_of;
 pub use law::{one_unit, table_spells};
