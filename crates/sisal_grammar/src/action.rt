@@ -1,5 +1,8 @@
 //! What each production means.
 
+ghost use Rattle.std.specs.Prelude.{◌≡◌, slice_index_or};
+ghost use Rattle.sisal_grammar.specs.Plan.{plan};
+
 /// The action of a production: what it makes of the values of its symbols.
 #[derive(Clone, Copy)]
 pub enum Action {
@@ -425,3 +428,21 @@ pub static ACTIONS: [Action; 187] = [
     Action::SomeMask,
     Action::SomeMask,
 ];
+
+/// The action at a place of a list, the empty one where there is none.
+fn action_at(actions: &[Action], place: usize) -> Action
+    ensures { result ≡ slice_index_or actions.now place Action.Absent }
+{
+    match actions.get(place) {
+        Some(action) => *action,
+        None => Action::Absent,
+    }
+}
+
+/// The action of a production.
+#[tactic(auto, unfolding(crate::specs::Plan::plan))]
+pub fn action_of(production: u8) -> Action
+    ensures { result ≡ plan.action production }
+{
+    action_at(&ACTIONS, production as usize)
+}

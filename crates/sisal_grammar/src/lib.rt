@@ -8,7 +8,7 @@ mod class;
 mod table;
 mod value;
 
-pub use action::{ACTIONS, Action};
+pub use action::{ACTIONS, Action, action_of};
 pub use back::Back;
 pub use class::class_of;
 pub use table::tables;
