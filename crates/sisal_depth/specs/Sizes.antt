@@ -3,7 +3,8 @@
 use Rattle.std.specs.Prelude.{ℕ, ◌+◌, min, max, List, [], ◌∷◌, take, drop, length, get_or, if◌then◌else◌, nat_lt}
 use Rattle.pushdown.specs.declared.Step.{Step}
 use Rattle.pushdown.specs.declared.Step.TheVariants.{Read, Open}
-use Rattle.sisal_grammar.specs.declared.value.Placed.{Placed}
+use Rattle.sisal_lex.specs.declared.token.Token.{Token}
+use Rattle.sisal_lex.specs.declared.token.Kind.TheVariants as kind
 use Rattle.sisal_grammar.specs.declared.action.Action.{Action}
 use Rattle.sisal_grammar.specs.declared.action.Action.TheVariants as action
 use Rattle.sisal_grammar.specs.Sorts.{args}
@@ -115,12 +116,16 @@ grown action.Initial z = flat (deepest z + 1)
 grown action.MoreGroups z = growth ((at 2 z).adds + 1) 0 (deepest z) 0
 grown _ z = flat (deepest z)
 
+-- what stands for a token where there is none
+abbrev pub no_token : Token
+no_token = record { kind = kind.Letter 0; line = 0 }
+
 -- the size of a token
-abbrev pub token_size : Placed → Growth
+abbrev pub token_size : Token → Growth
 token_size t = on_line 0 t.line
 
 -- the sizes of the values of these steps, whose tokens these are
-abbrev pub sizes_of : List Step → List Placed → List Growth
+abbrev pub sizes_of : List Step → List Token → List Growth
 sizes_of [] ts = []
 sizes_of (Read ∷ es) [] = []
 sizes_of (Read ∷ es) (t ∷ ts) = token_size t ∷ sizes_of es ts

@@ -4,5 +4,6 @@
 
 mod sizes;
 mod step;
+mod walk;
 
 pub use sizes::Growth;

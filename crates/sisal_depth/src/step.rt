@@ -93,3 +93,78 @@ fn above(deepest: u16, line: u32) -> Growth
 {
     counted(0, 0, u32::from(deepest) + 1, line)
 }
+
+/// The size of what follows a name at the head of an expression, by so many sizes on top.
+fn rest(sizes: &Sizes, count: usize) -> Growth
+    ensures { result ≡ grown Action.Rest (take count sizes.now) }
+{
+    let mut size = above(sizes.part(0, count).least, 0);
+    size = followed(size, sizes.part(1, count));
+    size = followed(size, sizes.part(2, count));
+    size = followed(size, sizes.part(3, count));
+    size = followed(size, sizes.part(4, count));
+    size = followed(size, sizes.part(5, count));
+    size = followed(size, sizes.part(6, count));
+    followed(size, sizes.part(7, count))
+}
+
+/// The size of what an action gives, by the sizes of what it takes, which lie on top.
+pub fn grow(sizes: &Sizes, action: Action) -> Growth
+    ensures { result ≡ grown action (take (length (args action)) sizes.now) }
+{
+    let count = arity(action);
+    match action {
+        Action::SameExpr | Action::SameExprs => sizes.part(0, count),
+        Action::Else => sizes.part(1, count),
+        Action::Defined => sizes.part(2, count),
+        Action::Whole => sizes.part(4, count),
+        Action::Chain | Action::Posted => followed(sizes.part(0, count), sizes.part(1, count)),
+        Action::MoreTail | Action::Bracket => link(sizes.part(1, count), sizes.part(2, count)),
+        Action::OneTail => link(sizes.part(1, count), nothing()),
+        Action::MorePosts => both(sizes.part(0, count), sizes.part(1, count)),
+        Action::Exprs => listed(sizes.part(0, count), sizes.part(1, count)),
+        Action::MoreExprs | Action::MoreBracket => {
+            listed(sizes.part(1, count), sizes.part(2, count))
+        }
+        Action::MoreItems => deeper(sizes.part(0, count), sizes.part(1, count)),
+        Action::ElseIf => {
+            let test = above(sizes.deepest(count), sizes.part(0, count).line);
+            listed(test, nothing())
+        }
+        Action::Union => above(sizes.part(4, count).along, sizes.part(0, count).line),
+        Action::For => counted(0, 0, u32::from(sizes.part(1, count).least), sizes.part(0, count).line),
+        Action::Rest => rest(sizes, count),
+        Action::Prefix
+        | Action::NameOrCall
+        | Action::Literal
+        | Action::Old
+        | Action::Convert
+        | Action::Group
+        | Action::ErrorOf
+        | Action::Is
+        | Action::Array
+        | Action::Stream
+        | Action::Record
+        | Action::Let
+        | Action::If
+        | Action::Case => above(sizes.deepest(count), sizes.part(0, count).line),
+        Action::Dot => counted(1, 0, 0, 0),
+        Action::Replaced => counted(1, u32::from(sizes.deepest(count)) + 1, 0, 0),
+        Action::ColonBracket => counted(0, u32::from(sizes.part(1, count).least) + 1, 0, 0),
+        Action::NoExpr => counted(0, 1, 0, 0),
+        Action::SomeExpr => {
+            let least = u32::from(sizes.part(1, count).least);
+            counted(0, least, least, 0)
+        }
+        Action::Product => {
+            let deepest = u32::from(sizes.deepest(count));
+            counted(0, 0, deepest + u32::from(sizes.part(1, count).adds) + 1, 0)
+        }
+        Action::Initial => counted(0, 0, u32::from(sizes.deepest(count)) + 1, 0),
+        Action::MoreGroups => {
+            let adds = u32::from(sizes.part(2, count).adds) + 1;
+            counted(adds, 0, u32::from(sizes.deepest(count)), 0)
+        }
+        _ => counted(0, 0, u32::from(sizes.deepest(count)), 0),
+    }
+}
