@@ -429,20 +429,20 @@ pub static ACTIONS: [Action; 187] = [
     Action::SomeMask,
 ];
 
-/// The action at a place of a list, the empty one where there is none.
-fn action_at(actions: &[Action], place: usize) -> Action
-    ensures { result ≡ slice_index_or actions.now place Action.Absent }
-{
-    match actions.get(place) {
-        Some(action) => *action,
-        None => Action::Absent,
-    }
-}
-
 /// The action of a production.
 #[tactic(auto, unfolding(crate::specs::Plan::plan))]
 pub fn action_of(production: u8) -> Action
     ensures { result ≡ plan.action production }
 {
-    action_at(&ACTIONS, production as usize)
+    action_in(&ACTIONS, production)
+}
+
+/// The action at a place of a table.
+fn action_in(actions: &[Action], production: u8) -> Action
+    ensures { result ≡ slice_index_or actions.now production Action.Absent }
+{
+    match actions.get(production as usize) {
+        Some(action) => *action,
+        None => Action::Absent,
+    }
 }

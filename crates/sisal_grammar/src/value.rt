@@ -31,7 +31,7 @@ pub struct Outline {
 #[derive(Drop)]
 pub enum Selector {
     /// `"[" exprs "]"`
-    At(Seq<Expr>),
+    At(Back<Expr>),
     /// `"[" expr ":" expr "]"`
     Change(Expr, Expr),
     /// `"." name`
