@@ -1,3 +1,4 @@
 pub mod Stacks
 pub mod Walks
-pub mod Probe
+pub mod Folds
+pub mod Depths

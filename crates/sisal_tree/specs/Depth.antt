@@ -1,7 +1,7 @@
 -- How deep expressions nest: a constant or a name has depth 1, another expression 1 more than the
 -- greatest depth of its parts. A `for` with c groups of generators counts c, parentheses count 1, and
 -- an `elseif` is an `if` in the `else` part. A written type counts nothing.
-use Rattle.std.specs.Prelude.{ℕ, ◌+◌, max, List, [], ◌∷◌, Option, Some, None, length, map}
+use Rattle.std.specs.Prelude.{◌≡◌, ℕ, ◌<◌, ◌+◌, max, List, [], ◌∷◌, Option, Some, None, length, map, flat_map, Contains}
 use Rattle.sisal_tree.specs.declared.expr.Expr.{Expr}
 use Rattle.sisal_tree.specs.declared.expr.ExprKind.TheFolds.{fold-Expr}
 use Rattle.sisal_tree.specs.declared.expr.ExprKind.TheOpen.{ExprKind-F, Loop-F, Arm-F, Clause-F, Def-F, Elements-F, Expr-F, FieldValue-F, Generator-F, Mask-F, TagCase-F, Turn-F}
@@ -83,16 +83,23 @@ in_turn t = max t.test (greatest t.defs)
 abbrev pub depth : Expr → ℕ
 depth = fold-Expr ℕ ℕ ℕ ℕ ℕ ℕ ℕ ℕ ℕ ℕ ℕ ℕ in_kind in_loop in_arm in_clause in_def in_elements (λ e. e.kind) (λ v. v.value) in_generator (λ m. m.test) in_case in_turn
 
--- the depth of a function, that of its deepest result
-abbrev pub fun_depth : FunKind → ℕ
-fun_depth fun.Forward = 0
-fun_depth fun.Global = 0
-fun_depth (fun.Defined es) = greatest (map depth es)
+-- the results of a function, of an item, and of the functions of a unit
+abbrev pub results_in : FunKind → List Expr
+results_in fun.Forward = []
+results_in fun.Global = []
+results_in (fun.Defined es) = es
 
-abbrev pub item_depth : Item → ℕ
-item_depth (item.Alias t) = 0
-item_depth (item.Function f) = fun_depth f.kind
+abbrev pub results : Item → List Expr
+results (item.Alias t) = []
+results (item.Function f) = results_in f.kind
 
--- the depth of a unit's types and functions, that of its deepest function
+abbrev pub results_of : List Item → List Expr
+results_of items = flat_map results items
+
+-- the depth of a unit of these items, that of the deepest result of its functions
 abbrev pub depth_of : List Item → ℕ
-depth_of items = greatest (map item_depth items)
+depth_of items = greatest (map depth (results_of items))
+
+-- a result of one of these functions begins on this line and has a depth above n
+abbrev pub PassesAt : ℕ → List Item → ℕ → Type 0
+PassesAt n items line = (e : Expr) × Contains (results_of items) e × (n < depth e) × (e.line ≡ line)
