@@ -6,4 +6,4 @@ mod sizes;
 mod step;
 mod walk;
 
-pub use sizes::Growth;
+pub use walk::{Deepest, depth_of};
