@@ -5,11 +5,13 @@
 mod action;
 mod back;
 mod class;
+mod law;
 mod table;
 mod value;
 
 pub use action::{ACTIONS, Action, action_of};
 pub use back::Back;
 pub use class::class_of;
+pub use law::{one_unit, table_spells};
 pub use table::tables;
 pub use value::{Bracket, ExprRest, Outline, Placed, Selector, Subject, SubjectRest, Test, Value};
