@@ -1,3 +1,4 @@
+pub mod Plans
 pub mod TokenClasses
 pub mod Saying
 pub mod Joins
@@ -8,4 +9,3 @@ pub mod Reading
 pub mod Goals
 pub mod Complete
 pub mod Units
-pub mod Plans
