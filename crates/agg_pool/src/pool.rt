@@ -7,7 +7,7 @@ ghost use Rattle.flow_value.specs.Bounds.{IsWithinLength, bounded};
 ghost use Rattle.flow_value.specs.declared.value.Val.TheVariants as value;
 ghost use Rattle.segment.specs.Places.{away, unwritten, written, is_written, IsOf};
 ghost use Rattle.segment.specs.Runs.{part, spliced};
-ghost use Rattle.agg_pool.specs.Pools.{entry_at, HoldsAnd, IfHolds, BuildsAnd, IfBuilds, IsIdleIfAny};
+ghost use Rattle.agg_pool.specs.Pools.{entry_at, HoldsAnd, IfHolds, BuildsAnd, IfBuilds, IsIdleIfAny, Changes};
 ghost use Rattle.agg_pool.specs.declared.entry.Entry.TheVariants as entry;
 
 use crate::entry::{Building, Entry};
@@ -89,6 +89,7 @@ impl Pool {
         requires spare { 0 < self.old.spare }
         ensures held { (id : ℕ) × (self.new.entries ≡ slice_set self.old.entries result.number (Some (entry.Whole (record { value = value; out = 0; id = id })))) }
         ensures was_vacant { entry_at self.old result.number ≡ None }
+        ensures change { (id : ℕ) × Changes self.old self.new result.number (Some (entry.Whole (record { value = value; out = 0; id = id }))) }
         ensures known { result.number < length self.old.entries }
         ensures spare { self.new.spare + 1 ≡ self.old.spare }
     {
@@ -112,6 +113,7 @@ impl Pool {
         requires few { HoldsAnd (entry_at self.old key.number) (λ w. w.out < 2 ^ 100) }
         ensures lease { IfHolds (entry_at self.old key.number) (λ w. result ≡ record { number = key.number; value = w.value; id = w.id }) }
         ensures one_more { IfHolds (entry_at self.old key.number) (λ w. self.new ≡ record self.old { entries = slice_set self.old.entries key.number (Some (entry.Whole (record w { out = w.out + 1 }))) }) }
+        ensures change { IfHolds (entry_at self.old key.number) (λ w. Changes self.old self.new key.number (Some (entry.Whole (record w { out = w.out + 1 })))) }
     {
         let Some(entry) = &mut self.entries[key.number] else {
             unreachable!()
@@ -127,6 +129,7 @@ impl Pool {
         requires of { HoldsAnd (entry_at self.old lease.number) (λ w. lease.id ≡ w.id) }
         ensures was_out { IfHolds (entry_at self.old lease.number) (λ w. 0 < w.out) }
         ensures one_fewer { IfHolds (entry_at self.old lease.number) (λ w. self.new ≡ record self.old { entries = slice_set self.old.entries lease.number (Some (entry.Whole (record w { out = w.out - 1 }))) }) }
+        ensures change { IfHolds (entry_at self.old lease.number) (λ w. Changes self.old self.new lease.number (Some (entry.Whole (record w { out = w.out - 1 })))) }
     {
         let Lease { key, lease } = lease;
         let Some(entry) = &mut self.entries[key.number] else {
@@ -140,6 +143,7 @@ impl Pool {
         requires none_out { HoldsAnd (entry_at self.old key.number) (λ w. w.out ≡ 0) }
         ensures value { IfHolds (entry_at self.old key.number) (λ w. result ≡ w.value) }
         ensures gone { self.new ≡ record self.old { entries = slice_set self.old.entries key.number None; spare = self.old.spare + 1 } }
+        ensures change { Changes self.old self.new key.number None }
     {
         let old = replace(&mut self.entries[key.number], None);
         let Some(Entry::Whole(owner)) = old else {
@@ -175,6 +179,7 @@ impl Pool {
         requires fits { BuildsAnd (entry_at self.old key.number) (λ room. (from ≤ to) × (to ≤ length room.places)) }
         ensures part { IfBuilds (entry_at self.old key.number) (λ room. result ≡ record { number = key.number; part = record { start = room.start; from = from; places = part room.places from (to - from) } }) }
         ensures rest { IfBuilds (entry_at self.old key.number) (λ room. self.new ≡ record self.old { entries = slice_set self.old.entries key.number (Some (entry.Parts (record room { places = spliced room.places from (replicate (to - from) away) }))) }) }
+        ensures change { IfBuilds (entry_at self.old key.number) (λ room. Changes self.old self.new key.number (Some (entry.Parts (record room { places = spliced room.places from (replicate (to - from) away) })))) }
     {
         let Some(entry) = &mut self.entries[key.number] else {
             unreachable!()
@@ -189,6 +194,7 @@ impl Pool {
     pub fn join_segment(&mut self, part: Segment)
         requires of { BuildsAnd (entry_at self.old part.number) (λ room. IsOf room part.part) }
         ensures back { IfBuilds (entry_at self.old part.number) (λ room. self.new ≡ record self.old { entries = slice_set self.old.entries part.number (Some (entry.Parts (record room { places = spliced room.places part.part.from part.part.places }))) }) }
+        ensures change { IfBuilds (entry_at self.old part.number) (λ room. Changes self.old self.new part.number (Some (entry.Parts (record room { places = spliced room.places part.part.from part.part.places })))) }
     {
         let Segment { key, segment } = part;
         let Some(entry) = &mut self.entries[key.number] else {
@@ -203,6 +209,7 @@ impl Pool {
         requires written { BuildsAnd (entry_at self.old key.number) (λ room. IsTrue (list_all is_written room.places)) }
         requires fits { BuildsAnd (entry_at self.old key.number) (λ room. IsWithinLength lo (length room.places)) }
         ensures array { IfBuilds (entry_at self.old key.number) (λ room. (items : List Val) × (id : ℕ) × (map written items ≡ room.places) × (self.new ≡ record self.old { entries = slice_set self.old.entries key.number (Some (entry.Whole (record { value = value.Arr (bounded lo items); out = 0; id = id }))) })) }
+        ensures change { IfBuilds (entry_at self.old key.number) (λ room. (items : List Val) × (id : ℕ) × (map written items ≡ room.places) × Changes self.old self.new key.number (Some (entry.Whole (record { value = value.Arr (bounded lo items); out = 0; id = id })))) }
     {
         let old = replace(&mut self.entries[key.number], None);
         let Some(Entry::Parts(building)) = old else {
