@@ -109,7 +109,7 @@ impl<M: Machine> FireLock<M> {
                     seat,
                     number: 0,
                     until: passes,
-                    entered: 0,
+                    turn: 0,
                 },
             )),
             Err(Refused { slots }) => Err(machine_of(slots)),
@@ -130,7 +130,7 @@ impl<M: Machine> FireLock<M> {
             seat,
             number: until - 1,
             until,
-            entered: pass.entered,
+            turn: pass.turn,
         }
     }
 
@@ -145,7 +145,7 @@ impl<M: Machine> FireLock<M> {
             seat,
             number: _,
             until,
-            entered: _,
+            turn: _,
         } = other;
         self.table.shared.join_seat::<Glue>(&mut pass.seat, seat);
         self.table.shared.load::<Settle>(&mut pass.seat, TURN);
@@ -161,8 +161,8 @@ impl<M: Machine> FireLock<M> {
         ensures mine { own pass.old.from pass.old.until pass.new.seen ≡ own pass.old.from pass.old.until pass.old.seen ++ entry pass.old.from event result ∷ [] }
         ensures least { own pass.old.from (pass.old.from + 1) pass.new.seen ≡ own pass.old.from (pass.old.from + 1) pass.old.seen ++ entry pass.old.from event result ∷ [] }
     {
-        let before = self.take_turn(rt, &mut pass.seat);
-        pass.entered = before / 2 + 1;
+        let before = self.take_turn(rt, &mut pass.seat, pass.turn);
+        pass.turn = before.wrapping_add(2);
         let reply = self.play(&mut pass.seat, pass.number, event);
         self.announce(&mut pass.seat, &reply);
         reply
@@ -175,7 +175,7 @@ impl<M: Machine> FireLock<M> {
     {
         let shared = &self.table.shared;
         shared.fetch_add::<Count>(&mut pass.seat, IDLE, 1);
-        self.await_news(rt, &mut pass.seat, pass.entered);
+        self.await_news(rt, &mut pass.seat, pass.turn);
         shared.fetch_sub::<Count>(&mut pass.seat, IDLE, 1);
     }
 
@@ -191,7 +191,7 @@ impl<M: Machine> FireLock<M> {
             seat,
             number: _,
             until: _,
-            entered: _,
+            turn: _,
         } = pass;
         let FireLock { table } = self;
         let mut closed = table.close_with(seat);
@@ -233,8 +233,8 @@ impl<M: Machine> FireLock<M> {
         shared.fetch_sub::<Count>(seat, sleepers, 1);
     }
 
-    // Waits until the turn is free and takes it. Gives word 0 as it was then.
-    fn take_turn<R: Wait>(&self, rt: &R, seat: &mut Seat<M>) -> u64
+    // Waits until the turn is free and takes it. `word` is a guess at word 0; the result is this word as the turn was free.
+    fn take_turn<R: Wait>(&self, rt: &R, seat: &mut Seat<M>, mut word: u64) -> u64
         requires lock { seat.old.table_id ≡ self.now.id }
         requires rests { (seat.old.me.1 ≡ []) × Rests seat.old.me.0 }
         ensures lock { seat.new.table_id ≡ seat.old.table_id }
@@ -242,16 +242,29 @@ impl<M: Machine> FireLock<M> {
     {
         let shared = &self.table.shared;
         for _ in rt.forever() {
-            let found = shared.peek(TURN);
-            if found % 2 == 0 {
-                if shared.compare_exchange::<Take<M>>(seat, TURN, found, found + 1) == found {
-                    return found;
+            if word % 2 == 0 {
+                let found = shared.compare_exchange::<Take<M>>(seat, TURN, word, word + 1);
+                if found == word {
+                    return word;
                 }
-            } else if self.stays(TURN, low(found)) {
-                self.sleep(rt, seat, TURN, WAITING, low(found));
+                word = found;
+            } else {
+                word = self.await_turn(rt, seat, word);
             }
         }
         unreachable!()
+    }
+
+    // Waits for a while, as long as word 0 is as it was found while a pass had its turn. Gives the word as it is then.
+    fn await_turn<R: Wait>(&self, rt: &R, seat: &mut Seat<M>, found: u64) -> u64
+        requires lock { seat.old.table_id ≡ self.now.id }
+        ensures lock { seat.new.table_id ≡ seat.old.table_id }
+        ensures same { seat.new.me ≡ seat.old.me }
+    {
+        if self.stays(TURN, low(found)) {
+            self.sleep(rt, seat, TURN, WAITING, low(found));
+        }
+        self.table.shared.peek(TURN)
     }
 
     // Plays the event while the seat has the turn, and gives the turn back.
@@ -291,17 +304,17 @@ impl<M: Machine> FireLock<M> {
         }
     }
 
-    // Waits until there is news, if the history is as long as it was after the last step.
+    // Waits until there is news, where no step entered since word 0 was `turn`.
     // The pass is counted as idle already: a step that enters from now on tells it, and one that entered before made
     // the history longer.
-    fn await_news<R: Wait>(&self, rt: &R, seat: &mut Seat<M>, entered: u64)
+    fn await_news<R: Wait>(&self, rt: &R, seat: &mut Seat<M>, turn: u64)
         requires lock { seat.old.table_id ≡ self.now.id }
         ensures lock { seat.new.table_id ≡ seat.old.table_id }
         ensures same { seat.new.me ≡ seat.old.me }
     {
         let shared = &self.table.shared;
         let news = low(shared.peek(NEWS));
-        if shared.peek(TURN) / 2 == entered && self.stays(NEWS, news) {
+        if shared.peek(TURN) / 2 == turn / 2 && self.stays(NEWS, news) {
             self.sleep(rt, seat, NEWS, ASLEEP, news);
         }
     }

@@ -10,8 +10,8 @@ pub struct Pass<M: Machine> {
     pub(crate) seat: Seat<M>,
     pub(crate) number: u32,
     pub(crate) until: u32,
-    // How long the history was after the last step.
-    pub(crate) entered: u64,
+    // The word of the turn as it was after the last step.
+    pub(crate) turn: u64,
 }
 
 impl<M: Machine> Model for Pass<M> {
