@@ -1,6 +1,6 @@
 -- What a contract sees of a pool, and what it says of the entry of a number.
 use Rattle.std.specs.Coded.{Coded, code_by, coded×, coded_ℕ, coded_list, coded_option}
-use Rattle.std.specs.Prelude.{◌≡◌, ◌≢◌, refl, ℕ, List, Option, Some, None, slice_index_or}
+use Rattle.std.specs.Prelude.{refl, ℕ, List, Option, Some, None, slice_index_or}
 use Rattle.lease.specs.Lending.{Lending}
 use Rattle.segment.specs.Places.{RoomView}
 use Rattle.flow_value.specs.declared.value.Val.{Val}
@@ -48,7 +48,3 @@ IfBuilds None P = Unit {0}
 abbrev pub IsIdleIfAny : Option Entry → Type 0
 IsIdleIfAny (Some e) = IsIdle e
 IsIdleIfAny None = Unit {0}
-
--- the entry of the number is now this one, and the others are as they were
-abbrev pub Changes : PoolView → PoolView → ℕ → Option Entry → Type 0
-Changes old new number now = (entry_at new number ≡ now) × ((m : ℕ) → m ≢ number → entry_at new m ≡ entry_at old m)

@@ -65,10 +65,11 @@ returns c =
             ∙ ap (λ (o : Option Entry). view (slice_set slots k o)) sealed
             ∙ ap put c.self.view_is,
       );
-      change = if_builds (entry_at c.args.self.now k) _ c.in-Some-Parts.building is (
+      now = if_builds (entry_at c.args.self.now k) _ c.in-Some-Parts.building is (
         array.0,
         c.seal.result.id,
         array.1,
-        (get_or-set_same (slice_set slots k gone) k o None near ∙ sealed, λ m other. get_or-set_other (slice_set slots k gone) k m o None other ∙ get_or-set_other slots k m gone None other ∙ ap (λ (v : PoolView). entry_at v m) c.self.view_is),
+        get_or-set_same (slice_set slots k gone) k o None near ∙ sealed,
       );
+      others = λ m other. get_or-set_other (slice_set slots k gone) k m o None other ∙ get_or-set_other slots k m gone None other ∙ ap (λ (v : PoolView). entry_at v m) c.self.view_is;
     }
