@@ -1,5 +1,5 @@
 -- A pool whose one room was cut out whole, and came back.
-use Rattle.std.proofs.Common.{◌≡◌, ℕ, ◌+◌, ◌-◌, ◌≤◌, List, [], ◌∷◌, ◌++◌, length, replicate, take, drop, set, Option, Some, None, refl, sym, ap, subst, ◌∙◌, arith, IsTrue, slice_index_or}
+use Rattle.std.proofs.Common.{◌≡◌, ℕ, ◌+◌, ◌-◌, List, [], ◌∷◌, ◌++◌, length, replicate, take, drop, set, Option, Some, None, refl, sym, ap, subst, ◌∙◌, arith, IsTrue, slice_index_or}
 use Rattle.std.specs.List.{list_all}
 use Rattle.std.proofs.lemmas.List.{drop_all, append-nil, length-replicate}
 use denote.RawPtr.{Ptr}
@@ -63,10 +63,10 @@ idle_at_end built cut joined k n start segment one first rest number from long h
     let gone = spliced blank 0 none in
     let then : cut.entries ≡ Some (room_at start gone) ∷ [] = one_changes built k start blank one first cut (λ ps. spliced ps 0 none) rest in
     let after : joined.entries ≡ Some (room_at start (spliced gone segment.part.from segment.part.places)) ∷ [] =
-        one_changes cut segment.number start gone then (number ∙ first) joined (λ ps. spliced ps segment.part.from segment.part.places) back in
+    one_changes cut segment.number start gone then (number ∙ first) joined (λ ps. spliced ps segment.part.from segment.part.places) back in
     let a : length blank ≡ n = length-replicate n unwritten in
     let b : length none ≡ n - 0 = length-replicate (n - 0) away in
     let c = spliced_long blank 0 none (omega arith) in
     subst (λ (l : List (Option Entry)). IsIdleIfAny (slice_index_or l m None)) (sym after)
-        (lone_idle (room_at start (spliced gone segment.part.from segment.part.places))
-            (subst (λ (a : ℕ). IsTrue (list_all is_here (spliced gone a segment.part.places))) (sym from) (whole_back gone segment.part.places (omega arith) here)) m)
+    (lone_idle (room_at start (spliced gone segment.part.from segment.part.places))
+    (subst (λ (a : ℕ). IsTrue (list_all is_here (spliced gone a segment.part.places))) (sym from) (whole_back gone segment.part.places (omega arith) here)) m)

@@ -1,5 +1,5 @@
 -- A part that is filled place by place, and a room whose one part came back.
-use Rattle.std.proofs.Common.{◌≡◌, ◌≢◌, ℕ, ◌+◌, ◌-◌, ◌<◌, ◌≤◌, List, [], ◌∷◌, ◌++◌, length, replicate, get_or, set, slice_get, Some, None, true, refl, sym, ap, subst, ◌∙◌, arith, length-set, IsTrue}
+use Rattle.std.proofs.Common.{◌≡◌, ℕ, ◌+◌, ◌<◌, ◌≤◌, List, length, replicate, get_or, set, slice_get, Some, true, refl, sym, ap, subst, ◌∙◌, arith, length-set, IsTrue}
 use Rattle.std.proofs.lemmas.List.{get_or-set_other, get_or-replicate, length-replicate}
 use Rattle.std.specs.List.{All, list_all}
 use Rattle.std.proofs.lemmas.List.Elements.{All-set, All-replicate}

@@ -25,7 +25,6 @@ out_is w n = Some (entry.Whole (record w { out = n }))
 module _ (before lent : PoolView) (k : ℕ) (lease : Lent) (whole : HoldsAnd (entry_at before k) (λ w. w.out ≡ 0))
     (names : IfHolds (entry_at before k) (λ w. lease ≡ record { number = k; value = w.value; id = w.id }))
     (more : IfHolds (entry_at before k) (λ w. lent ≡ record before { entries = set before.entries k (out_is w (w.out + 1)) })) where
-
   found : (w : Lending Val) × (entry_at before k ≡ Some (entry.Whole w)) × (w.out ≡ 0)
   found = holds_is (entry_at before k) (λ w. w.out ≡ 0) whole
 
