@@ -41,7 +41,7 @@ picoseconds() { # whose, the work: what a call takes, without the start of the p
 
 say() { # what, the pool's time, the peer, its time
     awk -v what="$1" -v a="$2" -v peer="$3" -v b="$4" \
-        'BEGIN { printf "%s: %.1f ns, %s %.1f ns, ratio %.2f\n", what, a / 1000, peer, b / 1000, a / b }'
+        'BEGIN { if (a < 0) a = 0; printf "%s: %.1f ns, %s %.1f ns, ratio %.2f\n", what, a / 1000, peer, b / 1000, a / b }'
 }
 for whose in pool peer; do
     for work in put lend room write; do
