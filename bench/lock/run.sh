@@ -6,7 +6,7 @@ rounds=${1:-10}
 build=$(mktemp -d)
 trap 'rm -rf "$build"' EXIT
 rustc -O -o "$build/mutex" bench/lock/mutex.rs
-(cd crates/bench_lock && rt run >/dev/null </dev/null)
+(cd crates/bench_lock && rt run </dev/null) >"$build/rt" 2>&1 || { cat "$build/rt" >&2; exit 1; }
 lock=${BENCH_LOCK:-$(find crates/bench_lock/out -type f -perm -u+x -name 'bench_lock*' | head -1)}
 [ -x "$lock" ] || { echo "no program bench_lock in crates/bench_lock/out: set BENCH_LOCK" >&2; exit 1; }
 
