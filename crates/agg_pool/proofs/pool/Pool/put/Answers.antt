@@ -1,4 +1,4 @@
-use Rattle.std.proofs.Common.{◌≡◌, ◌<◌, ℕ, [], ◌∷◌, ◌++◌, List, Option, Some, None, is_some, length, arith, subst, ap, ap₂, ◌∙◌, length-set}
+use Rattle.std.proofs.Common.{◌<◌, ℕ, [], ◌∷◌, ◌++◌, List, Option, Some, None, is_some, length, arith, subst, ap, ap₂, ◌∙◌, length-set}
 use Rattle.std.proofs.lemmas.List.{get_or-set_same}
 use Rattle.flow_value.specs.declared.value.Val.{Val}
 use Rattle.agg_pool.specs.declared.entry.Entry.{Entry}
