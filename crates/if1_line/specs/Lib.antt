@@ -1,0 +1,7 @@
+pub mod Parts
+pub mod Numbers
+pub mod Pragmas
+pub mod Entries
+pub mod Reading
+pub mod Spelling
+pub mod Lines

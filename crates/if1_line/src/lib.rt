@@ -1,0 +1,6 @@
+//! One line of IF1 text as a value, read and written.
+#![tactic(auto)]
+
+mod line;
+
+pub use line::{EntryForm, Line, entry_form};
