@@ -5,3 +5,4 @@ pub mod Entries
 pub mod Reading
 pub mod Spelling
 pub mod Lines
+pub mod Places

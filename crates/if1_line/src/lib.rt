@@ -2,5 +2,7 @@
 #![tactic(auto)]
 
 mod line;
+mod number;
+mod part;
 
 pub use line::{EntryForm, Line, entry_form};
