@@ -2,7 +2,7 @@
 use Rattle.std.specs.Prelude.{ℕ, ◌+◌, ◌-◌, ◌*◌, Bool, false, ◌&&◌, ◌==◌, nat_le, List, [], ◌∷◌, ◌++◌, fold, option_map, Option, Some, None, if◌then◌else◌}
 use Rattle.std.specs.Char.{is_ascii_digit}
 use Rattle.std.specs.List.{list_all}
-use Rattle.if1_line.specs.Parts.{◌>>=◌, Part, Word}
+use Rattle.if1_line.specs.Parts.{◌>>=◌, Part, word_of}
 
 -- one digit or more
 abbrev pub is_row : List ℕ → Bool
@@ -49,6 +49,4 @@ rising (n ∷ ns) = placed_in n (rising ns)
 -- the number at the front of these parts, and the parts behind it
 abbrev pub number_first : ℕ → List Part → Option (ℕ × List Part)
 number_first least [] = None
-number_first least (Word w ∷ ps) = option_map (λ n. (n, ps)) (numeral least w)
-number_first least (Part.Quoted w ∷ ps) = None
-number_first least (Part.Broken ∷ ps) = None
+number_first least (p ∷ ps) = option_map (λ n. (n, ps)) (numeral least (word_of p))

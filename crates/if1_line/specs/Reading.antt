@@ -1,8 +1,8 @@
 -- What a line of IF1 text says (M-170, text form). Labels and ports are at least 1, but for node 0, the boundary.
 use Rattle.std.specs.Prelude.{ℕ, Bool, true, false, ◌==◌, List, [], ◌∷◌, option_map, Option, Some, None, if◌then◌else◌}
 use Rattle.std.specs.List.{list_all}
-use Rattle.if1_line.specs.Parts.{◌>>=◌, is_blank, is_line_byte, Part, Word, Quoted, Broken, parts_of}
-use Rattle.if1_line.specs.Numbers.{number_first}
+use Rattle.if1_line.specs.Parts.{◌>>=◌, is_blank, is_line_byte, Part, Word, Quoted, Broken, word_of, parts_of}
+use Rattle.if1_line.specs.Numbers.{numeral, number_first}
 use Rattle.if1_line.specs.Pragmas.{is_pragma, named, takes_in, preceded}
 use Rattle.if1_line.specs.Entries.{entry_form, entry_numbers}
 use Rattle.if1_line.specs.declared.line.Line.{Line}
@@ -20,7 +20,7 @@ abbrev pub numbers_first : List Part → Option (List ℕ × List Part)
 numbers_first [] = Some ([], [])
 numbers_first (p ∷ ps) =
     if is_pragma p then Some ([], p ∷ ps)
-    else number_first 0 (p ∷ ps) >>= λ n. option_map (λ more. (n.0 ∷ more.0, more.1)) (numbers_first ps)
+    else numeral 0 (word_of p) >>= λ n. option_map (λ more. (n ∷ more.0, more.1)) (numbers_first ps)
 
 -- T: label, code, and the numbers of that code
 abbrev pub entry_line : List Part → Option Line

@@ -4,5 +4,6 @@
 mod line;
 mod number;
 mod part;
+mod pragma;
 
 pub use line::{EntryForm, Line, entry_form};

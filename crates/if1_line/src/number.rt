@@ -1,12 +1,16 @@
 //! Numbers.
-ghost use Rattle.std.specs.Prelude.{◌≡◌, IfSome, IfOk, drop};
+ghost use Rattle.std.specs.Prelude.{◌≡◌, ◌+◌, ◌≤◌, IfOk, drop, length};
 ghost use Rattle.std.specs.Char.{is_ascii_digit};
-ghost use Rattle.std.specs.List.{list_all};
+ghost use Rattle.std.specs.List.{list_all, prefix_len};
 ghost use Rattle.if1_line.specs.Parts.{parts_of};
-ghost use Rattle.if1_line.specs.Numbers.{is_row, row_value, in_32_bits, numeral, number_first};
-ghost use Rattle.if1_line.specs.Places.{placed};
+ghost use Rattle.if1_line.specs.Numbers.{is_row, row_value, in_32_bits, numeral, number_first, number_list};
+ghost use Rattle.if1_line.specs.Places.{placed, added, became, is_in_piece};
+ghost use Rattle.if1_line.specs.Reading.{numbers_first};
 
-use crate::part::{PartAt, next_part};
+use crate::part::{next_part, word_of};
+use crate::pragma::is_pragma_word;
+use flow_value::{NoMemory, Numbers};
+use std::alloc::Global;
 
 const LARGEST: u64 = 4294967295;
 
@@ -52,11 +56,59 @@ pub fn number(line: &[u8], at: usize, least: u32) -> Option<(u32, usize)>
     ensures { number_first least (parts_of (drop at line.now)) ≡ placed line.now result }
 {
     let (part, rest) = next_part(line, at)?;
-    match part {
-        PartAt::Word(from, end) => {
-            let value = numeral(&line[from..end], least)?;
-            Some((value, rest))
+    let value = numeral(word_of(line, part), least)?;
+    Some((value, rest))
+}
+
+/// The numbers from a place on up to the first pragma, and the place of that.
+pub fn numbers(alloc: Global, line: &[u8], from: usize) -> Result<Option<(Numbers, usize)>, NoMemory>
+    ensures { IfOk result (λ r. numbers_first (parts_of (drop from line.now)) ≡ placed line.now r) }
+{
+    let mut all = Numbers::new(alloc);
+    let mut at = from;
+    while let Some((part, rest)) = next_part(line, at) {
+        let word = word_of(line, part);
+        if is_pragma_word(word) {
+            return Ok(Some((all, at)));
         }
-        _ => None,
+        let Some(value) = numeral(word, 0) else {
+            return Ok(None);
+        };
+        all.add(value)?;
+        at = rest;
+    }
+    Ok(Some((all, at)))
+}
+
+fn piece_bytes(text: &[u8]) -> usize
+    ensures { result ≡ prefix_len is_in_piece text.now }
+{
+    text.iter().take_while(|c| **c != b',').count()
+}
+
+/// How many bytes stand from a place on before the next comma.
+fn bytes_in_piece(text: &[u8], from: usize) -> usize
+    requires { from ≤ length text.now }
+    ensures value { result ≡ prefix_len is_in_piece (drop from text.now) }
+    ensures within { from + result ≤ length text.now }
+{
+    piece_bytes(&text[from..])
+}
+
+/// Adds the numbers, each at least this, of a list with commas; false where it is no such list.
+pub fn add_numbers(all: &mut Numbers, text: &[u8], least: u32) -> Result<bool, NoMemory>
+    ensures { IfOk result (λ ok. added all.old (number_list least text.now) ≡ became ok all.new) }
+{
+    let mut from = 0;
+    loop {
+        let end = from + bytes_in_piece(text, from);
+        let Some(value) = numeral(&text[from..end], least) else {
+            return Ok(false);
+        };
+        all.add(value)?;
+        if end == text.len() {
+            return Ok(true);
+        }
+        from = end + 1;
     }
 }

@@ -1,8 +1,8 @@
 //! The parts of a line.
 ghost use Rattle.std.specs.Prelude.{◌≡◌, ◌+◌, ◌<◌, ◌≤◌, IfSome, Some, drop, length, slice_index, nat_eq, false};
 ghost use Rattle.std.specs.List.{list_all, prefix_len};
-ghost use Rattle.if1_line.specs.Parts.{is_blank, is_line_byte, parts_of};
-ghost use Rattle.if1_line.specs.Places.{is_in_word, is_in_quotes, is_part_end, from_part};
+ghost use Rattle.if1_line.specs.Parts.{is_blank, is_line_byte, parts_of, word_of};
+ghost use Rattle.if1_line.specs.Places.{is_in_word, is_in_quotes, is_part_end, part_at, from_part, IsWithin};
 
 /// A part of a line, by the place of its first byte and the place behind its last.
 #[derive(Clone, Copy, Debug)]
@@ -88,6 +88,7 @@ pub fn next_part(line: &[u8], from: usize) -> Option<(PartAt, usize)>
     ensures parts { parts_of (drop from line.now) ≡ from_part line.now result }
     ensures on { IfSome result (λ p. from < p.1) }
     ensures within { IfSome result (λ p. p.1 ≤ length line.now) }
+    ensures places { IfSome result (λ p. IsWithin (length line.now) p.0) }
 {
     let at = skip(line, from);
     if at >= line.len() {
@@ -100,6 +101,17 @@ pub fn next_part(line: &[u8], from: usize) -> Option<(PartAt, usize)>
     }
 }
 
+/// The bytes of a word, none of another part.
+pub fn word_of<'a>(line: &'a [u8], part: PartAt) -> &'a [u8]
+    requires { IsWithin (length line.now) part }
+    ensures { result.now ≡ word_of (part_at line.now part) }
+{
+    match part {
+        PartAt::Word(from, end) => &line[from..end],
+        _ => &[],
+    }
+}
+
 /// The word that begins at a place, and the place behind it.
 fn word(line: &[u8], at: usize) -> (PartAt, usize)
     requires within { at < length line.now }
@@ -108,6 +120,7 @@ fn word(line: &[u8], at: usize) -> (PartAt, usize)
     ensures parts { parts_of (drop at line.now) ≡ from_part line.now (Some result) }
     ensures on { at < result.1 }
     ensures within { result.1 ≤ length line.now }
+    ensures places { IsWithin (length line.now) result.0 }
 {
     let end = at + bytes_in_word(line, at);
     (PartAt::Word(at, end), end)
@@ -120,6 +133,7 @@ fn quoted(line: &[u8], at: usize) -> (PartAt, usize)
     ensures parts { parts_of (drop at line.now) ≡ from_part line.now (Some result) }
     ensures on { at < result.1 }
     ensures within { result.1 ≤ length line.now }
+    ensures places { IsWithin (length line.now) result.0 }
 {
     let end = at + 1 + bytes_in_quotes(line, at + 1);
     if end < line.len() && is_part_end(line, end + 1) {
