@@ -67,8 +67,7 @@ abbrev pub typed_name : List Part → Option (ℕ × List ℕ)
 typed_name ps =
     number_first 1 ps >>= λ ty.
     quoted_first ty.1 >>= λ name.
-    named name.1 >>= λ dropped.
-    Some (ty.0, name.0)
+    if list_all is_pragma name.1 then Some (ty.0, name.0) else None
 
 abbrev pub function_line : Bool → List Part → Option Line
 function_line exported ps = typed_name ps >>= λ f. Some (line.Function exported f.0 f.1)

@@ -5,5 +5,7 @@ mod line;
 mod number;
 mod part;
 mod pragma;
+mod read;
 
 pub use line::{EntryForm, Line, entry_form};
+pub use read::read_line;
