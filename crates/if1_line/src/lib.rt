@@ -6,6 +6,7 @@ mod number;
 mod part;
 mod pragma;
 mod read;
+mod write;
 
 pub use line::{EntryForm, Line, entry_form};
 pub use read::read_line;

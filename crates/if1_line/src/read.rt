@@ -7,7 +7,7 @@ ghost use Rattle.if1_line.specs.Reading.{quoted_first, entry_line, node_line, ed
 
 use crate::line::{EntryForm, Line, entry_form};
 use crate::number::{number, numbers};
-use crate::part::{PartAt, has_line_bytes_only, is_blank, next_part};
+use crate::part::{PartAt, has_line_bytes_only, is_blank, next_part, word_of};
 use crate::pragma::{has_pragmas_only, named, preceded, takes};
 use flow_value::{Name, NoMemory, Text};
 use std::alloc::Global;
@@ -256,9 +256,11 @@ fn letter(line: &[u8], at: usize) -> Option<(u8, usize)>
     ensures { letter_first (parts_of (drop at line.now)) ≡ placed line.now result }
 {
     let (part, rest) = next_part(line, at)?;
-    match part {
-        PartAt::Word(from, end) if end == from + 1 => Some((line[from], rest)),
-        _ => None,
+    let word = word_of(line, part);
+    if word.len() == 1 {
+        Some((word[0], rest))
+    } else {
+        None
     }
 }
 
