@@ -2,3 +2,8 @@ pub mod Splitting
 pub mod Rows
 pub mod Rising
 pub mod Lists
+pub mod Written
+pub mod Decimals
+pub mod Spelled
+pub mod Pieces
+pub mod RoundTrip
