@@ -20,7 +20,7 @@ use Rattle.if1_line.proofs.Spelled.{IsPlain, ArePlain, both_plain}
 no_digit : (k c : ℕ) → k < 48 → is_ascii_digit c ≡ true → eqb c k ≡ false
 no_digit k c l h =
     let low = leb-true 48 c (and_parts (leb 48 c) (leb c 57) h).0 in
-    elim (eqb_tells c k) [ inl p ↦ absurd (omega (arith, low, l, p.0)) | inr p ↦ p.0 ]
+    elim (eqb_tells c k) [ inl p ↦ absurd (omega (arith, low, l, p.1)) | inr p ↦ p.0 ]
 
 piece_goes : (v w s : List ℕ) → list_all is_ascii_digit w ≡ true → pieces v (w ++ s) ≡ pieces (v ++ w) s
 piece_goes v [] s h = ap (λ u. pieces u s) (sym (append-nil v))

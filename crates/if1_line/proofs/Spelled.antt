@@ -27,7 +27,7 @@ both_plain (p ∷ ps) qs a b = (a.0, both_plain ps qs a.1 b)
 -- ---- bytes
 
 below : (k c : ℕ) → k < c → eqb c k ≡ false
-below k c h = elim (eqb_tells c k) [ inl p ↦ absurd (omega (arith, h, p.0)) | inr p ↦ p.0 ]
+below k c h = elim (eqb_tells c k) [ inl p ↦ absurd (omega (arith, h, p.1)) | inr p ↦ p.0 ]
 
 pub visible_no_blank : (c : ℕ) → is_visible c ≡ true → is_blank c ≡ false
 visible_no_blank c h =
