@@ -7,3 +7,4 @@ pub mod Decimals
 pub mod Spelled
 pub mod Pieces
 pub mod RoundTrip
+pub mod Endings

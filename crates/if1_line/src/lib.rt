@@ -3,13 +3,17 @@
 
 mod laws;
 mod line;
+mod lines;
 mod number;
 mod part;
 mod pragma;
 mod read;
+#[cfg(test)]
+mod tests;
 mod write;
 
-pub use laws::written_is_read;
+pub use laws::{text_is_read, written_is_read};
 pub use line::{EntryForm, Line, entry_form};
+pub use lines::next_line;
 pub use read::read_line;
 pub use write::{opening, write_line};

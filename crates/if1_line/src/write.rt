@@ -118,7 +118,6 @@ fn put_node_pragmas(name: &[u8], before: &[u32], to: &mut Text) -> Result<(), No
 }
 
 /// Adds the association list and the pragmas of a compound node.
-#[tactic(auto, using(crate::proofs::Written::after_blanks_append))]
 fn put_lists(assoc: &[u32], name: &[u8], before: &[u32], to: &mut Text) -> Result<(), NoMemory>
     ensures { OnOk result (to.new ≡ to.old ++ after_blanks (map number assoc.now ++ node_pragmas name.now before.now)) }
 {
