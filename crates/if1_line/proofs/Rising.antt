@@ -58,8 +58,8 @@ one_list (x ∷ xs) [] a b f g = absurd (f x (inl refl))
 one_list (x ∷ xs) (y ∷ ys) a b f g =
     let e : x ≡ y = heads x y xs ys a b (f x (inl refl)) (g y (inl refl)) in
     let rest : xs ≡ ys = one_list xs ys (tail_rises x xs a) (tail_rises y ys b)
-        (λ z i. shrink x y z xs ys a e i (f z (inr i)))
-        (λ z i. shrink y x z ys xs b (sym e) i (g z (inr i))) in
+    (λ z i. shrink x y z xs ys a e i (f z (inr i)))
+    (λ z i. shrink y x z ys xs b (sym e) i (g z (inr i))) in
     ap (λ k. k ∷ xs) e ∙ ap (λ k. y ∷ k) rest
 
 -- ---- by places

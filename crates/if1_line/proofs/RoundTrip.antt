@@ -35,7 +35,7 @@ read_by c ps l h a b e =
 
 entry_at : (f : Option EntryForm) (label code first second : ℕ) (name : List ℕ) → AreEntryNumbers f first second
     → (f >>= λ g. entry_numbers g (entry_parts f first second ++ name_part name) >>= λ numbers. named numbers.1 >>= λ found. Some (line.Entry label code numbers.0.0 numbers.0.1 found))
-      ≡ Some (line.Entry label code first second name)
+    ≡ Some (line.Entry label code first second name)
 entry_at (Some form.OneLabel) label code first second name h =
     rw (number_is 1 first (name_part name) h.0.0 h.0.1, named_alone name) (ap (λ k. Some (line.Entry label code first k name)) (sym h.1))
 entry_at (Some form.Basic) label code first second name h =
@@ -65,31 +65,37 @@ entry_is label code first second name h =
 node_is : (label op : ℕ) (before name : List ℕ) → IsSpelled (line.Node label op before name)
     → node_line (number label ∷ number op ∷ node_pragmas name before) ≡ Some (line.Node label op before name)
 node_is label op before name h =
-    rw (number_is 1 label (number op ∷ node_pragmas name before) h.0.0 h.0.1,
+    rw (
+      number_is 1 label (number op ∷ node_pragmas name before) h.0.0 h.0.1,
       number_is 0 op (node_pragmas name before) (omega arith) h.1,
       named_node name before,
-      preceded_node name before h.2) refl
+      preceded_node name before h.2,
+    ) refl
 
 edge_is : (source out node port ty : ℕ) (takes : Bool) (name : List ℕ) → IsSpelled (line.Edge source out node port ty takes name)
     → edge_line (number source ∷ number out ∷ number node ∷ number port ∷ number ty ∷ name_part name ++ take_part takes) ≡ Some (line.Edge source out node port ty takes name)
 edge_is source out node port ty takes name h =
     let rest = name_part name ++ take_part takes in
-    rw (number_is 0 source (number out ∷ number node ∷ number port ∷ number ty ∷ rest) (omega arith) h.0,
+    rw (
+      number_is 0 source (number out ∷ number node ∷ number port ∷ number ty ∷ rest) (omega arith) h.0,
       number_is 1 out (number node ∷ number port ∷ number ty ∷ rest) h.1.0 h.1.1,
       number_is 0 node (number port ∷ number ty ∷ rest) (omega arith) h.2,
       number_is 1 port (number ty ∷ rest) h.3.0 h.3.1,
       number_is 1 ty rest h.4.0 h.4.1,
       named_edge name takes,
-      takes_edge name takes) refl
+      takes_edge name takes,
+    ) refl
 
 literal_is : (node port ty : ℕ) (text name : List ℕ) → IsSpelled (line.Literal node port ty text name)
     → literal_line (number node ∷ number port ∷ number ty ∷ Quoted text ∷ name_part name) ≡ Some (line.Literal node port ty text name)
 literal_is node port ty text name h =
     let rest = Quoted text ∷ name_part name in
-    rw (number_is 0 node (number port ∷ number ty ∷ rest) (omega arith) h.0,
+    rw (
+      number_is 0 node (number port ∷ number ty ∷ rest) (omega arith) h.0,
       number_is 1 port (number ty ∷ rest) h.1.0 h.1.1,
       number_is 1 ty rest h.2.0 h.2.1,
-      named_alone name) refl
+      named_alone name,
+    ) refl
 
 -- ---- X, G, I
 
@@ -122,12 +128,14 @@ close_is : (label op count : ℕ) (assoc before name : List ℕ) → IsSpelled (
     → close_line (number label ∷ number op ∷ number count ∷ map number assoc ++ node_pragmas name before) ≡ Some (line.Close label op count assoc before name)
 close_is label op count assoc before name h =
     let rest = map number assoc ++ node_pragmas name before in
-    rw (number_is 1 label (number op ∷ number count ∷ rest) h.0.0 h.0.1,
+    rw (
+      number_is 1 label (number op ∷ number count ∷ rest) h.0.0 h.0.1,
       number_is 0 op (number count ∷ rest) (omega arith) h.1,
       number_is 0 count rest (omega arith) h.2,
       numbers_are assoc name before h.3,
       named_node name before,
-      preceded_node name before h.4) refl
+      preceded_node name before h.4,
+    ) refl
 
 pub written_reads : (l : Line) → IsSpelled l → line_of (line_text l) ≡ Some l
 written_reads line.Blank h = refl

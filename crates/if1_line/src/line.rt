@@ -54,11 +54,18 @@ pub enum Line {
         name: Name,
     },
     /// `G 0`: a subgraph of a compound node.
-    Subgraph { name: Name },
+    Subgraph {
+        name: Name,
+    },
     /// `I ty "name"`: a function of another unit.
-    Import { ty: u32, name: Name },
+    Import {
+        ty: u32,
+        name: Name,
+    },
     /// `{`: a compound node begins. The bytes behind the brace say nothing.
-    Open { rest: Text },
+    Open {
+        rest: Text,
+    },
     /// `} label op count assoc ..`: a compound node ends, with the number of its subgraphs and its
     /// association list; `before` as at a simple node.
     Close {

@@ -61,7 +61,11 @@ pub fn number(line: &[u8], at: usize, least: u32) -> Option<(u32, usize)>
 }
 
 /// The numbers from a place on up to the first pragma, and the place of that.
-pub fn numbers(alloc: Global, line: &[u8], from: usize) -> Result<Option<(Numbers, usize)>, NoMemory>
+pub fn numbers(
+    alloc: Global,
+    line: &[u8],
+    from: usize,
+) -> Result<Option<(Numbers, usize)>, NoMemory>
     ensures { IfOk result (λ r. numbers_first (parts_of (drop from line.now)) ≡ placed line.now r) }
 {
     let mut all = Numbers::new(alloc);

@@ -13,7 +13,10 @@ fn rows() -> &'static [(&'static [u8], &'static [u8])] {
         (b"T 2 1 5 %na=Real", b"T 2 1 5 %na=Real\n"),
         (b"\tT  007 08 3 0 %sl=1", b"T 7 8 3 0\n"),
         (b"T 4 3 0 4294967295", b"T 4 3 0 4294967295\n"),
-        (b"N 2 113 %bf=9,3 %na=a %bf=3 %na=b", b"N 2 113 %na=b %bf=3,9\n"),
+        (
+            b"N 2 113 %bf=9,3 %na=a %bf=3 %na=b",
+            b"N 2 113 %na=b %bf=3,9\n",
+        ),
         (b"E 1 1 0 2 5 %tk=2 %tk=1 %bf=x", b"E 1 1 0 2 5 %tk=1\n"),
         (b"L 1 2 3 \"a b\" %tk=1", b"L 1 2 3 \"a b\"\n"),
         (b"X 6 \"main\" %na=m", b"X 6 \"main\"\n"),

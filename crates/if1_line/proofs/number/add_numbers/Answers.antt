@@ -17,8 +17,9 @@ returns-then-end-text c =
 
 pub loop-value-preserved : goal.loop-value-preserved
 loop-value-preserved c =
-    let inside : c.loop-value.from + c.bytes_in_piece.result < length c.args.text.now = omega (arith, c.bytes_in_piece.ensures.within, c.if-end-text.false) in
-    (omega (arith, inside),
+    let inside : c.loop-value.from + c.bytes_in_piece.result < length c.args.text.now = omega (arith, c.bytes_in_piece.ensures.within, c.if-end-text.false) in (
+      omega (arith, inside),
       c.loop-value.invariant.1
-      ∙ one_piece c.loop-value.all c.args.text.now c.loop-value.from c.bytes_in_piece.result c.args.least c.in-Some.value c.bytes_in_piece.ensures.value (sym c.numeral.ensures ∙ c.in-Some.is) inside
-      ∙ ap (λ got. added got (numerals c.args.least (pieces [] (drop (c.loop-value.from + c.bytes_in_piece.result + 1) c.args.text.now)))) (sym c.in_ok-add.ensures.ok))
+          ∙ one_piece c.loop-value.all c.args.text.now c.loop-value.from c.bytes_in_piece.result c.args.least c.in-Some.value c.bytes_in_piece.ensures.value (sym c.numeral.ensures ∙ c.in-Some.is) inside
+          ∙ ap (λ got. added got (numerals c.args.least (pieces [] (drop (c.loop-value.from + c.bytes_in_piece.result + 1) c.args.text.now)))) (sym c.in_ok-add.ensures.ok),
+    )

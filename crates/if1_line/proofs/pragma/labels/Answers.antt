@@ -13,4 +13,4 @@ loop-part-preserved c =
     c.loop-part.invariant
     ∙ ap (λ t. added c.loop-part.all (labels_of t)) c.in-Some.ensures.parts
     ∙ labels_more c.loop-part.all c.add_labels.new.all p ps
-      (ap (λ w. added c.loop-part.all (labels_in w)) (sym c.word_of.ensures) ∙ c.in_ok-add_labels.ensures ∙ ap (λ (b : Bool). became b c.add_labels.new.all) c.if-not-branch.false)
+    (ap (λ w. added c.loop-part.all (labels_in w)) (sym c.word_of.ensures) ∙ c.in_ok-add_labels.ensures ∙ ap (λ (b : Bool). became b c.add_labels.new.all) c.if-not-branch.false)
