@@ -8,3 +8,4 @@ pub mod Spelled
 pub mod Pieces
 pub mod RoundTrip
 pub mod Endings
+pub mod ReadSpelled

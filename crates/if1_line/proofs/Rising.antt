@@ -12,19 +12,19 @@ use Rattle.std.specs.Ordering.{nat_cmp}
 use Rattle.if1_line.specs.Numbers.{placed_in, rising}
 use Rattle.if1_line.specs.Spelling.{rises_from}
 
-abbrev Above : ℕ → List ℕ → Type 0
+abbrev pub Above : ℕ → List ℕ → Type 0
 Above n [] = Unit {0}
 Above n (m ∷ ms) = (n < m) × Above m ms
 
-abbrev Rises : List ℕ → Type 0
+abbrev pub Rises : List ℕ → Type 0
 Rises [] = Unit {0}
 Rises (n ∷ ns) = Above n ns
 
-abbrev In : ℕ → List ℕ → Type 0
+abbrev pub In : ℕ → List ℕ → Type 0
 In x [] = ⊥
 In x (y ∷ ys) = (x ≡ y) ⊎ In x ys
 
-above_each : (n : ℕ) (ms : List ℕ) (x : ℕ) → Above n ms → In x ms → n < x
+pub above_each : (n : ℕ) (ms : List ℕ) (x : ℕ) → Above n ms → In x ms → n < x
 above_each n [] x h i = elim i [ ]
 above_each n (m ∷ ms) x h (inl e) = let k : n < m = h.0 in omega (arith, e, k)
 above_each n (m ∷ ms) x h (inr i) = let k : n < m = h.0 in let l = above_each m ms x h.1 i in omega (arith, k, l)
@@ -154,7 +154,7 @@ mended : (x n : ℕ) (ns : List ℕ) → (In x (rising ns) → In x ns) → (x �
 mended x n ns ih (inl e) = inl e
 mended x n ns ih (inr i) = inr (ih i)
 
-from_rising : (x : ℕ) (ns : List ℕ) → In x (rising ns) → In x ns
+pub from_rising : (x : ℕ) (ns : List ℕ) → In x (rising ns) → In x ns
 from_rising x [] i = i
 from_rising x (n ∷ ns) i = mended x n ns (from_rising x ns) (from_placed x n (rising ns) i)
 

@@ -34,7 +34,7 @@ visible_no_blank c h =
     let low = leb-true 33 c (and_parts (leb 33 c) (leb c 126) h).0 in
     rw (below 32 c (omega (arith, low)), below 9 c (omega (arith, low))) refl
 
-visible_line_byte : (c : ℕ) → is_visible c ≡ true → is_line_byte c ≡ true
+pub visible_line_byte : (c : ℕ) → is_visible c ≡ true → is_line_byte c ≡ true
 visible_line_byte c h =
     let e = and_parts (leb 33 c) (leb c 126) h in
     rw (below 9 c (omega (arith, leb-true 33 c e.0)), le-leb 32 c (omega (arith, leb-true 33 c e.0)), e.1) refl

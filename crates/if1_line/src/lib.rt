@@ -12,7 +12,7 @@ mod read;
 mod tests;
 mod write;
 
-pub use laws::{text_is_read, written_is_read};
+pub use laws::{opening_is_spelled, read_is_spelled, text_is_read, written_is_read};
 pub use line::{EntryForm, Line, entry_form};
 pub use lines::next_line;
 pub use read::read_line;
