@@ -1,9 +1,8 @@
 -- A text is split into its lines.
-use Rattle.std.proofs.Common.{◌≡◌, ℕ, zero, suc, ◌+◌, ◌-◌, ◌≤◌, ◌<◌, Bool, true, false, cond, not, ◌&&◌, List, [], ◌∷◌, ◌++◌, map, take, drop, length, get_or, Option, Some, None, if◌then◌else◌, true≢false, inl, inr, refl, sym, ap, ◌∙◌, subst, arith, append_assoc, append-nil, eqb, leb}
+use Rattle.std.proofs.Common.{◌≡◌, ℕ, suc, ◌+◌, ◌-◌, ◌≤◌, ◌<◌, Bool, true, false, cond, not, List, [], ◌∷◌, ◌++◌, map, take, drop, length, get_or, Option, Some, None, if◌then◌else◌, true≢false, inl, inr, refl, sym, ap, ◌∙◌, arith, append_assoc, append-nil, eqb}
 use Rattle.std.proofs.lemmas.List.{drop-drop, drop_more, drop_all, length-drop, length-take, take_more, get_or-drop}
 use Rattle.std.proofs.lemmas.Bool.Decides.{eqb_tells}
 use Rattle.std.proofs.lemmas.List.Elements.{All-head, All-tail}
-use Rattle.std.proofs.lemmas.List.Folds.{list_all-append}
 use Rattle.std.specs.Prelude.{slice_range, All}
 use Rattle.std.specs.List.{prefix_len, list_all}
 use Rattle.if1_line.specs.Lines.{is_in_line, without_return, last_line, lines_from, lines_in}

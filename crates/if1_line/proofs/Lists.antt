@@ -1,10 +1,10 @@
 -- Lists of numbers as they are read.
-use Rattle.std.proofs.Common.{◌≡◌, ℕ, suc, ◌+◌, ◌-◌, ◌≤◌, ◌<◌, Bool, true, false, cond, not, List, [], ◌∷◌, ◌++◌, take, drop, length, get_or, Option, Some, None, option_map, unwrap_or, refl, sym, ap, ◌∙◌, arith, append_assoc, append-nil, eqb}
+use Rattle.std.proofs.Common.{◌≡◌, ℕ, suc, ◌+◌, ◌-◌, ◌≤◌, ◌<◌, Bool, true, false, cond, not, List, [], ◌∷◌, ◌++◌, take, drop, length, Option, Some, None, option_map, unwrap_or, refl, sym, ap, ◌∙◌, arith, append_assoc, append-nil, eqb}
 use Rattle.std.proofs.lemmas.List.{drop-drop, drop_more, drop_all}
 use Rattle.std.specs.Prelude.{slice_range}
 use Rattle.std.specs.List.{prefix_len}
 use Rattle.if1_line.specs.Parts.{Part, word_of, ◌>>=◌}
-use Rattle.if1_line.specs.Numbers.{numeral, numerals, pieces, number_list}
+use Rattle.if1_line.specs.Numbers.{numeral, numerals, pieces}
 use Rattle.if1_line.specs.Pragmas.{is_pragma_word, labels_in, labels_of}
 use Rattle.if1_line.specs.Places.{is_in_piece, added, behind}
 use Rattle.if1_line.specs.Reading.{numbers_first}

@@ -1,17 +1,17 @@
 -- Pragmas and lists of numbers are read from their spelling.
-use Rattle.std.proofs.Common.{◌≡◌, ℕ, suc, ◌+◌, ◌≤◌, ◌<◌, ◌^◌, Bool, true, false, cond, not, ◌&&◌, eqb, leb, ltb, List, [], ◌∷◌, ◌++◌, map, length, Option, Some, None, option_map, refl, sym, ap, subst, ◌∙◌, inl, inr, arith, append_assoc, append-nil}
+use Rattle.std.proofs.Common.{◌≡◌, ℕ, ◌<◌, ◌^◌, Bool, true, false, ◌&&◌, eqb, leb, ltb, List, [], ◌∷◌, ◌++◌, map, length, Option, Some, None, option_map, refl, sym, ap, subst, ◌∙◌, inl, inr, arith, append_assoc, append-nil}
 use Rattle.std.specs.Prelude.{decimal}
 use Rattle.std.specs.Char.{is_ascii_digit}
 use Rattle.std.specs.List.{list_all}
 use Rattle.std.proofs.lemmas.Bool.{leb-true, le-leb, ltb-true}
 use Rattle.std.proofs.lemmas.Bool.Decides.{eqb_tells}
 use Rattle.std.proofs.lemmas.List.Folds.{list_all-append}
-use Rattle.if1_line.specs.Parts.{Part, Word, Quoted, Broken, word_of}
-use Rattle.if1_line.specs.Numbers.{numeral, numerals, pieces, number_list, rising}
-use Rattle.if1_line.specs.Pragmas.{is_pragma, is_pragma_word, has_key, renamed, name_after, labels_of, labels_in, named, preceded, takes_in}
+use Rattle.if1_line.specs.Parts.{Part, Word}
+use Rattle.if1_line.specs.Numbers.{numerals, pieces, number_list, rising}
+use Rattle.if1_line.specs.Pragmas.{is_pragma, is_pragma_word, has_key, name_after, labels_of, named, preceded, takes_in}
 use Rattle.if1_line.specs.Reading.{numbers_first}
 use Rattle.if1_line.specs.Spelling.{number, is_visible, after_commas, commas, name_part, take_part, before_part, node_pragmas, are_numbers, rises_from, AreBefore, IsName}
-use Rattle.if1_line.proofs.Decimals.{and_true, and_parts, each_so, decimal_digits, decimal_visible, numeral_is, begins}
+use Rattle.if1_line.proofs.Decimals.{and_true, and_parts, decimal_digits, decimal_visible, numeral_is, begins}
 use Rattle.if1_line.proofs.Rising.{rising_is}
 use Rattle.if1_line.proofs.Spelled.{IsPlain, ArePlain, both_plain}
 

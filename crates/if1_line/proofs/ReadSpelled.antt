@@ -1,22 +1,21 @@
 -- What is read has a spelling.
-use Rattle.std.proofs.Common.{◌≡◌, ℕ, zero, suc, ◌+◌, ◌≤◌, ◌<◌, ◌^◌, ◌⊎◌, inl, inr, Bool, true, false, cond, not, ◌&&◌, ◌||◌, eqb, leb, ltb, true≢false, List, [], ◌∷◌, ◌++◌, map, drop, length, Option, Some, None, option_map, unwrap_or, if◌then◌else◌, refl, sym, ap, subst, ◌∙◌, arith, append_assoc, append-nil}
+use Rattle.std.proofs.Common.{◌≡◌, ℕ, zero, suc, ◌≤◌, ◌<◌, ◌^◌, inl, inr, Bool, true, false, cond, not, ◌&&◌, ◌||◌, eqb, leb, ltb, true≢false, List, [], ◌∷◌, ◌++◌, drop, length, Option, Some, None, option_map, unwrap_or, if◌then◌else◌, refl, sym, ap, subst, ◌∙◌, arith}
 use Rattle.std.specs.Prelude.{slice_index}
 use Rattle.std.specs.List.{list_all}
-use Rattle.std.proofs.lemmas.Bool.{leb-true, le-leb, ltb-true, lt-ltb, eqb-false}
-use Rattle.std.proofs.lemmas.Bool.Decides.{eqb_tells}
+use Rattle.std.proofs.lemmas.Bool.{leb-true, le-leb, lt-ltb, eqb-false}
 use Rattle.std.proofs.lemmas.List.Folds.{list_all-append}
 use Rattle.if1_line.specs.Parts.{◌>>=◌, is_blank, is_line_byte, Part, Word, Quoted, Broken, Place, Between, InWord, InQuotes, BehindQuotes, word_of, parts_from, parts_of}
 use Rattle.if1_line.specs.Numbers.{is_row, row_value, in_32_bits, at_least, numeral, numerals, pieces, number_list, number_first, rising}
 use Rattle.if1_line.specs.Entries.{entry_form, entry_numbers, basic_code}
 use Rattle.if1_line.specs.Pragmas.{is_pragma, has_key, renamed, name_after, labels_in, labels_of, named, preceded, takes_in}
 use Rattle.if1_line.specs.Reading.{quoted_first, numbers_first, entry_line, node_line, edge_line, literal_line, typed_name, function_line, import_line, graph_line, close_line, letter_first, line_by, line_begun, line_of}
-use Rattle.if1_line.specs.Spelling.{is_visible, is_quotable, are_numbers, rises_from, IsNumber, IsLabel, IsName, IsQuotable, AreBefore, AreEntryNumbers, IsSpelled}
+use Rattle.if1_line.specs.Spelling.{is_visible, is_quotable, are_numbers, rises_from, IsLabel, IsName, IsQuotable, AreBefore, AreEntryNumbers, IsSpelled}
 use Rattle.if1_line.specs.declared.line.EntryForm.{EntryForm}
 use Rattle.if1_line.specs.declared.line.EntryForm.TheVariants as form
 use Rattle.if1_line.specs.declared.line.Line.{Line}
 use Rattle.if1_line.specs.declared.line.Line.TheVariants as line
 use Rattle.if1_line.proofs.Decimals.{and_true, and_parts, each_so}
-use Rattle.if1_line.proofs.Rising.{Above, Rises, In, above_each, rising_rises, from_rising}
+use Rattle.if1_line.proofs.Rising.{Above, Rises, In, rising_rises, from_rising}
 
 -- ---- parts
 

@@ -1,20 +1,20 @@
 -- A line is read from its spelling.
-use Rattle.std.proofs.Common.{◌≡◌, ℕ, suc, ◌+◌, ◌≤◌, ◌<◌, ◌^◌, Bool, true, false, cond, not, ◌&&◌, eqb, leb, ltb, List, [], ◌∷◌, ◌++◌, map, length, Option, Some, None, option_map, refl, sym, ap, subst, ◌∙◌, inl, inr, arith, append_assoc, append-nil}
+use Rattle.std.proofs.Common.{◌≡◌, ℕ, ◌≤◌, Bool, true, false, eqb, List, [], ◌∷◌, ◌++◌, map, Option, Some, None, option_map, refl, sym, ap, ◌∙◌, inl, inr, arith, append-nil}
 use Rattle.std.specs.Prelude.{if◌then◌else◌}
 use Rattle.std.specs.List.{list_all}
-use Rattle.std.proofs.lemmas.Bool.{leb-true, le-leb, ltb-true, eqb-false}
+use Rattle.std.proofs.lemmas.Bool.{le-leb}
 use Rattle.std.proofs.lemmas.Bool.Decides.{eqb_tells}
-use Rattle.if1_line.specs.Parts.{◌>>=◌, is_blank, is_line_byte, Part, Word, Quoted, Broken, word_of, parts_of}
+use Rattle.if1_line.specs.Parts.{◌>>=◌, is_blank, is_line_byte, Part, Word, Quoted, parts_of}
 use Rattle.if1_line.specs.Entries.{entry_form, entry_numbers}
-use Rattle.if1_line.specs.Pragmas.{is_pragma, named, preceded, takes_in}
-use Rattle.if1_line.specs.Reading.{entry_line, node_line, edge_line, literal_line, typed_name, function_line, import_line, graph_line, close_line, letter_first, line_by, line_begun, line_of}
-use Rattle.if1_line.specs.Spelling.{number, name_part, take_part, node_pragmas, entry_parts, after_blanks, spaced, is_visible, line_parts, line_text, IsNumber, IsLabel, IsName, IsQuotable, AreBefore, AreEntryNumbers, IsSpelled}
+use Rattle.if1_line.specs.Pragmas.{named}
+use Rattle.if1_line.specs.Reading.{entry_line, node_line, edge_line, literal_line, typed_name, graph_line, close_line, letter_first, line_by, line_begun, line_of}
+use Rattle.if1_line.specs.Spelling.{number, name_part, take_part, node_pragmas, entry_parts, after_blanks, spaced, is_visible, line_text, IsLabel, AreEntryNumbers, IsSpelled}
 use Rattle.if1_line.specs.declared.line.EntryForm.{EntryForm}
 use Rattle.if1_line.specs.declared.line.EntryForm.TheVariants as form
 use Rattle.if1_line.specs.declared.line.Line.{Line}
 use Rattle.if1_line.specs.declared.line.Line.TheVariants as line
-use Rattle.if1_line.proofs.Decimals.{and_true, and_parts, number_is}
-use Rattle.if1_line.proofs.Spelled.{IsPlain, ArePlain, both_plain, visible_no_blank, spaced_bytes, spaced_parts}
+use Rattle.if1_line.proofs.Decimals.{and_parts, number_is}
+use Rattle.if1_line.proofs.Spelled.{ArePlain, both_plain, visible_no_blank, spaced_bytes, spaced_parts}
 use Rattle.if1_line.proofs.Pieces.{named_alone, named_node, named_edge, takes_edge, preceded_node, numbers_are, number_plain, numbers_plain, name_plain, take_plain, pragmas_plain}
 
 -- a line that begins with a letter says what that letter makes of its parts

@@ -1,5 +1,5 @@
 -- A row of digits spells no less than its front does.
-use Rattle.std.proofs.Common.{◌≡◌, ℕ, suc, ◌+◌, ◌-◌, ◌*◌, ◌≤◌, ◌<◌, List, [], ◌∷◌, drop, drop-cons, length, get_or, Option, Some, None, sym, ap, ◌∙◌, arith, if◌then◌else◌, nat_le, false}
+use Rattle.std.proofs.Common.{◌≡◌, ℕ, suc, ◌+◌, ◌-◌, ◌*◌, ◌≤◌, ◌<◌, List, [], ◌∷◌, drop, drop-cons, length, get_or, Some, None, sym, ap, ◌∙◌, arith, if◌then◌else◌, nat_le, false}
 use Rattle.std.proofs.lemmas.Bool.{lt-leb}
 use Rattle.std.specs.List.{fold}
 use Rattle.if1_line.specs.Numbers.{in_32_bits}

@@ -1,11 +1,10 @@
 -- Parts are read from their spelling.
-use Rattle.std.proofs.Common.{◌≡◌, ℕ, suc, ◌+◌, ◌≤◌, ◌<◌, Bool, true, false, cond, not, ◌&&◌, eqb, leb, List, [], ◌∷◌, ◌++◌, refl, sym, ap, subst, ◌∙◌, inl, inr, arith, append_assoc, append-nil}
+use Rattle.std.proofs.Common.{◌≡◌, ℕ, ◌<◌, Bool, true, false, not, eqb, leb, List, [], ◌∷◌, ◌++◌, refl, sym, ap, ◌∙◌, inl, inr, arith, append_assoc, append-nil}
 use Rattle.std.proofs.lemmas.Bool.{leb-true, le-leb}
 use Rattle.std.proofs.lemmas.Bool.Decides.{eqb_tells}
 use Rattle.std.proofs.lemmas.List.Folds.{list_all-append}
 use Rattle.std.specs.List.{list_all}
-use Rattle.if1_line.specs.Parts.{is_blank, is_line_byte, Part, Word, Quoted, Broken, Place, Between, InWord, InQuotes, BehindQuotes, parts_from, parts_of}
-use Rattle.if1_line.specs.Places.{is_in_word, is_in_quotes}
+use Rattle.if1_line.specs.Parts.{is_blank, is_line_byte, Part, Word, Quoted, Broken, InWord, InQuotes, BehindQuotes, parts_from, parts_of}
 use Rattle.if1_line.specs.Spelling.{is_visible, is_quotable, part_text, after_blanks, spaced}
 use Rattle.if1_line.proofs.Decimals.{and_true, and_parts, each_so}
 

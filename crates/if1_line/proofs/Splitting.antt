@@ -1,11 +1,11 @@
 -- A line is split from left to right, part by part.
-use Rattle.std.proofs.Common.{◌≡◌, ℕ, zero, suc, ◌+◌, ◌-◌, ◌≤◌, ◌<◌, Bool, true, false, cond, not, List, [], ◌∷◌, ◌++◌, take, drop, length, get_or, refl, sym, ap, ◌∙◌, subst, arith, true≢false, append_assoc, append-nil, eqb}
+use Rattle.std.proofs.Common.{◌≡◌, ℕ, suc, ◌+◌, ◌-◌, ◌≤◌, ◌<◌, Bool, true, false, cond, not, List, [], ◌∷◌, ◌++◌, take, drop, length, get_or, refl, sym, ap, ◌∙◌, subst, arith, true≢false, append_assoc, append-nil, eqb}
 use Rattle.std.proofs.lemmas.List.{drop-drop, drop_more, drop_all, length-drop, take_all}
 use Rattle.std.proofs.Math.Seq.{drop-length}
 use Rattle.std.proofs.lemmas.List.Sums.{prefix_len-le-length}
 use Rattle.std.specs.Prelude.{slice_range}
 use Rattle.std.specs.List.{prefix_len}
-use Rattle.if1_line.specs.Parts.{is_blank, Part, Word, Quoted, Broken, Place, Between, InWord, InQuotes, BehindQuotes, parts_from, parts_of}
+use Rattle.if1_line.specs.Parts.{is_blank, Part, Word, Quoted, Broken, Between, InWord, InQuotes, BehindQuotes, parts_from, parts_of}
 use Rattle.if1_line.specs.Places.{is_in_word, is_in_quotes, is_part_end}
 
 one_plus : (n : ℕ) → suc n ≡ 1 + n

@@ -1,6 +1,6 @@
 -- Pragmas, `%xx=text`, which end a line (M-170, pragmas). Of the keys, `na` names, `tk` marks an edge that takes, and
 -- `bf` lists nodes that come before this one.
-use Rattle.std.specs.Prelude.{ℕ, Bool, true, false, ◌&&◌, ◌||◌, ◌==◌, nat_le, List, [], ◌∷◌, ◌++◌, length, drop, slice_index, bytes_eq, option_map, unwrap_or, is_some, Option, Some, None, if◌then◌else◌}
+use Rattle.std.specs.Prelude.{ℕ, Bool, ◌&&◌, ◌==◌, nat_le, List, [], ◌∷◌, ◌++◌, length, drop, slice_index, option_map, Option, Some, None, if◌then◌else◌}
 use Rattle.std.specs.List.{list_all, list_any}
 use Rattle.if1_line.specs.Parts.{◌>>=◌, Part, word_of}
 use Rattle.if1_line.specs.Numbers.{number_list, rising}

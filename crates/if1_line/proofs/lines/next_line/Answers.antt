@@ -1,4 +1,4 @@
-use Rattle.std.proofs.Common.{◌≡◌, ◌∙◌, ◌+◌, ◌<◌, ◌∷◌, ap, sym, arith, drop, length}
+use Rattle.std.proofs.Common.{◌∙◌, ◌+◌, ◌<◌, ◌∷◌, ap, sym, arith, drop, length}
 use Rattle.if1_line.specs.Lines.{lines_in}
 use Rattle.if1_line.proofs.Endings.{line_fed, line_last}
 use Rattle.if1_line.proofs.lines.next_line.Goals as goal

@@ -1,4 +1,4 @@
-use Rattle.std.proofs.Common.{◌≡◌, ◌∙◌, ◌∷◌, ◌+◌, ◌<◌, [], Some, ap, sym, drop, arith, length}
+use Rattle.std.proofs.Common.{◌∙◌, ◌+◌, ◌<◌, [], Some, ap, sym, drop, arith, length}
 use Rattle.if1_line.specs.Places.{added}
 use Rattle.if1_line.specs.Numbers.{numerals, pieces}
 use Rattle.if1_line.proofs.Lists.{no_piece, last_piece, one_piece}

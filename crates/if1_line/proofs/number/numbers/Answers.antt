@@ -1,4 +1,4 @@
-use Rattle.std.proofs.Common.{◌≡◌, ◌∙◌, ◌∷◌, ap, sym, drop}
+use Rattle.std.proofs.Common.{◌∙◌, ap, sym, drop}
 use Rattle.if1_line.specs.Parts.{parts_of}
 use Rattle.if1_line.specs.Places.{behind, part_at}
 use Rattle.if1_line.specs.Reading.{numbers_first}

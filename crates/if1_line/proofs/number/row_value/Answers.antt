@@ -1,4 +1,4 @@
-use Rattle.std.proofs.Common.{◌≡◌, ◌<◌, arith, get_or}
+use Rattle.std.proofs.Common.{◌<◌, arith, get_or}
 use Rattle.if1_line.proofs.Rows.{front_too_large, with_digit}
 use Rattle.if1_line.proofs.number.row_value.Goals as goal
 

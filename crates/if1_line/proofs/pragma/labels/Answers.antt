@@ -1,4 +1,4 @@
-use Rattle.std.proofs.Common.{◌≡◌, ◌∙◌, Bool, true, Some, ap, sym, drop}
+use Rattle.std.proofs.Common.{◌∙◌, Bool, ap, sym, drop}
 use Rattle.if1_line.specs.Parts.{parts_of}
 use Rattle.if1_line.specs.Places.{added, became, part_at}
 use Rattle.if1_line.specs.Pragmas.{labels_in, labels_of}
