@@ -7,3 +7,7 @@ pub mod Complete
 pub mod Whole
 pub mod Printing
 pub mod RoundTrip
+pub mod Follows
+pub mod Ends
+pub mod Search
+pub mod Spelled

@@ -3,8 +3,9 @@
 use Rattle.std.specs.Prelude.{◌≡◌, ◌<◌, ◌≤◌, ◌+◌, ℕ, ℤ, Bool, true, false, ◌&&◌, ◌||◌, ◌==◌, nat_lt, nat_le, if◌then◌else◌, List, [], ◌∷◌, ◌++◌, length, drop, slice_index, codes, Option, Some, None, ◌⊎◌}
 use Rattle.std.specs.List.{list_all}
 use Rattle.flow_value.specs.declared.cause.Cause.{Cause}
+use Rattle.flow_value.specs.declared.cause.Cause.TheVariants as because
 use Rattle.value_text.specs.Tokens.{past_blanks, ends_row, is_blank, is_digit, is_letter, is_plain, escape_of, hex_digit}
-use Rattle.value_text.specs.Grammar.{Sign, Number, Integer, Item, Because, cause_word} 
+use Rattle.value_text.specs.Grammar.{Sign, Number, Integer, Item, Because}
 use Rattle.value_text.specs.Forms.{Form, Parts, Spells, SpellsParts, Items, NoCause}
 use Rattle.value_text.specs.declared.spelling.Enclosure.{Enclosure}
 use Rattle.value_text.specs.declared.spelling.Enclosure.TheVariants as in_
@@ -36,7 +37,8 @@ letters_of word.Explicit = codes "explicit"
 
 unfoldable pub begin : ℕ → Move
 begin c =
-    if c == 101 then move.To (mode.Word word.Error 1)
+    if is_digit c then move.To (mode.Digits number.Integer)
+    else (if c == 101 then move.To (mode.Word word.Error 1)
     else (if c == 110 then move.To (mode.Word word.Nil 1)
     else (if c == 84 then move.To (mode.Word word.Yes 1)
     else (if c == 70 then move.To (mode.Word word.No 1)
@@ -47,7 +49,6 @@ begin c =
     else (if c == 123 then move.Open in_.Stream mode.Ended
     else (if c == 60 then move.Open in_.Record mode.Ended
     else (if c == 40 then move.Open in_.Union (mode.Digit number.Tag)
-    else (if is_digit c then move.To (mode.Digits number.Integer)
     else move.Bad)))))))))))
 
 abbrev pub closed_by : ℕ → ℕ → Move → Move
@@ -98,15 +99,18 @@ holds_many (Some in_.Array) = true
 holds_many (Some in_.Stream) = true
 holds_many (Some in_.Record) = true
 
+abbrev pub tag_behind_error : Option Enclosure → Move
+tag_behind_error inside = if holds_many inside then move.Open in_.Union (mode.Digits number.Tag) else move.Bad
+
 unfoldable pub cause : Option Enclosure → ℕ → Move
 cause inside c =
-    if c == 111 then move.To (mode.Word word.Overflow 1)
+    if is_digit c then tag_behind_error inside
+    else (if c == 111 then move.To (mode.Word word.Overflow 1)
     else (if c == 122 then move.To (mode.Word word.Zero 1)
     else (if c == 98 then move.To (mode.Word word.Bounds 1)
     else (if c == 115 then move.To (mode.Word word.Size 1)
     else (if c == 116 then move.To (mode.Word word.Tag 1)
     else (if c == 101 then move.To mode.CauseE
-    else (if holds_many inside && is_digit c then move.Open in_.Union (mode.Digits number.Tag)
     else move.Bad))))))
 
 unfoldable pub cause_e : ℕ → Move
@@ -129,7 +133,7 @@ unfoldable pub in_digits : Kind → Option Enclosure → ℕ → Move
 in_digits n inside c = if is_digit c then move.To (mode.Digits n) else (if is_letter c then move.Bad else behind_number n inside c)
 
 unfoldable pub in_bound : ℕ → Move
-in_bound c = if c == 45 then move.To (mode.Digit number.Bound) else (if is_digit c then move.To (mode.Digits number.Bound) else move.Bad)
+in_bound c = if is_digit c then move.To (mode.Digits number.Bound) else (if c == 45 then move.To (mode.Digit number.Bound) else move.Bad)
 
 abbrev pub after_item : Quoted → Mode
 after_item quoted.Character = mode.CharacterEnded
@@ -272,6 +276,16 @@ AfterNumber number.Integer nest s = Closes nest s
 AfterNumber number.Bound nest s = (c : List ℕ) × Sign 58 s c × Closes nest (past_blanks c)
 AfterNumber number.Tag nest s = (c : List ℕ) × Sign 58 s c × Value nest (past_blanks c)
 
+-- the word of a cause
+abbrev pub word_of : Cause → Word
+word_of because.Overflow = word.Overflow
+word_of because.Zero = word.Zero
+word_of because.Bounds = word.Bounds
+word_of because.Empty = word.Empty
+word_of because.Size = word.Size
+word_of because.Tag = word.Tag
+word_of because.Explicit = word.Explicit
+
 -- letters, behind which a row ends
 pub record WordRest (w : Word) (letters : List ℕ) (nest : List Enclosure) (s : List ℕ) : Type 0 where
   pub rest : List ℕ
@@ -295,7 +309,7 @@ abbrev pub BoundRest : List Enclosure → List ℕ → Type 0
 BoundRest nest s = (z : ℤ) × (b : List ℕ) × Integer z s b × AfterNumber number.Bound nest (past_blanks b)
 
 abbrev pub CauseRest : List Enclosure → List ℕ → Type 0
-CauseRest nest s = ((w : Word) × ((c : Cause) × (letters_of w ≡ cause_word c)) × WordRest w (letters_of w) nest s) ⊎ ((holds_many (innermost nest) ≡ true) × NumberRest number.Tag (in_.Union ∷ nest) s)
+CauseRest nest s = ((c : Cause) × WordRest (word_of c) (letters_of (word_of c)) nest s) ⊎ ((holds_many (innermost nest) ≡ true) × NumberRest number.Tag (in_.Union ∷ nest) s)
 
 -- what follows an item
 abbrev pub AfterItem : Quoted → List Enclosure → List ℕ → Type 0

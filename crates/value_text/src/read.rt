@@ -1,11 +1,13 @@
 //! What a text spells at a type.
-ghost use Rattle.std.specs.Prelude.{◌≡◌, ◌+◌, ◌<◌, ◌≤◌, ℕ, IfOk, MatchResult, Some, None, IsTrue, List, drop, length, slice_get};
+ghost use Rattle.std.specs.Prelude.{◌≡◌, ◌+◌, ◌<◌, ◌≤◌, ℕ, IfOk, MatchResult, Err, Some, None, IsTrue, List, drop, length, slice_get};
 ghost use Rattle.std.specs.Option.{option_copied};
 ghost use Rattle.value_text.specs.Tokens.{placed, past_blanks};
 ghost use Rattle.value_text.specs.Reading.{value_in, part_in, many_in, fields_in, array_in, stream_in, record_in, union_in, content_in, typed_in, text_in, text_at, no_gap, char_item, text_value};
 ghost use Rattle.value_text.specs.Grammar.{reads_value};
 ghost use Rattle.value_text.specs.Nesting.{nesting, has_small_tags};
 ghost use Rattle.value_text.specs.Printed.{value_bytes};
+ghost use Rattle.value_text.specs.Forms.{IsValueText, FirstBad};
+ghost use Rattle.value_text.specs.Faults.{IsSpelled};
 ghost use Rattle.flow_value.specs.Well.{is_well};
 ghost use Rattle.flow_value.specs.declared.value.Val.{Val};
 ghost use Rattle.flow_value.specs.declared.ty.Ty.{Ty};
@@ -343,7 +345,10 @@ fn read(alloc: Global, text: &[u8], ty: &Ty) -> Result<Option<Val>, NoMemory>
 }
 
 /// Why the text is no value of the type.
-fn fault_of(alloc: Global, text: &[u8], ty: &Ty) -> ValueFault {
+fn fault_of(alloc: Global, text: &[u8], ty: &Ty) -> ValueFault
+    ensures bad_spelling { (k : ℕ) → result ≡ ValueFault.BadSpelling k → FirstBad text.now k }
+    ensures spelled { IsSpelled text.now result }
+{
     match first_bad(alloc, text) {
         Err(_) => ValueFault::NoMemory,
         Ok(Some(byte)) => ValueFault::BadSpelling(byte),
@@ -364,6 +369,13 @@ pub fn read_value(alloc: Global, text: &[u8], ty: &Ty) -> Result<Val, ValueFault
         result
         (λ w. w ≡ v)
         (λ e. e ≡ ValueFault.NoMemory) }
+    // Some value text begins with the first k bytes and none with one more, or the text ends there.
+    ensures bad_spelling { (k : ℕ) → result ≡ Err (ValueFault.BadSpelling k) → FirstBad text.now k }
+    // What is a value of no type is refused by its spelling.
+    ensures spelled { MatchResult
+        result
+        (λ _. IsValueText text.now)
+        (λ e. IsSpelled text.now e) }
 {
     match read(alloc, text, ty)? {
         Some(v) => Ok(v),

@@ -2,7 +2,7 @@
 //! keeps what is open in a list.
 ghost use Rattle.std.specs.Prelude.{◌≡◌, ◌∷◌, List, [], OnOk, IfOk, MatchOption, reverse, ◌++◌};
 ghost use Rattle.value_text.specs.Forms.{IsValueText, FirstBad};
-ghost use Rattle.value_text.specs.Machine.{letters_of, quote_of, after_item, in_item, in_quotes, escaped, high, low, character_ended, begin, go_on, ended, behind_error, behind_cause, behind_word, in_word, after_colon, behind_number, in_digits, in_digit, cause, cause_e, in_bound, past_blank, between, next, may_end_in, may_end, holds_many, innermost, is_closed, Leaves, Refuses, LeadsOn};
+ghost use Rattle.value_text.specs.Machine.{letters_of, quote_of, after_item, in_item, in_quotes, escaped, high, low, character_ended, begin, go_on, ended, behind_error, behind_cause, behind_word, in_word, after_colon, behind_number, in_digits, in_digit, cause, tag_behind_error, cause_e, in_bound, past_blank, between, next, may_end_in, may_end, holds_many, innermost, is_closed, Leaves, Refuses, LeadsOn};
 ghost use Rattle.value_text.specs.declared.spelling.Enclosure.{Enclosure};
 
 use crate::token::{escape_of, hex_digit, is_blank, is_digit, is_letter, is_plain};
@@ -124,6 +124,9 @@ fn letters(word: Word) -> &'static [u8]
 fn begin(c: u8) -> Move
     ensures { result ≡ begin c }
 {
+    if is_digit(c) {
+        return Move::To(Mode::Digits(Number::Integer));
+    }
     match c {
         b'e' => Move::To(Mode::Word(Word::Error, 1)),
         b'n' => Move::To(Mode::Word(Word::Nil, 1)),
@@ -136,7 +139,6 @@ fn begin(c: u8) -> Move
         b'{' => Move::Open(Enclosure::Stream, Mode::Ended),
         b'<' => Move::Open(Enclosure::Record, Mode::Ended),
         b'(' => Move::Open(Enclosure::Union, Mode::Digit(Number::Tag)),
-        _ if is_digit(c) => Move::To(Mode::Digits(Number::Integer)),
         _ => Move::Bad,
     }
 }
@@ -236,11 +238,25 @@ fn holds_many(inside: Option<Enclosure>) -> bool
     }
 }
 
+/// Where the first digit of a tag leads: what stands before it is a part of its own.
+fn tag_behind_error(inside: Option<Enclosure>) -> Move
+    ensures { result ≡ tag_behind_error inside }
+{
+    if holds_many(inside) {
+        Move::Open(Enclosure::Union, Mode::Digits(Number::Tag))
+    } else {
+        Move::Bad
+    }
+}
+
 /// Where a byte leads behind `error` and a parenthesis: into a cause, or into the number of a tag.
 #[tactic(auto, unfolding(crate::specs::Machine::cause))]
 fn cause(inside: Option<Enclosure>, c: u8) -> Move
     ensures { result ≡ cause inside c }
 {
+    if is_digit(c) {
+        return tag_behind_error(inside);
+    }
     match c {
         b'o' => Move::To(Mode::Word(Word::Overflow, 1)),
         b'z' => Move::To(Mode::Word(Word::Zero, 1)),
@@ -248,9 +264,6 @@ fn cause(inside: Option<Enclosure>, c: u8) -> Move
         b's' => Move::To(Mode::Word(Word::Size, 1)),
         b't' => Move::To(Mode::Word(Word::Tag, 1)),
         b'e' => Move::To(Mode::CauseE),
-        _ if holds_many(inside) && is_digit(c) => {
-            Move::Open(Enclosure::Union, Mode::Digits(Number::Tag))
-        }
         _ => Move::Bad,
     }
 }
@@ -308,10 +321,10 @@ fn in_digits(number: Number, inside: Option<Enclosure>, c: u8) -> Move
 fn in_bound(c: u8) -> Move
     ensures { result ≡ in_bound c }
 {
-    if c == b'-' {
-        Move::To(Mode::Digit(Number::Bound))
-    } else if is_digit(c) {
+    if is_digit(c) {
         Move::To(Mode::Digits(Number::Bound))
+    } else if c == b'-' {
+        Move::To(Mode::Digit(Number::Bound))
     } else {
         Move::Bad
     }
