@@ -11,3 +11,4 @@ pub mod Follows
 pub mod Ends
 pub mod Search
 pub mod Spelled
+pub mod Joins

@@ -16,7 +16,6 @@ ghost use Rattle.flow_value.specs.declared.ty.Ty.TheViews.{out-Ty};
 use crate::fault::ValueFault;
 use crate::scalars::{array_of, boolean, bound, character, error, int, null, small, tag};
 use crate::spelling::first_bad;
-use crate::survey::survey;
 use crate::token::{front, item, sign, skip};
 use flow_value::{Held, Items, MOST_ELEMENTS, Name, NoMemory, Ty, Val, item_at};
 use std::alloc::Global;
@@ -352,10 +351,7 @@ fn fault_of(alloc: Global, text: &[u8], ty: &Ty) -> ValueFault
     match first_bad(alloc, text) {
         Err(_) => ValueFault::NoMemory,
         Ok(Some(byte)) => ValueFault::BadSpelling(byte),
-        Ok(None) => match survey(Some(ty), 64, text, skip(text, 0)) {
-            None => ValueFault::TooLarge,
-            Some(found) => ValueFault::WrongShape(found.wrong.unwrap_or(0)),
-        },
+        Ok(None) => ValueFault::TooLarge,
     }
 }
 
