@@ -12,3 +12,4 @@ pub mod Ends
 pub mod Search
 pub mod Spelled
 pub mod Joins
+pub mod Looks
