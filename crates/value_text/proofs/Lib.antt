@@ -13,3 +13,5 @@ pub mod Search
 pub mod Spelled
 pub mod Joins
 pub mod Looks
+pub mod Fits
+pub mod Verdict

@@ -277,3 +277,59 @@ module _ (n : ℕ) (sub : Looker) (ty : Option Ty) where
     where
       inside : content_look sub ty (length (40 ∷ a)) t c ≡ cond (is_within f n) (Some (unless_own (asks (is_union t) ty) (length (40 ∷ a)) (misfit f (content_of t ty) k), r)) None
       inside = rw told (either {A = Look} {B = Look} (is_within f n) (misfit f (content_of t ty) k, d) (λ (p : Look). with_rest (unless_own (asks (is_union t) ty) (length (40 ∷ a)) p.0) (sign_in 41 (past_blanks p.1))) (unless_own (asks (is_union t) ty) (length (40 ∷ a)) (misfit f (content_of t ty) k), r) (rw (sign_complete 41 (past_blanks d) r x) refl))
+
+-- ---- forms
+
+abbrev Tells : Form → ℕ → Option Ty → List ℕ → List ℕ → Type 0
+Tells f n ty s r = look n ty s ≡ cond (is_within f n) (Some (misfit f ty (length s), r)) None
+
+at_text : (f : Form) (n : ℕ) (ty : Option Ty) (s t r : List ℕ) → s ≡ t → Tells f n ty t r → Tells f n ty s r
+at_text f n ty s t r e h = subst (λ (x : List ℕ). Tells f n ty x r) (sym e) h
+
+and_no : (b : Bool) → (b && false) ≡ false
+and_no true = refl
+and_no false = refl
+
+more_parts : (w a l : Bool) (p : Look) (g : Look → Option LookParts) (x y : LookParts) → g p ≡ with_look p.0 (cond (a && l) (Some x) None) → Some y ≡ with_look p.0 (Some x) → (cond w (Some p) None >>= g) ≡ cond ((w && a) && l) (Some y) None
+more_parts true true true p g x y e f = e ∙ sym f
+more_parts true true false p g x y e f = e
+more_parts true false l p g x y e f = e
+more_parts false a l p g x y e f = refl
+
+mutual
+  unfolding parts_look
+  pub look_form : (f : Form) (n : ℕ) (ty : Option Ty) (s r : List ℕ) → Spells f s r → Tells f n ty s r
+  look_form form.error zero ty s r h = refl
+  look_form form.error (suc n) ty s r h = alone_look n (look n) ty s r h.0 h.1
+  look_form (form.error_because c) zero ty s r h = refl
+  look_form (form.error_because c) (suc n) ty s r h = because_look n (look n) ty c s h.0 h.1 r h.2 h.3 h.4
+  look_form (form.integer z) zero ty s r h = refl
+  look_form (form.integer z) (suc n) ty s r h = integer_look n (look n) ty z s r h
+  look_form (form.boolean b) zero ty s r h = refl
+  look_form (form.boolean true) (suc n) ty s r h = at_text (form.boolean true) (suc n) ty s (84 ∷ r) r h.spelled (yes_look n (look n) ty r h.alone)
+  look_form (form.boolean false) (suc n) ty s r h = at_text (form.boolean false) (suc n) ty s (70 ∷ r) r h.spelled (no_look n (look n) ty r h.alone)
+  look_form (form.character c) zero ty s r h = refl
+  look_form (form.character c) (suc n) ty s r h = at_text (form.character c) (suc n) ty s (39 ∷ h.0) r h.2 (char_look n (look n) ty c h.0 h.1 r h.3 h.4)
+  look_form (form.characters cs) zero ty s r h = refl
+  look_form (form.characters cs) (suc n) ty s r h = at_text (form.characters cs) (suc n) ty s (34 ∷ h.0) r h.1 (text_form n (look n) ty cs h.0 r h.2)
+  look_form form.nil zero ty s r h = refl
+  look_form form.nil (suc n) ty s r h = at_text form.nil (suc n) ty s (110 ∷ 105 ∷ 108 ∷ r) r h.spelled (nil_look n (look n) ty r h.alone)
+  look_form (form.array lo ps) zero ty s r h = refl
+  look_form (form.array lo ps) (suc n) ty s r h = at_text (form.array lo ps) (suc n) ty s (91 ∷ h.0) r h.3 (array_form n (look n) ty lo ps h.0 h.1 h.2 r (parts_form ps n) h.4 h.5 h.6)
+  look_form (form.stream ps) zero ty s r h = refl
+  look_form (form.stream ps) (suc n) ty s r h = at_text (form.stream ps) (suc n) ty s (123 ∷ h.0) r h.1 (stream_form n (look n) ty ps h.0 r (parts_form ps n) h.2)
+  look_form (form.fields ps) zero ty s r h = refl
+  look_form (form.fields ps) (suc n) ty s r h = at_text (form.fields ps) (suc n) ty s (60 ∷ h.0) r h.1 (record_form n (look n) ty ps h.0 r (parts_form ps n) h.2)
+  look_form (form.union t k f) zero ty s r h = refl
+  look_form (form.union t k f) (suc n) ty s r h =
+      at_text (form.union t k f) (suc n) ty s (40 ∷ h.0) r h.4 (union_form n (look n) ty t k f h.0 h.1 h.2 h.3 r (subst (λ (x : ℕ). look n (content_of t ty) (past_blanks h.2) ≡ cond (is_within f n) (Some (misfit f (content_of t ty) x, h.3)) None) (sym h.7) (look_form f n (content_of t ty) (past_blanks h.2) h.3 h.8)) h.5 h.6 h.9)
+
+  parts_form : (ps : Parts) (n : ℕ) → Told ps n (look n)
+  parts_form none n ty fs close zero i s r e h = rw (sign_complete close s r h) refl
+  parts_form none n ty fs close (suc m) i s r e h = rw (sign_complete close s r h, le-leb 0 (suc m) (omega arith)) refl
+  parts_form (part k f ps) n ty fs close zero i s r e h = rw (open_yet f close s h.0 e h.2, none_below (count ps), and_no (is_within f n && are_within ps n)) refl
+  parts_form (part k f ps) n ty fs close (suc m) i s r e h =
+      rw (open_yet f close s h.0 e h.2, look_form f n (type_at ty fs i) s h.0 h.2, less_by_one (count ps) m)
+        (more_parts (is_within f n) (are_within ps n) (leb (count ps) m) (misfit f (type_at ty fs i) (length s), h.0) (λ (p : Look). with_look p.0 (parts_look (look n) ty fs close m (i + 1) (past_blanks p.1))) ((count ps, part_misfit ps ty fs (i + 1)), r) ((count ps + 1, or_else (misfit f (type_at ty fs i) k) (part_misfit ps ty fs (i + 1))), r)
+          (rw (parts_form ps n ty fs close m (i + 1) (past_blanks h.0) r e h.3) refl)
+          (rw (h.1) refl))

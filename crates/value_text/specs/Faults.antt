@@ -1,23 +1,16 @@
 -- What each fault says of a text.
-use Rattle.std.specs.Prelude.{ℕ, zero, suc, ◌+◌, ◌^◌, Bool, true, false, ◌&&◌, ◌==◌, nat_lt, if◌then◌else◌, List, [], ◌∷◌, length, Option, Some, None, option_map, slice_get}
+use Rattle.std.specs.Prelude.{ℕ, zero, suc, ◌≡◌, ◌+◌, ◌-◌, ◌^◌, Bool, true, false, ◌&&◌, ◌==◌, nat_lt, if◌then◌else◌, List, [], ◌∷◌, length, Option, Some, None, option_map, slice_get}
 use Rattle.std.specs.Option.{is_some}
 use Rattle.flow_value.specs.Bounds.{is_few, is_within as within_bounds}
 use Rattle.flow_value.specs.Scalar.{fits_64}
 use Rattle.flow_value.specs.declared.ty.Ty.{Ty}
 use Rattle.flow_value.specs.declared.ty.Ty.TheOpen.{Ty-F}
 use Rattle.flow_value.specs.declared.ty.Ty.TheViews.{out-Ty}
-use Rattle.value_text.specs.Tokens.{or_else}
-use Rattle.value_text.specs.Forms.{Form, Parts, none, part, IsValueText}
+use Rattle.value_text.specs.Tokens.{or_else, past_blanks}
+use Rattle.value_text.specs.Forms.{Form, Parts, none, part, SpellsForm, IsValueText, FirstBad}
 use Rattle.value_text.specs.Forms as form
 use Rattle.value_text.specs.declared.fault.ValueFault.{ValueFault}
 use Rattle.value_text.specs.declared.fault.ValueFault.TheVariants as faults
-
--- every fault but that of the spelling, and want of memory, comes of a value text
-abbrev pub IsSpelled : List ℕ → ValueFault → Type 0
-IsSpelled text (faults.BadSpelling k) = Unit {0}
-IsSpelled text (faults.WrongShape k) = IsValueText text
-IsSpelled text faults.TooLarge = IsValueText text
-IsSpelled text faults.NoMemory = Unit {0}
 
 -- ---- limits
 
@@ -172,3 +165,31 @@ abbrev mutual
   pub part_misfit : Parts → Option Ty → List (List ℕ × Ty) → ℕ → Option ℕ
   part_misfit none ty fs i = None
   part_misfit (part k f ps) ty fs i = or_else (misfit f (type_at ty fs i) k) (part_misfit ps ty fs (i + 1))
+
+-- ---- faults
+
+-- The text is a value text, and past a limit: so is every form that it spells.
+pub record PastLimits (bytes : List ℕ) : Type 0 where
+  pub spelled : IsValueText bytes
+  pub past : (f : Form) → SpellsForm bytes f → is_within f 64 ≡ false
+
+-- The text is a value text within the limits, and the leftmost part of another form than that of its
+-- type begins at byte k: so it is in every form that the text spells.
+pub record MisfitAt (bytes : List ℕ) (ty : Ty) (k : ℕ) : Type 0 where
+  pub spelled : IsValueText bytes
+  pub within : (f : Form) → SpellsForm bytes f → is_within f 64 ≡ true
+  pub place : (f : Form) → SpellsForm bytes f → (left : ℕ) × (misfit f (Some ty) (length (past_blanks bytes)) ≡ Some left) × (k ≡ length bytes - left)
+
+-- what a fault says
+abbrev pub IsCause : List ℕ → Ty → ValueFault → Type 0
+IsCause bytes ty (faults.BadSpelling k) = FirstBad bytes k
+IsCause bytes ty (faults.WrongShape k) = MisfitAt bytes ty k
+IsCause bytes ty faults.TooLarge = PastLimits bytes
+IsCause bytes ty faults.NoMemory = Unit {0}
+
+-- what it says of a value text
+abbrev pub Explains : List ℕ → Ty → ValueFault → Type 0
+Explains bytes ty (faults.BadSpelling k) = ⊥
+Explains bytes ty (faults.WrongShape k) = MisfitAt bytes ty k
+Explains bytes ty faults.TooLarge = PastLimits bytes
+Explains bytes ty faults.NoMemory = ⊥

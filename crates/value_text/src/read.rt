@@ -7,7 +7,7 @@ ghost use Rattle.value_text.specs.Grammar.{reads_value};
 ghost use Rattle.value_text.specs.Nesting.{nesting, has_small_tags};
 ghost use Rattle.value_text.specs.Printed.{value_bytes};
 ghost use Rattle.value_text.specs.Forms.{IsValueText, FirstBad};
-ghost use Rattle.value_text.specs.Faults.{IsSpelled};
+ghost use Rattle.value_text.specs.Faults.{PastLimits, MisfitAt, Explains, IsCause};
 ghost use Rattle.flow_value.specs.Well.{is_well};
 ghost use Rattle.flow_value.specs.declared.value.Val.{Val};
 ghost use Rattle.flow_value.specs.declared.ty.Ty.{Ty};
@@ -16,6 +16,7 @@ ghost use Rattle.flow_value.specs.declared.ty.Ty.TheViews.{out-Ty};
 use crate::fault::ValueFault;
 use crate::scalars::{array_of, boolean, bound, character, error, int, null, small, tag};
 use crate::spelling::first_bad;
+use crate::survey::survey;
 use crate::token::{front, item, sign, skip};
 use flow_value::{Held, Items, MOST_ELEMENTS, Name, NoMemory, Ty, Val, item_at};
 use std::alloc::Global;
@@ -343,15 +344,27 @@ fn read(alloc: Global, text: &[u8], ty: &Ty) -> Result<Option<Val>, NoMemory>
     }
 }
 
+/// Why a value text is no value of the type.
+fn shape_fault(text: &[u8], ty: &Ty) -> ValueFault
+    requires spelled { IsValueText text.now }
+    requires unread { text_value text.now ty.now ≡ None }
+    ensures { Explains text.now ty.now result }
+{
+    match survey(Some(ty), 64, text, skip(text, 0)) {
+        None => ValueFault::TooLarge,
+        Some((misfit, _)) => ValueFault::WrongShape(text.len().saturating_sub(misfit.unwrap_or(0))),
+    }
+}
+
 /// Why the text is no value of the type.
 fn fault_of(alloc: Global, text: &[u8], ty: &Ty) -> ValueFault
-    ensures bad_spelling { (k : ℕ) → result ≡ ValueFault.BadSpelling k → FirstBad text.now k }
-    ensures spelled { IsSpelled text.now result }
+    requires unread { text_value text.now ty.now ≡ None }
+    ensures { IsCause text.now ty.now result }
 {
     match first_bad(alloc, text) {
         Err(_) => ValueFault::NoMemory,
         Ok(Some(byte)) => ValueFault::BadSpelling(byte),
-        Ok(None) => ValueFault::TooLarge,
+        Ok(None) => shape_fault(text, ty),
     }
 }
 
@@ -365,13 +378,12 @@ pub fn read_value(alloc: Global, text: &[u8], ty: &Ty) -> Result<Val, ValueFault
         result
         (λ w. w ≡ v)
         (λ e. e ≡ ValueFault.NoMemory) }
-    // Some value text begins with the first k bytes and none with one more, or the text ends there.
+    // No value text: some begins with the first k bytes, and none with one more, or the text ends.
     ensures bad_spelling { (k : ℕ) → result ≡ Err (ValueFault.BadSpelling k) → FirstBad text.now k }
-    // What is a value of no type is refused by its spelling.
-    ensures spelled { MatchResult
-        result
-        (λ _. IsValueText text.now)
-        (λ e. IsSpelled text.now e) }
+    // A value text past a limit.
+    ensures too_large { result ≡ Err ValueFault.TooLarge → PastLimits text.now }
+    // A value text within the limits whose leftmost part of another form begins at byte k.
+    ensures wrong_shape { (k : ℕ) → result ≡ Err (ValueFault.WrongShape k) → MisfitAt text.now ty.now k }
 {
     match read(alloc, text, ty)? {
         Some(v) => Ok(v),

@@ -3,7 +3,6 @@ use Rattle.std.proofs.lemmas.Option.{same_Some, none-some}
 use Rattle.flow_value.specs.declared.value.Val.{Val}
 use Rattle.value_text.specs.Reading.{text_value}
 use Rattle.value_text.proofs.Whole.{text_sound, text_complete}
-use Rattle.value_text.proofs.Spelled.{value_text}
 use Rattle.value_text.proofs.read.read_value.Goals as goal
 
 abbrev nothing : Option Val
@@ -23,8 +22,3 @@ pub returns-in-None-clause-only : goal.returns-in-None-clause-only
 returns-in-None-clause-only c v h =
     let e : text_value c.args.text.now c.args.ty.now ≡ nothing = search rules in
     absurd (none-some v (sym e ∙ text_complete c.args.text.now c.args.ty.now v h))
-
-pub returns-in-Some-clause-spelled : goal.returns-in-Some-clause-spelled
-returns-in-Some-clause-spelled c =
-    let e : text_value c.args.text.now c.args.ty.now ≡ Some c.in-Some.v = search rules in
-    value_text c.args.text.now c.args.ty.now c.in-Some.v (text_sound c.args.text.now c.args.ty.now c.in-Some.v e)
