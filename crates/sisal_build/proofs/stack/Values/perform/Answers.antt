@@ -1,5 +1,5 @@
 -- Each arm is one action.
-use Rattle.sisal_build.proofs.perform.Values.perform.Goals as goal
+use Rattle.sisal_build.proofs.stack.Values.perform.Goals as goal
 
 pub returns-in-Whole : goal.returns-in-Whole
 returns-in-Whole c = rw c.in-Whole.is c.whole.ensures
