@@ -1,5 +1,5 @@
 -- Units are what the grammar derives, and so are the tokens that begin one.
-use Rattle.std.proofs.Common.{◌≡◌, ℕ, zero, suc, ◌<◌, ◌≤◌, ◌+◌, ◌-◌, List, [], ◌∷◌, ◌++◌, Some, map, take, length, refl, sym, ◌∙◌, ap, subst, arith}
+use Rattle.std.proofs.Common.{◌≡◌, ℕ, zero, suc, ◌<◌, ◌≤◌, ◌+◌, ◌-◌, List, [], ◌∷◌, ◌++◌, Some, map, take, length, min, refl, sym, ◌∙◌, ap, subst, arith}
 use Rattle.pushdown.specs.Grammar.{Derives}
 use Rattle.pushdown.specs.declared.Step.{Step}
 use Rattle.pushdown.specs.declared.Symbol.TheVariants.{Rule}
@@ -26,7 +26,8 @@ use Rattle.sisal_grammar.specs.Sorts.{an_outline}
 use Rattle.sisal_grammar.specs.Spells.{Spells}
 use Rattle.sisal_grammar.proofs.Plans.{plan_typed, first_kind}
 use Rattle.sisal_grammar.proofs.Units.{spelled, derived}
-use Rattle.sisal_parse.specs.Faults.{IsUnit, Begins, IsFirstBad, line_at}
+use Rattle.sisal_tree.specs.Depth.{PassesAt, depth_of}
+use Rattle.sisal_parse.specs.Faults.{IsUnit, Begins, IsFirstBad, IsTooDeep, line_at}
 use Rattle.sisal_parse.proofs.Classes.{Reals, reals, reals_behind, tokens_for, classes_for}
 
 abbrev pub classes : List Token → List ℕ
@@ -115,3 +116,22 @@ bad_token t ts cs e k g same is cause =
     let bad : FirstBad (grammar_in t) (Rule 0 ∷ []) cs k = subst (λ x. IsCause (grammar_in t) (Rule 0 ∷ []) cs x) is cause in
     let there : FirstBad language (Rule 0 ∷ []) cs k = subst (λ l. FirstBad l (Rule 0 ∷ []) cs k) g bad in
     first_bad ts k (subst (λ l. FirstBad language (Rule 0 ∷ []) l k) same there)
+
+-- a derivation whose steps tell a depth above 200
+pub deep_fault : (es : List Step) (ts : List Token) (n line : ℕ) → Derives language (Rule 0 ∷ []) (map class_of (map (λ t. t.kind) ts)) es
+    → ((o : Outline) → run sisal plan es (placed 0 ts) ≡ Some (value.AnOutline o ∷ []) → n ≡ min (depth_of o.items) 201)
+    → ((o : Outline) → run sisal plan es (placed 0 ts) ≡ Some (value.AnOutline o ∷ []) → 200 < n → PassesAt 200 o.items line)
+    → 200 < n → IsTooDeep ts line
+deep_fault es ts n line d depth at deep =
+    let e : Derives language (Rule 0 ∷ []) (classes ts) es = subst (λ cs. Derives language (Rule 0 ∷ []) cs es) (two_maps ts) d in
+    let o : Outlined es (placed 0 ts) = outlined es ts e in
+    let k : n ≡ min (depth_of o.0.items) 201 = depth o.0 o.1 in
+    record { outline = o.0; spelled = spelled_by es ts o.0 e o.1; deep = omega (arith, k, deep); passes = at o.0 o.1 deep }
+
+-- a unit that its steps give
+pub spelled_of : (es : List Step) (ts : List Token) (o : Outline) → Derives language (Rule 0 ∷ []) (map class_of (map (λ t. t.kind) ts)) es
+    → run sisal plan es (placed 0 ts) ≡ Some (value.AnOutline o ∷ []) → Spells unit (placed 0 ts) o
+spelled_of es ts o d r = spelled_by es ts o (subst (λ cs. Derives language (Rule 0 ∷ []) cs es) (two_maps ts) d) r
+
+pub shallow : (n d : ℕ) → n ≡ min d 201 → n ≤ 200 → d ≤ 200
+shallow n d e h = omega (arith, e, h)

@@ -5,5 +5,8 @@
 
 mod fault;
 mod steps;
+mod stub;
+mod units;
 
 pub use fault::ParseFault;
+pub use units::parse;
