@@ -10,3 +10,6 @@ mod units;
 
 pub use fault::ParseFault;
 pub use units::parse;
+
+#[cfg(test)]
+mod tests;
