@@ -21,11 +21,11 @@ use Rattle.sisal_grammar.specs.declared.value.Subject.{Subject}
 use Rattle.sisal_grammar.specs.declared.value.ExprRest.{ExprRest}
 use Rattle.sisal_grammar.specs.declared.value.SubjectRest.TheVariants as more_is
 use Rattle.sisal_grammar.specs.Acts.{at, span, chained, posted, called, rest_of, tag_case}
-use Rattle.sisal_grammar.specs.Phrases.{Phrase, ElseIf, Meant, many, maybe, unit, definition, typedef, fundef, ty, field, fields, tagf, header, exprs, expr, conj, inv, rel, cat, sum, term, neg, post, selector, fv, prim, arm, defs, def, target, group, gen, turn, test, clause, red, mask, name, comma_name, semicolon, semi_field, semi_tagf, comma_type, colon_type, comma_expr, colon_expr, or_conj, and_inv, comparison, or_sum, sum_term, term_neg, semi_fv, elements, else_if, binding, otherwise, semi_def, comma_target, cross_group, dot_gen, at_name, folding, direction}
+use Rattle.sisal_grammar.specs.Phrases.{Phrase, ElseIf, Meant, many, maybe, definition, fields, exprs, rel, cat, selector, prim, arm, defs, clause, mask, name, comma_name, semicolon, semi_field, semi_tagf, comma_type, colon_type, comma_expr, colon_expr, or_conj, and_inv, comparison, or_sum, sum_term, term_neg, semi_fv, elements, else_if, binding, otherwise, semi_def, comma_target, cross_group, dot_gen, at_name, folding, direction}
 use Rattle.sisal_grammar.specs.Spells as spells
 use Rattle.sisal_grammar.specs.Spells.{Spells, IsWord, IsSign, IsName, listed, compared, nested}
-use Rattle.sisal_grammar.proofs.Goals.{Grown, NamedPrim, NamedPost, NamedTerm, NamedSum, NamedCat, NamedRel, NamedConj, NamedExpr, FieldsParts, Ends, Places, Indices, Subjects, Goal}
-use Rattle.sisal_grammar.proofs.Joins.{append_nil, tail_is, regrouped, loop_tokens, product_tokens}
+use Rattle.sisal_grammar.proofs.Goals.{Grown, NamedPrim, NamedPost, NamedTerm, NamedSum, NamedCat, NamedRel, NamedConj, NamedExpr, FieldsParts, Places, Indices, Goal}
+use Rattle.sisal_grammar.proofs.Joins.{tail_is, regrouped, loop_tokens, product_tokens}
 use Rattle.sisal_grammar.proofs.Saying.{as_tail}
 use Rattle.sisal_grammar.proofs.Raws.{R}
 use Rattle.sisal_grammar.proofs.Reading.{read_0, read_1, read_2, read_3, read_4, read_5, read_6, read_7, read_8, read_9, read_10, read_11, read_12, read_13, read_14, read_15, read_16, read_17, read_18, read_19, read_20, read_21, read_22, read_23, read_24, read_25, read_26, read_27, read_28, read_29, read_30, read_31, read_32, read_33, read_34, read_35, read_36, read_37, read_38, read_39, read_40, read_41, read_42, read_43, read_44, read_45, read_46, read_47, read_48, read_49, read_50, read_51, read_52, read_53, read_54, read_55, read_56, read_57, read_58, read_59, read_60, read_61, read_62, read_63, read_64, read_65, read_66, read_67, read_68, read_69, read_70, read_71, read_72, read_73, read_74, read_75, read_76, read_77, read_78, read_79, read_80, read_81, read_82, read_83, read_84, read_85, read_86, read_87, read_88, read_89, read_90, read_91, read_92, read_93, read_94, read_95, read_96, read_97, read_98, read_99, read_100, read_101, read_102, read_103, read_104, read_105, read_106, read_107, read_108, read_109, read_110, read_111, read_112, read_113, read_114, read_115, read_116, read_117, read_118, read_119, read_120, read_121, read_122, read_123, read_124, read_125, read_126, read_127, read_128, read_129, read_130, read_131, read_132, read_133, read_134, read_135, read_136, read_137, read_138, read_139, read_140, read_141, read_142, read_143, read_144, read_145, read_146, read_147, read_148, read_149, read_150, read_151, read_152, read_153, read_154, read_155, read_156, read_157, read_158, read_159, read_160, read_161, read_162, read_163, read_164, read_165, read_166, read_167, read_168, read_169, read_170, read_171, read_172, read_173, read_174, read_175, read_176, read_177, read_178, read_179, read_180, read_181, read_182, read_183, read_184, read_185, read_186}

@@ -1,5 +1,5 @@
 -- What is derived of each phrase.
-use Rattle.std.proofs.Common.{◌≡◌, ℕ, List, [], ◌∷◌, ◌++◌, Option, Some, None, ◌⊎◌, inl, inr, refl, sym, ◌∙◌, ap, subst, append_assoc}
+use Rattle.std.proofs.Common.{◌≡◌, ℕ, List, [], ◌∷◌, ◌++◌, Option, Some, ◌⊎◌}
 use Rattle.sisal_lex.specs.declared.token.Sign.TheVariants as sign
 use Rattle.sisal_tree.specs.declared.unit.Written.{Written}
 use Rattle.sisal_tree.specs.declared.unit.Field.{Field}
@@ -8,18 +8,14 @@ use Rattle.sisal_tree.specs.declared.expr.ExprKind.TheVariants as tree
 use Rattle.sisal_tree.specs.declared.expr.BinaryOperator.{BinaryOperator}
 use Rattle.sisal_tree.specs.declared.expr.FieldValue.{FieldValue}
 use Rattle.sisal_tree.specs.declared.expr.Def.{Def}
-use Rattle.sisal_tree.specs.declared.expr.ClauseKind.{ClauseKind}
 use Rattle.sisal_tree.specs.declared.expr.ClauseKind.TheVariants as made
-use Rattle.sisal_tree.specs.declared.expr.Direction.{Direction}
 use Rattle.sisal_tree.specs.declared.expr.Reduction.{Reduction}
 use Rattle.sisal_grammar.specs.declared.value.Placed.{Placed}
 use Rattle.sisal_grammar.specs.declared.value.Bracket.TheVariants as bracket
-use Rattle.sisal_grammar.specs.declared.value.Selector.{Selector}
 use Rattle.sisal_grammar.specs.declared.value.Selector.TheVariants as select
-use Rattle.sisal_grammar.specs.declared.value.Subject.{Subject}
 use Rattle.sisal_grammar.specs.Acts.{at, chained, posted, called}
-use Rattle.sisal_grammar.specs.Phrases.{Phrase, ElseIf, Meant, many, maybe, unit, definition, typedef, fundef, ty, field, fields, tagf, header, exprs, expr, conj, inv, rel, cat, sum, term, neg, post, selector, fv, prim, arm, defs, def, target, group, gen, turn, test, clause, red, mask, name, comma_name, semicolon, semi_field, semi_tagf, comma_type, colon_type, comma_expr, colon_expr, or_conj, and_inv, comparison, or_sum, sum_term, term_neg, semi_fv, elements, else_if, binding, otherwise, semi_def, comma_target, cross_group, dot_gen, at_name, folding, direction}
-use Rattle.sisal_grammar.specs.Spells.{IsWord, IsSign, IsName, listed, nested, grouped, folded}
+use Rattle.sisal_grammar.specs.Phrases.{Phrase, Meant, many, maybe, unit, definition, typedef, fundef, ty, field, fields, tagf, header, exprs, expr, conj, inv, rel, cat, sum, term, neg, post, selector, fv, prim, arm, defs, def, target, group, gen, turn, test, clause, red, mask, name, comma_name, semicolon, semi_field, semi_tagf, comma_type, colon_type, comma_expr, colon_expr, or_conj, and_inv, comparison, or_sum, sum_term, term_neg, semi_fv, elements, else_if, binding, otherwise, semi_def, comma_target, cross_group, dot_gen, at_name, folding, direction}
+use Rattle.sisal_grammar.specs.Spells.{IsSign, IsName, listed, nested, grouped, folded}
 use Rattle.sisal_grammar.proofs.Saying.{as_tail}
 use Rattle.sisal_grammar.proofs.Raws.{R}
 

@@ -2,7 +2,6 @@
 use Rattle.std.proofs.Common.{◌≡◌, ℕ, List, [], ◌∷◌, ◌++◌, Option, Some, None, refl, sym, ◌∙◌, ap, subst, append_assoc}
 use Rattle.sisal_lex.specs.declared.token.Word.TheVariants as word
 use Rattle.sisal_lex.specs.declared.token.Sign.TheVariants as sign
-use Rattle.sisal_tree.specs.declared.unit.Written.{Written}
 use Rattle.sisal_tree.specs.declared.unit.Field.{Field}
 use Rattle.sisal_tree.specs.declared.expr.Expr.{Expr}
 use Rattle.sisal_tree.specs.declared.expr.ExprKind.TheVariants as tree
@@ -15,10 +14,10 @@ use Rattle.sisal_grammar.specs.declared.value.Selector.{Selector}
 use Rattle.sisal_grammar.specs.declared.value.Selector.TheVariants as select
 use Rattle.sisal_grammar.specs.declared.value.Subject.{Subject}
 use Rattle.sisal_grammar.specs.Acts.{at, span, chained, posted, called, tag_case}
-use Rattle.sisal_grammar.specs.Phrases.{Phrase, ElseIf, Meant, many, maybe, ty, field, fields, tagf, exprs, expr, conj, inv, rel, cat, sum, term, neg, post, selector, fv, prim, arm, defs, def, name, semi_field, semi_tagf, comma_expr, or_conj, and_inv, or_sum, sum_term, term_neg, semi_fv, semi_def, otherwise}
+use Rattle.sisal_grammar.specs.Phrases.{Phrase, Meant, many, maybe, ty, field, fields, tagf, exprs, expr, rel, cat, selector, fv, prim, arm, defs, def, name, semi_field, semi_tagf, comma_expr, or_conj, and_inv, or_sum, sum_term, term_neg, semi_fv, semi_def, otherwise}
 use Rattle.sisal_grammar.specs.Spells as spells
 use Rattle.sisal_grammar.specs.Spells.{Spells, IsWord, IsSign, IsName, listed, compared, nested}
-use Rattle.sisal_grammar.proofs.Saying.{Ended, TagsEnd, FieldsMore, ListedExprs, Compares, as_tail, Elses, HasSubject}
+use Rattle.sisal_grammar.proofs.Saying.{Ended, TagsEnd, Compares, as_tail, Elses, HasSubject}
 
 pub append_nil : {A : Type 0} (xs : List A) → xs ++ [] ≡ xs
 append_nil [] = refl

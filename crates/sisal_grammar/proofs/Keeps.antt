@@ -1,8 +1,7 @@
 -- What each production of the factored grammar says, where its symbols say so.
-use Rattle.std.proofs.Common.{◌≡◌, ℕ, List, [], ◌∷◌, ◌++◌, Option, Some, None, refl, sym, ap, subst}
+use Rattle.std.proofs.Common.{◌≡◌, List, [], ◌∷◌, ◌++◌, Some, None, refl, sym, ap, subst}
 use Rattle.sisal_lex.specs.declared.token.Word.TheVariants as word
 use Rattle.sisal_lex.specs.declared.token.Sign.TheVariants as sign
-use Rattle.sisal_tree.specs.declared.expr.Expr.{Expr}
 use Rattle.sisal_tree.specs.declared.expr.ExprKind.TheVariants as tree
 use Rattle.sisal_tree.specs.declared.expr.BinaryOperator.TheVariants as binary
 use Rattle.sisal_tree.specs.declared.expr.Loop.TheVariants as loop
@@ -11,9 +10,9 @@ use Rattle.sisal_tree.specs.declared.expr.ClauseKind.TheVariants as made
 use Rattle.sisal_tree.specs.declared.expr.Direction.TheVariants as towards
 use Rattle.sisal_grammar.specs.declared.action.Action.TheVariants as action
 use Rattle.sisal_grammar.specs.declared.value.Placed.{Placed}
-use Rattle.sisal_grammar.specs.Acts.{sisal, act, at, named, called, constant_of, prefix_of, binary_of, scalar_of, direction_of, reduction_of, is_until, is_unless, gathered_of}
+use Rattle.sisal_grammar.specs.Acts.{act, at, named, called, constant_of, prefix_of, binary_of, scalar_of, direction_of, reduction_of, is_until, is_unless, gathered_of}
 use Rattle.sisal_grammar.specs.Classes.{class_of}
-use Rattle.sisal_grammar.specs.Phrases.{many, maybe, inv, neg, header, selector, prim, test, clause, red, mask, semi_field, semi_tagf, semi_fv, semi_def, or_conj, and_inv, or_sum, sum_term, term_neg}
+use Rattle.sisal_grammar.specs.Phrases.{many, maybe, inv, neg, header, prim, test, clause, red, mask, semi_field, semi_tagf, semi_fv, semi_def, or_conj, and_inv, or_sum, sum_term, term_neg}
 use Rattle.sisal_grammar.specs.Sorts.{Val}
 use Rattle.sisal_grammar.specs.Sorts as sort
 use Rattle.sisal_grammar.specs.Spells.{Spells}
@@ -26,25 +25,25 @@ use Rattle.sisal_grammar.proofs.Saying.{says_of, is_unit, is_names, is_semi, is_
 pub keep_0 : (t0 : Placed) → class_of t0.kind ≡ 1 → (t1 : Placed) → class_of t1.kind ≡ 2 → (ts2 : List Placed) (v2 : Val sort.names) → says_of is_names ts2 v2 → (ts3 : List Placed) (v3 : Val sort.nothing) → says_of is_semi ts3 v3 → (ts4 : List Placed) (v4 : Val sort.items) → says_of is_items ts4 v4 → says_of is_unit (t0 ∷ (t1 ∷ (ts2 ++ (ts3 ++ (ts4))))) (act action.Whole (t0, (t1, (v2, (v3, (v4, tt))))))
 keep_0 t0 e0 t1 e1 ts2 v2 d2 ts3 v3 d3 ts4 v4 d4 = spells.unit_is (the_word word.WDefine t0 e0) (the_name t1 e1) d2 d3.1 d4
 
--- names = 
+-- names =
 pub keep_1 : says_of is_names [] (act action.NoNames tt)
-keep_1  = spells.nothing
+keep_1 = spells.nothing
 
 -- names = "," @name names
 pub keep_2 : (t0 : Placed) → class_of t0.kind ≡ 3 → (t1 : Placed) → class_of t1.kind ≡ 2 → (ts2 : List Placed) (v2 : Val sort.names) → says_of is_names ts2 v2 → says_of is_names (t0 ∷ t1 ∷ ts2) (act action.MoreNames (t0, (t1, (v2, tt))))
 keep_2 t0 e0 t1 e1 ts2 v2 d2 = spells.more (spells.comma_name_is (the_sign sign.SComma t0 e0) (the_name t1 e1)) d2
 
--- semi = 
+-- semi =
 pub keep_3 : says_of is_semi [] (act action.Absent tt)
-keep_3  = (None, spells.absent)
+keep_3 = (None, spells.absent)
 
 -- semi = ";"
 pub keep_4 : (t0 : Placed) → class_of t0.kind ≡ 4 → says_of is_semi (t0 ∷ []) (act action.Sign (t0, tt))
 keep_4 t0 e0 = (Some tt, spells.present (spells.semicolon_is (the_sign sign.SSemicolon t0 e0)))
 
--- items = 
+-- items =
 pub keep_5 : says_of is_items [] (act action.NoItems tt)
-keep_5  = spells.nothing
+keep_5 = spells.nothing
 
 -- items = item items
 pub keep_6 : (ts0 : List Placed) (v0 : Val sort.an_item) → says_of is_item ts0 v0 → (ts1 : List Placed) (v1 : Val sort.items) → says_of is_items ts1 v1 → says_of is_items (ts0 ++ (ts1)) (act action.MoreItems (v0, (v1, tt)))
@@ -110,17 +109,17 @@ keep_20 t0 e0 t1 e1 ts2 v2 d2 ts3 v3 d3 t4 e4 = record_said t0 t1 t4 ts2 ts3 v2 
 pub keep_21 : (t0 : Placed) → class_of t0.kind ≡ 22 → (t1 : Placed) → class_of t1.kind ≡ 18 → (ts2 : List Placed) (v2 : Val sort.nothing) → says_of is_tagf ts2 v2 → (ts3 : List Placed) (v3 : Val sort.nothing) → says_of is_tagfs ts3 v3 → (t4 : Placed) → class_of t4.kind ≡ 19 → says_of is_type (t0 ∷ (t1 ∷ (ts2 ++ (ts3 ++ (t4 ∷ []))))) (act action.Tagged (t0, (t1, (v2, (v3, (t4, tt))))))
 keep_21 t0 e0 t1 e1 ts2 v2 d2 ts3 v3 d3 t4 e4 = union_said t0 t1 t4 ts2 ts3 (the_word word.WUnion t0 e0) (the_sign sign.SOpenBracket t1 e1) d2 d3 (the_sign sign.SCloseBracket t4 e4)
 
--- fields = 
+-- fields =
 pub keep_22 : says_of is_fields [] (act action.NoFields tt)
-keep_22  = ended_none semi_field
+keep_22 = ended_none semi_field
 
 -- fields = ";" fields_more
 pub keep_23 : (t0 : Placed) → class_of t0.kind ≡ 4 → (ts1 : List Placed) (v1 : Val sort.fields) → says_of is_fields_more ts1 v1 → says_of is_fields (t0 ∷ ts1) (act action.SemiFields (t0, (v1, tt)))
 keep_23 t0 e0 ts1 v1 d1 = d1.further t0 (the_sign sign.SSemicolon t0 e0)
 
--- fields_more = 
+-- fields_more =
 pub keep_24 : says_of is_fields_more [] (act action.NoFields tt)
-keep_24  = record { found = None; same = refl; spelled = spells.absent; further = λ t i. ended_last semi_field t i }
+keep_24 = record { found = None; same = refl; spelled = spells.absent; further = λ t i. ended_last semi_field t i }
 
 -- fields_more = field fields
 pub keep_25 : (ts0 : List Placed) (v0 : Val sort.a_field) → says_of is_field ts0 v0 → (ts1 : List Placed) (v1 : Val sort.fields) → says_of is_fields ts1 v1 → says_of is_fields_more (ts0 ++ (ts1)) (act action.MoreFields (v0, (v1, tt)))
@@ -130,17 +129,17 @@ keep_25 ts0 v0 d0 ts1 v1 d1 = record { found = Some (v0 ∷ v1); same = refl; sp
 pub keep_26 : (t0 : Placed) → class_of t0.kind ≡ 2 → (ts1 : List Placed) (v1 : Val sort.names) → says_of is_names ts1 v1 → (t2 : Placed) → class_of t2.kind ≡ 23 → (ts3 : List Placed) (v3 : Val sort.a_type) → says_of is_type ts3 v3 → says_of is_field (t0 ∷ (ts1 ++ (t2 ∷ ts3))) (act action.OneField (t0, (v1, (t2, (v3, tt)))))
 keep_26 t0 e0 ts1 v1 d1 t2 e2 ts3 v3 d3 = spells.field_is (the_name t0 e0) d1 (the_sign sign.SColon t2 e2) d3
 
--- tagfs = 
+-- tagfs =
 pub keep_27 : says_of is_tagfs [] (act action.Absent tt)
-keep_27  = ([], ended_none semi_tagf)
+keep_27 = ([], ended_none semi_tagf)
 
 -- tagfs = ";" tagfs_more
 pub keep_28 : (t0 : Placed) → class_of t0.kind ≡ 4 → (ts1 : List Placed) (v1 : Val sort.nothing) → says_of is_tagfs_more ts1 v1 → says_of is_tagfs (t0 ∷ ts1) (act action.SemiTags (t0, (v1, tt)))
 keep_28 t0 e0 ts1 v1 d1 = d1 t0 (the_sign sign.SSemicolon t0 e0)
 
--- tagfs_more = 
+-- tagfs_more =
 pub keep_29 : says_of is_tagfs_more [] (act action.Absent tt)
-keep_29  = λ t i. ([], ended_last semi_tagf t i)
+keep_29 = λ t i. ([], ended_last semi_tagf t i)
 
 -- tagfs_more = tagf tagfs
 pub keep_30 : (ts0 : List Placed) (v0 : Val sort.nothing) → says_of is_tagf ts0 v0 → (ts1 : List Placed) (v1 : Val sort.nothing) → says_of is_tagfs ts1 v1 → says_of is_tagfs_more (ts0 ++ (ts1)) (act action.MoreTags (v0, (v1, tt)))
@@ -150,9 +149,9 @@ keep_30 ts0 v0 d0 ts1 v1 d1 = λ t i. (tt ∷ d1.0, ended_more semi_tagf (t ∷ 
 pub keep_31 : (t0 : Placed) → class_of t0.kind ≡ 2 → (ts1 : List Placed) (v1 : Val sort.names) → says_of is_names ts1 v1 → (ts2 : List Placed) (v2 : Val sort.nothing) → says_of is_tag_type ts2 v2 → says_of is_tagf (t0 ∷ (ts1 ++ (ts2))) (act action.OneTag (t0, (v1, (v2, tt))))
 keep_31 t0 e0 ts1 v1 d1 ts2 v2 d2 = spells.tagf_is (the_name t0 e0) d1 d2.1
 
--- tag_type = 
+-- tag_type =
 pub keep_32 : says_of is_tag_type [] (act action.Absent tt)
-keep_32  = (None, spells.absent)
+keep_32 = (None, spells.absent)
 
 -- tag_type = ":" type
 pub keep_33 : (t0 : Placed) → class_of t0.kind ≡ 23 → (ts1 : List Placed) (v1 : Val sort.a_type) → says_of is_type ts1 v1 → says_of is_tag_type (t0 ∷ ts1) (act action.TypedTag (t0, (v1, tt)))
@@ -162,9 +161,9 @@ keep_33 t0 e0 ts1 v1 d1 = (Some v1, spells.present (spells.colon_type_is (the_si
 pub keep_34 : (t0 : Placed) → class_of t0.kind ≡ 2 → (t1 : Placed) → class_of t1.kind ≡ 24 → (ts2 : List Placed) (v2 : Val sort.fields) → says_of is_fields_more ts2 v2 → (t3 : Placed) → class_of t3.kind ≡ 25 → (ts4 : List Placed) (v4 : Val sort.a_type) → says_of is_type ts4 v4 → (ts5 : List Placed) (v5 : Val sort.types) → says_of is_types ts5 v5 → (t6 : Placed) → class_of t6.kind ≡ 26 → says_of is_header (t0 ∷ (t1 ∷ (ts2 ++ (t3 ∷ (ts4 ++ (ts5 ++ (t6 ∷ []))))))) (act action.OneHeader (t0, (t1, (v2, (t3, (v4, (v5, (t6, tt))))))))
 keep_34 t0 e0 t1 e1 ts2 v2 d2 t3 e3 ts4 v4 d4 ts5 v5 d5 t6 e6 = subst (λ z. Spells header (t0 ∷ (t1 ∷ (ts2 ++ (t3 ∷ (ts4 ++ (ts5 ++ (t6 ∷ []))))))) (record { name = named t0; params = z; results = v4 ∷ v5 })) (sym d2.same) (spells.header_is (the_name t0 e0) (the_sign sign.SOpenParen t1 e1) d2.spelled (the_word word.WReturns t3 e3) d4 d5 (the_sign sign.SCloseParen t6 e6))
 
--- types = 
+-- types =
 pub keep_35 : says_of is_types [] (act action.NoTypes tt)
-keep_35  = spells.nothing
+keep_35 = spells.nothing
 
 -- types = "," type types
 pub keep_36 : (t0 : Placed) → class_of t0.kind ≡ 3 → (ts1 : List Placed) (v1 : Val sort.a_type) → says_of is_type ts1 v1 → (ts2 : List Placed) (v2 : Val sort.types) → says_of is_types ts2 v2 → says_of is_types (t0 ∷ (ts1 ++ (ts2))) (act action.MoreTypes (t0, (v1, (v2, tt))))
@@ -174,17 +173,17 @@ keep_36 t0 e0 ts1 v1 d1 ts2 v2 d2 = spells.more (spells.comma_type_is (the_sign 
 pub keep_37 : (ts0 : List Placed) (v0 : Val sort.an_expr) → says_of is_expr ts0 v0 → (ts1 : List Placed) (v1 : Val sort.exprs) → says_of is_exprs_more ts1 v1 → says_of is_exprs (ts0 ++ (ts1)) (act action.Exprs (v0, (v1, tt)))
 keep_37 ts0 v0 d0 ts1 v1 d1 = spells.exprs_are d0 d1
 
--- exprs_more = 
+-- exprs_more =
 pub keep_38 : says_of is_exprs_more [] (act action.NoExprs tt)
-keep_38  = spells.nothing
+keep_38 = spells.nothing
 
 -- exprs_more = "," expr exprs_more
 pub keep_39 : (t0 : Placed) → class_of t0.kind ≡ 3 → (ts1 : List Placed) (v1 : Val sort.an_expr) → says_of is_expr ts1 v1 → (ts2 : List Placed) (v2 : Val sort.exprs) → says_of is_exprs_more ts2 v2 → says_of is_exprs_more (t0 ∷ (ts1 ++ (ts2))) (act action.MoreExprs (t0, (v1, (v2, tt))))
 keep_39 t0 e0 ts1 v1 d1 ts2 v2 d2 = spells.more (spells.comma_expr_is (the_sign sign.SComma t0 e0) d1) d2
 
--- args = 
+-- args =
 pub keep_40 : says_of is_args [] (act action.NoExprs tt)
-keep_40  = record { found = None; same = refl; spelled = spells.absent }
+keep_40 = record { found = None; same = refl; spelled = spells.absent }
 
 -- args = exprs
 pub keep_41 : (ts0 : List Placed) (v0 : Val sort.exprs) → says_of is_exprs ts0 v0 → says_of is_args ts0 (act action.SameExprs (v0, tt))
@@ -194,9 +193,9 @@ keep_41 ts0 v0 d0 = record { found = Some v0; same = refl; spelled = spells.pres
 pub keep_42 : (ts0 : List Placed) (v0 : Val sort.an_expr) → says_of is_conj ts0 v0 → (ts1 : List Placed) (v1 : Val sort.tail) → says_of is_expr_more ts1 v1 → says_of is_expr (ts0 ++ (ts1)) (act action.Chain (v0, (v1, tt)))
 keep_42 ts0 v0 d0 ts1 v1 d1 = spells.expr_is d0 d1
 
--- expr_more = 
+-- expr_more =
 pub keep_43 : says_of is_expr_more [] (act action.NoTail tt)
-keep_43  = spells.nothing
+keep_43 = spells.nothing
 
 -- expr_more = "|" conj expr_more
 pub keep_44 : (t0 : Placed) → class_of t0.kind ≡ 27 → (ts1 : List Placed) (v1 : Val sort.an_expr) → says_of is_conj ts1 v1 → (ts2 : List Placed) (v2 : Val sort.tail) → says_of is_expr_more ts2 v2 → says_of is_expr_more (t0 ∷ (ts1 ++ (ts2))) (act action.MoreTail (t0, (v1, (v2, tt))))
@@ -206,9 +205,9 @@ keep_44 t0 e0 ts1 v1 d1 ts2 v2 d2 = subst (λ z. Spells (many or_conj) (t0 ∷ (
 pub keep_45 : (ts0 : List Placed) (v0 : Val sort.an_expr) → says_of is_inv ts0 v0 → (ts1 : List Placed) (v1 : Val sort.tail) → says_of is_conj_more ts1 v1 → says_of is_conj (ts0 ++ (ts1)) (act action.Chain (v0, (v1, tt)))
 keep_45 ts0 v0 d0 ts1 v1 d1 = spells.conj_is d0 d1
 
--- conj_more = 
+-- conj_more =
 pub keep_46 : says_of is_conj_more [] (act action.NoTail tt)
-keep_46  = spells.nothing
+keep_46 = spells.nothing
 
 -- conj_more = "&" inv conj_more
 pub keep_47 : (t0 : Placed) → class_of t0.kind ≡ 28 → (ts1 : List Placed) (v1 : Val sort.an_expr) → says_of is_inv ts1 v1 → (ts2 : List Placed) (v2 : Val sort.tail) → says_of is_conj_more ts2 v2 → says_of is_conj_more (t0 ∷ (ts1 ++ (ts2))) (act action.MoreTail (t0, (v1, (v2, tt))))
@@ -226,9 +225,9 @@ keep_49 ts0 v0 d0 = spells.inv_rel d0
 pub keep_50 : (ts0 : List Placed) (v0 : Val sort.an_expr) → says_of is_cat ts0 v0 → (ts1 : List Placed) (v1 : Val sort.tail) → says_of is_rel_more ts1 v1 → says_of is_rel (ts0 ++ (ts1)) (act action.Chain (v0, (v1, tt)))
 keep_50 ts0 v0 d0 ts1 v1 d1 = rel_said ts0 ts1 v0 v1 d0 d1
 
--- rel_more = 
+-- rel_more =
 pub keep_51 : says_of is_rel_more [] (act action.NoTail tt)
-keep_51  = record { found = None; same = refl; spelled = spells.absent }
+keep_51 = record { found = None; same = refl; spelled = spells.absent }
 
 -- rel_more = "=" cat
 pub keep_52 : (t0 : Placed) → class_of t0.kind ≡ 6 → (ts1 : List Placed) (v1 : Val sort.an_expr) → says_of is_cat ts1 v1 → says_of is_rel_more (t0 ∷ ts1) (act action.OneTail (t0, (v1, tt)))
@@ -258,9 +257,9 @@ keep_57 t0 e0 ts1 v1 d1 = record { found = Some (binary.GreaterEqual, v1); same 
 pub keep_58 : (ts0 : List Placed) (v0 : Val sort.an_expr) → says_of is_sum ts0 v0 → (ts1 : List Placed) (v1 : Val sort.tail) → says_of is_cat_more ts1 v1 → says_of is_cat (ts0 ++ (ts1)) (act action.Chain (v0, (v1, tt)))
 keep_58 ts0 v0 d0 ts1 v1 d1 = spells.cat_is d0 d1
 
--- cat_more = 
+-- cat_more =
 pub keep_59 : says_of is_cat_more [] (act action.NoTail tt)
-keep_59  = spells.nothing
+keep_59 = spells.nothing
 
 -- cat_more = "||" sum cat_more
 pub keep_60 : (t0 : Placed) → class_of t0.kind ≡ 35 → (ts1 : List Placed) (v1 : Val sort.an_expr) → says_of is_sum ts1 v1 → (ts2 : List Placed) (v2 : Val sort.tail) → says_of is_cat_more ts2 v2 → says_of is_cat_more (t0 ∷ (ts1 ++ (ts2))) (act action.MoreTail (t0, (v1, (v2, tt))))
@@ -270,9 +269,9 @@ keep_60 t0 e0 ts1 v1 d1 ts2 v2 d2 = subst (λ z. Spells (many or_sum) (t0 ∷ (t
 pub keep_61 : (ts0 : List Placed) (v0 : Val sort.an_expr) → says_of is_term ts0 v0 → (ts1 : List Placed) (v1 : Val sort.tail) → says_of is_sum_more ts1 v1 → says_of is_sum (ts0 ++ (ts1)) (act action.Chain (v0, (v1, tt)))
 keep_61 ts0 v0 d0 ts1 v1 d1 = spells.sum_is d0 d1
 
--- sum_more = 
+-- sum_more =
 pub keep_62 : says_of is_sum_more [] (act action.NoTail tt)
-keep_62  = spells.nothing
+keep_62 = spells.nothing
 
 -- sum_more = "+" term sum_more
 pub keep_63 : (t0 : Placed) → class_of t0.kind ≡ 36 → (ts1 : List Placed) (v1 : Val sort.an_expr) → says_of is_term ts1 v1 → (ts2 : List Placed) (v2 : Val sort.tail) → says_of is_sum_more ts2 v2 → says_of is_sum_more (t0 ∷ (ts1 ++ (ts2))) (act action.MoreTail (t0, (v1, (v2, tt))))
@@ -286,9 +285,9 @@ keep_64 t0 e0 ts1 v1 d1 ts2 v2 d2 = subst (λ z. Spells (many sum_term) (t0 ∷ 
 pub keep_65 : (ts0 : List Placed) (v0 : Val sort.an_expr) → says_of is_neg ts0 v0 → (ts1 : List Placed) (v1 : Val sort.tail) → says_of is_term_more ts1 v1 → says_of is_term (ts0 ++ (ts1)) (act action.Chain (v0, (v1, tt)))
 keep_65 ts0 v0 d0 ts1 v1 d1 = spells.term_is d0 d1
 
--- term_more = 
+-- term_more =
 pub keep_66 : says_of is_term_more [] (act action.NoTail tt)
-keep_66  = spells.nothing
+keep_66 = spells.nothing
 
 -- term_more = "*" neg term_more
 pub keep_67 : (t0 : Placed) → class_of t0.kind ≡ 38 → (ts1 : List Placed) (v1 : Val sort.an_expr) → says_of is_neg ts1 v1 → (ts2 : List Placed) (v2 : Val sort.tail) → says_of is_term_more ts2 v2 → says_of is_term_more (t0 ∷ (ts1 ++ (ts2))) (act action.MoreTail (t0, (v1, (v2, tt))))
@@ -310,9 +309,9 @@ keep_70 ts0 v0 d0 = spells.neg_post d0
 pub keep_71 : (ts0 : List Placed) (v0 : Val sort.an_expr) → says_of is_prim ts0 v0 → (ts1 : List Placed) (v1 : Val sort.posts) → says_of is_posts ts1 v1 → says_of is_post (ts0 ++ (ts1)) (act action.Posted (v0, (v1, tt)))
 keep_71 ts0 v0 d0 ts1 v1 d1 = spells.post_is d0 d1
 
--- posts = 
+-- posts =
 pub keep_72 : says_of is_posts [] (act action.NoPosts tt)
-keep_72  = spells.nothing
+keep_72 = spells.nothing
 
 -- posts = selector posts
 pub keep_73 : (ts0 : List Placed) (v0 : Val sort.a_post) → says_of is_selector ts0 v0 → (ts1 : List Placed) (v1 : Val sort.posts) → says_of is_posts ts1 v1 → says_of is_posts (ts0 ++ (ts1)) (act action.MorePosts (v0, (v1, tt)))
@@ -346,17 +345,17 @@ keep_79 t0 e0 ts1 v1 d1 t2 e2 = λ t ws e i d. spells.change i d (the_sign sign.
 pub keep_80 : (t0 : Placed) → class_of t0.kind ≡ 2 → (t1 : Placed) → class_of t1.kind ≡ 23 → (ts2 : List Placed) (v2 : Val sort.an_expr) → says_of is_expr ts2 v2 → says_of is_fv (t0 ∷ t1 ∷ ts2) (act action.OneValue (t0, (t1, (v2, tt))))
 keep_80 t0 e0 t1 e1 ts2 v2 d2 = spells.fv_is (the_name t0 e0) (the_sign sign.SColon t1 e1) d2
 
--- fvs = 
+-- fvs =
 pub keep_81 : says_of is_fvs [] (act action.NoValues tt)
-keep_81  = ended_none semi_fv
+keep_81 = ended_none semi_fv
 
 -- fvs = ";" fvs_more
 pub keep_82 : (t0 : Placed) → class_of t0.kind ≡ 4 → (ts1 : List Placed) (v1 : Val sort.values) → says_of is_fvs_more ts1 v1 → says_of is_fvs (t0 ∷ ts1) (act action.SemiValues (t0, (v1, tt)))
 keep_82 t0 e0 ts1 v1 d1 = d1 t0 (the_sign sign.SSemicolon t0 e0)
 
--- fvs_more = 
+-- fvs_more =
 pub keep_83 : says_of is_fvs_more [] (act action.NoValues tt)
-keep_83  = λ t i. ended_last semi_fv t i
+keep_83 = λ t i. ended_last semi_fv t i
 
 -- fvs_more = fv fvs
 pub keep_84 : (ts0 : List Placed) (v0 : Val sort.a_value) → says_of is_fv ts0 v0 → (ts1 : List Placed) (v1 : Val sort.values) → says_of is_fvs ts1 v1 → says_of is_fvs_more (ts0 ++ (ts1)) (act action.MoreValues (v0, (v1, tt)))
@@ -370,9 +369,9 @@ keep_85 t0 e0 ts1 v1 d1 = d1 t0 (the_name t0 e0)
 pub keep_86 : (ts0 : List Placed) (v0 : Val sort.an_expr) → says_of is_other ts0 v0 → says_of is_prim ts0 (act action.SameExpr (v0, tt))
 keep_86 ts0 v0 d0 = d0
 
--- call = 
+-- call =
 pub keep_87 : says_of is_call [] (act action.NoCall tt)
-keep_87  = λ t i. spells.a_name i
+keep_87 = λ t i. spells.a_name i
 
 -- call = "(" args ")"
 pub keep_88 : (t0 : Placed) → class_of t0.kind ≡ 24 → (ts1 : List Placed) (v1 : Val sort.exprs) → says_of is_args ts1 v1 → (t2 : Placed) → class_of t2.kind ≡ 26 → says_of is_call (t0 ∷ (ts1 ++ (t2 ∷ []))) (act action.Call (t0, (v1, (t2, tt))))
@@ -470,25 +469,25 @@ keep_110 t0 e0 = λ t v w us e a b d k. spells.is_error a (the_word word.WError 
 pub keep_111 : (t0 : Placed) → class_of t0.kind ≡ 2 → says_of is_is_what (t0 ∷ []) (act action.AName (t0, tt))
 keep_111 t0 e0 = λ t v w us e a b d k. spells.is_tag a (the_name t0 e0) b d k
 
--- named = 
+-- named =
 pub keep_112 : says_of is_named [] (act action.NoName tt)
-keep_112  = spells.absent
+keep_112 = spells.absent
 
 -- named = @name
 pub keep_113 : (t0 : Placed) → class_of t0.kind ≡ 2 → says_of is_named (t0 ∷ []) (act action.AName (t0, tt))
 keep_113 t0 e0 = spells.present (spells.name_is (the_name t0 e0))
 
--- elements = 
+-- elements =
 pub keep_114 : says_of is_elements [] (act action.NoElements tt)
-keep_114  = spells.absent
+keep_114 = spells.absent
 
 -- elements = expr ":" exprs
 pub keep_115 : (ts0 : List Placed) (v0 : Val sort.an_expr) → says_of is_expr ts0 v0 → (t1 : Placed) → class_of t1.kind ≡ 23 → (ts2 : List Placed) (v2 : Val sort.exprs) → says_of is_exprs ts2 v2 → says_of is_elements (ts0 ++ (t1 ∷ ts2)) (act action.SomeElements (v0, (t1, (v2, tt))))
 keep_115 ts0 v0 d0 t1 e1 ts2 v2 d2 = spells.present (spells.elements_are d0 (the_sign sign.SColon t1 e1) d2)
 
--- content = 
+-- content =
 pub keep_116 : says_of is_content [] (act action.NoExpr tt)
-keep_116  = spells.absent
+keep_116 = spells.absent
 
 -- content = ":" expr
 pub keep_117 : (t0 : Placed) → class_of t0.kind ≡ 23 → (ts1 : List Placed) (v1 : Val sort.an_expr) → says_of is_expr ts1 v1 → says_of is_content (t0 ∷ ts1) (act action.SomeExpr (t0, (v1, tt)))
@@ -562,9 +561,9 @@ keep_133 ts0 v0 d0 = spells.neg_post d0
 pub keep_134 : (ts0 : List Placed) (v0 : Val sort.an_expr) → says_of is_other ts0 v0 → (ts1 : List Placed) (v1 : Val sort.posts) → says_of is_posts ts1 v1 → says_of is_o_post (ts0 ++ (ts1)) (act action.Posted (v0, (v1, tt)))
 keep_134 ts0 v0 d0 ts1 v1 d1 = spells.post_is d0 d1
 
--- arms = 
+-- arms =
 pub keep_135 : says_of is_arms [] (act action.NoArms tt)
-keep_135  = spells.nothing
+keep_135 = spells.nothing
 
 -- arms = arm arms
 pub keep_136 : (ts0 : List Placed) (v0 : Val sort.an_arm) → says_of is_arm ts0 v0 → (ts1 : List Placed) (v1 : Val sort.arms) → says_of is_arms ts1 v1 → says_of is_arms (ts0 ++ (ts1)) (act action.MoreArms (v0, (v1, tt)))
@@ -574,9 +573,9 @@ keep_136 ts0 v0 d0 ts1 v1 d1 = spells.more d0 d1
 pub keep_137 : (t0 : Placed) → class_of t0.kind ≡ 60 → (t1 : Placed) → class_of t1.kind ≡ 2 → (ts2 : List Placed) (v2 : Val sort.names) → says_of is_names ts2 v2 → (t3 : Placed) → class_of t3.kind ≡ 23 → (ts4 : List Placed) (v4 : Val sort.exprs) → says_of is_exprs ts4 v4 → says_of is_arm (t0 ∷ (t1 ∷ (ts2 ++ (t3 ∷ ts4)))) (act action.OneArm (t0, (t1, (v2, (t3, (v4, tt))))))
 keep_137 t0 e0 t1 e1 ts2 v2 d2 t3 e3 ts4 v4 d4 = spells.arm_is (the_word word.WTag t0 e0) (the_name t1 e1) d2 (the_sign sign.SColon t3 e3) d4
 
--- otherwise = 
+-- otherwise =
 pub keep_138 : says_of is_otherwise [] (act action.NoCall tt)
-keep_138  = spells.absent
+keep_138 = spells.absent
 
 -- otherwise = "otherwise" ":" exprs
 pub keep_139 : (t0 : Placed) → class_of t0.kind ≡ 61 → (t1 : Placed) → class_of t1.kind ≡ 23 → (ts2 : List Placed) (v2 : Val sort.exprs) → says_of is_exprs ts2 v2 → says_of is_otherwise (t0 ∷ t1 ∷ ts2) (act action.Otherwise (t0, (t1, (v2, tt))))
@@ -590,9 +589,9 @@ keep_140 ts0 v0 d0 ts1 v1 d1 ts2 v2 d2 t3 e3 ts4 v4 d4 ts5 v5 d5 = λ t u w i j 
 pub keep_141 : (t0 : Placed) → class_of t0.kind ≡ 62 → (ts1 : List Placed) (v1 : Val sort.defs) → says_of is_defs ts1 v1 → (ts2 : List Placed) (v2 : Val sort.a_turn) → says_of is_turn ts2 v2 → (t3 : Placed) → class_of t3.kind ≡ 25 → (ts4 : List Placed) (v4 : Val sort.a_clause) → says_of is_clause ts4 v4 → (ts5 : List Placed) (v5 : Val sort.clauses) → says_of is_clauses ts5 v5 → says_of is_loop (t0 ∷ (ts1 ++ (ts2 ++ (t3 ∷ (ts4 ++ (ts5)))))) (act action.Initial (t0, (v1, (v2, (t3, (v4, (v5, tt)))))))
 keep_141 t0 e0 ts1 v1 d1 ts2 v2 d2 t3 e3 ts4 v4 d4 ts5 v5 d5 = λ t u w i j k. subst (λ y. Spells prim (t ∷ t0 ∷ y) (at t.line (tree.For (loop.Initial v1 v2 (v4 ∷ v5))))) (loop_tokens ts1 ts2 t3 ts4 ts5 (u ∷ w ∷ [])) (spells.for_initial i (the_word word.WInitial t0 e0) d1 d2 (the_word word.WReturns t3 e3) d4 d5 j k)
 
--- groups = 
+-- groups =
 pub keep_142 : says_of is_groups [] (act action.NoGroups tt)
-keep_142  = spells.nothing
+keep_142 = spells.nothing
 
 -- groups = "cross" group groups
 pub keep_143 : (t0 : Placed) → class_of t0.kind ≡ 63 → (ts1 : List Placed) (v1 : Val sort.gens) → says_of is_group ts1 v1 → (ts2 : List Placed) (v2 : Val sort.groups) → says_of is_groups ts2 v2 → says_of is_groups (t0 ∷ (ts1 ++ (ts2))) (act action.MoreGroups (t0, (v1, (v2, tt))))
@@ -602,9 +601,9 @@ keep_143 t0 e0 ts1 v1 d1 ts2 v2 d2 = spells.more (spells.cross_group_is (the_wor
 pub keep_144 : (ts0 : List Placed) (v0 : Val sort.a_gen) → says_of is_gen ts0 v0 → (ts1 : List Placed) (v1 : Val sort.gens) → says_of is_gens ts1 v1 → says_of is_group (ts0 ++ (ts1)) (act action.Gens (v0, (v1, tt)))
 keep_144 ts0 v0 d0 ts1 v1 d1 = spells.group_is d0 d1
 
--- gens = 
+-- gens =
 pub keep_145 : says_of is_gens [] (act action.NoGens tt)
-keep_145  = spells.nothing
+keep_145 = spells.nothing
 
 -- gens = "dot" gen gens
 pub keep_146 : (t0 : Placed) → class_of t0.kind ≡ 64 → (ts1 : List Placed) (v1 : Val sort.a_gen) → says_of is_gen ts1 v1 → (ts2 : List Placed) (v2 : Val sort.gens) → says_of is_gens ts2 v2 → says_of is_gens (t0 ∷ (ts1 ++ (ts2))) (act action.MoreGens (t0, (v1, (v2, tt))))
@@ -614,25 +613,25 @@ keep_146 t0 e0 ts1 v1 d1 ts2 v2 d2 = spells.more (spells.dot_gen_is (the_word wo
 pub keep_147 : (t0 : Placed) → class_of t0.kind ≡ 2 → (t1 : Placed) → class_of t1.kind ≡ 52 → (ts2 : List Placed) (v2 : Val sort.an_expr) → says_of is_expr ts2 v2 → (ts3 : List Placed) (v3 : Val sort.maybe_expr) → says_of is_to ts3 v3 → (ts4 : List Placed) (v4 : Val sort.maybe_name) → says_of is_at ts4 v4 → says_of is_gen (t0 ∷ (t1 ∷ (ts2 ++ (ts3 ++ (ts4))))) (act action.OneGen (t0, (t1, (v2, (v3, (v4, tt))))))
 keep_147 t0 e0 t1 e1 ts2 v2 d2 ts3 v3 d3 ts4 v4 d4 = spells.gen_is (the_name t0 e0) (the_word word.WIn t1 e1) d2 d3 d4
 
--- to = 
+-- to =
 pub keep_148 : says_of is_to [] (act action.NoExpr tt)
-keep_148  = spells.absent
+keep_148 = spells.absent
 
 -- to = "," expr
 pub keep_149 : (t0 : Placed) → class_of t0.kind ≡ 3 → (ts1 : List Placed) (v1 : Val sort.an_expr) → says_of is_expr ts1 v1 → says_of is_to (t0 ∷ ts1) (act action.SomeExpr (t0, (v1, tt)))
 keep_149 t0 e0 ts1 v1 d1 = spells.present (spells.comma_expr_is (the_sign sign.SComma t0 e0) d1)
 
--- at = 
+-- at =
 pub keep_150 : says_of is_at [] (act action.NoName tt)
-keep_150  = spells.absent
+keep_150 = spells.absent
 
 -- at = "at" @name
 pub keep_151 : (t0 : Placed) → class_of t0.kind ≡ 65 → (t1 : Placed) → class_of t1.kind ≡ 2 → says_of is_at (t0 ∷ t1 ∷ []) (act action.AtName (t0, (t1, tt)))
 keep_151 t0 e0 t1 e1 = spells.present (spells.at_name_is (the_word word.WAt t0 e0) (the_name t1 e1))
 
--- body = 
+-- body =
 pub keep_152 : says_of is_body [] (act action.NoDefs tt)
-keep_152  = record { found = None; same = refl; spelled = spells.absent }
+keep_152 = record { found = None; same = refl; spelled = spells.absent }
 
 -- body = defs
 pub keep_153 : (ts0 : List Placed) (v0 : Val sort.defs) → says_of is_defs ts0 v0 → says_of is_body ts0 (act action.SameDefs (v0, tt))
@@ -642,17 +641,17 @@ keep_153 ts0 v0 d0 = record { found = Some v0; same = refl; spelled = spells.pre
 pub keep_154 : (ts0 : List Placed) (v0 : Val sort.a_def) → says_of is_def ts0 v0 → (ts1 : List Placed) (v1 : Val sort.defs) → says_of is_defs_more ts1 v1 → says_of is_defs (ts0 ++ (ts1)) (act action.Defs (v0, (v1, tt)))
 keep_154 ts0 v0 d0 ts1 v1 d1 = defs_said ts0 ts1 v0 v1 d0 d1
 
--- defs_more = 
+-- defs_more =
 pub keep_155 : says_of is_defs_more [] (act action.NoDefs tt)
-keep_155  = ended_none semi_def
+keep_155 = ended_none semi_def
 
 -- defs_more = ";" defs_rest
 pub keep_156 : (t0 : Placed) → class_of t0.kind ≡ 4 → (ts1 : List Placed) (v1 : Val sort.defs) → says_of is_defs_rest ts1 v1 → says_of is_defs_more (t0 ∷ ts1) (act action.SemiDefs (t0, (v1, tt)))
 keep_156 t0 e0 ts1 v1 d1 = d1 t0 (the_sign sign.SSemicolon t0 e0)
 
--- defs_rest = 
+-- defs_rest =
 pub keep_157 : says_of is_defs_rest [] (act action.NoDefs tt)
-keep_157  = λ t i. ended_last semi_def t i
+keep_157 = λ t i. ended_last semi_def t i
 
 -- defs_rest = def defs_more
 pub keep_158 : (ts0 : List Placed) (v0 : Val sort.a_def) → says_of is_def ts0 v0 → (ts1 : List Placed) (v1 : Val sort.defs) → says_of is_defs_more ts1 v1 → says_of is_defs_rest (ts0 ++ (ts1)) (act action.Defs (v0, (v1, tt)))
@@ -662,9 +661,9 @@ keep_158 ts0 v0 d0 ts1 v1 d1 = λ t i. ended_more semi_def (t ∷ ts0) ts1 v0 v1
 pub keep_159 : (ts0 : List Placed) (v0 : Val sort.a_target) → says_of is_target ts0 v0 → (ts1 : List Placed) (v1 : Val sort.targets) → says_of is_targets ts1 v1 → (t2 : Placed) → class_of t2.kind ≡ 59 → (ts3 : List Placed) (v3 : Val sort.exprs) → says_of is_exprs ts3 v3 → says_of is_def (ts0 ++ (ts1 ++ (t2 ∷ ts3))) (act action.OneDef (v0, (v1, (t2, (v3, tt)))))
 keep_159 ts0 v0 d0 ts1 v1 d1 t2 e2 ts3 v3 d3 = spells.def_is d0 d1 (the_sign sign.SAssign t2 e2) d3
 
--- targets = 
+-- targets =
 pub keep_160 : says_of is_targets [] (act action.NoTargets tt)
-keep_160  = spells.nothing
+keep_160 = spells.nothing
 
 -- targets = "," target targets
 pub keep_161 : (t0 : Placed) → class_of t0.kind ≡ 3 → (ts1 : List Placed) (v1 : Val sort.a_target) → says_of is_target ts1 v1 → (ts2 : List Placed) (v2 : Val sort.targets) → says_of is_targets ts2 v2 → says_of is_targets (t0 ∷ (ts1 ++ (ts2))) (act action.MoreTargets (t0, (v1, (v2, tt))))
@@ -674,9 +673,9 @@ keep_161 t0 e0 ts1 v1 d1 ts2 v2 d2 = spells.more (spells.comma_target_is (the_si
 pub keep_162 : (t0 : Placed) → class_of t0.kind ≡ 2 → (ts1 : List Placed) (v1 : Val sort.maybe_type) → says_of is_of_type ts1 v1 → says_of is_target (t0 ∷ ts1) (act action.OneTarget (t0, (v1, tt)))
 keep_162 t0 e0 ts1 v1 d1 = spells.target_is (the_name t0 e0) d1
 
--- of_type = 
+-- of_type =
 pub keep_163 : says_of is_of_type [] (act action.NoType tt)
-keep_163  = spells.absent
+keep_163 = spells.absent
 
 -- of_type = ":" type
 pub keep_164 : (t0 : Placed) → class_of t0.kind ≡ 23 → (ts1 : List Placed) (v1 : Val sort.a_type) → says_of is_type ts1 v1 → says_of is_of_type (t0 ∷ ts1) (act action.SomeType (t0, (v1, tt)))
@@ -698,9 +697,9 @@ keep_167 t0 e0 ts1 v1 d1 = subst (λ z. Spells test (t0 ∷ ts1) (record { is_un
 pub keep_168 : (t0 : Placed) → class_of t0.kind ≡ 68 → (ts1 : List Placed) (v1 : Val sort.an_expr) → says_of is_expr ts1 v1 → says_of is_test (t0 ∷ ts1) (act action.OneTest (t0, (v1, tt)))
 keep_168 t0 e0 ts1 v1 d1 = subst (λ z. Spells test (t0 ∷ ts1) (record { is_until = z; test = v1 })) (sym (ap is_until (the_word word.WUntil t0 e0).is)) (spells.until (the_word word.WUntil t0 e0) d1)
 
--- clauses = 
+-- clauses =
 pub keep_169 : says_of is_clauses [] (act action.NoClauses tt)
-keep_169  = spells.nothing
+keep_169 = spells.nothing
 
 -- clauses = clause clauses
 pub keep_170 : (ts0 : List Placed) (v0 : Val sort.a_clause) → says_of is_clause ts0 v0 → (ts1 : List Placed) (v1 : Val sort.clauses) → says_of is_clauses ts1 v1 → says_of is_clauses (ts0 ++ (ts1)) (act action.MoreClauses (v0, (v1, tt)))
@@ -718,9 +717,9 @@ keep_172 t0 e0 t1 e1 ts2 v2 d2 ts3 v3 d3 = subst (λ z. Spells clause (t0 ∷ (t
 pub keep_173 : (t0 : Placed) → class_of t0.kind ≡ 70 → (t1 : Placed) → class_of t1.kind ≡ 69 → (ts2 : List Placed) (v2 : Val sort.a_kind) → says_of is_fold ts2 v2 → (ts3 : List Placed) (v3 : Val sort.an_expr) → says_of is_expr ts3 v3 → (ts4 : List Placed) (v4 : Val sort.maybe_mask) → says_of is_mask ts4 v4 → says_of is_clause (t0 ∷ (t1 ∷ (ts2 ++ (ts3 ++ (ts4))))) (act action.Valued (t0, (t1, (v2, (v3, (v4, tt))))))
 keep_173 t0 e0 t1 e1 ts2 v2 d2 ts3 v3 d3 ts4 v4 d4 = subst (λ z. Spells clause (t0 ∷ (t1 ∷ (ts2 ++ (ts3 ++ (ts4))))) (roll-Clause (record { line = t0.line; kind = z; value = v3; mask = v4 }))) (sym d2.same) (spells.value_of (the_word word.WValue t0 e0) (the_word word.WOf t1 e1) d2.spelled d3 d4)
 
--- fold = 
+-- fold =
 pub keep_174 : says_of is_fold [] (act action.NoFold tt)
-keep_174  = record { found = None; same = refl; spelled = spells.absent }
+keep_174 = record { found = None; same = refl; spelled = spells.absent }
 
 -- fold = red
 pub keep_175 : (ts0 : List Placed) (v0 : Val sort.a_reduction) → says_of is_red ts0 v0 → says_of is_fold ts0 (act action.PlainFold (v0, tt))
@@ -758,9 +757,9 @@ keep_182 t0 e0 = subst (λ z. Spells red (t0 ∷ []) z) (sym (ap reduction_of (t
 pub keep_183 : (t0 : Placed) → class_of t0.kind ≡ 78 → says_of is_red (t0 ∷ []) (act action.Reduced (t0, tt))
 keep_183 t0 e0 = subst (λ z. Spells red (t0 ∷ []) z) (sym (ap reduction_of (the_word word.WCatenate t0 e0).is)) (spells.to_catenate (the_word word.WCatenate t0 e0))
 
--- mask = 
+-- mask =
 pub keep_184 : says_of is_mask [] (act action.NoMask tt)
-keep_184  = spells.absent
+keep_184 = spells.absent
 
 -- mask = "when" expr
 pub keep_185 : (t0 : Placed) → class_of t0.kind ≡ 79 → (ts1 : List Placed) (v1 : Val sort.an_expr) → says_of is_expr ts1 v1 → says_of is_mask (t0 ∷ ts1) (act action.SomeMask (t0, (v1, tt)))

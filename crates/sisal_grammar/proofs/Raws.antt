@@ -7,7 +7,7 @@ use Rattle.sisal_grammar.specs.Language.{language}
 use Rattle.sisal_grammar.specs.Plan.{plan}
 use Rattle.sisal_grammar.proofs.Keepings.{productions_are}
 use Rattle.sisal_grammar.specs.declared.value.Placed.{Placed}
-use Rattle.sisal_grammar.specs.Acts.{sisal, act, at, constant_of, prefix_of, binary_of, scalar_of, direction_of, reduction_of, is_until, is_unless, gathered_of}
+use Rattle.sisal_grammar.specs.Acts.{sisal, act}
 use Rattle.sisal_grammar.specs.Classes.{class_of}
 use Rattle.sisal_grammar.specs.Sorts.{Val}
 use Rattle.sisal_grammar.specs.Sorts as sort

@@ -1,5 +1,5 @@
 -- What each production of the table derives, where its tokens are said by their words, signs and names.
-use Rattle.std.proofs.Common.{◌≡◌, ℕ, ℤ, true, false, List, [], ◌∷◌, ◌++◌, Option, Some, None, ap, subst}
+use Rattle.std.proofs.Common.{◌≡◌, ℕ, ℤ, true, false, List, [], ◌∷◌, ◌++◌, Some, ap, subst}
 use Rattle.sisal_lex.specs.declared.token.Kind.TheVariants as kind
 use Rattle.sisal_lex.specs.declared.token.Word.TheVariants as word
 use Rattle.sisal_lex.specs.declared.token.Sign.TheVariants as sign
@@ -14,7 +14,7 @@ use Rattle.sisal_tree.specs.declared.expr.Direction.TheVariants as towards
 use Rattle.sisal_tree.specs.declared.expr.Reduction.TheVariants as reduction
 use Rattle.sisal_grammar.specs.declared.action.Action.TheVariants as action
 use Rattle.sisal_grammar.specs.declared.value.Placed.{Placed}
-use Rattle.sisal_grammar.specs.Acts.{sisal, act, at, constant_of, prefix_of, binary_of, scalar_of, direction_of, reduction_of, is_until, is_unless, gathered_of}
+use Rattle.sisal_grammar.specs.Acts.{act, at, constant_of, prefix_of, binary_of, scalar_of, direction_of, reduction_of, is_until, is_unless, gathered_of}
 use Rattle.sisal_grammar.specs.Classes.{class_of}
 use Rattle.sisal_grammar.specs.Sorts.{Val}
 use Rattle.sisal_grammar.specs.Sorts as sort
@@ -27,7 +27,7 @@ read_0 {t0} {t1} {ts2} {v2} {ts3} {v3} {ts4} {v4} i0 i1 d2 d3 d4 = raw_0 t0 (ap 
 
 -- names
 pub read_1 : R 1 [] (act action.NoNames tt)
-read_1  = raw_1 
+read_1 = raw_1
 
 -- names = "," @name names
 pub read_2 : {t0 : Placed} {t1 : Placed} {ts2 : List Placed} {v2 : Val sort.names} → IsSign sign.SComma t0 → IsName t1 → R 1 ts2 v2 → R 1 (t0 ∷ t1 ∷ ts2) (act action.MoreNames (t0, (t1, (v2, tt))))
@@ -35,7 +35,7 @@ read_2 {t0} {t1} {ts2} {v2} i0 i1 d2 = raw_2 t0 (ap (λ z. class_of z) i0.is) t1
 
 -- semi
 pub read_3 : R 2 [] (act action.Absent tt)
-read_3  = raw_3 
+read_3 = raw_3
 
 -- semi = ";"
 pub read_4 : {t0 : Placed} → IsSign sign.SSemicolon t0 → R 2 (t0 ∷ []) (act action.Sign (t0, tt))
@@ -43,7 +43,7 @@ read_4 {t0} i0 = raw_4 t0 (ap (λ z. class_of z) i0.is)
 
 -- items
 pub read_5 : R 3 [] (act action.NoItems tt)
-read_5  = raw_5 
+read_5 = raw_5
 
 -- items = item items
 pub read_6 : {ts0 : List Placed} {v0 : Val sort.an_item} {ts1 : List Placed} {v1 : Val sort.items} → R 4 ts0 v0 → R 3 ts1 v1 → R 3 (ts0 ++ (ts1)) (act action.MoreItems (v0, (v1, tt)))
@@ -111,7 +111,7 @@ read_21 {t0} {t1} {ts2} {v2} {ts3} {v3} {t4} i0 i1 d2 d3 i4 = raw_21 t0 (ap (λ 
 
 -- fields
 pub read_22 : R 6 [] (act action.NoFields tt)
-read_22  = raw_22 
+read_22 = raw_22
 
 -- fields = ";" fields_more
 pub read_23 : {t0 : Placed} {ts1 : List Placed} {v1 : Val sort.fields} → IsSign sign.SSemicolon t0 → R 7 ts1 v1 → R 6 (t0 ∷ ts1) (act action.SemiFields (t0, (v1, tt)))
@@ -119,7 +119,7 @@ read_23 {t0} {ts1} {v1} i0 d1 = raw_23 t0 (ap (λ z. class_of z) i0.is) ts1 v1 d
 
 -- fields_more
 pub read_24 : R 7 [] (act action.NoFields tt)
-read_24  = raw_24 
+read_24 = raw_24
 
 -- fields_more = field fields
 pub read_25 : {ts0 : List Placed} {v0 : Val sort.a_field} {ts1 : List Placed} {v1 : Val sort.fields} → R 8 ts0 v0 → R 6 ts1 v1 → R 7 (ts0 ++ (ts1)) (act action.MoreFields (v0, (v1, tt)))
@@ -131,7 +131,7 @@ read_26 {t0} {ts1} {v1} {t2} {ts3} {v3} i0 d1 i2 d3 = raw_26 t0 (ap (λ z. class
 
 -- tagfs
 pub read_27 : R 9 [] (act action.Absent tt)
-read_27  = raw_27 
+read_27 = raw_27
 
 -- tagfs = ";" tagfs_more
 pub read_28 : {t0 : Placed} {ts1 : List Placed} {v1 : Val sort.nothing} → IsSign sign.SSemicolon t0 → R 10 ts1 v1 → R 9 (t0 ∷ ts1) (act action.SemiTags (t0, (v1, tt)))
@@ -139,7 +139,7 @@ read_28 {t0} {ts1} {v1} i0 d1 = raw_28 t0 (ap (λ z. class_of z) i0.is) ts1 v1 d
 
 -- tagfs_more
 pub read_29 : R 10 [] (act action.Absent tt)
-read_29  = raw_29 
+read_29 = raw_29
 
 -- tagfs_more = tagf tagfs
 pub read_30 : {ts0 : List Placed} {v0 : Val sort.nothing} {ts1 : List Placed} {v1 : Val sort.nothing} → R 11 ts0 v0 → R 9 ts1 v1 → R 10 (ts0 ++ (ts1)) (act action.MoreTags (v0, (v1, tt)))
@@ -151,7 +151,7 @@ read_31 {t0} {ts1} {v1} {ts2} {v2} i0 d1 d2 = raw_31 t0 (ap (λ z. class_of z) i
 
 -- tag_type
 pub read_32 : R 12 [] (act action.Absent tt)
-read_32  = raw_32 
+read_32 = raw_32
 
 -- tag_type = ":" type
 pub read_33 : {t0 : Placed} {ts1 : List Placed} {v1 : Val sort.a_type} → IsSign sign.SColon t0 → R 5 ts1 v1 → R 12 (t0 ∷ ts1) (act action.TypedTag (t0, (v1, tt)))
@@ -163,7 +163,7 @@ read_34 {t0} {t1} {ts2} {v2} {t3} {ts4} {v4} {ts5} {v5} {t6} i0 i1 d2 i3 d4 d5 i
 
 -- types
 pub read_35 : R 14 [] (act action.NoTypes tt)
-read_35  = raw_35 
+read_35 = raw_35
 
 -- types = "," type types
 pub read_36 : {t0 : Placed} {ts1 : List Placed} {v1 : Val sort.a_type} {ts2 : List Placed} {v2 : Val sort.types} → IsSign sign.SComma t0 → R 5 ts1 v1 → R 14 ts2 v2 → R 14 (t0 ∷ (ts1 ++ (ts2))) (act action.MoreTypes (t0, (v1, (v2, tt))))
@@ -175,7 +175,7 @@ read_37 {ts0} {v0} {ts1} {v1} d0 d1 = raw_37 ts0 v0 d0 ts1 v1 d1
 
 -- exprs_more
 pub read_38 : R 16 [] (act action.NoExprs tt)
-read_38  = raw_38 
+read_38 = raw_38
 
 -- exprs_more = "," expr exprs_more
 pub read_39 : {t0 : Placed} {ts1 : List Placed} {v1 : Val sort.an_expr} {ts2 : List Placed} {v2 : Val sort.exprs} → IsSign sign.SComma t0 → R 18 ts1 v1 → R 16 ts2 v2 → R 16 (t0 ∷ (ts1 ++ (ts2))) (act action.MoreExprs (t0, (v1, (v2, tt))))
@@ -183,7 +183,7 @@ read_39 {t0} {ts1} {v1} {ts2} {v2} i0 d1 d2 = raw_39 t0 (ap (λ z. class_of z) i
 
 -- args
 pub read_40 : R 17 [] (act action.NoExprs tt)
-read_40  = raw_40 
+read_40 = raw_40
 
 -- args = exprs
 pub read_41 : {ts0 : List Placed} {v0 : Val sort.exprs} → R 15 ts0 v0 → R 17 ts0 (act action.SameExprs (v0, tt))
@@ -195,7 +195,7 @@ read_42 {ts0} {v0} {ts1} {v1} d0 d1 = raw_42 ts0 v0 d0 ts1 v1 d1
 
 -- expr_more
 pub read_43 : R 19 [] (act action.NoTail tt)
-read_43  = raw_43 
+read_43 = raw_43
 
 -- expr_more = "|" conj expr_more
 pub read_44 : {t0 : Placed} {ts1 : List Placed} {v1 : Val sort.an_expr} {ts2 : List Placed} {v2 : Val sort.tail} → IsSign sign.SOr t0 → R 20 ts1 v1 → R 19 ts2 v2 → R 19 (t0 ∷ (ts1 ++ (ts2))) ((binary.Or, v1) ∷ v2)
@@ -207,7 +207,7 @@ read_45 {ts0} {v0} {ts1} {v1} d0 d1 = raw_45 ts0 v0 d0 ts1 v1 d1
 
 -- conj_more
 pub read_46 : R 21 [] (act action.NoTail tt)
-read_46  = raw_46 
+read_46 = raw_46
 
 -- conj_more = "&" inv conj_more
 pub read_47 : {t0 : Placed} {ts1 : List Placed} {v1 : Val sort.an_expr} {ts2 : List Placed} {v2 : Val sort.tail} → IsSign sign.SAnd t0 → R 22 ts1 v1 → R 21 ts2 v2 → R 21 (t0 ∷ (ts1 ++ (ts2))) ((binary.And, v1) ∷ v2)
@@ -227,7 +227,7 @@ read_50 {ts0} {v0} {ts1} {v1} d0 d1 = raw_50 ts0 v0 d0 ts1 v1 d1
 
 -- rel_more
 pub read_51 : R 24 [] (act action.NoTail tt)
-read_51  = raw_51 
+read_51 = raw_51
 
 -- rel_more = "=" cat
 pub read_52 : {t0 : Placed} {ts1 : List Placed} {v1 : Val sort.an_expr} → IsSign sign.SEqual t0 → R 25 ts1 v1 → R 24 (t0 ∷ ts1) ((binary.Equal, v1) ∷ [])
@@ -259,7 +259,7 @@ read_58 {ts0} {v0} {ts1} {v1} d0 d1 = raw_58 ts0 v0 d0 ts1 v1 d1
 
 -- cat_more
 pub read_59 : R 26 [] (act action.NoTail tt)
-read_59  = raw_59 
+read_59 = raw_59
 
 -- cat_more = "||" sum cat_more
 pub read_60 : {t0 : Placed} {ts1 : List Placed} {v1 : Val sort.an_expr} {ts2 : List Placed} {v2 : Val sort.tail} → IsSign sign.SCatenate t0 → R 27 ts1 v1 → R 26 ts2 v2 → R 26 (t0 ∷ (ts1 ++ (ts2))) ((binary.Catenate, v1) ∷ v2)
@@ -271,7 +271,7 @@ read_61 {ts0} {v0} {ts1} {v1} d0 d1 = raw_61 ts0 v0 d0 ts1 v1 d1
 
 -- sum_more
 pub read_62 : R 28 [] (act action.NoTail tt)
-read_62  = raw_62 
+read_62 = raw_62
 
 -- sum_more = "+" term sum_more
 pub read_63 : {t0 : Placed} {ts1 : List Placed} {v1 : Val sort.an_expr} {ts2 : List Placed} {v2 : Val sort.tail} → IsSign sign.SPlus t0 → R 29 ts1 v1 → R 28 ts2 v2 → R 28 (t0 ∷ (ts1 ++ (ts2))) ((binary.Plus, v1) ∷ v2)
@@ -287,7 +287,7 @@ read_65 {ts0} {v0} {ts1} {v1} d0 d1 = raw_65 ts0 v0 d0 ts1 v1 d1
 
 -- term_more
 pub read_66 : R 30 [] (act action.NoTail tt)
-read_66  = raw_66 
+read_66 = raw_66
 
 -- term_more = "*" neg term_more
 pub read_67 : {t0 : Placed} {ts1 : List Placed} {v1 : Val sort.an_expr} {ts2 : List Placed} {v2 : Val sort.tail} → IsSign sign.STimes t0 → R 31 ts1 v1 → R 30 ts2 v2 → R 30 (t0 ∷ (ts1 ++ (ts2))) ((binary.Times, v1) ∷ v2)
@@ -311,7 +311,7 @@ read_71 {ts0} {v0} {ts1} {v1} d0 d1 = raw_71 ts0 v0 d0 ts1 v1 d1
 
 -- posts
 pub read_72 : R 33 [] (act action.NoPosts tt)
-read_72  = raw_72 
+read_72 = raw_72
 
 -- posts = selector posts
 pub read_73 : {ts0 : List Placed} {v0 : Val sort.a_post} {ts1 : List Placed} {v1 : Val sort.posts} → R 34 ts0 v0 → R 33 ts1 v1 → R 33 (ts0 ++ (ts1)) (act action.MorePosts (v0, (v1, tt)))
@@ -347,7 +347,7 @@ read_80 {t0} {t1} {ts2} {v2} i0 i1 d2 = raw_80 t0 (ap (λ z. class_of z) i0.is) 
 
 -- fvs
 pub read_81 : R 37 [] (act action.NoValues tt)
-read_81  = raw_81 
+read_81 = raw_81
 
 -- fvs = ";" fvs_more
 pub read_82 : {t0 : Placed} {ts1 : List Placed} {v1 : Val sort.values} → IsSign sign.SSemicolon t0 → R 38 ts1 v1 → R 37 (t0 ∷ ts1) (act action.SemiValues (t0, (v1, tt)))
@@ -355,7 +355,7 @@ read_82 {t0} {ts1} {v1} i0 d1 = raw_82 t0 (ap (λ z. class_of z) i0.is) ts1 v1 d
 
 -- fvs_more
 pub read_83 : R 38 [] (act action.NoValues tt)
-read_83  = raw_83 
+read_83 = raw_83
 
 -- fvs_more = fv fvs
 pub read_84 : {ts0 : List Placed} {v0 : Val sort.a_value} {ts1 : List Placed} {v1 : Val sort.values} → R 36 ts0 v0 → R 37 ts1 v1 → R 38 (ts0 ++ (ts1)) (act action.MoreValues (v0, (v1, tt)))
@@ -371,7 +371,7 @@ read_86 {ts0} {v0} d0 = raw_86 ts0 v0 d0
 
 -- call
 pub read_87 : R 40 [] (act action.NoCall tt)
-read_87  = raw_87 
+read_87 = raw_87
 
 -- call = "(" args ")"
 pub read_88 : {t0 : Placed} {ts1 : List Placed} {v1 : Val sort.exprs} {t2 : Placed} → IsSign sign.SOpenParen t0 → R 17 ts1 v1 → IsSign sign.SCloseParen t2 → R 40 (t0 ∷ (ts1 ++ (t2 ∷ []))) (act action.Call (t0, (v1, (t2, tt))))
@@ -468,7 +468,7 @@ read_111 {t0} i0 = raw_111 t0 (ap (λ z. class_of z) i0.is)
 
 -- named
 pub read_112 : R 43 [] (act action.NoName tt)
-read_112  = raw_112 
+read_112 = raw_112
 
 -- named = @name
 pub read_113 : {t0 : Placed} → IsName t0 → R 43 (t0 ∷ []) (act action.AName (t0, tt))
@@ -476,7 +476,7 @@ read_113 {t0} i0 = raw_113 t0 (ap (λ z. class_of z) i0.is)
 
 -- elements
 pub read_114 : R 44 [] (act action.NoElements tt)
-read_114  = raw_114 
+read_114 = raw_114
 
 -- elements = expr ":" exprs
 pub read_115 : {ts0 : List Placed} {v0 : Val sort.an_expr} {t1 : Placed} {ts2 : List Placed} {v2 : Val sort.exprs} → R 18 ts0 v0 → IsSign sign.SColon t1 → R 15 ts2 v2 → R 44 (ts0 ++ (t1 ∷ ts2)) (act action.SomeElements (v0, (t1, (v2, tt))))
@@ -484,7 +484,7 @@ read_115 {ts0} {v0} {t1} {ts2} {v2} d0 i1 d2 = raw_115 ts0 v0 d0 t1 (ap (λ z. c
 
 -- content
 pub read_116 : R 45 [] (act action.NoExpr tt)
-read_116  = raw_116 
+read_116 = raw_116
 
 -- content = ":" expr
 pub read_117 : {t0 : Placed} {ts1 : List Placed} {v1 : Val sort.an_expr} → IsSign sign.SColon t0 → R 18 ts1 v1 → R 45 (t0 ∷ ts1) (act action.SomeExpr (t0, (v1, tt)))
@@ -560,7 +560,7 @@ read_134 {ts0} {v0} {ts1} {v1} d0 d1 = raw_134 ts0 v0 d0 ts1 v1 d1
 
 -- arms
 pub read_135 : R 58 [] (act action.NoArms tt)
-read_135  = raw_135 
+read_135 = raw_135
 
 -- arms = arm arms
 pub read_136 : {ts0 : List Placed} {v0 : Val sort.an_arm} {ts1 : List Placed} {v1 : Val sort.arms} → R 59 ts0 v0 → R 58 ts1 v1 → R 58 (ts0 ++ (ts1)) (act action.MoreArms (v0, (v1, tt)))
@@ -572,7 +572,7 @@ read_137 {t0} {t1} {ts2} {v2} {t3} {ts4} {v4} i0 i1 d2 i3 d4 = raw_137 t0 (ap (�
 
 -- otherwise
 pub read_138 : R 60 [] (act action.NoCall tt)
-read_138  = raw_138 
+read_138 = raw_138
 
 -- otherwise = "otherwise" ":" exprs
 pub read_139 : {t0 : Placed} {t1 : Placed} {ts2 : List Placed} {v2 : Val sort.exprs} → IsWord word.WOtherwise t0 → IsSign sign.SColon t1 → R 15 ts2 v2 → R 60 (t0 ∷ t1 ∷ ts2) (act action.Otherwise (t0, (t1, (v2, tt))))
@@ -588,7 +588,7 @@ read_141 {t0} {ts1} {v1} {ts2} {v2} {t3} {ts4} {v4} {ts5} {v5} i0 d1 d2 i3 d4 d5
 
 -- groups
 pub read_142 : R 62 [] (act action.NoGroups tt)
-read_142  = raw_142 
+read_142 = raw_142
 
 -- groups = "cross" group groups
 pub read_143 : {t0 : Placed} {ts1 : List Placed} {v1 : Val sort.gens} {ts2 : List Placed} {v2 : Val sort.groups} → IsWord word.WCross t0 → R 63 ts1 v1 → R 62 ts2 v2 → R 62 (t0 ∷ (ts1 ++ (ts2))) (act action.MoreGroups (t0, (v1, (v2, tt))))
@@ -600,7 +600,7 @@ read_144 {ts0} {v0} {ts1} {v1} d0 d1 = raw_144 ts0 v0 d0 ts1 v1 d1
 
 -- gens
 pub read_145 : R 64 [] (act action.NoGens tt)
-read_145  = raw_145 
+read_145 = raw_145
 
 -- gens = "dot" gen gens
 pub read_146 : {t0 : Placed} {ts1 : List Placed} {v1 : Val sort.a_gen} {ts2 : List Placed} {v2 : Val sort.gens} → IsWord word.WDot t0 → R 65 ts1 v1 → R 64 ts2 v2 → R 64 (t0 ∷ (ts1 ++ (ts2))) (act action.MoreGens (t0, (v1, (v2, tt))))
@@ -612,7 +612,7 @@ read_147 {t0} {t1} {ts2} {v2} {ts3} {v3} {ts4} {v4} i0 i1 d2 d3 d4 = raw_147 t0 
 
 -- to
 pub read_148 : R 66 [] (act action.NoExpr tt)
-read_148  = raw_148 
+read_148 = raw_148
 
 -- to = "," expr
 pub read_149 : {t0 : Placed} {ts1 : List Placed} {v1 : Val sort.an_expr} → IsSign sign.SComma t0 → R 18 ts1 v1 → R 66 (t0 ∷ ts1) (act action.SomeExpr (t0, (v1, tt)))
@@ -620,7 +620,7 @@ read_149 {t0} {ts1} {v1} i0 d1 = raw_149 t0 (ap (λ z. class_of z) i0.is) ts1 v1
 
 -- at
 pub read_150 : R 67 [] (act action.NoName tt)
-read_150  = raw_150 
+read_150 = raw_150
 
 -- at = "at" @name
 pub read_151 : {t0 : Placed} {t1 : Placed} → IsWord word.WAt t0 → IsName t1 → R 67 (t0 ∷ t1 ∷ []) (act action.AtName (t0, (t1, tt)))
@@ -628,7 +628,7 @@ read_151 {t0} {t1} i0 i1 = raw_151 t0 (ap (λ z. class_of z) i0.is) t1 (ap (λ z
 
 -- body
 pub read_152 : R 68 [] (act action.NoDefs tt)
-read_152  = raw_152 
+read_152 = raw_152
 
 -- body = defs
 pub read_153 : {ts0 : List Placed} {v0 : Val sort.defs} → R 69 ts0 v0 → R 68 ts0 (act action.SameDefs (v0, tt))
@@ -640,7 +640,7 @@ read_154 {ts0} {v0} {ts1} {v1} d0 d1 = raw_154 ts0 v0 d0 ts1 v1 d1
 
 -- defs_more
 pub read_155 : R 70 [] (act action.NoDefs tt)
-read_155  = raw_155 
+read_155 = raw_155
 
 -- defs_more = ";" defs_rest
 pub read_156 : {t0 : Placed} {ts1 : List Placed} {v1 : Val sort.defs} → IsSign sign.SSemicolon t0 → R 71 ts1 v1 → R 70 (t0 ∷ ts1) (act action.SemiDefs (t0, (v1, tt)))
@@ -648,7 +648,7 @@ read_156 {t0} {ts1} {v1} i0 d1 = raw_156 t0 (ap (λ z. class_of z) i0.is) ts1 v1
 
 -- defs_rest
 pub read_157 : R 71 [] (act action.NoDefs tt)
-read_157  = raw_157 
+read_157 = raw_157
 
 -- defs_rest = def defs_more
 pub read_158 : {ts0 : List Placed} {v0 : Val sort.a_def} {ts1 : List Placed} {v1 : Val sort.defs} → R 72 ts0 v0 → R 70 ts1 v1 → R 71 (ts0 ++ (ts1)) (act action.Defs (v0, (v1, tt)))
@@ -660,7 +660,7 @@ read_159 {ts0} {v0} {ts1} {v1} {t2} {ts3} {v3} d0 d1 i2 d3 = raw_159 ts0 v0 d0 t
 
 -- targets
 pub read_160 : R 73 [] (act action.NoTargets tt)
-read_160  = raw_160 
+read_160 = raw_160
 
 -- targets = "," target targets
 pub read_161 : {t0 : Placed} {ts1 : List Placed} {v1 : Val sort.a_target} {ts2 : List Placed} {v2 : Val sort.targets} → IsSign sign.SComma t0 → R 74 ts1 v1 → R 73 ts2 v2 → R 73 (t0 ∷ (ts1 ++ (ts2))) (act action.MoreTargets (t0, (v1, (v2, tt))))
@@ -672,7 +672,7 @@ read_162 {t0} {ts1} {v1} i0 d1 = raw_162 t0 (ap (λ z. class_of z) i0.is) ts1 v1
 
 -- of_type
 pub read_163 : R 75 [] (act action.NoType tt)
-read_163  = raw_163 
+read_163 = raw_163
 
 -- of_type = ":" type
 pub read_164 : {t0 : Placed} {ts1 : List Placed} {v1 : Val sort.a_type} → IsSign sign.SColon t0 → R 5 ts1 v1 → R 75 (t0 ∷ ts1) (act action.SomeType (t0, (v1, tt)))
@@ -696,7 +696,7 @@ read_168 {t0} {ts1} {v1} i0 d1 = subst (λ z. R 77 (t0 ∷ ts1) (record { is_unt
 
 -- clauses
 pub read_169 : R 78 [] (act action.NoClauses tt)
-read_169  = raw_169 
+read_169 = raw_169
 
 -- clauses = clause clauses
 pub read_170 : {ts0 : List Placed} {v0 : Val sort.a_clause} {ts1 : List Placed} {v1 : Val sort.clauses} → R 79 ts0 v0 → R 78 ts1 v1 → R 78 (ts0 ++ (ts1)) (act action.MoreClauses (v0, (v1, tt)))
@@ -716,7 +716,7 @@ read_173 {t0} {t1} {ts2} {v2} {ts3} {v3} {ts4} {v4} i0 i1 d2 d3 d4 = raw_173 t0 
 
 -- fold
 pub read_174 : R 80 [] (act action.NoFold tt)
-read_174  = raw_174 
+read_174 = raw_174
 
 -- fold = red
 pub read_175 : {ts0 : List Placed} {v0 : Val sort.a_reduction} → R 81 ts0 v0 → R 80 ts0 (act action.PlainFold (v0, tt))
@@ -756,7 +756,7 @@ read_183 {t0} i0 = subst (λ z. R 81 (t0 ∷ []) z) (ap reduction_of i0.is) (raw
 
 -- mask
 pub read_184 : R 82 [] (act action.NoMask tt)
-read_184  = raw_184 
+read_184 = raw_184
 
 -- mask = "when" expr
 pub read_185 : {t0 : Placed} {ts1 : List Placed} {v1 : Val sort.an_expr} → IsWord word.WWhen t0 → R 18 ts1 v1 → R 82 (t0 ∷ ts1) (Some (record { is_unless = false; test = v1 }))

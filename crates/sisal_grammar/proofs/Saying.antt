@@ -18,7 +18,7 @@ use Rattle.sisal_grammar.specs.Phrases.{Phrase, ElseIf, Meant, many, maybe, unit
 use Rattle.sisal_grammar.specs.Plan.{plan}
 use Rattle.sisal_grammar.specs.Sorts.{Sort, Val}
 use Rattle.sisal_grammar.specs.Sorts as sort
-use Rattle.sisal_grammar.specs.Spells.{Spells, IsWord, IsSign, IsName, listed, compared, nested, folded}
+use Rattle.sisal_grammar.specs.Spells.{Spells, IsWord, IsSign, IsName, listed, nested, folded}
 
 -- any number of phrases, and a semicolon or none
 pub record Ended (p : Phrase) (ts : List Placed) (l : List (Meant p)) : Type 0 where

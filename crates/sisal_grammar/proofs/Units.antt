@@ -1,24 +1,20 @@
 -- Whole units: the table derives what the grammar of the manual spells, and nothing else.
-use Rattle.std.proofs.Common.{◌≡◌, ℕ, List, [], ◌∷◌, Some, map, true, refl, sym, ◌∙◌, ap, subst}
+use Rattle.std.proofs.Common.{◌≡◌, List, [], ◌∷◌, Some, true, refl, sym, ◌∙◌, ap, subst}
 use Rattle.pushdown.specs.declared.Step.{Step}
 use Rattle.pushdown.specs.declared.Step.TheVariants.{Read, Open}
 use Rattle.pushdown.specs.declared.Symbol.TheVariants.{Rule}
 use Rattle.pushdown.specs.declared.tables.Tables.{Tables}
-use Rattle.pushdown.specs.Grammar.{Derives}
-use Rattle.pushdown.specs.Meaning.{Vals, run, bind, perform}
+use Rattle.pushdown.specs.Meaning.{run, bind, perform}
 use Rattle.pushdown.specs.Rows.{AreRight, grammar_in, rows_of, start_test, table_in}
 use Rattle.pushdown.specs.Spelling.{Built}
 use Rattle.pushdown.specs.Table.{Table, IsRight, Proper, IsEnd}
-use Rattle.pushdown.specs.Fits.{Reads}
 use Rattle.pushdown.proofs.Fits.{Means, whole_said, whole_built}
 use Rattle.pushdown.proofs.RowTests.{right, starts_proper}
 use Rattle.pushdown.proofs.Spelling.{built_one}
 use Rattle.sisal_grammar.specs.declared.value.Outline.{Outline}
 use Rattle.sisal_grammar.specs.declared.value.Placed.{Placed}
-use Rattle.sisal_grammar.specs.declared.value.Value.{Value}
 use Rattle.sisal_grammar.specs.declared.value.Value.TheVariants as value
 use Rattle.sisal_grammar.specs.Acts.{sisal}
-use Rattle.sisal_grammar.specs.Classes.{class_of}
 use Rattle.sisal_grammar.specs.Derived.{IsDerived}
 use Rattle.sisal_grammar.specs.Language.{language}
 use Rattle.sisal_grammar.specs.Phrases.{unit}
@@ -26,7 +22,6 @@ use Rattle.sisal_grammar.specs.Plan.{plan}
 use Rattle.sisal_grammar.specs.Spells.{Spells}
 use Rattle.sisal_grammar.proofs.Complete.{read}
 use Rattle.sisal_grammar.proofs.Keepings.{keeping}
-use Rattle.sisal_grammar.proofs.Raws.{R}
 use Rattle.sisal_grammar.proofs.Saying.{roles, says}
 
 -- the kinds of rules play no part in a run

@@ -1,5 +1,5 @@
 -- What each production makes of the values of its symbols.
-use Rattle.std.specs.Prelude.{◌≡◌, ℕ, ◌+◌, ℤ, pos, Bool, true, false, List, [], ◌∷◌, ◌++◌, Option, Some, None, fold}
+use Rattle.std.specs.Prelude.{ℕ, ◌+◌, Bool, true, false, List, [], ◌∷◌, Option, Some, None, fold}
 use Rattle.pushdown.specs.Meaning.{Vals, Meaning}
 use Rattle.sisal_lex.specs.declared.token.Kind.{Kind}
 use Rattle.sisal_lex.specs.declared.token.Kind.TheVariants as kind
@@ -20,7 +20,6 @@ use Rattle.sisal_tree.specs.declared.expr.PrefixOperator.{PrefixOperator}
 use Rattle.sisal_tree.specs.declared.expr.PrefixOperator.TheVariants as prefix
 use Rattle.sisal_tree.specs.declared.expr.BinaryOperator.{BinaryOperator}
 use Rattle.sisal_tree.specs.declared.expr.BinaryOperator.TheVariants as binary
-use Rattle.sisal_tree.specs.declared.expr.FieldValue.{FieldValue}
 use Rattle.sisal_tree.specs.declared.expr.Arm.{Arm, roll-Arm}
 use Rattle.sisal_tree.specs.declared.expr.TagCase.{TagCase, roll-TagCase}
 use Rattle.sisal_tree.specs.declared.expr.Elements.{roll-Elements}

@@ -1,5 +1,5 @@
 -- The grammar of SISAL 1.2, left-factored, as the table has it.
-use Rattle.std.specs.Prelude.{ℕ, ◌+◌, length, slice_index, slice_range}
+use Rattle.std.specs.Prelude.{◌+◌, length, slice_index, slice_range}
 use Rattle.pushdown.specs.Grammar.{Grammar}
 use Rattle.sisal_grammar.specs.declared.table.TheConstants.{HEADS, STARTS, SYMBOLS}
 

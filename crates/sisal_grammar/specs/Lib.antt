@@ -2,8 +2,8 @@ pub mod Acts
 pub mod Classes
 pub mod Derived
 pub mod Language
-pub mod Placed
 pub mod Phrases
+pub mod Placed
 pub mod Plan
 pub mod Sorts
 pub mod Spells

@@ -1,7 +1,7 @@
 -- The action of each production, and the kind of value of each rule.
-use Rattle.std.specs.Prelude.{ℕ, List, [], ◌∷◌, slice_index_or}
+use Rattle.std.specs.Prelude.{List, [], ◌∷◌, slice_index_or}
 use Rattle.pushdown.specs.Meaning.{Scheme}
-use Rattle.sisal_grammar.specs.Sorts.{Sort, a_token, nothing, an_outline, names, an_item, items, a_type, types, a_field, fields, a_header, an_expr, exprs, maybe_expr, maybe_exprs, tail, a_post, posts, a_bracket, a_value, values, maybe_name, maybe_elements, a_subject, a_rest, an_arm, arms, a_loop, a_gen, gens, groups, a_def, defs, a_target, targets, maybe_type, a_turn, a_test, a_clause, clauses, a_kind, a_reduction, maybe_mask}
+use Rattle.sisal_grammar.specs.Sorts.{Sort, nothing, an_outline, names, an_item, items, a_type, types, a_field, fields, a_header, an_expr, exprs, maybe_expr, maybe_exprs, tail, a_post, posts, a_bracket, a_value, values, maybe_name, maybe_elements, a_subject, a_rest, an_arm, arms, a_loop, a_gen, gens, groups, a_def, defs, a_target, targets, maybe_type, a_turn, a_test, a_clause, clauses, a_kind, a_reduction, maybe_mask}
 use Rattle.sisal_grammar.specs.Acts.{sisal}
 use Rattle.sisal_grammar.specs.declared.action.Action.TheVariants as action
 use Rattle.sisal_grammar.specs.declared.action.TheConstants.{ACTIONS}

@@ -92,7 +92,6 @@ pub data Spells : (p : Phrase) → List Placed → Meant p → Type 0 where
   -- [x]
   absent : {p : Phrase} → Spells (maybe p) [] None
   present : {p : Phrase} {ts : List Placed} {a : Meant p} → Spells p ts a → Spells (maybe p) ts (Some a)
-
   -- unit = "define" name {"," name} [";"] {typedef | fundef}
   unit_is : {t u : Placed} {ts us vs : List Placed} {ns : List Named} {s : Option (Unit {0})} {l : List Item}
       → IsWord word.WDefine t → IsName u → Spells (many comma_name) ts ns → Spells (maybe semicolon) us s → Spells (many definition) vs l
@@ -120,7 +119,6 @@ pub data Spells : (p : Phrase) → List Placed → Meant p → Type 0 where
   function : {t u v : Placed} {ts us vs : List Placed} {h : Header} {es : List Expr} {s : Option (Unit {0})}
       → IsWord word.WFunction t → Spells header ts h → Spells exprs us es → IsWord word.WEnd u → IsWord word.WFunction v → Spells (maybe semicolon) vs s
       → Spells fundef (t ∷ (ts ++ (us ++ (u ∷ v ∷ vs)))) (item.Function (record { line = t.line; header = h; kind = fun.Defined es }))
-
   -- type = "integer" | "boolean" | "character" | "null" | "real" | "double_real" | name
   integer_type : {t : Placed} → IsWord word.WInteger t → Spells ty (t ∷ []) (span t t)
   boolean_type : {t : Placed} → IsWord word.WBoolean t → Spells ty (t ∷ []) (span t t)
@@ -169,7 +167,6 @@ pub data Spells : (p : Phrase) → List Placed → Meant p → Type 0 where
       → Spells header (t ∷ u ∷ (ts ++ (v ∷ (us ++ (vs ++ (w ∷ [])))))) (record { name = named t; params = listed l; results = r ∷ rs })
   -- "," type
   comma_type_is : {t : Placed} {ts : List Placed} {w : Written} → IsSign sign.SComma t → Spells ty ts w → Spells comma_type (t ∷ ts) w
-
   -- exprs = expr {"," expr}
   exprs_are : {ts us : List Placed} {e : Expr} {es : List Expr} → Spells expr ts e → Spells (many comma_expr) us es → Spells exprs (ts ++ us) (e ∷ es)
   -- "," expr
@@ -205,7 +202,6 @@ pub data Spells : (p : Phrase) → List Placed → Meant p → Type 0 where
   -- neg = "-" neg | post
   negate : {t : Placed} {ts : List Placed} {a : Expr} → IsSign sign.SMinus t → Spells neg ts a → Spells neg (t ∷ ts) (at t.line (tree.Prefix prefix.Negate a))
   neg_post : {ts : List Placed} {a : Expr} → Spells post ts a → Spells neg ts a
-
   -- post = prim {"[" exprs "]" | "[" expr ":" expr "]" | "." name | "replace" "[" fv {";" fv} [";"] "]"}
   post_is : {ts us : List Placed} {a : Expr} {l : List Selector} → Spells prim ts a → Spells (many selector) us l → Spells post (ts ++ us) (posted a l)
   at_places : {t u : Placed} {ts : List Placed} {es : List Expr}
@@ -223,7 +219,6 @@ pub data Spells : (p : Phrase) → List Placed → Meant p → Type 0 where
       → Spells fv (t ∷ u ∷ ts) (record { field = named t; value = e })
   -- ";" fv
   semi_fv_is : {t : Placed} {ts : List Placed} {f : FieldValue} → IsSign sign.SSemicolon t → Spells fv ts f → Spells semi_fv (t ∷ ts) f
-
   -- prim = number | character | text | "true" | "false" | "nil" | name | "old" name
   number : {t : Placed} {n : ℤ} → t.kind ≡ kind.Number n → Spells prim (t ∷ []) (at t.line (tree.Constant (constant.Integer n)))
   character : {t : Placed} {c : ℕ} → t.kind ≡ kind.Letter c → Spells prim (t ∷ []) (at t.line (tree.Constant (constant.Letter c)))
@@ -286,7 +281,6 @@ pub data Spells : (p : Phrase) → List Placed → Meant p → Type 0 where
       → Spells elements (ts ++ (t ∷ us)) (roll-Elements (record { lower = e; values = es }))
   -- ":" expr
   colon_expr_is : {t : Placed} {ts : List Placed} {e : Expr} → IsSign sign.SColon t → Spells expr ts e → Spells colon_expr (t ∷ ts) e
-
   -- prim = "let" defs "in" exprs "end" "let"
   let_in : {t u v w : Placed} {ts us : List Placed} {ds : List Def} {es : List Expr}
       → IsWord word.WLet t → Spells defs ts ds → IsWord word.WIn u → Spells exprs us es → IsWord word.WEnd v → IsWord word.WLet w
@@ -311,7 +305,6 @@ pub data Spells : (p : Phrase) → List Placed → Meant p → Type 0 where
   arm_is : {t u v : Placed} {ts us : List Placed} {ns : List Named} {es : List Expr}
       → IsWord word.WTag t → IsName u → Spells (many comma_name) ts ns → IsSign sign.SColon v → Spells exprs us es
       → Spells arm (t ∷ u ∷ (ts ++ (v ∷ us))) (roll-Arm (record { line = t.line; tags = named u ∷ ns; results = es }))
-
   -- prim = "for" group {"cross" group} [defs] "returns" clause {clause} "end" "for"
   for_product : {t u v w : Placed} {ts us vs ws xs : List Placed} {g : List Generator} {gs : List (List Generator)} {ds : Option (List Def)} {c : Clause} {cs : List Clause}
       → IsWord word.WFor t → Spells group ts g → Spells (many cross_group) us gs → Spells (maybe defs) vs ds → IsWord word.WReturns u → Spells clause ws c → Spells (many clause) xs cs → IsWord word.WEnd v → IsWord word.WFor w
@@ -332,7 +325,6 @@ pub data Spells : (p : Phrase) → List Placed → Meant p → Type 0 where
       → Spells gen (t ∷ u ∷ (ts ++ (us ++ vs))) (roll-Generator (record { name = named t; from = e; to = o; at = n }))
   -- "at" name
   at_name_is : {t u : Placed} → IsWord word.WAt t → IsName u → Spells at_name (t ∷ u ∷ []) (name_in u)
-
   -- defs = def {";" def} [";"]
   defs_are : {ts us vs : List Placed} {d : Def} {l : List Def} {s : Option (Unit {0})}
       → Spells def ts d → Spells (many semi_def) us l → Spells (maybe semicolon) vs s
