@@ -5,7 +5,6 @@
 
 mod fault;
 mod steps;
-mod stub;
 mod units;
 
 pub use fault::ParseFault;

@@ -9,8 +9,8 @@ ghost use Rattle.sisal_parse.specs.Faults.{DepthFault, IsFirstBad, SyntaxFault, 
 
 use crate::fault::ParseFault;
 use pushdown::{Refusal, Step, derive};
-use sisal_grammar::{class_of, tables};
-use flow_value::NoMemory;
+use sisal_build::classes_of;
+use sisal_grammar::tables;
 use sisal_lex::Token;
 use std::alloc::Global;
 
@@ -46,15 +46,4 @@ fn line_of(tokens: &[Token], place: usize) -> u32
         return 1;
     }
     tokens[place.min(tokens.len() - 1)].line
-}
-
-/// The classes of tokens.
-pub fn classes_of(alloc: Global, tokens: &[Token]) -> Result<Vec<u8>, NoMemory>
-    ensures { IfOk result (λ v. v.items ≡ map (λ t. class_of t.kind) tokens.now) }
-{
-    let classes = tokens
-        .iter()
-        .map(|token| class_of(&token.kind))
-        .collect(alloc)?;
-    Ok(classes)
 }

@@ -15,7 +15,7 @@ ghost use Rattle.sisal_parse.specs.Units.{outline};
 use crate::fault::ParseFault;
 use crate::steps::steps_of;
 use pushdown::Step;
-use crate::stub::outline_of;
+use sisal_build::outline_of;
 use sisal_depth::depth_of;
 use sisal_grammar::Outline;
 use sisal_lex::{Token, Tokens};
