@@ -1,5 +1,5 @@
 -- Tokens with their places.
-use Rattle.std.proofs.Common.{◌≡◌, ℕ, zero, suc, ◌+◌, ◌<◌, List, [], ◌∷◌, length, map, get_or, arith, refl, ◌∙◌, ap}
+use Rattle.std.proofs.Common.{◌≡◌, ℕ, zero, suc, ◌+◌, ◌<◌, List, [], ◌∷◌, length, map, get_or, arith, refl, sym, ◌∙◌, ap}
 use Rattle.sisal_lex.specs.declared.token.Kind.{Kind}
 use Rattle.sisal_lex.specs.declared.token.Token.{Token}
 use Rattle.sisal_grammar.specs.declared.value.Placed.{Placed}
@@ -30,3 +30,14 @@ placed_at (t ∷ ts) n (suc k) d e h =
     let less : k < length ts = omega (arith, h) in
     let same : (n + 1) + k ≡ n + suc k = omega arith in
     placed_at ts (n + 1) k d e less ∙ ap (λ m. placed_one m (get_or ts k d)) same
+
+abbrev made : ℕ → Kind → ℕ → Placed
+made n k l = record { place = n; kind = k; line = l }
+
+-- what has the place, the kind and the line of the token at a place
+pub placed_alike : (ts : List Token) (p q : ℕ) (k : Kind) (t : Token) (e : Placed) → p < length ts → q ≡ p → k ≡ t.kind → t ≡ get_or ts p t → made q k t.line ≡ get_or (placed 0 ts) p e
+placed_alike ts p q k t e h place kind is =
+    let zero_more : p ≡ 0 + p = omega arith in
+    let there : made p t.kind t.line ≡ placed_one p (get_or ts p t) = ap (λ u. placed_one p u) is in
+    let moved : placed_one p (get_or ts p t) ≡ placed_one (0 + p) (get_or ts p t) = ap (λ n. placed_one n (get_or ts p t)) zero_more in
+    ap (λ n. made n k t.line) place ∙ (ap (λ x. made p x t.line) kind ∙ (there ∙ (moved ∙ sym (placed_at ts 0 p t e h))))

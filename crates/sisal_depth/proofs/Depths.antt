@@ -1,5 +1,5 @@
 -- The sizes of values are told by the sizes of their parts.
-use Rattle.std.proofs.Common.{◌≡◌, ℕ, suc, ◌+◌, min, max, Bool, true, false, List, [], ◌∷◌, Option, Some, None, map, option_map, fold, length, refl, sym, ◌∙◌, ap, arith}
+use Rattle.std.proofs.Common.{◌≡◌, ℕ, suc, ◌+◌, max, Bool, true, false, List, [], ◌∷◌, Option, Some, None, map, option_map, fold, length, refl, sym, ◌∙◌, ap, arith}
 use Rattle.pushdown.specs.Meaning.{Vals, Measure, sizes}
 use Rattle.sisal_tree.specs.declared.unit.Item.{Item}
 use Rattle.sisal_tree.specs.declared.unit.Item.TheVariants as item
@@ -10,20 +10,19 @@ use Rattle.sisal_tree.specs.declared.expr.ExprKind.{ExprKind}
 use Rattle.sisal_tree.specs.declared.expr.ExprKind.TheVariants as expr
 use Rattle.sisal_tree.specs.declared.expr.Constant.TheVariants as constant
 use Rattle.sisal_tree.specs.declared.expr.BinaryOperator.{BinaryOperator}
-use Rattle.sisal_tree.specs.declared.expr.FieldValue.{FieldValue}
 use Rattle.sisal_tree.specs.declared.expr.Generator.{Generator, roll-Generator}
 use Rattle.sisal_tree.specs.declared.expr.Arm.{Arm, roll-Arm}
 use Rattle.sisal_tree.specs.declared.expr.Def.{Def, roll-Def}
 use Rattle.sisal_tree.specs.declared.expr.Clause.{Clause, roll-Clause}
 use Rattle.sisal_tree.specs.declared.expr.Turn.{Turn, roll-Turn}
-use Rattle.sisal_tree.specs.declared.expr.Elements.{Elements, roll-Elements}
+use Rattle.sisal_tree.specs.declared.expr.Elements.{roll-Elements}
 use Rattle.sisal_tree.specs.declared.expr.Mask.{Mask}
 use Rattle.sisal_tree.specs.declared.expr.ClauseKind.{ClauseKind}
 use Rattle.sisal_tree.specs.declared.expr.Target.{Target}
 use Rattle.sisal_tree.specs.declared.expr.Loop.TheVariants as loop
 use Rattle.sisal_tree.specs.declared.unit.Named.{Named}
 use Rattle.sisal_grammar.specs.declared.value.Subject.{Subject}
-use Rattle.sisal_tree.specs.Depth.{depth, greatest, if_any, greatest_if_any}
+use Rattle.sisal_tree.specs.Depth.{depth, if_any, greatest_if_any}
 use Rattle.sisal_grammar.specs.declared.value.Placed.{Placed}
 use Rattle.sisal_grammar.specs.declared.value.Selector.{Selector}
 use Rattle.sisal_grammar.specs.declared.value.Selector.TheVariants as selector
@@ -34,11 +33,11 @@ use Rattle.sisal_grammar.specs.declared.value.SubjectRest.TheVariants as more
 use Rattle.sisal_grammar.specs.declared.value.ExprRest.{ExprRest}
 use Rattle.sisal_grammar.specs.declared.action.Action.{Action}
 use Rattle.sisal_grammar.specs.declared.action.Action.TheVariants as action
-use Rattle.sisal_grammar.specs.Sorts.{Sort, a_token, nothing, an_outline, names, an_item, items, a_type, types, a_field, fields, a_header, an_expr, exprs, maybe_expr, maybe_exprs, tail, a_post, posts, a_bracket, a_value, values, maybe_name, maybe_elements, a_subject, a_rest, an_arm, arms, a_loop, a_gen, gens, groups, a_def, defs, a_target, targets, maybe_type, a_turn, a_test, a_clause, clauses, a_kind, a_reduction, maybe_mask, Val, args, gives}
+use Rattle.sisal_grammar.specs.Sorts.{Sort, a_token, an_outline, an_item, items, an_expr, exprs, maybe_expr, maybe_exprs, tail, a_post, posts, a_bracket, a_value, values, maybe_elements, a_subject, a_rest, an_arm, arms, a_loop, a_gen, gens, groups, a_def, defs, a_turn, a_test, a_clause, clauses, maybe_mask, Val, args, gives}
 use Rattle.sisal_grammar.specs.Acts.{at, act, sisal, binary_of, prefix_of, scalar_of, constant_of, gathered_of, is_until, is_unless, name_in, named, joined, chained, selected, posted, bracketed, called, asked, content, rest_of, subject_of, tag_case}
 use Rattle.sisal_grammar.specs.Acts as acts
 use Rattle.sisal_depth.specs.declared.sizes.Growth.{Growth}
-use Rattle.sisal_depth.specs.Sizes.{capped, growth, no_growth, flat, on_line, deepest, link, both, listed, deeper, followed, around, through, grown}
+use Rattle.sisal_depth.specs.Sizes.{capped, growth, no_growth, flat, on_line, deepest, link, both, listed, deeper, followed, through, grown}
 use Rattle.sisal_depth.proofs.Folds.{kind_depth, loop_depth, arm_depth, clause_depth, def_depth, elements_depth, value_depth, generator_depth, mask_depth, case_depth, turn_depth, exprs_depth, values_depth, defs_depth, arms_depth, clauses_depth, generators_depth, groups_depth}
 use Rattle.sisal_depth.proofs.Folds as folds
 
@@ -332,10 +331,10 @@ case_size l s a bs o =
     let last : capped n ≡ capped (max (call_size o).least (max 0 (max 0 0))) = omega (arith, k) in
     let z : ℕ = max (capped (depth s.expr)) (max (capped (arm_depth a)) (max (capped (arms_depth bs)) (max (call_size o).least (max 0 (max 0 0))))) in
     let parts : capped (max (depth s.expr) (max (max (arm_depth a) (arms_depth bs)) n)) ≡ capped z =
-        ap (λ x. capped (max (depth s.expr) x)) (max_three (arm_depth a) (arms_depth bs) n)
-        ∙ cap_more (depth s.expr) (max (arm_depth a) (max (arms_depth bs) n)) (max (capped (arm_depth a)) (max (capped (arms_depth bs)) (max (call_size o).least (max 0 (max 0 0)))))
-        (cap_more (arm_depth a) (max (arms_depth bs) n) (max (capped (arms_depth bs)) (max (call_size o).least (max 0 (max 0 0))))
-        (cap_more (arms_depth bs) n (max (call_size o).least (max 0 (max 0 0))) last)) in
+    ap (λ x. capped (max (depth s.expr) x)) (max_three (arm_depth a) (arms_depth bs) n)
+    ∙ cap_more (depth s.expr) (max (arm_depth a) (max (arms_depth bs) n)) (max (capped (arm_depth a)) (max (capped (arms_depth bs)) (max (call_size o).least (max 0 (max 0 0)))))
+    (cap_more (arm_depth a) (max (arms_depth bs) n) (max (capped (arms_depth bs)) (max (call_size o).least (max 0 (max 0 0))))
+    (cap_more (arms_depth bs) n (max (call_size o).least (max 0 (max 0 0))) last)) in
     above l (max (depth s.expr) (max (max (arm_depth a) (arms_depth bs)) n)) (expr.TagCase (tag_case s (a ∷ bs) o)) (max 0 z) (h ∙ ap (λ x. x + 1) j) (parts ∙ ap capped (max_none z))
 
 loop_parts : (ds : List Def) (c : Clause) (cs : List Clause) → capped (max (defs_depth ds) (max (clause_depth c) (clauses_depth cs))) ≡ capped (max (capped (defs_depth ds)) (max 0 (max (capped (clause_depth c)) (max (capped (clauses_depth cs)) 0))))
@@ -348,8 +347,8 @@ product_size g gs ds c cs =
     let z : ℕ = max (capped (generators_depth g)) (max (capped (groups_depth gs)) y) in
     let h : loop_depth (loop.Product (g ∷ gs) ds (c ∷ cs)) ≡ max (max (generators_depth g) (groups_depth gs)) r + suc (length gs) = folds.in_product (g ∷ gs) ds (c ∷ cs) in
     let parts : capped (max (max (generators_depth g) (groups_depth gs)) r) ≡ capped z =
-        ap capped (max_three (generators_depth g) (groups_depth gs) r)
-        ∙ cap_more (generators_depth g) (max (groups_depth gs) r) (max (capped (groups_depth gs)) y) (cap_more (groups_depth gs) r y (loop_parts ds c cs)) in
+    ap capped (max_three (generators_depth g) (groups_depth gs) r)
+    ∙ cap_more (generators_depth g) (max (groups_depth gs) r) (max (capped (groups_depth gs)) y) (cap_more (groups_depth gs) r y (loop_parts ds c cs)) in
     same_flat (loop_depth (loop.Product (g ∷ gs) ds (c ∷ cs))) (z + capped (length gs) + 1) (ap capped h ∙ cap_plus (max (max (generators_depth g) (groups_depth gs)) r) z (length gs) parts)
 
 initial_size : (ds : List Def) (t : Turn) (c : Clause) (cs : List Clause) → flat (loop_depth (loop.Initial ds t (c ∷ cs))) ≡ flat (max 0 (max (capped (defs_depth ds)) (max (capped (turn_depth t)) (max 0 (max (capped (clause_depth c)) (max (capped (clauses_depth cs)) 0))))) + 1)
@@ -359,7 +358,7 @@ initial_size ds t c cs =
     let z : ℕ = max (capped (defs_depth ds)) (max (capped (turn_depth t)) y) in
     let h : loop_depth (loop.Initial ds t (c ∷ cs)) ≡ max (defs_depth ds) (max (turn_depth t) r) + 1 = folds.in_initial ds t (c ∷ cs) in
     let parts : capped (max (defs_depth ds) (max (turn_depth t) r)) ≡ capped (max 0 z) =
-        cap_more (defs_depth ds) (max (turn_depth t) r) (max (capped (turn_depth t)) y) (cap_more (turn_depth t) r y (cap_last (clause_depth c) (clauses_depth cs))) ∙ ap capped (max_none z) in
+    cap_more (defs_depth ds) (max (turn_depth t) r) (max (capped (turn_depth t)) y) (cap_more (turn_depth t) r y (cap_last (clause_depth c) (clauses_depth cs))) ∙ ap capped (max_none z) in
     same_flat (loop_depth (loop.Initial ds t (c ∷ cs))) (max 0 z + 1) (ap capped h ∙ cap_one (max (defs_depth ds) (max (turn_depth t) r)) (max 0 z) parts)
 
 -- the size of what an action gives is told by the sizes of what it takes

@@ -1,12 +1,12 @@
 -- The depth of a unit, and the line on which its deepest result begins, are those that its steps tell.
-use Rattle.std.proofs.Common.{◌≡◌, ℕ, zero, suc, ◌+◌, ◌<◌, ◌≤◌, min, max, Bool, true, false, if◌then◌else◌, nat_lt, List, [], ◌∷◌, ◌++◌, Option, Some, None, map, take, drop, length, flat_map, refl, sym, ◌∙◌, ap, subst, arith, Contains}
+use Rattle.std.proofs.Common.{◌≡◌, ℕ, zero, suc, ◌+◌, ◌<◌, ◌≤◌, max, Bool, true, false, if◌then◌else◌, nat_lt, List, [], ◌∷◌, ◌++◌, Some, map, take, drop, length, refl, sym, ◌∙◌, ap, subst, arith, Contains}
 use Rattle.std.proofs.lemmas.Bool.{ltb-true, ltb-false}
 use Rattle.std.proofs.lemmas.List.Elements.{Contains-append_left, Contains-append_right}
 use Rattle.pushdown.specs.Grammar.{Derives}
 use Rattle.pushdown.specs.declared.Step.{Step}
 use Rattle.pushdown.specs.declared.Step.TheVariants.{Read, Open}
 use Rattle.pushdown.specs.declared.Symbol.TheVariants.{Rule}
-use Rattle.pushdown.specs.Meaning.{Measured, measure, run, reads, bind}
+use Rattle.pushdown.specs.Meaning.{Measured, measure, run, reads}
 use Rattle.pushdown.proofs.Sizes.{measures}
 use Rattle.pushdown.proofs.Spelling.{bound}
 use Rattle.pushdown.proofs.Values.{reads_all}
@@ -16,10 +16,8 @@ use Rattle.sisal_tree.specs.declared.unit.Item.{Item}
 use Rattle.sisal_tree.specs.declared.unit.Item.TheVariants as item
 use Rattle.sisal_tree.specs.declared.unit.FunKind.{FunKind}
 use Rattle.sisal_tree.specs.declared.unit.FunKind.TheVariants as fun
-use Rattle.sisal_tree.specs.Depth.{depth, greatest, results_in, results, results_of, depth_of, PassesAt}
-use Rattle.sisal_grammar.specs.declared.value.Placed.{Placed}
+use Rattle.sisal_tree.specs.Depth.{depth, results_in, results, results_of, depth_of, PassesAt}
 use Rattle.sisal_grammar.specs.declared.value.Outline.{Outline}
-use Rattle.sisal_grammar.specs.declared.value.Value.{Value}
 use Rattle.sisal_grammar.specs.declared.value.Value.TheVariants.{AnOutline}
 use Rattle.sisal_grammar.specs.Acts.{sisal}
 use Rattle.sisal_grammar.specs.Classes.{class_of}
@@ -29,7 +27,7 @@ use Rattle.sisal_grammar.specs.Plan.{plan}
 use Rattle.sisal_grammar.specs.Sorts.{an_outline, args}
 use Rattle.sisal_grammar.proofs.Plans.{plan_typed, first_kind}
 use Rattle.sisal_depth.specs.declared.sizes.Growth.{Growth}
-use Rattle.sisal_depth.specs.Sizes.{at, capped, deeper, deeper_line, grown, listed, no_growth, sizes_of, token_size}
+use Rattle.sisal_depth.specs.Sizes.{at, capped, deeper_line, grown, sizes_of, token_size}
 use Rattle.sisal_depth.proofs.Depths.{depths, expr_size, exprs_size, exprs_least, fun_size, item_size, items_size}
 use Rattle.sisal_depth.proofs.Folds.{exprs_depth}
 

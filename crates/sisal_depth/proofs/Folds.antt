@@ -1,5 +1,5 @@
 -- The depth of each kind of phrase, and what it is at each of its forms.
-use Rattle.std.proofs.Common.{◌≡◌, ℕ, ◌+◌, max, Bool, List, [], ◌∷◌, Option, Some, None, map, option_map, length, refl, sym, ◌∙◌, ap}
+use Rattle.std.proofs.Common.{◌≡◌, ℕ, ◌+◌, max, Bool, List, Option, Some, None, map, option_map, length, sym, ◌∙◌, ap}
 use lib.ListN.{length-map}
 use Rattle.sisal_tree.specs.declared.unit.Named.{Named}
 use Rattle.sisal_tree.specs.declared.unit.Written.{Written}

@@ -1,7 +1,7 @@
 -- What lies on a stack of sizes.
-use Rattle.std.proofs.Common.{◌≡◌, ℕ, zero, suc, ◌+◌, max, List, [], ◌∷◌, take, drop, refl, sym, ◌∙◌, ap, arith}
+use Rattle.std.proofs.Common.{◌≡◌, ℕ, zero, suc, ◌+◌, max, List, [], ◌∷◌, take, drop, refl, ◌∙◌, ap, arith}
 use Rattle.sisal_depth.specs.declared.sizes.Growth.{Growth}
-use Rattle.sisal_depth.specs.Sizes.{at, capped, deepest, growth, no_growth}
+use Rattle.sisal_depth.specs.Sizes.{at, deepest}
 
 none_of : {A : Type 0} (k : ℕ) → drop {A = A} k [] ≡ []
 none_of zero = refl

@@ -1,5 +1,5 @@
 -- The steps of a derivation, taken from the last to the first.
-use Rattle.std.proofs.Common.{◌≡◌, ℕ, suc, ◌<◌, ◌≤◌, ◌+◌, ◌-◌, take, drop, length, get_or, List, [], ◌∷◌, ◌++◌, refl, sym, ◌∙◌, ap, arith}
+use Rattle.std.proofs.Common.{◌≡◌, ℕ, suc, ◌<◌, ◌≤◌, ◌+◌, ◌-◌, take, drop, length, get_or, List, [], ◌∷◌, ◌++◌, refl, ◌∙◌, ap, arith}
 use Rattle.std.proofs.lemmas.List.{take_more}
 use Rattle.std.proofs.Math.Seq.{drop-cons}
 use Rattle.pushdown.specs.declared.Step.{Step}
@@ -9,7 +9,6 @@ use Rattle.pushdown.proofs.Values.{reads_within}
 use Rattle.sisal_lex.specs.declared.token.Token.{Token}
 use Rattle.sisal_grammar.specs.Sorts.{args}
 use Rattle.sisal_grammar.specs.Plan.{plan}
-use Rattle.sisal_depth.specs.declared.sizes.Growth.{Growth}
 use Rattle.sisal_depth.specs.Sizes.{grown, sizes_of, token_size, no_token}
 
 reads_append : (es fs : List Step) → reads (es ++ fs) ≡ reads es + reads fs

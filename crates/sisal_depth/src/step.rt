@@ -13,13 +13,117 @@ pub fn arity(action: Action) -> usize
     ensures { result ≡ length (args action) }
 {
     match action {
-        Action::NoNames | Action::Absent | Action::NoItems | Action::NoFields | Action::NoTypes | Action::NoExprs | Action::NoTail | Action::NoPosts | Action::NoValues | Action::NoCall | Action::NoName | Action::NoElements | Action::NoExpr | Action::NoArms | Action::NoGroups | Action::NoGens | Action::NoDefs | Action::NoTargets | Action::NoType | Action::NoClauses | Action::NoFold | Action::NoMask => 0,
-        Action::Sign | Action::Basic | Action::SameExprs | Action::SameExpr | Action::CloseBracket | Action::Literal | Action::WordName | Action::AName | Action::OtherSubject | Action::SameDefs | Action::PlainFold | Action::Reduced => 1,
-        Action::MoreItems | Action::SemiFields | Action::MoreFields | Action::SemiTags | Action::MoreTags | Action::TypedTag | Action::Exprs | Action::Chain | Action::Prefix | Action::OneTail | Action::Posted | Action::MorePosts | Action::Dot | Action::SemiValues | Action::MoreValues | Action::NameOrCall | Action::Old | Action::SomeExpr | Action::Else | Action::NameSubject | Action::Bound | Action::MoreArms | Action::Gens | Action::AtName | Action::Defs | Action::SemiDefs | Action::OneTarget | Action::SomeType | Action::OneTest | Action::MoreClauses | Action::Directed | Action::SomeMask => 2,
-        Action::MoreNames | Action::Global | Action::OneTag | Action::MoreTypes | Action::MoreExprs | Action::MoreTail | Action::Bracket | Action::ColonBracket | Action::OneValue | Action::Call | Action::Group | Action::SomeElements | Action::Otherwise | Action::MoreGroups | Action::MoreGens | Action::MoreTargets | Action::TestFirst | Action::TestLast => 3,
-        Action::Forward | Action::Listed | Action::OneField | Action::MoreBracket | Action::Convert | Action::ErrorOf | Action::For | Action::OneDef | Action::Gathered => 4,
-        Action::Whole | Action::Alias | Action::Fielded | Action::Tagged | Action::Replaced | Action::Is | Action::Array | Action::Stream | Action::ElseIf | Action::OneArm | Action::OneGen | Action::Valued => 5,
-        Action::Defined | Action::Record | Action::Union | Action::Let | Action::Product | Action::Initial => 6,
+        Action::NoNames
+        | Action::Absent
+        | Action::NoItems
+        | Action::NoFields
+        | Action::NoTypes
+        | Action::NoExprs
+        | Action::NoTail
+        | Action::NoPosts
+        | Action::NoValues
+        | Action::NoCall
+        | Action::NoName
+        | Action::NoElements
+        | Action::NoExpr
+        | Action::NoArms
+        | Action::NoGroups
+        | Action::NoGens
+        | Action::NoDefs
+        | Action::NoTargets
+        | Action::NoType
+        | Action::NoClauses
+        | Action::NoFold
+        | Action::NoMask => 0,
+        Action::Sign
+        | Action::Basic
+        | Action::SameExprs
+        | Action::SameExpr
+        | Action::CloseBracket
+        | Action::Literal
+        | Action::WordName
+        | Action::AName
+        | Action::OtherSubject
+        | Action::SameDefs
+        | Action::PlainFold
+        | Action::Reduced => 1,
+        Action::MoreItems
+        | Action::SemiFields
+        | Action::MoreFields
+        | Action::SemiTags
+        | Action::MoreTags
+        | Action::TypedTag
+        | Action::Exprs
+        | Action::Chain
+        | Action::Prefix
+        | Action::OneTail
+        | Action::Posted
+        | Action::MorePosts
+        | Action::Dot
+        | Action::SemiValues
+        | Action::MoreValues
+        | Action::NameOrCall
+        | Action::Old
+        | Action::SomeExpr
+        | Action::Else
+        | Action::NameSubject
+        | Action::Bound
+        | Action::MoreArms
+        | Action::Gens
+        | Action::AtName
+        | Action::Defs
+        | Action::SemiDefs
+        | Action::OneTarget
+        | Action::SomeType
+        | Action::OneTest
+        | Action::MoreClauses
+        | Action::Directed
+        | Action::SomeMask => 2,
+        Action::MoreNames
+        | Action::Global
+        | Action::OneTag
+        | Action::MoreTypes
+        | Action::MoreExprs
+        | Action::MoreTail
+        | Action::Bracket
+        | Action::ColonBracket
+        | Action::OneValue
+        | Action::Call
+        | Action::Group
+        | Action::SomeElements
+        | Action::Otherwise
+        | Action::MoreGroups
+        | Action::MoreGens
+        | Action::MoreTargets
+        | Action::TestFirst
+        | Action::TestLast => 3,
+        Action::Forward
+        | Action::Listed
+        | Action::OneField
+        | Action::MoreBracket
+        | Action::Convert
+        | Action::ErrorOf
+        | Action::For
+        | Action::OneDef
+        | Action::Gathered => 4,
+        Action::Whole
+        | Action::Alias
+        | Action::Fielded
+        | Action::Tagged
+        | Action::Replaced
+        | Action::Is
+        | Action::Array
+        | Action::Stream
+        | Action::ElseIf
+        | Action::OneArm
+        | Action::OneGen
+        | Action::Valued => 5,
+        Action::Defined
+        | Action::Record
+        | Action::Union
+        | Action::Let
+        | Action::Product
+        | Action::Initial => 6,
         Action::OneHeader | Action::If | Action::Case => 7,
         Action::Rest => 8,
     }
@@ -132,7 +236,12 @@ pub fn grow(sizes: &Sizes, action: Action) -> Growth
             listed(test, nothing())
         }
         Action::Union => above(sizes.part(4, count).along, sizes.part(0, count).line),
-        Action::For => counted(0, 0, u32::from(sizes.part(1, count).least), sizes.part(0, count).line),
+        Action::For => counted(
+            0,
+            0,
+            u32::from(sizes.part(1, count).least),
+            sizes.part(0, count).line,
+        ),
         Action::Rest => rest(sizes, count),
         Action::Prefix
         | Action::NameOrCall

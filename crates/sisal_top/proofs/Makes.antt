@@ -7,11 +7,11 @@ use Rattle.flow_value.specs.Scalar.{strict2, row2}
 use Rattle.flow_value.specs.declared.operation.Scalar2.TheVariants as two
 use Rattle.flow_value.specs.declared.no_memory.NoMemory.{NoMemory}
 use Rattle.flow_value.specs.declared.value.Val.{Val}
-use Rattle.sisal_parse.specs.Value.{Scope, value_named, value_step, value_in, values_of}
-use Rattle.sisal_parse.specs.declared.tree.Expr.{Expr}
-use Rattle.sisal_parse.specs.declared.tree.Expr.TheFolds.{fold-roll-Expr}
-use Rattle.sisal_parse.specs.declared.tree.Expr.TheOpen.{Expr-F}
-use Rattle.sisal_parse.specs.declared.tree.Expr.TheVariants as expr
+use Rattle.first_form.specs.Value.{Scope, value_named, value_step, value_in, values_of}
+use Rattle.first_form.specs.declared.tree.Expr.{Expr}
+use Rattle.first_form.specs.declared.tree.Expr.TheFolds.{fold-roll-Expr}
+use Rattle.first_form.specs.declared.tree.Expr.TheOpen.{Expr-F}
+use Rattle.first_form.specs.declared.tree.Expr.TheVariants as expr
 use Rattle.sisal_top.specs.declared.graph.Input.{Input}
 use Rattle.sisal_top.specs.declared.graph.Input.TheVariants as input
 use Rattle.sisal_top.specs.Graph.{input_value}

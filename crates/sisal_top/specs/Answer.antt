@@ -2,8 +2,8 @@
 use Rattle.std.specs.Prelude.{◌≡◌, ℕ, List, [], ◌∷◌, ◌++◌, ◌⊎◌, Option}
 use Rattle.flow_io.specs.Bytes.{AddsOn}
 use Rattle.flow_value.specs.declared.value.Val.{Val}
-use Rattle.sisal_parse.specs.Value.{values_of}
-use Rattle.sisal_parse.specs.declared.tree.Expr.{Expr}
+use Rattle.first_form.specs.Value.{values_of}
+use Rattle.first_form.specs.declared.tree.Expr.{Expr}
 use Rattle.sisal_top.specs.Program.{IsFirstForm, IsRun, IsText}
 use Rattle.sisal_top.specs.declared.status.Status.{Status}
 use Rattle.sisal_top.specs.declared.status.Status.TheVariants as status

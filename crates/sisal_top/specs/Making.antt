@@ -3,8 +3,8 @@ use Rattle.std.specs.Prelude.{◌≡◌, ℕ, nat_eq, if◌then◌else◌, List,
 use Rattle.flow_value.specs.declared.cause.Cause.TheVariants as cause
 use Rattle.flow_value.specs.declared.value.Val.{Val}
 use Rattle.flow_value.specs.declared.value.Val.TheVariants as val
-use Rattle.sisal_parse.specs.Value.{Scope, value_named, value_in, defined}
-use Rattle.sisal_parse.specs.declared.tree.Expr.{Expr}
+use Rattle.first_form.specs.Value.{Scope, value_named, value_in, defined}
+use Rattle.first_form.specs.declared.tree.Expr.{Expr}
 use Rattle.sisal_top.specs.declared.graph.Input.{Input}
 use Rattle.sisal_top.specs.declared.graph.Input.TheVariants as input
 

@@ -2,8 +2,8 @@
 use Rattle.std.specs.Prelude.{◌≡◌, ℕ, List, [], ◌∷◌, Ok, codes}
 use Rattle.sisal_lex.specs.Tokens.{tokens_of}
 use Rattle.sisal_lex.specs.declared.token.Tokens.{Tokens}
-use Rattle.sisal_parse.specs.Form.{IsProgram}
-use Rattle.sisal_parse.specs.declared.tree.Expr.{Expr}
+use Rattle.first_form.specs.Form.{IsProgram}
+use Rattle.first_form.specs.declared.tree.Expr.{Expr}
 
 -- these bytes are a program of the first form with these results
 pub record IsText (bytes : List ℕ) (results : List Expr) : Type 0 where

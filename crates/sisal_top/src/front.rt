@@ -4,7 +4,7 @@ ghost use Rattle.sisal_top.specs.Program.{IsFirstForm, IsText};
 
 use flow_value::{NoMemory, Seq};
 use sisal_lex::{LexFault, lex};
-use sisal_parse::{Expr, first_form};
+use first_form::{Expr, first_form};
 use std::alloc::Global;
 
 /// The results of the program that a text is, or none exactly where it is no program of the first

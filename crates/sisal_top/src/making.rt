@@ -2,13 +2,13 @@
 ghost use Rattle.std.specs.Prelude.{◌≡◌, ℕ, nat_eq, if◌then◌else◌, IfOk, OnOk};
 ghost use Rattle.flow_value.specs.Scalar.{strict2, row2};
 ghost use Rattle.flow_value.specs.declared.value.Val.{Val};
-ghost use Rattle.sisal_parse.specs.Value.{Scope, value_in, values_of};
+ghost use Rattle.first_form.specs.Value.{Scope, value_in, values_of};
 ghost use Rattle.sisal_top.specs.Graph.{fired};
 ghost use Rattle.sisal_top.specs.Making.{Gives, GiveAll, Grows, Stands, named, scope_in, undone};
 
 use crate::graph::{Graph, Input, Node};
 use flow_value::{NoMemory, Scalar2, Seq};
-use sisal_parse::Expr;
+use first_form::Expr;
 use std::alloc::Global;
 
 /// What a name stands for.

@@ -1,6 +1,6 @@
 //! Printing the results of a graph.
 ghost use Rattle.std.specs.Prelude.{◌≡◌, map, IfOk};
-ghost use Rattle.sisal_parse.specs.Value.{values_of};
+ghost use Rattle.first_form.specs.Value.{values_of};
 ghost use Rattle.sisal_top.specs.Answer.{lines};
 ghost use Rattle.sisal_top.specs.Graph.{input_value};
 
@@ -8,7 +8,7 @@ use crate::firing::{fire, lent, literal};
 use crate::graph::Input;
 use crate::making::make_all;
 use flow_value::{NoMemory, Seq, Text, Val};
-use sisal_parse::Expr;
+use first_form::Expr;
 use std::alloc::Global;
 use value_text::print_value;
 

@@ -44,8 +44,8 @@ token_at-requires c =
     let t : ReadTurn sisal plan c.args.steps.now (placed 0 c.args.tokens.now) c.loop-k.k c.loop-k.left c.loop-k.values nowhere = read_turn sisal plan c.args.steps.now (placed 0 c.args.tokens.now) c.loop-k.k c.loop-k.left c.loop-k.values nowhere c.loop-k-test.true c.loop-k.invariant.within (all_read c.args.steps.now c.args.tokens.now c.requires) c.in-Read.is c.loop-k.invariant.place c.loop-k.invariant.values in
     subst (λ n. c.loop-k.left - 1 < n) (placed_length c.args.tokens.now 0) t.within
 
-pub loop-k-preserved-in-Continue-1 : goal.loop-k-preserved-in-Continue-1
-loop-k-preserved-in-Continue-1 c =
+pub loop-k-preserved-in-Continue-branch-2 : goal.loop-k-preserved-in-Continue-branch-2
+loop-k-preserved-in-Continue-branch-2 c =
     let t : ReadTurn sisal plan c.args.steps.now (placed 0 c.args.tokens.now) c.loop-k.k c.loop-k.left c.loop-k.values nowhere = read_turn sisal plan c.args.steps.now (placed 0 c.args.tokens.now) c.loop-k.k c.loop-k.left c.loop-k.values nowhere c.loop-k-test.true c.loop-k.invariant.within (all_read c.args.steps.now c.args.tokens.now c.requires) c.in-Read.is c.loop-k.invariant.place c.loop-k.invariant.values in
     let made : c.push.new.self ≡ AToken c.in_ok-token.token ∷ c.loop-k.values = c.in_ok-push-in-Read.ensures in
     let same : c.in_ok-token.token ≡ get_or (placed 0 c.args.tokens.now) (c.loop-k.left - 1) nowhere = c.in_ok-token.ensures in

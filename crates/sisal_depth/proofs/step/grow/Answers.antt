@@ -1,4 +1,4 @@
-use Rattle.std.proofs.Common.{◌≡◌, take, length, sym, ◌∙◌, ap}
+use Rattle.std.proofs.Common.{take, length, sym, ◌∙◌, ap}
 use Rattle.sisal_grammar.specs.Sorts.{args}
 use Rattle.sisal_grammar.specs.declared.action.Action.TheVariants.{Rest}
 use Rattle.sisal_depth.specs.Sizes.{grown}

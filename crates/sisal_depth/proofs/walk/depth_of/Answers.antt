@@ -1,7 +1,5 @@
-use Rattle.std.proofs.Common.{◌≡◌, ◌<◌, ◌∷◌, List, [], Some, min, sym, ◌∙◌, ap, subst}
-use Rattle.sisal_tree.specs.Depth.{PassesAt, depth_of}
-use Rattle.sisal_grammar.specs.declared.value.Outline.{Outline}
-use Rattle.sisal_depth.specs.declared.sizes.Growth.{Growth}
+use Rattle.std.proofs.Common.{◌≡◌, ◌<◌, sym, ◌∙◌, ap, subst}
+use Rattle.sisal_tree.specs.Depth.{PassesAt}
 use Rattle.sisal_depth.specs.Sizes.{at, sizes_of}
 use Rattle.sisal_depth.proofs.Depths.{items_size}
 use Rattle.sisal_depth.proofs.Finals.{reads_tokens, top_of, items_least, passes_items, first_of_one}

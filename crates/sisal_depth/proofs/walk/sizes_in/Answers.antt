@@ -1,5 +1,4 @@
-use Rattle.std.proofs.Common.{◌≡◌, ℕ, ◌-◌, ◌∷◌, take, drop, length, get_or, refl, sym, ◌∙◌, ap, arith}
-use Rattle.std.proofs.lemmas.List.{take_all, drop_all}
+use Rattle.std.proofs.Common.{◌≡◌, ◌-◌, ◌∷◌, take, drop, length, get_or, sym, ◌∙◌, ap, arith}
 use Rattle.sisal_grammar.specs.Sorts.{args}
 use Rattle.sisal_grammar.specs.Plan.{plan}
 use Rattle.sisal_depth.specs.Sizes.{grown, sizes_of, token_size, no_token}
@@ -41,7 +40,7 @@ loop-k-preserved c =
       within = omega (arith, c.loop-k.invariant.within);
       place = t.place;
       values = made ∙ (ap (λ x. x ∷ c.skip.new.self) size
-      ∙ (ap (λ l. grown c.action_of-action.result (take (length (args c.action_of-action.result)) c.loop-k.sizes) ∷ l) left
-      ∙ (ap (λ a. grown a (take (length (args a)) c.loop-k.sizes) ∷ drop (length (args a)) c.loop-k.sizes) action
-      ∙ (ap (λ z. grown (plan.action c.in-Open.production) (take (length (args (plan.action c.in-Open.production))) z) ∷ drop (length (args (plan.action c.in-Open.production))) z) rest ∙ sym t.sizes))));
+          ∙ (ap (λ l. grown c.action_of-action.result (take (length (args c.action_of-action.result)) c.loop-k.sizes) ∷ l) left
+          ∙ (ap (λ a. grown a (take (length (args a)) c.loop-k.sizes) ∷ drop (length (args a)) c.loop-k.sizes) action
+          ∙ (ap (λ z. grown (plan.action c.in-Open.production) (take (length (args (plan.action c.in-Open.production))) z) ∷ drop (length (args (plan.action c.in-Open.production))) z) rest ∙ sym t.sizes))));
     }

@@ -1,7 +1,7 @@
 use Rattle.std.proofs.Common.{◌≡◌, List, None, Ok, sym, subst, ◌∙◌}
 use Rattle.sisal_lex.specs.declared.token.Tokens.{Tokens}
-use Rattle.sisal_parse.specs.declared.tree.Expr.{Expr}
-use Rattle.sisal_parse.specs.Form.{IsProgram}
+use Rattle.first_form.specs.declared.tree.Expr.{Expr}
+use Rattle.first_form.specs.Form.{IsProgram}
 use Rattle.sisal_top.specs.Program.{IsFirstForm, IsText}
 use Rattle.sisal_top.proofs.front.trees.Goals as goal
 

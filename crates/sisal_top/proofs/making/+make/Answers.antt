@@ -2,9 +2,9 @@ use Rattle.std.proofs.Common.{◌≡◌, ℕ, ◌<◌, nat_eq, cond, List, [], �
 use Rattle.flow_value.specs.Scalar.{strict2, row2}
 use Rattle.flow_value.specs.declared.operation.Scalar2.TheVariants as two
 use Rattle.flow_value.specs.declared.value.Val.{Val}
-use Rattle.sisal_parse.specs.Value.{Scope, value_in}
-use Rattle.sisal_parse.specs.declared.tree.Expr.{Expr}
-use Rattle.sisal_parse.specs.declared.tree.Expr.TheVariants as expr
+use Rattle.first_form.specs.Value.{Scope, value_in}
+use Rattle.first_form.specs.declared.tree.Expr.{Expr}
+use Rattle.first_form.specs.declared.tree.Expr.TheVariants as expr
 use Rattle.sisal_top.specs.declared.graph.Input.{Input}
 use Rattle.sisal_top.specs.Graph.{fired}
 use Rattle.sisal_top.specs.Making.{named, undone}

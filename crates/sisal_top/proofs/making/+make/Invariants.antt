@@ -1,5 +1,5 @@
 use Rattle.std.proofs.Common.{◌≡◌, ℕ, drop}
-use Rattle.sisal_parse.specs.Value.{Scope}
+use Rattle.first_form.specs.Value.{Scope}
 use Rattle.sisal_top.specs.Graph.{fired}
 use Rattle.sisal_top.specs.Making.{Grows, Stands, named, scope_in, undone}
 use Rattle.sisal_top.proofs.making.+make.Given as goal

@@ -1,7 +1,7 @@
 use Rattle.std.proofs.Common.{◌≡◌, ℕ, ◌+◌, ◌<◌, List, [], ◌∷◌, ◌++◌, length, drop, arith, append_assoc, ap, sym, subst, ◌∙◌}
 use Rattle.flow_value.specs.declared.value.Val.{Val}
-use Rattle.sisal_parse.specs.Value.{value_in, values_of}
-use Rattle.sisal_parse.specs.declared.tree.Expr.{Expr}
+use Rattle.first_form.specs.Value.{value_in, values_of}
+use Rattle.first_form.specs.declared.tree.Expr.{Expr}
 use Rattle.sisal_top.specs.declared.graph.Input.{Input}
 use Rattle.sisal_top.specs.Graph.{fired}
 use Rattle.sisal_top.specs.Making.{GiveAll, named}

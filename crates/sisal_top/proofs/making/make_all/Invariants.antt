@@ -1,6 +1,6 @@
 use Rattle.std.proofs.Common.{◌≡◌, ℕ, List, ◌++◌, drop}
 use Rattle.flow_value.specs.declared.value.Val.{Val}
-use Rattle.sisal_parse.specs.Value.{values_of}
+use Rattle.first_form.specs.Value.{values_of}
 use Rattle.sisal_top.specs.declared.graph.Input.TheVariants as input
 use Rattle.sisal_top.specs.Graph.{fired}
 use Rattle.sisal_top.specs.Making.{GiveAll, named}

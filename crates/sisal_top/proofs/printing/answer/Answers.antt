@@ -1,7 +1,7 @@
 use Rattle.std.proofs.Common.{◌≡◌, List, map, rules, ap}
 use Rattle.std.proofs.lemmas.Result.{IfOk-equal}
 use Rattle.flow_value.specs.declared.value.Val.{Val}
-use Rattle.sisal_parse.specs.Value.{values_of}
+use Rattle.first_form.specs.Value.{values_of}
 use Rattle.sisal_top.specs.Answer.{lines}
 use Rattle.sisal_top.specs.Graph.{fired, input_value}
 use Rattle.sisal_top.proofs.Makes.{give_all_values}
