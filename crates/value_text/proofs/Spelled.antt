@@ -94,8 +94,8 @@ fields_formed n Part ih (x ∷ gs) (v ∷ vs) s b r (t, h, k) o =
       within = both_true (is_within f.form n) (are_within ps.parts n) f.within ps.within;
       size_is = one_off (length gs) (count ps.parts) ps.size_is;
       fits = λ fs i g.
-        let at : slice_get fs i ≡ Some x = ap (slice_get fs) (sym (plus_none i)) ∙ g 0 in
-        none_both (misfit f.form (type_at None fs i) (length (past_blanks s))) (part_misfit ps.parts None fs (i + 1))
+          let at : slice_get fs i ≡ Some x = ap (slice_get fs) (sym (plus_none i)) ∙ g 0 in
+          none_both (misfit f.form (type_at None fs i) (length (past_blanks s))) (part_misfit ps.parts None fs (i + 1))
           (ap (λ (y : Option (List ℕ × Ty)). misfit f.form (option_map (λ (z : List ℕ × Ty). z.1) y) (length (past_blanks s))) at ∙ f.fits (length (past_blanks s)))
           (ps.fits fs (i + 1) (λ j. ap (slice_get fs) (plus_next i j) ∙ g (suc j)));
     }
