@@ -10,8 +10,8 @@ pub mod RoundTrip
 pub mod Follows
 pub mod Ends
 pub mod Search
-pub mod Spelled
 pub mod Joins
 pub mod Looks
 pub mod Fits
 pub mod Verdict
+pub mod Spelled

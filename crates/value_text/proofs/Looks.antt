@@ -298,6 +298,7 @@ more_parts false a l p g x y e f = refl
 
 mutual
   unfolding parts_look
+
   pub look_form : (f : Form) (n : ℕ) (ty : Option Ty) (s r : List ℕ) → Spells f s r → Tells f n ty s r
   look_form form.error zero ty s r h = refl
   look_form form.error (suc n) ty s r h = alone_look n (look n) ty s r h.0 h.1
@@ -330,6 +331,6 @@ mutual
   parts_form (part k f ps) n ty fs close zero i s r e h = rw (open_yet f close s h.0 e h.2, none_below (count ps), and_no (is_within f n && are_within ps n)) refl
   parts_form (part k f ps) n ty fs close (suc m) i s r e h =
       rw (open_yet f close s h.0 e h.2, look_form f n (type_at ty fs i) s h.0 h.2, less_by_one (count ps) m)
-        (more_parts (is_within f n) (are_within ps n) (leb (count ps) m) (misfit f (type_at ty fs i) (length s), h.0) (λ (p : Look). with_look p.0 (parts_look (look n) ty fs close m (i + 1) (past_blanks p.1))) ((count ps, part_misfit ps ty fs (i + 1)), r) ((count ps + 1, or_else (misfit f (type_at ty fs i) k) (part_misfit ps ty fs (i + 1))), r)
-          (rw (parts_form ps n ty fs close m (i + 1) (past_blanks h.0) r e h.3) refl)
-          (rw (h.1) refl))
+      (more_parts (is_within f n) (are_within ps n) (leb (count ps) m) (misfit f (type_at ty fs i) (length s), h.0) (λ (p : Look). with_look p.0 (parts_look (look n) ty fs close m (i + 1) (past_blanks p.1))) ((count ps, part_misfit ps ty fs (i + 1)), r) ((count ps + 1, or_else (misfit f (type_at ty fs i) k) (part_misfit ps ty fs (i + 1))), r)
+      (rw (parts_form ps n ty fs close m (i + 1) (past_blanks h.0) r e h.3) refl)
+      (rw (h.1) refl))

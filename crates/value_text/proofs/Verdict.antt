@@ -18,7 +18,7 @@ none_looked : (w : Bool) (x : Look) → cond w (Some x) None ≡ None → w ≡ 
 none_looked true x e = absurd cc
 none_looked false x e = refl
 
-some_looked : (w : Bool) (x y : Look) → cond w (Some x) None ≡ Some y → (w ≡ true) × (x ≡ y)
+pub some_looked : (w : Bool) (x y : Look) → cond w (Some x) None ≡ Some y → (w ≡ true) × (x ≡ y)
 some_looked true x y e = (refl, same_Some x y e)
 some_looked false x y e = absurd cc
 

@@ -193,3 +193,10 @@ Explains bytes ty (faults.BadSpelling k) = ⊥
 Explains bytes ty (faults.WrongShape k) = MisfitAt bytes ty k
 Explains bytes ty faults.TooLarge = PastLimits bytes
 Explains bytes ty faults.NoMemory = ⊥
+
+-- The text is a value text within the limits, each part of the form of its type: so it is in every form
+-- that the text spells. No text with a fault is.
+pub record IsOfType (bytes : List ℕ) (ty : Ty) : Type 0 where
+  pub spelled : IsValueText bytes
+  pub within : (f : Form) → SpellsForm bytes f → is_within f 64 ≡ true
+  pub fits : (f : Form) → SpellsForm bytes f → misfit f (Some ty) (length (past_blanks bytes)) ≡ None

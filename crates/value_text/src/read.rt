@@ -7,7 +7,7 @@ ghost use Rattle.value_text.specs.Grammar.{reads_value};
 ghost use Rattle.value_text.specs.Nesting.{nesting, has_small_tags};
 ghost use Rattle.value_text.specs.Printed.{value_bytes};
 ghost use Rattle.value_text.specs.Forms.{IsValueText, FirstBad};
-ghost use Rattle.value_text.specs.Faults.{PastLimits, MisfitAt, Explains, IsCause};
+ghost use Rattle.value_text.specs.Faults.{PastLimits, MisfitAt, IsOfType, Explains, IsCause};
 ghost use Rattle.flow_value.specs.Well.{is_well};
 ghost use Rattle.flow_value.specs.declared.value.Val.{Val};
 ghost use Rattle.flow_value.specs.declared.ty.Ty.{Ty};
@@ -400,4 +400,10 @@ pub fn spells_one_value()
 /// as those of every `Val` have.
 pub fn printed_is_read()
     ensures { (ty : Ty) (v : Val) → IsTrue (is_well ty v) → nesting v ≤ 64 → IsTrue (has_small_tags v) → reads_value (value_bytes v) ty v }
+{}
+
+/// What spells a value of a type is a value text within the limits, each part of its type's form; so
+/// no text that has a fault spells a value.
+pub fn read_texts_fit()
+    ensures { (bytes : List ℕ) (ty : Ty) (v : Val) → reads_value bytes ty v → IsOfType bytes ty }
 {}

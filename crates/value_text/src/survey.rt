@@ -365,7 +365,11 @@ fn record(ty: Option<&Ty>, below: usize, text: &[u8], at: usize) -> Option<Look>
 fn narrow_tag(n: u64) -> Option<u64>
     ensures { result ≡ narrow_tag n }
 {
-    if n < 9223372036854775808 { Some(n) } else { None }
+    if n < 9223372036854775808 {
+        Some(n)
+    } else {
+        None
+    }
 }
 
 #[cycle(survey)]

@@ -17,4 +17,4 @@ returns-in-Some c =
     let found : Option (Option ℕ × ℕ) = Some (c.in-Some.misfit, c.in-Some.field-0-1) in
     let seen : placed c.args.text.now c.survey.result ≡ placed c.args.text.now found = ap (λ (x : Option (Option ℕ × ℕ)). placed c.args.text.now x) c.in-Some.is in
     rw (c.saturating_sub.ensures, c.unwrap_or.ensures)
-      (wrong_shape c.args.text.now c.args.ty.now c.in-Some.misfit (drop c.in-Some.field-0-1 c.args.text.now) c.requires.spelled c.requires.unread (ap (look 64 (Some c.args.ty.now)) c.skip.ensures ∙ told ∙ seen))
+    (wrong_shape c.args.text.now c.args.ty.now c.in-Some.misfit (drop c.in-Some.field-0-1 c.args.text.now) c.requires.spelled c.requires.unread (ap (look 64 (Some c.args.ty.now)) c.skip.ensures ∙ told ∙ seen))
