@@ -1,0 +1,10 @@
+//! Units of IF1 dataflow graphs, the table of their nodes, and what makes a unit valid.
+#![tactic(auto)]
+
+mod graph;
+mod op;
+
+pub use graph::{
+    Edge, EdgeList, Graph, GraphList, Imports, Node, NodeList, Origin, TypeEntry, TypeTable, Unit1,
+};
+pub use op::{Compound, Grouping, Part, Reducer, Simple, compound_of, reducer_of, simple_of};
