@@ -3,8 +3,10 @@
 
 mod graph;
 mod op;
+mod row;
 
 pub use graph::{
     Edge, EdgeList, Graph, GraphList, Imports, Node, NodeList, Origin, TypeEntry, TypeTable, Unit1,
 };
 pub use op::{Compound, Grouping, Part, Reducer, Simple, compound_of, reducer_of, simple_of};
+pub use row::{Rest, Use, Want};

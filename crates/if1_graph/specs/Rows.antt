@@ -1,0 +1,132 @@
+-- The table of simple nodes (IF1 manual M-170): operands of ports 1, 2, .. and outputs, with the types that each may have.
+use Rattle.std.specs.Prelude.{ℕ, zero, suc, List, [], ◌∷◌, Bool, true, false, Option, Some, None, slice_get}
+use Rattle.flow_value.specs.declared.operation.Scalar1.TheVariants.{Neg, Abs, Not, Int, Bool as ToBool, Char, IsError}
+use Rattle.flow_value.specs.declared.operation.Scalar2.TheVariants.{Plus, Minus, Times, Div, Mod, Max, Min, Equal, NotEqual, Less, LessEqual}
+use Rattle.if1_graph.specs.declared.op.Simple.{Simple}
+use Rattle.if1_graph.specs.declared.op.Simple.TheVariants.{One, Two, NoOp, Error, Call, ABuild, AFill, AElement, AReplace, AAddH, AAddL, ARemH, ARemL, ASetL, AAdjust, ALimL, ALimH, ASize, AIsEmpty, ACatenate, FirstValue, RestValues, RBuild, RElements, RReplace, RangeGenerate, AScatter, AGather, FinalValue, Reduce}
+use Rattle.if1_graph.specs.declared.row.Use.{Use}
+use Rattle.if1_graph.specs.declared.row.Use.TheVariants.{Reads, Changes, Keeps, Passes}
+use Rattle.if1_graph.specs.declared.row.Want.{Want}
+use Rattle.if1_graph.specs.declared.row.Want.TheVariants.{Integer, Boolean, Character, IntegerOrBoolean, IntegerOrCharacter, Discrete, Scalar, Any, Array, Stream, Sequence, Record, Multiple, Integers, Booleans, Reducible, Function, Reduction, Same, Element, ArrayOf, SequenceOf, SequenceOfElements, Elements, Built}
+use Rattle.if1_graph.specs.declared.row.Rest.{Rest}
+use Rattle.if1_graph.specs.declared.row.Rest.TheVariants.{Nothing, Mask, More, Arguments, Fields, NewFields}
+
+abbrev pub Operand : Type 0
+Operand = Use × Want
+
+abbrev pub reads : Want → Operand
+reads w = (Reads, w)
+
+abbrev pub changes : Want → Operand
+changes w = (Changes, w)
+
+abbrev pub keeps : Want → Operand
+keeps w = (Keeps, w)
+
+abbrev pub passes : Want → Operand
+passes w = (Passes, w)
+
+-- what a node gives: outputs of these types, the results of the named function, or the fields of the record at port 1
+pub data Gives : Type 0 where
+  These : (outputs : List Want) → Gives
+  Results : Gives
+  FieldsOut : Gives
+
+pub record Row : Type 0 where
+  pub operands : List Operand
+  pub rest : Rest
+  pub gives : Gives
+
+abbrev pub row : List Operand → Rest → Gives → Row
+row operands rest gives = record { operands = operands; rest = rest; gives = gives }
+
+-- exactly these operands, and one output
+abbrev pub takes : List Operand → Want → Row
+takes operands output = row operands Nothing (These (output ∷ []))
+
+-- an operand of the fold nodes, with or without a mask after it
+abbrev pub folds : List Operand → Want → Row
+folds operands output = row operands Mask (These (output ∷ []))
+
+abbrev pub row_of : Simple → Row
+row_of (Two Plus) = takes (reads IntegerOrBoolean ∷ reads (Same 1) ∷ []) (Same 1)
+row_of (Two Minus) = takes (reads Integer ∷ reads Integer ∷ []) Integer
+row_of (Two Times) = takes (reads IntegerOrBoolean ∷ reads (Same 1) ∷ []) (Same 1)
+row_of (Two Div) = takes (reads Integer ∷ reads Integer ∷ []) Integer
+row_of (Two Mod) = takes (reads Integer ∷ reads Integer ∷ []) Integer
+row_of (Two Max) = takes (reads Integer ∷ reads Integer ∷ []) Integer
+row_of (Two Min) = takes (reads Integer ∷ reads Integer ∷ []) Integer
+row_of (Two Equal) = takes (reads Scalar ∷ reads (Same 1) ∷ []) Boolean
+row_of (Two NotEqual) = takes (reads Scalar ∷ reads (Same 1) ∷ []) Boolean
+row_of (Two Less) = takes (reads IntegerOrCharacter ∷ reads (Same 1) ∷ []) Boolean
+row_of (Two LessEqual) = takes (reads IntegerOrCharacter ∷ reads (Same 1) ∷ []) Boolean
+row_of (One Neg) = takes (reads Integer ∷ []) Integer
+row_of (One Abs) = takes (reads Integer ∷ []) Integer
+row_of (One Not) = takes (reads Boolean ∷ []) Boolean
+row_of (One Int) = takes (reads Discrete ∷ []) Integer
+row_of (One ToBool) = takes (reads IntegerOrBoolean ∷ []) Boolean
+row_of (One Char) = takes (reads IntegerOrCharacter ∷ []) Character
+row_of (One IsError) = takes (passes Any ∷ []) Boolean
+row_of NoOp = takes (keeps Any ∷ []) (Same 1)
+row_of Error = takes [] Any
+row_of Call = row (reads Function ∷ []) Arguments Results
+row_of ABuild = row (reads Integer ∷ []) (More Keeps (Same 2)) (These (SequenceOf 2 ∷ []))
+row_of AFill = takes (reads Integer ∷ reads Integer ∷ passes Any ∷ []) (ArrayOf 3)
+row_of AElement = takes (reads Array ∷ reads Integer ∷ []) (Element 1)
+row_of AReplace = takes (changes Array ∷ reads Integer ∷ keeps (Element 1) ∷ []) (Same 1)
+row_of AAddH = takes (changes Sequence ∷ keeps (Element 1) ∷ []) (Same 1)
+row_of AAddL = takes (changes Array ∷ keeps (Element 1) ∷ []) (Same 1)
+row_of ARemH = takes (changes Array ∷ []) (Same 1)
+row_of ARemL = takes (changes Array ∷ []) (Same 1)
+row_of ASetL = takes (changes Array ∷ reads Integer ∷ []) (Same 1)
+row_of AAdjust = takes (changes Array ∷ reads Integer ∷ reads Integer ∷ []) (Same 1)
+row_of ALimL = takes (reads Array ∷ []) Integer
+row_of ALimH = takes (reads Array ∷ []) Integer
+row_of ASize = takes (reads Sequence ∷ []) Integer
+row_of AIsEmpty = takes (reads Sequence ∷ []) Boolean
+row_of ACatenate = row (changes Sequence ∷ changes (Same 1) ∷ []) (More Changes (Same 1)) (These (Same 1 ∷ []))
+row_of FirstValue = takes (reads Stream ∷ []) (Element 1)
+row_of RestValues = takes (changes Stream ∷ []) (Same 1)
+row_of RBuild = row [] Fields (These (Built ∷ []))
+row_of RElements = row (reads Record ∷ []) Nothing FieldsOut
+row_of RReplace = row (changes Record ∷ []) NewFields (These (Same 1 ∷ []))
+row_of RangeGenerate = takes (reads Integer ∷ reads Integer ∷ []) Integers
+row_of AScatter = row (reads Sequence ∷ []) Nothing (These (Elements 1 ∷ Integers ∷ []))
+row_of AGather = folds (reads Integer ∷ changes Multiple ∷ []) (SequenceOfElements 2)
+row_of FinalValue = folds (changes Multiple ∷ []) (Element 1)
+row_of (Reduce grouping) = folds (reads Reduction ∷ changes Reducible ∷ []) (Element 2)
+
+-- the operands that a rest has at each of its ports
+abbrev pub of_rest : Rest → Option Operand
+of_rest Nothing = None
+of_rest Mask = Some (reads Booleans)
+of_rest (More how want) = Some (how, want)
+of_rest Arguments = Some (passes Any)
+of_rest Fields = Some (keeps Any)
+of_rest NewFields = Some (keeps Any)
+
+abbrev pub at_port : {A : Type 0} → ℕ → List A → Option A
+at_port zero xs = None
+at_port (suc place) xs = slice_get xs place
+
+abbrev pub or_else : {A : Type 0} → Option A → Option A → Option A
+or_else None o = o
+or_else (Some a) o = Some a
+
+-- the operand of a port, from 1: how the node uses it, and the type that it wants there
+abbrev pub operand_of : Simple → ℕ → Option Operand
+operand_of op port = or_else (at_port port (row_of op).operands) (of_rest (row_of op).rest)
+
+-- an error at a strict operand is the error of every output
+abbrev pub is_strict : Use → Bool
+is_strict Reads = true
+is_strict Changes = true
+is_strict Keeps = false
+is_strict Passes = false
+
+-- a consumed operand becomes a part of the result
+abbrev pub is_consumed : Use → Bool
+is_consumed Reads = false
+is_consumed Changes = true
+is_consumed Keeps = true
+is_consumed Passes = false
