@@ -1,5 +1,5 @@
 -- The nodes by their opcodes (IF1 manual M-170, simple and compound nodes), and the reductions by their names.
-use Rattle.std.specs.Prelude.{ℕ, List, [], ◌∷◌, Option, Some, None, if◌then◌else◌, ◌==◌, bytes_eq, codes}
+use Rattle.std.specs.Prelude.{ℕ, List, [], ◌∷◌, Option, codes}
 use Rattle.flow_value.specs.declared.operation.Scalar1.{Scalar1}
 use Rattle.flow_value.specs.declared.operation.Scalar1.TheVariants.{Neg, Abs, Not, Int, Bool, Char, IsError}
 use Rattle.flow_value.specs.declared.operation.Scalar2.{Scalar2}
@@ -12,6 +12,7 @@ use Rattle.if1_graph.specs.declared.op.Compound.{Compound}
 use Rattle.if1_graph.specs.declared.op.Compound.TheVariants.{ForAll, Select, TagCase, LoopA, LoopB}
 use Rattle.if1_graph.specs.declared.op.Reducer.{Reducer}
 use Rattle.if1_graph.specs.declared.op.Reducer.TheVariants.{Sum, Product, Least, Greatest, Catenate}
+use Rattle.if1_graph.specs.Tables.{beside, named}
 
 abbrev pub simples : List (ℕ × Simple)
 simples =
@@ -83,16 +84,6 @@ reducers =
     (codes "greatest", Greatest) ∷
     (codes "catenate", Catenate) ∷
     []
-
--- what a table has beside a number
-abbrev pub beside : {A : Type 0} → ℕ → List (ℕ × A) → Option A
-beside n [] = None
-beside n (row ∷ rows) = if row.0 == n then Some row.1 else beside n rows
-
--- what a table has beside a name
-abbrev pub named : {A : Type 0} → List ℕ → List (List ℕ × A) → Option A
-named s [] = None
-named s (row ∷ rows) = if bytes_eq row.0 s then Some row.1 else named s rows
 
 abbrev pub simple_at : ℕ → Option Simple
 simple_at op = beside op simples

@@ -1,5 +1,5 @@
 -- The table of simple nodes (IF1 manual M-170): operands of ports 1, 2, .. and outputs, with the types that each may have.
-use Rattle.std.specs.Prelude.{ℕ, zero, suc, List, [], ◌∷◌, Bool, true, false, Option, Some, None, slice_get}
+use Rattle.std.specs.Prelude.{ℕ, List, [], ◌∷◌, Bool, true, false, Option, Some, None}
 use Rattle.flow_value.specs.declared.operation.Scalar1.TheVariants.{Neg, Abs, Not, Int, Bool as ToBool, Char, IsError}
 use Rattle.flow_value.specs.declared.operation.Scalar2.TheVariants.{Plus, Minus, Times, Div, Mod, Max, Min, Equal, NotEqual, Less, LessEqual}
 use Rattle.if1_graph.specs.declared.op.Simple.{Simple}
@@ -10,6 +10,7 @@ use Rattle.if1_graph.specs.declared.row.Want.{Want}
 use Rattle.if1_graph.specs.declared.row.Want.TheVariants.{Integer, Boolean, Character, IntegerOrBoolean, IntegerOrCharacter, Discrete, Scalar, Any, Array, Stream, Sequence, Record, Multiple, Integers, Booleans, Reducible, Function, Reduction, Same, Element, ArrayOf, SequenceOf, SequenceOfElements, Elements, Built}
 use Rattle.if1_graph.specs.declared.row.Rest.{Rest}
 use Rattle.if1_graph.specs.declared.row.Rest.TheVariants.{Nothing, Mask, More, Arguments, Fields, NewFields}
+use Rattle.if1_graph.specs.Tables.{at_port, or_else}
 
 abbrev pub Operand : Type 0
 Operand = Use × Want
@@ -104,14 +105,6 @@ of_rest (More how want) = Some (how, want)
 of_rest Arguments = Some (passes Any)
 of_rest Fields = Some (keeps Any)
 of_rest NewFields = Some (keeps Any)
-
-abbrev pub at_port : {A : Type 0} → ℕ → List A → Option A
-at_port zero xs = None
-at_port (suc place) xs = slice_get xs place
-
-abbrev pub or_else : {A : Type 0} → Option A → Option A → Option A
-or_else None o = o
-or_else (Some a) o = Some a
 
 -- the operand of a port, from 1: how the node uses it, and the type that it wants there
 abbrev pub operand_of : Simple → ℕ → Option Operand

@@ -2,11 +2,13 @@
 #![tactic(auto)]
 
 mod graph;
+mod kind;
 mod op;
 mod row;
 
 pub use graph::{
     Edge, EdgeList, Graph, GraphList, Imports, Node, NodeList, Origin, TypeEntry, TypeTable, Unit1,
 };
+pub use kind::{Basic, TypeKind, basic_of, kind_of};
 pub use op::{Compound, Grouping, Part, Reducer, Simple, compound_of, reducer_of, simple_of};
 pub use row::{Rest, Use, Want};
