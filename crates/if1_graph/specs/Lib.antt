@@ -4,3 +4,4 @@ pub mod Rows
 pub mod Kinds
 pub mod Types
 pub mod Parts
+pub mod Units

@@ -1,5 +1,5 @@
 -- The table of simple nodes (IF1 manual M-170): operands of ports 1, 2, .. and outputs, with the types that each may have.
-use Rattle.std.specs.Prelude.{ℕ, List, [], ◌∷◌, Bool, true, false, Option, Some, None}
+use Rattle.std.specs.Prelude.{ℕ, ◌-◌, List, [], ◌∷◌, Bool, true, false, Option, Some, None}
 use Rattle.flow_value.specs.declared.operation.Scalar1.TheVariants.{Neg, Abs, Not, Int, Bool as ToBool, Char, IsError}
 use Rattle.flow_value.specs.declared.operation.Scalar2.TheVariants.{Plus, Minus, Times, Div, Mod, Max, Min, Equal, NotEqual, Less, LessEqual}
 use Rattle.if1_graph.specs.declared.op.Simple.{Simple}
@@ -7,7 +7,7 @@ use Rattle.if1_graph.specs.declared.op.Simple.TheVariants.{One, Two, NoOp, Error
 use Rattle.if1_graph.specs.declared.row.Use.{Use}
 use Rattle.if1_graph.specs.declared.row.Use.TheVariants.{Reads, Changes, Keeps, Passes}
 use Rattle.if1_graph.specs.declared.row.Want.{Want}
-use Rattle.if1_graph.specs.declared.row.Want.TheVariants.{Integer, Boolean, Character, IntegerOrBoolean, IntegerOrCharacter, Discrete, Scalar, Any, Array, Stream, Sequence, Record, Multiple, Integers, Booleans, Reducible, Function, Reduction, Same, Element, ArrayOf, SequenceOf, SequenceOfElements, Elements, Built}
+use Rattle.if1_graph.specs.declared.row.Want.TheVariants.{Integer, Boolean, Character, IntegerOrBoolean, IntegerOrCharacter, Discrete, Scalar, Any, Array, Stream, Sequence, Record, Multiple, Integers, Booleans, Reducible, Function, Reduction, Same, Element, ArrayOf, SequenceOf, SequenceOfElements, Elements, Built, Argument, Output, FieldOf}
 use Rattle.if1_graph.specs.declared.row.Rest.{Rest}
 use Rattle.if1_graph.specs.declared.row.Rest.TheVariants.{Nothing, Mask, More, Arguments, Fields, NewFields}
 use Rattle.if1_graph.specs.Tables.{at_port, or_else}
@@ -27,7 +27,7 @@ keeps w = (Keeps, w)
 abbrev pub passes : Want → Operand
 passes w = (Passes, w)
 
--- what a node gives: outputs of these types, the results of the named function, or the fields of the record at port 1
+-- what a node gives: outputs of these types, all results of the named function, or all fields of the record at port 1
 pub data Gives : Type 0 where
   These : (outputs : List Want) → Gives
   Results : Gives
@@ -97,18 +97,27 @@ row_of AGather = folds (reads Integer ∷ changes Multiple ∷ []) (SequenceOfEl
 row_of FinalValue = folds (changes Multiple ∷ []) (Element 1)
 row_of (Reduce grouping) = folds (reads Reduction ∷ changes Reducible ∷ []) (Element 2)
 
--- the operands that a rest has at each of its ports
-abbrev pub of_rest : Rest → Option Operand
-of_rest Nothing = None
-of_rest Mask = Some (reads Booleans)
-of_rest (More how want) = Some (how, want)
-of_rest Arguments = Some (passes Any)
-of_rest Fields = Some (keeps Any)
-of_rest NewFields = Some (keeps Any)
+-- the operand of a port of the rest
+abbrev pub of_rest : Rest → ℕ → Option Operand
+of_rest Nothing port = None
+of_rest Mask port = Some (reads Booleans)
+of_rest (More how want) port = Some (how, want)
+of_rest Arguments port = Some (passes (Argument (port - 1)))
+of_rest Fields port = Some (keeps Any)
+of_rest NewFields port = Some (keeps (FieldOf (port - 1)))
 
 -- the operand of a port, from 1: how the node uses it, and the type that it wants there
 abbrev pub operand_of : Simple → ℕ → Option Operand
-operand_of op port = or_else (at_port port (row_of op).operands) (of_rest (row_of op).rest)
+operand_of op port = or_else (at_port port (row_of op).operands) (of_rest (row_of op).rest port)
+
+abbrev pub of_gives : Gives → ℕ → Option Want
+of_gives (These outputs) port = at_port port outputs
+of_gives Results port = Some (Output port)
+of_gives FieldsOut port = Some (FieldOf port)
+
+-- the type that an output port, from 1, gives
+abbrev pub output_of : Simple → ℕ → Option Want
+output_of op port = of_gives (row_of op).gives port
 
 -- an error at a strict operand is the error of every output
 abbrev pub is_strict : Use → Bool

@@ -1,11 +1,13 @@
 //! Units of IF1 dataflow graphs, the table of their nodes, and what makes a unit valid.
 #![tactic(auto)]
 
+mod fault;
 mod graph;
 mod kind;
 mod op;
 mod row;
 
+pub use fault::If1Fault;
 pub use graph::{
     Edge, EdgeList, Graph, GraphList, Imports, Node, NodeList, Origin, TypeEntry, TypeTable, Unit1,
 };

@@ -66,6 +66,12 @@ pub enum Want {
     Elements(u32),
     /// A record of what is at the ports, or a union of what is at the one port.
     Built,
+    /// This argument, from 1, of the named function.
+    Argument(u32),
+    /// This result, from 1, of the named function.
+    Output(u32),
+    /// This field, from 1, of the record at port 1.
+    FieldOf(u32),
 }
 
 /// The operands after those that every node of a row has.
