@@ -1,0 +1,9 @@
+//! One line of IF1 text as a value, read and written.
+#![tactic(auto)]
+
+mod line;
+mod number;
+mod part;
+mod pragma;
+
+pub use line::{EntryForm, Line, entry_form};
