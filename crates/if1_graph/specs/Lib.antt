@@ -5,3 +5,6 @@ pub mod Kinds
 pub mod Types
 pub mod Parts
 pub mod Units
+pub mod Literals
+pub mod Spelled
+pub mod Formed
