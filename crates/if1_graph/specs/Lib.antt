@@ -8,3 +8,8 @@ pub mod Units
 pub mod Literals
 pub mod Spelled
 pub mod Formed
+pub mod Ports
+pub mod Typing
+pub mod Cycles
+pub mod Ready
+pub mod Normal
