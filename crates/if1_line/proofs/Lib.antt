@@ -1,2 +1,4 @@
 pub mod Splitting
 pub mod Rows
+pub mod Rising
+pub mod Lists

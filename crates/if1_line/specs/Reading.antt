@@ -1,5 +1,5 @@
 -- What a line of IF1 text says (M-170, text form). Labels and ports are at least 1, but for node 0, the boundary.
-use Rattle.std.specs.Prelude.{ℕ, Bool, true, false, ◌==◌, List, [], ◌∷◌, option_map, Option, Some, None, if◌then◌else◌}
+use Rattle.std.specs.Prelude.{ℕ, Bool, true, false, ◌==◌, List, [], ◌∷◌, length, slice_index, option_map, Option, Some, None, if◌then◌else◌}
 use Rattle.std.specs.List.{list_all}
 use Rattle.if1_line.specs.Parts.{◌>>=◌, is_blank, is_line_byte, Part, Word, Quoted, Broken, word_of, parts_of}
 use Rattle.if1_line.specs.Numbers.{numeral, number_first}
@@ -67,8 +67,7 @@ abbrev pub typed_name : List Part → Option (ℕ × List ℕ)
 typed_name ps =
     number_first 1 ps >>= λ ty.
     quoted_first ty.1 >>= λ name.
-    named name.1 >>= λ dropped.
-    Some (ty.0, name.0)
+    if list_all is_pragma name.1 then Some (ty.0, name.0) else None
 
 abbrev pub function_line : Bool → List Part → Option Line
 function_line exported ps = typed_name ps >>= λ f. Some (line.Function exported f.0 f.1)
@@ -95,8 +94,8 @@ close_line ps =
 
 -- the letter that stands alone at the front of a line, and the parts behind it
 abbrev pub letter_first : List Part → Option (ℕ × List Part)
-letter_first (Word (c ∷ []) ∷ ps) = Some (c, ps)
-letter_first ps = None
+letter_first [] = None
+letter_first (p ∷ ps) = if length (word_of p) == 1 then Some (slice_index (word_of p) 0, ps) else None
 
 -- by the letter: T 84, N 78, E 69, L 76, X 88, G 71, I 73, } 125
 abbrev pub line_by : ℕ → List Part → Option Line

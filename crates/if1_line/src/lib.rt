@@ -5,5 +5,8 @@ mod line;
 mod number;
 mod part;
 mod pragma;
+mod read;
+mod write;
 
 pub use line::{EntryForm, Line, entry_form};
+pub use read::read_line;

@@ -25,7 +25,7 @@ fn has_key(word: &[u8], first: u8, second: u8) -> bool
 }
 
 /// Whether nothing but pragmas stands from a place on.
-fn has_pragmas_only(line: &[u8], from: usize) -> bool
+pub fn has_pragmas_only(line: &[u8], from: usize) -> bool
     ensures { result ≡ list_all is_pragma (parts_of (drop from line.now)) }
 {
     let mut at = from;
@@ -117,13 +117,19 @@ fn labels(alloc: Global, line: &[u8], from: usize) -> Result<Option<Numbers>, No
     Ok(Some(all))
 }
 
+fn sort_once(items: &mut Vec<u32>)
+    ensures { items.new.items ≡ rising items.old.items }
+{
+    items.sort_unstable();
+    items.dedup();
+}
+
 /// The numbers of a list, each once, from the least to the greatest.
 fn rising(numbers: Numbers) -> Numbers
     ensures { result ≡ rising numbers }
 {
     let mut items = numbers.into_vec();
-    items.as_mut_slice().sort_unstable();
-    items.dedup();
+    sort_once(&mut items);
     Numbers::from_vec(items)
 }
 
