@@ -25,7 +25,7 @@ use Rattle.if1_graph.specs.Kinds.{kind_at, basic_at}
 use Rattle.if1_graph.specs.Types.{entry_at}
 use Rattle.if1_graph.specs.Literals.{literal}
 use Rattle.if1_graph.specs.Spelled.{IsNumber, IsLabel, IsName, IsQuotable}
-use Rattle.if1_graph.specs.Units.{node_at, levels, most_levels, Home, Function, Inside, Place, places, IsNumbered}
+use Rattle.if1_graph.specs.Units.{label_of, node_at, levels, most_levels, Home, Function, Inside, Place, places, IsNumbered}
 
 -- ---- types
 
@@ -125,7 +125,7 @@ abbrev pub IsOpcode : ℕ → Type 0
 IsOpcode op = IsSome (simple_at op) ⊎ IsSome (compound_at op)
 
 pub record IsNode (n : Node) : Type 0 where
-  pub label : IsLabel (out-Node n).label
+  pub label : IsLabel label_of n
   pub op : IsOpcode (out-Node n).op
   pub op_number : IsNumber (out-Node n).op
   pub assoc : All IsNumber (out-Node n).assoc
@@ -161,7 +161,7 @@ pub record IsGraph (u : Unit1) (p : Place) : Type 0 where
   pub number : IsNumbered u p
   pub header : IsHeader u p.graph p.home
   pub nodes : All IsNode (out-Graph p.graph).nodes
-  pub labels : IsOnce (map (λ n. (out-Node n).label) (out-Graph p.graph).nodes)
+  pub labels : IsOnce (map label_of (out-Graph p.graph).nodes)
   pub few : length (out-Graph p.graph).nodes ≤ most
   pub edges : All (IsEdge u p.graph) (out-Graph p.graph).edges
 

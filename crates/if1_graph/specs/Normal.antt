@@ -19,7 +19,7 @@ use Rattle.if1_graph.specs.declared.row.Want.TheVariants as want
 use Rattle.if1_graph.specs.Kinds.{kind_at, basic_at}
 use Rattle.if1_graph.specs.Types.{entry_at}
 use Rattle.if1_graph.specs.Literals.{literal, literal_text}
-use Rattle.if1_graph.specs.Units.{Place, places}
+use Rattle.if1_graph.specs.Units.{label_of, Place, places}
 use Rattle.if1_graph.specs.Formed.{want_at}
 
 -- one edge stands before another: at nodes of rising label with the boundary, 0, last, and at rising ports of one node
@@ -41,7 +41,7 @@ IsSpelledBest u g e (Lit text) =
     IsCanonical (want_at g e.node e.port) text (kind_at entry.code) (basic_at entry.first)
 
 pub record IsNormalGraph (u : Unit1) (p : Place) : Type 0 where
-  pub nodes : IsStrictlyIncreasing (map (λ n. (out-Node n).label) (out-Graph p.graph).nodes)
+  pub nodes : IsStrictlyIncreasing (map label_of (out-Graph p.graph).nodes)
   pub lists : All (λ n. IsStrictlyIncreasing (out-Node n).before) (out-Graph p.graph).nodes
   pub edges : AllPairs Precedes (out-Graph p.graph).edges
   pub literals : All (λ e. IsSpelledBest u p.graph e e.from) (out-Graph p.graph).edges

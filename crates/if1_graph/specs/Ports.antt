@@ -28,7 +28,7 @@ use Rattle.if1_graph.specs.Parts.{part_at, HasParts}
 use Rattle.if1_graph.specs.Types.{Member, Sort, Plain, Many, sort_at}
 use Rattle.if1_graph.specs.Types as types
 use Rattle.if1_graph.specs.Literals.{integer}
-use Rattle.if1_graph.specs.Units.{greatest, node_at, edges_into, ports_into, edge_into, width, results, Home, Function, Inside, Place}
+use Rattle.if1_graph.specs.Units.{label_of, greatest, node_at, edges_into, ports_into, edge_into, width, results, Home, Function, Inside, Place}
 use Rattle.if1_graph.specs.Formed.{IsOnce, function_named, want_at}
 
 -- so many numbers, rising from the first
@@ -165,9 +165,9 @@ IsBounded u g l AGather = HasBound u g l
 IsBounded u g l _ = Unit {0}
 
 pub record IsSimpleFilled (u : Unit1) (g : Graph) (n : Node) (op : Simple) : Type 0 where
-  pub ports : AreFilled u g (out-Node n).label (length (row_of op).operands) (row_of op).rest (ports_into g (out-Node n).label)
-  pub name : IsNamed (want_at g (out-Node n).label 1) (literal_at g (out-Node n).label 1)
-  pub bound : IsBounded u g (out-Node n).label op
+  pub ports : AreFilled u g label_of n (length (row_of op).operands) (row_of op).rest (ports_into g label_of n)
+  pub name : IsNamed (want_at g label_of n 1) (literal_at g label_of n 1)
+  pub bound : IsBounded u g label_of n op
   pub no_graphs : (out-Node n).subs ≡ []
   pub no_list : (out-Node n).assoc ≡ []
 
@@ -186,8 +186,8 @@ least_width _ = 0
 
 pub record IsCompoundFilled (u : Unit1) (g : Graph) (n : Node) (c : Compound) : Type 0 where
   pub parts : HasParts c (length (out-Node n).subs)
-  pub ports : AreAtLeast (least_width c) (ports_into g (out-Node n).label)
-  pub list : IsAssociation c (tags_of (carried u g (out-Node n).label 1)) (length (out-Node n).subs) (out-Node n).assoc
+  pub ports : AreAtLeast (least_width c) (ports_into g label_of n)
+  pub list : IsAssociation c (tags_of (carried u g label_of n 1)) (length (out-Node n).subs) (out-Node n).assoc
 
 abbrev pub IsFilledAs : Unit1 → Graph → Node → Option Compound → Option Simple → Type 0
 IsFilledAs u g n (Some c) op = IsCompoundFilled u g n c
@@ -219,7 +219,7 @@ given_outputs u g l FieldsOut = option_map length (fields_of (carried u g l 1))
 
 abbrev pub outputs_as : Unit1 → Graph → Node → Option Compound → Option Simple → Option ℕ
 outputs_as u g n (Some c) op = Some (compound_outputs c (out-Node n).subs)
-outputs_as u g n None (Some op) = given_outputs u g (out-Node n).label (row_of op).gives
+outputs_as u g n None (Some op) = given_outputs u g label_of n (row_of op).gives
 outputs_as u g n None None = None
 
 -- how many outputs a node has, where types that it needs for this are known
@@ -245,7 +245,7 @@ inputs u p = of_home p.home
   where
     of_home : Home → Option ℕ
     of_home (Function k) = option_map length (arguments_of (sort_at u.types (out-Graph p.graph).fun))
-    of_home (Inside outer n k) = option_map (λ cp. part_inputs cp.0 cp.1 (width outer (out-Node n).label) (out-Node n).subs) (part_of n k)
+    of_home (Inside outer n k) = option_map (λ cp. part_inputs cp.0 cp.1 (width outer label_of n) (out-Node n).subs) (part_of n k)
 
 -- an edge comes from a port that is there
 abbrev pub IsThere : Unit1 → Place → Origin → Type 0

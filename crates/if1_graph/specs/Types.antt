@@ -1,5 +1,5 @@
 -- What the label of a type stands for: the type of a value, of a multiple or of a function.
-use Rattle.std.specs.Prelude.{ℕ, zero, suc, List, [], ◌∷◌, Bool, true, false, Option, Some, None, map, length, if◌then◌else◌, ◌==◌}
+use Rattle.std.specs.Prelude.{ℕ, zero, suc, List, [], ◌∷◌, Bool, true, false, Option, Some, None, map, find, length, if◌then◌else◌, ◌==◌}
 use Rattle.flow_value.specs.declared.ty.Ty.{Ty}
 use Rattle.flow_value.specs.declared.ty.Ty.TheVariants as ty
 use Rattle.flow_value.specs.declared.ty.Ty.TheOpen.{Ty-F}
@@ -14,8 +14,7 @@ use Rattle.if1_graph.specs.Tables.{◌>>=◌}
 
 -- the entry of a label
 abbrev pub entry_at : List TypeEntry → ℕ → Option TypeEntry
-entry_at [] l = None
-entry_at (e ∷ es) l = if e.label == l then Some e else entry_at es l
+entry_at ts l = find (λ e. e.label == l) ts
 
 abbrev pub is_field : Option TypeKind → Bool
 is_field (Some kind.Field) = true

@@ -32,8 +32,12 @@ levels = fold-Graph ℕ ℕ (λ g. greatest g.nodes) (λ n. level_below n.subs)
 
 -- ---- nodes and edges
 
+abbrev pub label_of : Node → ℕ
+label_of n = (out-Node n).label
+
+-- the node of a label
 abbrev pub node_at : List Node → ℕ → Option Node
-node_at ns l = find (λ n. (out-Node n).label == l) ns
+node_at ns l = find (λ n. label_of n == l) ns
 
 -- the edges and literals into a node, or into the boundary for 0
 abbrev pub edges_into : Graph → ℕ → List Edge
@@ -92,13 +96,13 @@ places u = each_from (λ k g. places_of most_levels (Function k) g) 0 u.graphs
 
 -- how many graphs stand in the nodes of a lower label
 abbrev pub size_before : List Node → ℕ → ℕ
-size_before ns l = sizes (flat_map (λ n. (out-Node n).subs) (filter (λ n. nat_lt (out-Node n).label l) ns))
+size_before ns l = sizes (flat_map (λ n. (out-Node n).subs) (filter (λ n. nat_lt label_of n l) ns))
 
 -- how many graphs of the unit come before a graph that stands here
 abbrev pub graphs_before : Unit1 → Home → ℕ
 graphs_before u (Function k) = sizes (take k u.graphs)
 graphs_before u (Inside outer node k) =
-    (out-Graph outer).number + size_before (out-Graph outer).nodes (out-Node node).label + sizes (take k (out-Node node).subs)
+    (out-Graph outer).number + size_before (out-Graph outer).nodes label_of node + sizes (take k (out-Node node).subs)
 
 abbrev pub IsNumbered : Unit1 → Place → Type 0
 IsNumbered u p = number_of p ≡ suc (graphs_before u p.home)
@@ -107,4 +111,4 @@ IsNumbered u p = number_of p ≡ suc (graphs_before u p.home)
 
 -- the boundary, the nodes, and wherever else an edge leads
 abbrev pub ends : Graph → List ℕ
-ends g = 0 ∷ map (λ n. (out-Node n).label) (out-Graph g).nodes ++ map (λ e. e.node) (out-Graph g).edges
+ends g = 0 ∷ map label_of (out-Graph g).nodes ++ map (λ e. e.node) (out-Graph g).edges

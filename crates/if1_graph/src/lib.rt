@@ -4,6 +4,7 @@
 mod fault;
 mod graph;
 mod kind;
+mod lookup;
 mod op;
 mod row;
 
@@ -12,5 +13,6 @@ pub use graph::{
     Edge, EdgeList, Graph, GraphList, Imports, Node, NodeList, Origin, TypeEntry, TypeTable, Unit1,
 };
 pub use kind::{Basic, TypeKind, basic_of, kind_of};
+pub use lookup::{entry_of, node_of};
 pub use op::{Compound, Grouping, Part, Reducer, Simple, compound_of, reducer_of, simple_of};
 pub use row::{Rest, Use, Want};
