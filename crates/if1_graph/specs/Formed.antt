@@ -125,7 +125,7 @@ abbrev pub IsOpcode : ℕ → Type 0
 IsOpcode op = IsSome (simple_at op) ⊎ IsSome (compound_at op)
 
 pub record IsNode (n : Node) : Type 0 where
-  pub label : IsLabel label_of n
+  pub label : IsLabel (label_of n)
   pub op : IsOpcode (out-Node n).op
   pub op_number : IsNumber (out-Node n).op
   pub assoc : All IsNumber (out-Node n).assoc

@@ -23,7 +23,9 @@ use Rattle.if1_graph.specs.declared.row.Want.{Want}
 use Rattle.if1_graph.specs.declared.row.Want.TheVariants as want
 use Rattle.if1_graph.specs.Tables.{◌>>=◌}
 use Rattle.if1_graph.specs.Ops.{simple_at, compound_at}
-use Rattle.if1_graph.specs.Rows.{Gives, These, Results, FieldsOut, row_of}
+use Rattle.if1_graph.specs.declared.row.Gives.{Gives}
+use Rattle.if1_graph.specs.declared.row.Gives.TheVariants.{One, Pair, Results, AllFields}
+use Rattle.if1_graph.specs.Rows.{row_of}
 use Rattle.if1_graph.specs.Parts.{part_at, HasParts}
 use Rattle.if1_graph.specs.Types.{Member, Sort, Plain, Many, sort_at}
 use Rattle.if1_graph.specs.Types as types
@@ -165,9 +167,9 @@ IsBounded u g l AGather = HasBound u g l
 IsBounded u g l _ = Unit {0}
 
 pub record IsSimpleFilled (u : Unit1) (g : Graph) (n : Node) (op : Simple) : Type 0 where
-  pub ports : AreFilled u g label_of n (length (row_of op).operands) (row_of op).rest (ports_into g label_of n)
-  pub name : IsNamed (want_at g label_of n 1) (literal_at g label_of n 1)
-  pub bound : IsBounded u g label_of n op
+  pub ports : AreFilled u g (label_of n) (length (row_of op).operands) (row_of op).rest (ports_into g (label_of n))
+  pub name : IsNamed (want_at g (label_of n) 1) (literal_at g (label_of n) 1)
+  pub bound : IsBounded u g (label_of n) op
   pub no_graphs : (out-Node n).subs ≡ []
   pub no_list : (out-Node n).assoc ≡ []
 
@@ -186,8 +188,8 @@ least_width _ = 0
 
 pub record IsCompoundFilled (u : Unit1) (g : Graph) (n : Node) (c : Compound) : Type 0 where
   pub parts : HasParts c (length (out-Node n).subs)
-  pub ports : AreAtLeast (least_width c) (ports_into g label_of n)
-  pub list : IsAssociation c (tags_of (carried u g label_of n 1)) (length (out-Node n).subs) (out-Node n).assoc
+  pub ports : AreAtLeast (least_width c) (ports_into g (label_of n))
+  pub list : IsAssociation c (tags_of (carried u g (label_of n) 1)) (length (out-Node n).subs) (out-Node n).assoc
 
 abbrev pub IsFilledAs : Unit1 → Graph → Node → Option Compound → Option Simple → Type 0
 IsFilledAs u g n (Some c) op = IsCompoundFilled u g n c
@@ -213,13 +215,14 @@ compound_outputs compound.LoopA gs = results_at gs 3
 compound_outputs compound.LoopB gs = results_at gs 3
 
 abbrev pub given_outputs : Unit1 → Graph → ℕ → Gives → Option ℕ
-given_outputs u g l (These outputs) = Some (length outputs)
+given_outputs u g l (One a) = Some 1
+given_outputs u g l (Pair a b) = Some 2
 given_outputs u g l Results = option_map length (results_of (callee u g l))
-given_outputs u g l FieldsOut = option_map length (fields_of (carried u g l 1))
+given_outputs u g l AllFields = option_map length (fields_of (carried u g l 1))
 
 abbrev pub outputs_as : Unit1 → Graph → Node → Option Compound → Option Simple → Option ℕ
 outputs_as u g n (Some c) op = Some (compound_outputs c (out-Node n).subs)
-outputs_as u g n None (Some op) = given_outputs u g label_of n (row_of op).gives
+outputs_as u g n None (Some op) = given_outputs u g (label_of n) (row_of op).gives
 outputs_as u g n None None = None
 
 -- how many outputs a node has, where types that it needs for this are known
@@ -245,7 +248,7 @@ inputs u p = of_home p.home
   where
     of_home : Home → Option ℕ
     of_home (Function k) = option_map length (arguments_of (sort_at u.types (out-Graph p.graph).fun))
-    of_home (Inside outer n k) = option_map (λ cp. part_inputs cp.0 cp.1 (width outer label_of n) (out-Node n).subs) (part_of n k)
+    of_home (Inside outer n k) = option_map (λ cp. part_inputs cp.0 cp.1 (width outer (label_of n)) (out-Node n).subs) (part_of n k)
 
 -- an edge comes from a port that is there
 abbrev pub IsThere : Unit1 → Place → Origin → Type 0

@@ -1,13 +1,16 @@
 -- The table of simple nodes (IF1 manual M-170): operands of ports 1, 2, .. and outputs, with the types that each may have.
-use Rattle.std.specs.Prelude.{ℕ, ◌-◌, List, [], ◌∷◌, Bool, true, false, Option, Some, None}
+use Rattle.std.specs.Prelude.{ℕ, zero, suc, ◌-◌, slice_get, List, [], ◌∷◌, Bool, true, false, Option, Some, None}
 use Rattle.flow_value.specs.declared.operation.Scalar1.TheVariants.{Neg, Abs, Not, Int, Bool as ToBool, Char, IsError}
 use Rattle.flow_value.specs.declared.operation.Scalar2.TheVariants.{Plus, Minus, Times, Div, Mod, Max, Min, Equal, NotEqual, Less, LessEqual}
 use Rattle.if1_graph.specs.declared.op.Simple.{Simple}
-use Rattle.if1_graph.specs.declared.op.Simple.TheVariants.{One, Two, NoOp, Error, Call, ABuild, AFill, AElement, AReplace, AAddH, AAddL, ARemH, ARemL, ASetL, AAdjust, ALimL, ALimH, ASize, AIsEmpty, ACatenate, FirstValue, RestValues, RBuild, RElements, RReplace, RangeGenerate, AScatter, AGather, FinalValue, Reduce}
+use Rattle.if1_graph.specs.declared.op.Simple.TheVariants as simple
+use Rattle.if1_graph.specs.declared.op.Simple.TheVariants.{ NoOp, Error, Call, ABuild, AFill, AElement, AReplace, AAddH, AAddL, ARemH, ARemL, ASetL, AAdjust, ALimL, ALimH, ASize, AIsEmpty, ACatenate, FirstValue, RestValues, RBuild, RElements, RReplace, RangeGenerate, AScatter, AGather, FinalValue, Reduce}
 use Rattle.if1_graph.specs.declared.row.Use.{Use}
 use Rattle.if1_graph.specs.declared.row.Use.TheVariants.{Reads, Changes, Keeps, Passes}
 use Rattle.if1_graph.specs.declared.row.Want.{Want}
 use Rattle.if1_graph.specs.declared.row.Want.TheVariants.{Integer, Boolean, Character, IntegerOrBoolean, IntegerOrCharacter, Discrete, Scalar, Any, Array, Stream, Sequence, Record, Multiple, Integers, Booleans, Reducible, Function, Reduction, Same, Element, ArrayOf, SequenceOf, SequenceOfElements, Elements, Built, Argument, Output, FieldOf}
+use Rattle.if1_graph.specs.declared.row.Gives.{Gives}
+use Rattle.if1_graph.specs.declared.row.Gives.TheVariants.{One, Pair, Results, AllFields}
 use Rattle.if1_graph.specs.declared.row.Rest.{Rest}
 use Rattle.if1_graph.specs.declared.row.Rest.TheVariants.{Nothing, Mask, More, Arguments, Fields, NewFields}
 use Rattle.if1_graph.specs.Tables.{at_port, or_else}
@@ -27,12 +30,6 @@ keeps w = (Keeps, w)
 abbrev pub passes : Want → Operand
 passes w = (Passes, w)
 
--- what a node gives: outputs of these types, all results of the named function, or all fields of the record at port 1
-pub data Gives : Type 0 where
-  These : (outputs : List Want) → Gives
-  Results : Gives
-  FieldsOut : Gives
-
 pub record Row : Type 0 where
   pub operands : List Operand
   pub rest : Rest
@@ -43,35 +40,35 @@ row operands rest gives = record { operands = operands; rest = rest; gives = giv
 
 -- exactly these operands, and one output
 abbrev pub takes : List Operand → Want → Row
-takes operands output = row operands Nothing (These (output ∷ []))
+takes operands output = row operands Nothing (One output)
 
 -- an operand of the fold nodes, with or without a mask after it
 abbrev pub folds : List Operand → Want → Row
-folds operands output = row operands Mask (These (output ∷ []))
+folds operands output = row operands Mask (One output)
 
 abbrev pub row_of : Simple → Row
-row_of (Two Plus) = takes (reads IntegerOrBoolean ∷ reads (Same 1) ∷ []) (Same 1)
-row_of (Two Minus) = takes (reads Integer ∷ reads Integer ∷ []) Integer
-row_of (Two Times) = takes (reads IntegerOrBoolean ∷ reads (Same 1) ∷ []) (Same 1)
-row_of (Two Div) = takes (reads Integer ∷ reads Integer ∷ []) Integer
-row_of (Two Mod) = takes (reads Integer ∷ reads Integer ∷ []) Integer
-row_of (Two Max) = takes (reads Integer ∷ reads Integer ∷ []) Integer
-row_of (Two Min) = takes (reads Integer ∷ reads Integer ∷ []) Integer
-row_of (Two Equal) = takes (reads Scalar ∷ reads (Same 1) ∷ []) Boolean
-row_of (Two NotEqual) = takes (reads Scalar ∷ reads (Same 1) ∷ []) Boolean
-row_of (Two Less) = takes (reads IntegerOrCharacter ∷ reads (Same 1) ∷ []) Boolean
-row_of (Two LessEqual) = takes (reads IntegerOrCharacter ∷ reads (Same 1) ∷ []) Boolean
-row_of (One Neg) = takes (reads Integer ∷ []) Integer
-row_of (One Abs) = takes (reads Integer ∷ []) Integer
-row_of (One Not) = takes (reads Boolean ∷ []) Boolean
-row_of (One Int) = takes (reads Discrete ∷ []) Integer
-row_of (One ToBool) = takes (reads IntegerOrBoolean ∷ []) Boolean
-row_of (One Char) = takes (reads IntegerOrCharacter ∷ []) Character
-row_of (One IsError) = takes (passes Any ∷ []) Boolean
+row_of (simple.Two Plus) = takes (reads IntegerOrBoolean ∷ reads (Same 1) ∷ []) (Same 1)
+row_of (simple.Two Minus) = takes (reads Integer ∷ reads Integer ∷ []) Integer
+row_of (simple.Two Times) = takes (reads IntegerOrBoolean ∷ reads (Same 1) ∷ []) (Same 1)
+row_of (simple.Two Div) = takes (reads Integer ∷ reads Integer ∷ []) Integer
+row_of (simple.Two Mod) = takes (reads Integer ∷ reads Integer ∷ []) Integer
+row_of (simple.Two Max) = takes (reads Integer ∷ reads Integer ∷ []) Integer
+row_of (simple.Two Min) = takes (reads Integer ∷ reads Integer ∷ []) Integer
+row_of (simple.Two Equal) = takes (reads Scalar ∷ reads (Same 1) ∷ []) Boolean
+row_of (simple.Two NotEqual) = takes (reads Scalar ∷ reads (Same 1) ∷ []) Boolean
+row_of (simple.Two Less) = takes (reads IntegerOrCharacter ∷ reads (Same 1) ∷ []) Boolean
+row_of (simple.Two LessEqual) = takes (reads IntegerOrCharacter ∷ reads (Same 1) ∷ []) Boolean
+row_of (simple.One Neg) = takes (reads Integer ∷ []) Integer
+row_of (simple.One Abs) = takes (reads Integer ∷ []) Integer
+row_of (simple.One Not) = takes (reads Boolean ∷ []) Boolean
+row_of (simple.One Int) = takes (reads Discrete ∷ []) Integer
+row_of (simple.One ToBool) = takes (reads IntegerOrBoolean ∷ []) Boolean
+row_of (simple.One Char) = takes (reads IntegerOrCharacter ∷ []) Character
+row_of (simple.One IsError) = takes (passes Any ∷ []) Boolean
 row_of NoOp = takes (keeps Any ∷ []) (Same 1)
 row_of Error = takes [] Any
 row_of Call = row (reads Function ∷ []) Arguments Results
-row_of ABuild = row (reads Integer ∷ []) (More Keeps (Same 2)) (These (SequenceOf 2 ∷ []))
+row_of ABuild = row (reads Integer ∷ []) (More Keeps (Same 2)) (One (SequenceOf 2))
 row_of AFill = takes (reads Integer ∷ reads Integer ∷ passes Any ∷ []) (ArrayOf 3)
 row_of AElement = takes (reads Array ∷ reads Integer ∷ []) (Element 1)
 row_of AReplace = takes (changes Array ∷ reads Integer ∷ keeps (Element 1) ∷ []) (Same 1)
@@ -85,14 +82,14 @@ row_of ALimL = takes (reads Array ∷ []) Integer
 row_of ALimH = takes (reads Array ∷ []) Integer
 row_of ASize = takes (reads Sequence ∷ []) Integer
 row_of AIsEmpty = takes (reads Sequence ∷ []) Boolean
-row_of ACatenate = row (changes Sequence ∷ changes (Same 1) ∷ []) (More Changes (Same 1)) (These (Same 1 ∷ []))
+row_of ACatenate = row (changes Sequence ∷ changes (Same 1) ∷ []) (More Changes (Same 1)) (One (Same 1))
 row_of FirstValue = takes (reads Stream ∷ []) (Element 1)
 row_of RestValues = takes (changes Stream ∷ []) (Same 1)
-row_of RBuild = row [] Fields (These (Built ∷ []))
-row_of RElements = row (reads Record ∷ []) Nothing FieldsOut
-row_of RReplace = row (changes Record ∷ []) NewFields (These (Same 1 ∷ []))
+row_of RBuild = row [] Fields (One Built)
+row_of RElements = row (reads Record ∷ []) Nothing AllFields
+row_of RReplace = row (changes Record ∷ []) NewFields (One (Same 1))
 row_of RangeGenerate = takes (reads Integer ∷ reads Integer ∷ []) Integers
-row_of AScatter = row (reads Sequence ∷ []) Nothing (These (Elements 1 ∷ Integers ∷ []))
+row_of AScatter = row (reads Sequence ∷ []) Nothing (Pair (Elements 1) Integers)
 row_of AGather = folds (reads Integer ∷ changes Multiple ∷ []) (SequenceOfElements 2)
 row_of FinalValue = folds (changes Multiple ∷ []) (Element 1)
 row_of (Reduce grouping) = folds (reads Reduction ∷ changes Reducible ∷ []) (Element 2)
@@ -108,12 +105,14 @@ of_rest NewFields port = Some (keeps (FieldOf (port - 1)))
 
 -- the operand of a port, from 1: how the node uses it, and the type that it wants there
 abbrev pub operand_of : Simple → ℕ → Option Operand
-operand_of op port = or_else (at_port port (row_of op).operands) (of_rest (row_of op).rest port)
+operand_of op zero = None
+operand_of op (suc place) = or_else (slice_get (row_of op).operands place) (of_rest (row_of op).rest (suc place))
 
 abbrev pub of_gives : Gives → ℕ → Option Want
-of_gives (These outputs) port = at_port port outputs
+of_gives (One a) port = at_port port (a ∷ [])
+of_gives (Pair a b) port = at_port port (a ∷ b ∷ [])
 of_gives Results port = Some (Output port)
-of_gives FieldsOut port = Some (FieldOf port)
+of_gives AllFields port = Some (FieldOf port)
 
 -- the type that an output port, from 1, gives
 abbrev pub output_of : Simple → ℕ → Option Want

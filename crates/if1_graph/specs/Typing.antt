@@ -163,14 +163,14 @@ FitsContent tags list arm s = (tag : ℕ) → slice_get list tag ≡ Some arm �
 
 abbrev pub FitsNodeInput : Unit1 → Graph → Node → Part → ℕ → ℕ → Sort → Type 0
 FitsNodeInput u outer n part.Arm k (suc zero) s =
-    IsPlain s × FitsContent (tags_of (carried u outer label_of n 1)) (out-Node n).assoc k s
-FitsNodeInput u outer n part k port s = carried u outer label_of n port ≡ Some s
+    IsPlain s × FitsContent (tags_of (carried u outer (label_of n) 1)) (out-Node n).assoc k s
+FitsNodeInput u outer n part k port s = carried u outer (label_of n) port ≡ Some s
 
 abbrev pub FitsPartInput : Unit1 → Graph → Node → Compound × Part → ℕ → ℕ → Sort → Type 0
 FitsPartInput u outer n cp k port s =
-    MatchBool (nat_le port (width outer label_of n))
+    MatchBool (nat_le port (width outer (label_of n)))
     (FitsNodeInput u outer n cp.1 k port s)
-    (FitsOwnInput u cp.0 cp.1 (out-Node n).subs (port - width outer label_of n) s)
+    (FitsOwnInput u cp.0 cp.1 (out-Node n).subs (port - width outer (label_of n)) s)
 
 -- ---- what the source of an edge gives
 
@@ -191,7 +191,7 @@ giving_part compound.LoopB = 3
 
 abbrev pub FitsOutputAs : Unit1 → Graph → Node → Option Compound → Option Simple → ℕ → Sort → Type 0
 FitsOutputAs u g n (Some c) op port s = result_of u (out-Node n).subs (giving_part c) port ≡ Some s
-FitsOutputAs u g n None (Some op) port s = MatchOption (output_of op port) ⊥ (λ w. Fits (known u g label_of n) w s)
+FitsOutputAs u g n None (Some op) port s = MatchOption (output_of op port) ⊥ (λ w. Fits (known u g (label_of n)) w s)
 FitsOutputAs u g n None None port s = ⊥
 
 abbrev pub FitsOutput : Unit1 → Graph → Option Node → ℕ → Sort → Type 0

@@ -96,13 +96,13 @@ places u = each_from (λ k g. places_of most_levels (Function k) g) 0 u.graphs
 
 -- how many graphs stand in the nodes of a lower label
 abbrev pub size_before : List Node → ℕ → ℕ
-size_before ns l = sizes (flat_map (λ n. (out-Node n).subs) (filter (λ n. nat_lt label_of n l) ns))
+size_before ns l = sizes (flat_map (λ n. (out-Node n).subs) (filter (λ n. nat_lt (label_of n) l) ns))
 
 -- how many graphs of the unit come before a graph that stands here
 abbrev pub graphs_before : Unit1 → Home → ℕ
 graphs_before u (Function k) = sizes (take k u.graphs)
 graphs_before u (Inside outer node k) =
-    (out-Graph outer).number + size_before (out-Graph outer).nodes label_of node + sizes (take k (out-Node node).subs)
+    (out-Graph outer).number + size_before (out-Graph outer).nodes (label_of node) + sizes (take k (out-Node node).subs)
 
 abbrev pub IsNumbered : Unit1 → Place → Type 0
 IsNumbered u p = number_of p ≡ suc (graphs_before u p.home)

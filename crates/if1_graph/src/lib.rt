@@ -15,4 +15,6 @@ pub use graph::{
 pub use kind::{Basic, TypeKind, basic_of, kind_of};
 pub use lookup::{entry_of, node_of};
 pub use op::{Compound, Grouping, Part, Reducer, Simple, compound_of, reducer_of, simple_of};
-pub use row::{Rest, Use, Want};
+pub use row::{
+    Gives, Rest, Use, Want, gives_of, is_consumed, is_strict, operand_of, operands_of, output_of, rest_of,
+};
