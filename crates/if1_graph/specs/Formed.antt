@@ -24,7 +24,7 @@ use Rattle.if1_graph.specs.Rows.{operand_of}
 use Rattle.if1_graph.specs.Kinds.{kind_at, basic_at}
 use Rattle.if1_graph.specs.Types.{entry_at}
 use Rattle.if1_graph.specs.Literals.{literal}
-use Rattle.if1_graph.specs.Spelled.{IsNumber, IsLabel, IsName, IsQuotable}
+use Rattle.if1_line.specs.Spelling.{IsNumber, IsLabel, IsName, IsQuotable}
 use Rattle.if1_graph.specs.Units.{label_of, node_at, levels, most_levels, Home, Function, Inside, Place, places, IsNumbered}
 
 -- ---- types

@@ -6,10 +6,11 @@ pub mod Types
 pub mod Parts
 pub mod Units
 pub mod Literals
-pub mod Spelled
 pub mod Formed
 pub mod Ports
 pub mod Typing
 pub mod Cycles
 pub mod Ready
 pub mod Normal
+pub mod Lines
+pub mod Reads

@@ -1,5 +1,5 @@
 -- Units whose parts stand in the order of the canonical text, with literals in canonical spelling.
-use Rattle.std.specs.Prelude.{◌≡◌, ℕ, ◌<◌, ◌≤◌, ◌⊎◌, List, [], ◌∷◌, map, Option, Some, None, All, AllPairs, MatchOption}
+use Rattle.std.specs.Prelude.{◌≡◌, ℕ, ◌<◌, ◌≤◌, ◌⊎◌, List, [], ◌∷◌, map, Option, Some, None, All, AllPairs}
 use Rattle.std.specs.List.Sorted.{IsStrictlyIncreasing}
 use Rattle.flow_value.specs.declared.value.Val.{Val}
 use Rattle.if1_graph.specs.declared.graph.Graph.{Graph}
@@ -28,23 +28,36 @@ Precedes e f =
     ((e.node ≡ f.node) × (e.port ≤ f.port))
     ⊎ ((1 ≤ e.node) × ((e.node < f.node) ⊎ (f.node ≡ 0)))
 
--- a literal of a basic type has its canonical spelling; the name of a function or a reduction has only one
-abbrev pub IsCanonical : Option Want → List ℕ → Option TypeKind → Option Basic → Type 0
-IsCanonical (Some want.Reduction) text (Some kind.Basic) (Some basic.Integer) = Unit {0}
-IsCanonical w text (Some kind.Basic) (Some b) = MatchOption (literal b text) (Unit {0}) (λ v. text ≡ literal_text v)
-IsCanonical w text _ _ = Unit {0}
+-- ---- canonical literals
 
-abbrev pub IsSpelledBest : Unit1 → Graph → Edge → Origin → Type 0
-IsSpelledBest u g e (Port node port) = Unit {0}
-IsSpelledBest u g e (Lit text) =
-    (entry : TypeEntry) → entry_at u.types e.ty ≡ Some entry →
-    IsCanonical (want_at g e.node e.port) text (kind_at entry.code) (basic_at entry.first)
+abbrev pub text_for : List ℕ → Option Val → List ℕ
+text_for text None = text
+text_for text (Some v) = literal_text v
+
+-- The canonical spelling of a literal of a basic type, at a port with this want. The name of a function or of a reduction has
+-- only one spelling.
+abbrev pub canonical : Option Want → Option TypeKind → Option Basic → List ℕ → List ℕ
+canonical (Some want.Reduction) (Some kind.Basic) (Some basic.Integer) text = text
+canonical w (Some kind.Basic) (Some b) text = text_for text (literal b text)
+canonical w _ _ text = text
+
+-- by the entry of its type
+abbrev pub canonical_as : Option Want → Option TypeEntry → List ℕ → List ℕ
+canonical_as w None text = text
+canonical_as w (Some e) text = canonical w (kind_at e.code) (basic_at e.first) text
+
+abbrev pub canonical_origin : Unit1 → Graph → Edge → Origin → Origin
+canonical_origin u g e (Port node port) = Port node port
+canonical_origin u g e (Lit text) = Lit (canonical_as (want_at g e.node e.port) (entry_at u.types e.ty) text)
+
+abbrev pub canonical_edge : Unit1 → Graph → Edge → Edge
+canonical_edge u g e = record e { from = canonical_origin u g e e.from }
 
 pub record IsNormalGraph (u : Unit1) (p : Place) : Type 0 where
   pub nodes : IsStrictlyIncreasing (map label_of (out-Graph p.graph).nodes)
   pub lists : All (λ n. IsStrictlyIncreasing (out-Node n).before) (out-Graph p.graph).nodes
   pub edges : AllPairs Precedes (out-Graph p.graph).edges
-  pub literals : All (λ e. IsSpelledBest u p.graph e e.from) (out-Graph p.graph).edges
+  pub literals : All (λ e. canonical_edge u p.graph e ≡ e) (out-Graph p.graph).edges
 
 abbrev pub IsNormal : Unit1 → Type 0
 IsNormal u = All (IsNormalGraph u) (places u)
