@@ -1,5 +1,5 @@
 -- An item is found by its key at the place before which all keys are lower, and from which on none is.
-use Rattle.std.proofs.Common.{◌≡◌, ℕ, zero, suc, ◌+◌, ◌-◌, ◌/◌, ◌<◌, ◌≤◌, List, [], ◌∷◌, map, find, length, slice_index, slice_index_or, slice_get, option_and_then, Option, Some, None, Bool, true, false, if◌then◌else◌, ◌==◌, arith, refl, ◌∙◌, ap, sym}
+use Rattle.std.proofs.Common.{◌≡◌, ℕ, zero, suc, ◌+◌, ◌-◌, ◌/◌, ◌<◌, ◌≤◌, List, [], ◌∷◌, map, find, length, slice_index, slice_index_or, slice_get, option_and_then, Some, None, if◌then◌else◌, ◌==◌, arith, refl, ap}
 use Rattle.std.specs.List.Sorted.{IsStrictlyIncreasing}
 use Rattle.if1_graph.specs.Tables.{if_keyed}
 
@@ -39,8 +39,12 @@ module _ {A : Type 0} (key : A → ℕ) where
       ap (λ o. if key x == l then Some x else o)
       (none_above xs l (λ j h. grind (arith, above 0, rising (map key (x ∷ xs)) 0 j up)))
   found_at (x ∷ xs) (suc k) l up below above h =
-      grind (arith, below 0, found_at xs k l (rising_rest (key x) (map key xs) up)
-      (λ j h. grind (arith, below (suc j))) (λ j h i. grind (arith, above (suc j))))
+      grind (
+        arith,
+        below 0,
+        found_at xs k l (rising_rest (key x) (map key xs) up)
+            (λ j h. grind (arith, below (suc j))) (λ j h i. grind (arith, above (suc j))),
+      )
 
   key_at : (xs : List A) (k : ℕ) (d : A) → k < length xs → slice_index (map key xs) k ≡ key (slice_index_or xs k d)
   key_at [] k d h = grind arith

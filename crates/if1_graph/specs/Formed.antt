@@ -1,6 +1,6 @@
 -- Units that are formed: each label, name and literal can be spelled, what a label or a name stands for is there, and the
 -- limits are kept (IF1 manual M-170, text form).
-use Rattle.std.specs.Prelude.{◌≡◌, ◌≢◌, ℕ, zero, suc, ◌≤◌, List, [], ◌∷◌, map, length, Bool, true, false, ◌⊎◌, Option, Some, None, IsSome, All, Contains, find, bytes_eq, is_some}
+use Rattle.std.specs.Prelude.{◌≡◌, ℕ, ◌≤◌, List, [], ◌∷◌, map, length, Bool, true, false, ◌⊎◌, Option, Some, None, IsSome, All, Contains, find, bytes_eq}
 use Rattle.std.specs.List.Sorted.{IsStrictlyIncreasing}
 use Rattle.if1_graph.specs.declared.graph.Graph.{Graph}
 use Rattle.if1_graph.specs.declared.graph.Graph.TheViews.{out-Graph}
@@ -14,8 +14,6 @@ use Rattle.if1_graph.specs.declared.kind.TypeKind.{TypeKind}
 use Rattle.if1_graph.specs.declared.kind.TypeKind.TheVariants as kind
 use Rattle.if1_graph.specs.declared.kind.Basic.{Basic}
 use Rattle.if1_graph.specs.declared.kind.Basic.TheVariants as basic
-use Rattle.if1_graph.specs.declared.op.Simple.{Simple}
-use Rattle.if1_graph.specs.declared.op.Simple.TheVariants.{Call, Reduce}
 use Rattle.if1_graph.specs.declared.row.Want.{Want}
 use Rattle.if1_graph.specs.declared.row.Want.TheVariants as want
 use Rattle.if1_graph.specs.Tables.{◌>>=◌}
@@ -138,7 +136,7 @@ IsOrigin u g e (Port node port) = IsNumber node × IsLabel port
 IsOrigin u g e (Lit text) =
     IsQuotable text × (e.takes ≡ false)
     × ((entry : TypeEntry) → entry_at u.types e.ty ≡ Some entry →
-       IsLiteralFor u.graphs (want_at g e.node e.port) text (kind_at entry.code) (basic_at entry.first))
+    IsLiteralFor u.graphs (want_at g e.node e.port) text (kind_at entry.code) (basic_at entry.first))
 
 pub record IsEdge (u : Unit1) (g : Graph) (e : Edge) : Type 0 where
   pub source : IsOrigin u g e e.from

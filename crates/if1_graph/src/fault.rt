@@ -23,13 +23,22 @@ pub enum If1Fault {
     Unclosed,
     /// Fault 5: the node reaches itself along data edges.
     #[error("node {node} of graph {graph} reaches itself")]
-    Cycle { graph: u32, node: u32 },
+    Cycle {
+        graph: u32,
+        node: u32,
+    },
     /// Fault 6: the node's ports are not filled as the tables say.
     #[error("node {node} of graph {graph} has wrong ports")]
-    Ports { graph: u32, node: u32 },
+    Ports {
+        graph: u32,
+        node: u32,
+    },
     /// Fault 7: an edge or literal into the node has a wrong type.
     #[error("node {node} of graph {graph} has a wrong type")]
-    TypeOf { graph: u32, node: u32 },
+    TypeOf {
+        graph: u32,
+        node: u32,
+    },
     /// Fault 8: the marks of the port are not sound.
     #[error("port {port} of node {node} of graph {graph} may not take from {reader}")]
     Marks {

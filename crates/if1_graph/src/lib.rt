@@ -6,6 +6,7 @@ mod graph;
 mod kind;
 mod lookup;
 mod op;
+mod part;
 mod row;
 
 pub use fault::If1Fault;
@@ -15,6 +16,11 @@ pub use graph::{
 pub use kind::{Basic, TypeKind, basic_of, kind_of};
 pub use lookup::{entry_of, node_of};
 pub use op::{Compound, Grouping, Part, Reducer, Simple, compound_of, reducer_of, simple_of};
+pub use part::{has_parts, part_at};
 pub use row::{
-    Gives, Rest, Use, Want, gives_of, is_consumed, is_strict, operand_of, operands_of, output_of, rest_of,
+    Gives, Rest, Use, Want, gives_of, is_consumed, is_strict, operand_of, operands_of, output_of,
+    rest_of,
 };
+
+#[cfg(test)]
+mod tests;

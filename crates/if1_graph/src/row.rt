@@ -134,7 +134,10 @@ pub fn operands_of(op: Simple) -> &'static [(Use, Want)]
             (Use::Reads, Want::Integer),
             (Use::Keeps, Want::Element(1)),
         ],
-        Simple::AAddH => &[(Use::Changes, Want::Sequence), (Use::Keeps, Want::Element(1))],
+        Simple::AAddH => &[
+            (Use::Changes, Want::Sequence),
+            (Use::Keeps, Want::Element(1)),
+        ],
         Simple::AAddL => &[(Use::Changes, Want::Array), (Use::Keeps, Want::Element(1))],
         Simple::ARemH | Simple::ARemL => &[(Use::Changes, Want::Array)],
         Simple::ASetL => &[(Use::Changes, Want::Array), (Use::Reads, Want::Integer)],
@@ -145,7 +148,10 @@ pub fn operands_of(op: Simple) -> &'static [(Use, Want)]
         ],
         Simple::ALimL | Simple::ALimH => &[(Use::Reads, Want::Array)],
         Simple::ASize | Simple::AIsEmpty | Simple::AScatter => &[(Use::Reads, Want::Sequence)],
-        Simple::ACatenate => &[(Use::Changes, Want::Sequence), (Use::Changes, Want::Same(1))],
+        Simple::ACatenate => &[
+            (Use::Changes, Want::Sequence),
+            (Use::Changes, Want::Same(1)),
+        ],
         Simple::FirstValue => &[(Use::Reads, Want::Stream)],
         Simple::RestValues => &[(Use::Changes, Want::Stream)],
         Simple::RElements => &[(Use::Reads, Want::Record)],
@@ -153,7 +159,10 @@ pub fn operands_of(op: Simple) -> &'static [(Use, Want)]
         Simple::RangeGenerate => &[(Use::Reads, Want::Integer), (Use::Reads, Want::Integer)],
         Simple::AGather => &[(Use::Reads, Want::Integer), (Use::Changes, Want::Multiple)],
         Simple::FinalValue => &[(Use::Changes, Want::Multiple)],
-        Simple::Reduce(_) => &[(Use::Reads, Want::Reduction), (Use::Changes, Want::Reducible)],
+        Simple::Reduce(_) => &[
+            (Use::Reads, Want::Reduction),
+            (Use::Changes, Want::Reducible),
+        ],
     }
 }
 

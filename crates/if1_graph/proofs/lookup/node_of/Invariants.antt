@@ -1,4 +1,4 @@
-use Rattle.std.proofs.Common.{◌-◌, ◌≡◌, map, ℕ, ◌+◌, ◌*◌, ◌<◌, ◌≤◌, length}
+use Rattle.std.proofs.Common.{◌-◌, map, ◌≤◌, length}
 use Rattle.if1_graph.proofs.Lookups.{IsBelow, IsFrom}
 use Rattle.if1_graph.specs.Units.{label_of}
 use Rattle.if1_graph.proofs.lookup.node_of.Given as goal

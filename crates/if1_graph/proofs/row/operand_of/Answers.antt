@@ -1,4 +1,4 @@
-use Rattle.std.proofs.Common.{◌≡◌, ℕ, ◌≤◌, arith}
+use Rattle.std.proofs.Common.{◌≤◌, arith}
 use Rattle.std.specs.Option.{option_copied}
 use Rattle.if1_graph.proofs.Operands.{found}
 use Rattle.if1_graph.proofs.row.operand_of.Goals as goal
