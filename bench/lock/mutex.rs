@@ -3,7 +3,7 @@ use std::sync::Mutex;
 use std::{env, thread};
 
 const SHORT: u64 = 1000;
-const LONG: u64 = 20_000_000;
+const LONG: u64 = 4_000_000;
 
 fn work(sum: &Mutex<u64>, steps: u64) {
     for i in 0..steps {

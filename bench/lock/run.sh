@@ -1,29 +1,29 @@
 #!/bin/bash
-# Times 20 million steps of the lock with a history beside as many of std::sync::Mutex, one after the other, and prints
-# nanoseconds a step, the least of some rounds. Run it at the top of the repository, on an idle machine.
+# Times 4 million steps of the lock with a history beside as many of std::sync::Mutex, in turns, and prints nanoseconds a
+# step, the least of some rounds. Run it at the top of the repository, on an idle machine; the argument is the rounds.
 set -e
-rounds=${1:-5}
+rounds=${1:-10}
 build=$(mktemp -d)
 trap 'rm -rf "$build"' EXIT
 rustc -O -o "$build/mutex" bench/lock/mutex.rs
-(cd crates/bench_lock && rt run >/dev/null </dev/null)
+(cd crates/bench_lock && rt run </dev/null) >"$build/rt" 2>&1 || { cat "$build/rt" >&2; exit 1; }
 lock=${BENCH_LOCK:-$(find crates/bench_lock/out -type f -perm -u+x -name 'bench_lock*' | head -1)}
 [ -x "$lock" ] || { echo "no program bench_lock in crates/bench_lock/out: set BENCH_LOCK" >&2; exit 1; }
 
-nanoseconds() { # the program, the number of workers
+picoseconds() { # the program, the number of workers
     local begin end
     begin=$(date +%s%N)
     "$1" "$2" long >"$build/printed"
     end=$(date +%s%N)
-    echo $(((end - begin) / 20000))
+    echo $(((end - begin) / 4000))
 }
 
 for workers in 1 2 4; do
     best_lock= best_mutex=
     for ((i = 0; i < rounds; i++)); do
-        a=$(nanoseconds "$lock" $workers)
+        a=$(picoseconds "$lock" $workers)
         cp "$build/printed" "$build/first"
-        b=$(nanoseconds "$build/mutex" $workers)
+        b=$(picoseconds "$build/mutex" $workers)
         cmp "$build/first" "$build/printed"
         [ -n "$best_lock" ] && [ "$best_lock" -le "$a" ] || best_lock=$a
         [ -n "$best_mutex" ] && [ "$best_mutex" -le "$b" ] || best_mutex=$b

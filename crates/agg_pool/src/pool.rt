@@ -1,5 +1,5 @@
 //! The pool.
-ghost use Rattle.std.specs.Prelude.{◌≡◌, ℕ, ◌+◌, ◌-◌, ◌^◌, ◌<◌, ◌≤◌, List, [], ◌∷◌, ◌++◌, length, replicate, map, slice_set, Some, None, IsTrue, OnOk, OnErr, IfOk};
+ghost use Rattle.std.specs.Prelude.{◌≡◌, ◌≢◌, ℕ, ◌+◌, ◌-◌, ◌^◌, ◌<◌, ◌≤◌, List, [], ◌∷◌, ◌++◌, length, replicate, map, slice_set, Some, None, IsTrue, OnOk, OnErr, IfOk};
 ghost use Rattle.std.specs.List.{list_all};
 ghost use Rattle.std.specs.Vec.{vec_len, vec_capacity};
 ghost use denote.RawPtr.{Ptr};
@@ -50,6 +50,7 @@ impl Pool {
     /// An empty pool. It takes no memory.
     pub fn new(alloc: Global) -> Pool
         ensures empty { (result.entries ≡ []) × (result.spare ≡ 0) }
+        ensures vacant { (number : ℕ) → entry_at result number ≡ None }
     {
         Pool {
             entries: Vec::new(alloc),
@@ -89,6 +90,8 @@ impl Pool {
         requires spare { 0 < self.old.spare }
         ensures held { (id : ℕ) × (self.new.entries ≡ slice_set self.old.entries result.number (Some (entry.Whole (record { value = value; out = 0; id = id })))) }
         ensures was_vacant { entry_at self.old result.number ≡ None }
+        ensures now { (id : ℕ) × (entry_at self.new result.number ≡ Some (entry.Whole (record { value = value; out = 0; id = id }))) }
+        ensures others { (n : ℕ) → n ≢ result.number → entry_at self.new n ≡ entry_at self.old n }
         ensures known { result.number < length self.old.entries }
         ensures spare { self.new.spare + 1 ≡ self.old.spare }
     {
@@ -110,8 +113,11 @@ impl Pool {
     /// Lends a value for reading, also in another thread.
     pub fn lend(&mut self, key: Key) -> Lease
         requires few { HoldsAnd (entry_at self.old key.number) (λ w. w.out < 2 ^ 100) }
+        ensures number { result.number ≡ key.number }
         ensures lease { IfHolds (entry_at self.old key.number) (λ w. result ≡ record { number = key.number; value = w.value; id = w.id }) }
         ensures one_more { IfHolds (entry_at self.old key.number) (λ w. self.new ≡ record self.old { entries = slice_set self.old.entries key.number (Some (entry.Whole (record w { out = w.out + 1 }))) }) }
+        ensures now { IfHolds (entry_at self.old key.number) (λ w. (entry_at self.new key.number ≡ Some (entry.Whole (record w { out = w.out + 1 })))) }
+        ensures others { (n : ℕ) → n ≢ key.number → entry_at self.new n ≡ entry_at self.old n }
     {
         let Some(entry) = &mut self.entries[key.number] else {
             unreachable!()
@@ -127,6 +133,8 @@ impl Pool {
         requires of { HoldsAnd (entry_at self.old lease.number) (λ w. lease.id ≡ w.id) }
         ensures was_out { IfHolds (entry_at self.old lease.number) (λ w. 0 < w.out) }
         ensures one_fewer { IfHolds (entry_at self.old lease.number) (λ w. self.new ≡ record self.old { entries = slice_set self.old.entries lease.number (Some (entry.Whole (record w { out = w.out - 1 }))) }) }
+        ensures now { IfHolds (entry_at self.old lease.number) (λ w. (entry_at self.new lease.number ≡ Some (entry.Whole (record w { out = w.out - 1 })))) }
+        ensures others { (n : ℕ) → n ≢ lease.number → entry_at self.new n ≡ entry_at self.old n }
     {
         let Lease { key, lease } = lease;
         let Some(entry) = &mut self.entries[key.number] else {
@@ -140,6 +148,8 @@ impl Pool {
         requires none_out { HoldsAnd (entry_at self.old key.number) (λ w. w.out ≡ 0) }
         ensures value { IfHolds (entry_at self.old key.number) (λ w. result ≡ w.value) }
         ensures gone { self.new ≡ record self.old { entries = slice_set self.old.entries key.number None; spare = self.old.spare + 1 } }
+        ensures now { entry_at self.new key.number ≡ None }
+        ensures others { (n : ℕ) → n ≢ key.number → entry_at self.new n ≡ entry_at self.old n }
     {
         let old = replace(&mut self.entries[key.number], None);
         let Some(Entry::Whole(owner)) = old else {
@@ -156,6 +166,9 @@ impl Pool {
     pub fn build(&mut self, alloc: Global, n: usize) -> Result<Key, NoMemory>
         requires few { n ≤ 4194304 }
         ensures ok { IfOk result (λ key. (start : Ptr) × (key.number ≡ length self.old.entries) × (self.new.entries ≡ self.old.entries ++ Some (entry.Parts (record { start = start; places = replicate n unwritten })) ∷ [])) }
+        ensures now { IfOk result (λ key. (start : Ptr) × (entry_at self.new key.number ≡ Some (entry.Parts (record { start = start; places = replicate n unwritten })))) }
+        ensures others { IfOk result (λ key. (m : ℕ) → m ≢ key.number → entry_at self.new m ≡ entry_at self.old m) }
+        ensures was_vacant { IfOk result (λ key. entry_at self.old key.number ≡ None) }
         ensures err { OnErr result (self.new.entries ≡ self.old.entries) }
         ensures spare { self.new.spare ≡ self.old.spare }
     {
@@ -173,8 +186,11 @@ impl Pool {
     /// are joined again.
     pub fn cut(&mut self, key: Key, from: usize, to: usize) -> Segment
         requires fits { BuildsAnd (entry_at self.old key.number) (λ room. (from ≤ to) × (to ≤ length room.places)) }
+        ensures number { result.number ≡ key.number }
         ensures part { IfBuilds (entry_at self.old key.number) (λ room. result ≡ record { number = key.number; part = record { start = room.start; from = from; places = part room.places from (to - from) } }) }
         ensures rest { IfBuilds (entry_at self.old key.number) (λ room. self.new ≡ record self.old { entries = slice_set self.old.entries key.number (Some (entry.Parts (record room { places = spliced room.places from (replicate (to - from) away) }))) }) }
+        ensures now { IfBuilds (entry_at self.old key.number) (λ room. (entry_at self.new key.number ≡ Some (entry.Parts (record room { places = spliced room.places from (replicate (to - from) away) })))) }
+        ensures others { (n : ℕ) → n ≢ key.number → entry_at self.new n ≡ entry_at self.old n }
     {
         let Some(entry) = &mut self.entries[key.number] else {
             unreachable!()
@@ -189,6 +205,8 @@ impl Pool {
     pub fn join_segment(&mut self, part: Segment)
         requires of { BuildsAnd (entry_at self.old part.number) (λ room. IsOf room part.part) }
         ensures back { IfBuilds (entry_at self.old part.number) (λ room. self.new ≡ record self.old { entries = slice_set self.old.entries part.number (Some (entry.Parts (record room { places = spliced room.places part.part.from part.part.places }))) }) }
+        ensures now { IfBuilds (entry_at self.old part.number) (λ room. (entry_at self.new part.number ≡ Some (entry.Parts (record room { places = spliced room.places part.part.from part.part.places })))) }
+        ensures others { (n : ℕ) → n ≢ part.number → entry_at self.new n ≡ entry_at self.old n }
     {
         let Segment { key, segment } = part;
         let Some(entry) = &mut self.entries[key.number] else {
@@ -203,6 +221,8 @@ impl Pool {
         requires written { BuildsAnd (entry_at self.old key.number) (λ room. IsTrue (list_all is_written room.places)) }
         requires fits { BuildsAnd (entry_at self.old key.number) (λ room. IsWithinLength lo (length room.places)) }
         ensures array { IfBuilds (entry_at self.old key.number) (λ room. (items : List Val) × (id : ℕ) × (map written items ≡ room.places) × (self.new ≡ record self.old { entries = slice_set self.old.entries key.number (Some (entry.Whole (record { value = value.Arr (bounded lo items); out = 0; id = id }))) })) }
+        ensures now { IfBuilds (entry_at self.old key.number) (λ room. (items : List Val) × (id : ℕ) × (map written items ≡ room.places) × (entry_at self.new key.number ≡ Some (entry.Whole (record { value = value.Arr (bounded lo items); out = 0; id = id })))) }
+        ensures others { (n : ℕ) → n ≢ key.number → entry_at self.new n ≡ entry_at self.old n }
     {
         let old = replace(&mut self.entries[key.number], None);
         let Some(Entry::Parts(building)) = old else {

@@ -12,7 +12,7 @@ use team::run;
 
 const SHORT: u64 = 1000;
 
-const LONG: u64 = 20_000_000;
+const LONG: u64 = 4_000_000;
 
 fn main(rt: HostRuntime) -> io::Result<()> {
     let mut workers = 1;

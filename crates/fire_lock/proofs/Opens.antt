@@ -7,13 +7,13 @@ use Rattle.fire_lock.proofs.Lists.{only, not_none}
 use Rattle.fire_lock.proofs.Owned.{seen_all}
 
 pub opens_it : {M E R : Type 0} (starts : M → Type 0) (plays : M → ℕ → E → R → M → Type 0) (passes : ℕ) (m : M) (p : Place M E R) → p.machine ≡ m → starts m → 0 < passes
-    → Kept starts plays passes m (opening (0 ∷ 0 ∷ 0 ∷ 0 ∷ []) (p ∷ []) (first passes m))
+    → Kept starts plays passes m (opening (0 ∷ 0 ∷ 0 ∷ 0 ∷ 0 ∷ []) (p ∷ []) (first passes m))
 opens_it {M} {E} {R} starts plays passes m p same begun some_passes = record {
   log = [];
   now = m;
   held = 0;
   holder = 0;
-  counts = 0 ∷ 0 ∷ 0 ∷ [];
+  counts = 0 ∷ 0 ∷ 0 ∷ 0 ∷ [];
   words = refl;
   bit = omega arith;
   began = begun;

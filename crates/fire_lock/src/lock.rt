@@ -23,11 +23,14 @@ const TURN: usize = 0;
 // How many passes may sleep until the turn is free.
 const WAITING: usize = 1;
 
-// How many steps were news.
+// How many steps were news to idle passes.
 const NEWS: usize = 2;
 
-// How many passes may sleep until there is news.
+// How many passes are idle.
 const IDLE: usize = 3;
+
+// How many of these may sleep until there is news.
+const ASLEEP: usize = 4;
 
 // How often a word is looked at before a sleep.
 const PEEKS: u32 = 200;
@@ -45,7 +48,7 @@ impl<M: Machine> Model for FireLock<M> {
 
     ghost view = { λ l. record { id = l.table.shared.table_id; passes = l.table.shared.key.passes; start = l.table.shared.key.machine.value } };
 
-    ghost invariant = { λ l. (l.table.shared.table_id.words ≡ 4) × (l.table.shared.table_id.slots ≡ 1) };
+    ghost invariant = { λ l. (l.table.shared.table_id.words ≡ 5) × (l.table.shared.table_id.slots ≡ 1) };
 }
 
 // The half of a word that a sleeper waits on.
@@ -99,14 +102,14 @@ impl<M: Machine> FireLock<M> {
             machine: Snapshot::of(&machine),
         };
         let slots = lone_slot(alloc, machine)?;
-        match Table::new(alloc, &[0, 0, 0, 0], slots, &origin) {
+        match Table::new(alloc, &[0, 0, 0, 0, 0], slots, &origin) {
             Ok((table, seat)) => Ok((
                 FireLock { table },
                 Pass {
                     seat,
                     number: 0,
                     until: passes,
-                    news: 0,
+                    turn: 0,
                 },
             )),
             Err(Refused { slots }) => Err(machine_of(slots)),
@@ -127,7 +130,7 @@ impl<M: Machine> FireLock<M> {
             seat,
             number: until - 1,
             until,
-            news: pass.news,
+            turn: pass.turn,
         }
     }
 
@@ -142,7 +145,7 @@ impl<M: Machine> FireLock<M> {
             seat,
             number: _,
             until,
-            news: _,
+            turn: _,
         } = other;
         self.table.shared.join_seat::<Glue>(&mut pass.seat, seat);
         self.table.shared.load::<Settle>(&mut pass.seat, TURN);
@@ -158,22 +161,22 @@ impl<M: Machine> FireLock<M> {
         ensures mine { own pass.old.from pass.old.until pass.new.seen ≡ own pass.old.from pass.old.until pass.old.seen ++ entry pass.old.from event result ∷ [] }
         ensures least { own pass.old.from (pass.old.from + 1) pass.new.seen ≡ own pass.old.from (pass.old.from + 1) pass.old.seen ++ entry pass.old.from event result ∷ [] }
     {
-        pass.news = low(self.table.shared.peek(NEWS));
-        self.take_turn(rt, &mut pass.seat);
+        let before = self.take_turn(rt, &mut pass.seat, pass.turn);
+        pass.turn = before.wrapping_add(2);
         let reply = self.play(&mut pass.seat, pass.number, event);
         self.announce(&mut pass.seat, &reply);
         reply
     }
 
-    /// Waits until a step that began after the pass's last one is news, and may return sooner.
+    /// Waits until a step that entered after the pass's last one is news, and may return sooner.
     pub fn idle<R: Wait>(&self, rt: &R, pass: &mut Pass<M>)
         requires lock { Of self.now pass.old }
         ensures same { pass.new ≡ pass.old }
     {
-        let news = pass.news;
-        if self.stays(NEWS, news) {
-            self.sleep(rt, &mut pass.seat, NEWS, IDLE, news);
-        }
+        let shared = &self.table.shared;
+        shared.fetch_add::<Count>(&mut pass.seat, IDLE, 1);
+        self.await_news(rt, &mut pass.seat, pass.turn);
+        shared.fetch_sub::<Count>(&mut pass.seat, IDLE, 1);
     }
 
     /// Ends the lock and hands the machine out. The pass has all numbers, and so has seen the whole history. It takes
@@ -188,7 +191,7 @@ impl<M: Machine> FireLock<M> {
             seat,
             number: _,
             until: _,
-            news: _,
+            turn: _,
         } = pass;
         let FireLock { table } = self;
         let mut closed = table.close_with(seat);
@@ -199,7 +202,7 @@ impl<M: Machine> FireLock<M> {
 
     // Whether the low half of the word stays as it is for a while.
     fn stays(&self, word: usize, expected: u32) -> bool
-        requires { word < 4 }
+        requires { word < 5 }
     {
         for _ in 0..PEEKS {
             if low(self.table.shared.peek(word)) != expected {
@@ -219,7 +222,7 @@ impl<M: Machine> FireLock<M> {
         sleepers: usize,
         expected: u32,
     )
-        requires words { (word < 4) × (0 < sleepers) × (sleepers < 4) }
+        requires words { (word < 5) × (0 < sleepers) × (sleepers < 5) }
         requires lock { seat.old.table_id ≡ self.now.id }
         ensures lock { seat.new.table_id ≡ seat.old.table_id }
         ensures same { seat.new.me ≡ seat.old.me }
@@ -230,7 +233,8 @@ impl<M: Machine> FireLock<M> {
         shared.fetch_sub::<Count>(seat, sleepers, 1);
     }
 
-    fn take_turn<R: Wait>(&self, rt: &R, seat: &mut Seat<M>)
+    // Waits until the turn is free and takes it. `word` is a guess at word 0; the result is this word as the turn was free.
+    fn take_turn<R: Wait>(&self, rt: &R, seat: &mut Seat<M>, mut word: u64) -> u64
         requires lock { seat.old.table_id ≡ self.now.id }
         requires rests { (seat.old.me.1 ≡ []) × Rests seat.old.me.0 }
         ensures lock { seat.new.table_id ≡ seat.old.table_id }
@@ -238,16 +242,29 @@ impl<M: Machine> FireLock<M> {
     {
         let shared = &self.table.shared;
         for _ in rt.forever() {
-            let found = shared.peek(TURN);
-            if found % 2 == 0 {
-                if shared.compare_exchange::<Take<M>>(seat, TURN, found, found + 1) == found {
-                    return;
+            if word % 2 == 0 {
+                let found = shared.compare_exchange::<Take<M>>(seat, TURN, word, word + 1);
+                if found == word {
+                    return word;
                 }
-            } else if self.stays(TURN, low(found)) {
-                self.sleep(rt, seat, TURN, WAITING, low(found));
+                word = found;
+            } else {
+                word = self.await_turn(rt, seat, word);
             }
         }
         unreachable!()
+    }
+
+    // Waits for a while, as long as word 0 is as it was found while a pass had its turn. Gives the word as it is then.
+    fn await_turn<R: Wait>(&self, rt: &R, seat: &mut Seat<M>, found: u64) -> u64
+        requires lock { seat.old.table_id ≡ self.now.id }
+        ensures lock { seat.new.table_id ≡ seat.old.table_id }
+        ensures same { seat.new.me ≡ seat.old.me }
+    {
+        if self.stays(TURN, low(found)) {
+            self.sleep(rt, seat, TURN, WAITING, low(found));
+        }
+        self.table.shared.peek(TURN)
     }
 
     // Plays the event while the seat has the turn, and gives the turn back.
@@ -287,18 +304,33 @@ impl<M: Machine> FireLock<M> {
         }
     }
 
-    // Counts the reply if it is news, and wakes those that sleep until there is some.
+    // Waits until there is news, where no step entered since word 0 was `turn`.
+    // The pass is counted as idle already: a step that enters from now on tells it, and one that entered before made
+    // the history longer.
+    fn await_news<R: Wait>(&self, rt: &R, seat: &mut Seat<M>, turn: u64)
+        requires lock { seat.old.table_id ≡ self.now.id }
+        ensures lock { seat.new.table_id ≡ seat.old.table_id }
+        ensures same { seat.new.me ≡ seat.old.me }
+    {
+        let shared = &self.table.shared;
+        let news = low(shared.peek(NEWS));
+        if shared.peek(TURN) / 2 == turn / 2 && self.stays(NEWS, news) {
+            self.sleep(rt, seat, NEWS, ASLEEP, news);
+        }
+    }
+
+    // Tells the idle passes of a reply that is news.
     fn announce(&self, seat: &mut Seat<M>, reply: &M::Reply)
         requires lock { seat.old.table_id ≡ self.now.id }
         ensures lock { seat.new.table_id ≡ seat.old.table_id }
         ensures same { seat.new.me ≡ seat.old.me }
     {
-        if !M::news(reply) {
+        let shared = &self.table.shared;
+        if !M::news(reply) || shared.peek(IDLE) == 0 {
             return;
         }
-        let shared = &self.table.shared;
         shared.fetch_add::<Count>(seat, NEWS, 1);
-        if shared.peek(IDLE) > 0 {
+        if shared.peek(ASLEEP) > 0 {
             shared.wake_all(NEWS);
         }
     }

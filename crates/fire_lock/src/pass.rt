@@ -10,8 +10,8 @@ pub struct Pass<M: Machine> {
     pub(crate) seat: Seat<M>,
     pub(crate) number: u32,
     pub(crate) until: u32,
-    // The low half of the word that counts news, as it was before the last step.
-    pub(crate) news: u32,
+    // The word of the turn as it was after the last step.
+    pub(crate) turn: u64,
 }
 
 impl<M: Machine> Model for Pass<M> {

@@ -27,20 +27,22 @@ enum Reply {
     Ended,
 }
 
-// Hands out the items below `total`, no more than `most` at once, and adds up those that are finished.
+// Hands out the items below `total`, no more than `most` at once, and adds up those that are finished. Item i is for the
+// numbers that are i modulo `shares`.
 #[derive(Drop)]
 struct Desk {
     next: u64,
     total: u64,
     out: u64,
     most: u64,
+    shares: u64,
     sum: u64,
     // The length of the history.
     plays: u64,
 }
 
 impl Desk {
-    fn new(total: u64, most: u64) -> Desk
+    fn new(total: u64, most: u64, shares: u64) -> Desk
         ensures { result.plays ≡ 0 }
     {
         Desk {
@@ -48,18 +50,23 @@ impl Desk {
             total,
             out: 0,
             most,
+            shares,
             sum: 0,
             plays: 0,
         }
     }
 
-    fn claim(&mut self) -> Reply
+    fn is_for(&self, number: u32) -> bool {
+        self.shares != 0 && self.next % self.shares == number as u64 % self.shares
+    }
+
+    fn claim(&mut self, number: u32) -> Reply
         ensures { self.new.plays ≡ self.old.plays }
     {
         let item = self.next;
         if item == self.total && self.out == 0 {
             Reply::Ended
-        } else if item < self.total && self.out < self.most {
+        } else if item < self.total && self.out < self.most && self.is_for(number) {
             self.next = item + 1;
             self.out += 1;
             Reply::Item(item)
@@ -84,10 +91,10 @@ impl Machine for Desk {
 
     ghost may = { λ s log m n e _ _ _. tt };
 
-    fn play(&mut self, _number: u32, event: Event) -> Reply {
+    fn play(&mut self, number: u32, event: Event) -> Reply {
         self.plays = self.plays.wrapping_add(1);
         match event {
-            Event::Claim => self.claim(),
+            Event::Claim => self.claim(number),
             Event::Finish(item) => {
                 self.out = self.out.saturating_sub(1);
                 self.sum = self.sum.wrapping_add(item);
@@ -171,7 +178,7 @@ fn run<R: Threads + Wait + Sync>(
 #[test]
 fn each_item_is_finished_once_by_one_two_and_four_passes(rt: HostRuntime) -> Result<(), Fail> {
     for count in [1, 2, 4] {
-        let Ok(end) = run(&rt, rt.alloc(), Desk::new(1000, 1000), count, 0) else {
+        let Ok(end) = run(&rt, rt.alloc(), Desk::new(1000, 1000, 1), count, 0) else {
             panic!(rt; "no memory")
         };
         assert_eq!(rt;
@@ -187,10 +194,20 @@ fn each_item_is_finished_once_by_one_two_and_four_passes(rt: HostRuntime) -> Res
 // Three workers have nothing to do while one works. Each piece of news wakes them for one claim, and no more.
 #[test]
 fn idle_workers_leave_the_history_short(rt: HostRuntime) -> Result<(), Fail> {
-    let Ok(end) = run(&rt, rt.alloc(), Desk::new(5, 1), 4, 1_000_000) else {
+    let Ok(end) = run(&rt, rt.alloc(), Desk::new(5, 1, 1), 4, 1_000_000) else {
         panic!(rt; "no memory")
     };
     assert_eq!(rt; (end.next, end.sum), (5, 10));
     assert!(rt; end.plays <= 100, "{} entries", end.plays);
+    Ok(())
+}
+
+// Each item is for the next pass alone, which sleeps or is about to: a wake that is lost would end the run.
+#[test]
+fn no_wake_is_lost(rt: HostRuntime) -> Result<(), Fail> {
+    let Ok(end) = run(&rt, rt.alloc(), Desk::new(2000, 1, 4), 4, 0) else {
+        panic!(rt; "no memory")
+    };
+    assert_eq!(rt; (end.next, end.sum), (2000, 1_999_000));
     Ok(())
 }

@@ -1,5 +1,5 @@
 -- The bytes that a source has left and those that a sink has taken. Either may be told or not.
-use Rattle.std.specs.Prelude.{◌≡◌, ℕ, ◌≤◌, List, [], ◌++◌, length, Option, Some}
+use Rattle.std.specs.Prelude.{◌≡◌, ℕ, List, [], ◌++◌, Option, Some}
 
 -- where the bytes that were left are told, these were taken off their front
 abbrev pub TakesOff : Option (List ℕ) → List ℕ → Option (List ℕ) → Type 0

@@ -1,2 +1,4 @@
 pub mod Bytes
 pub mod Count
+pub mod SinkPlan
+pub mod SourcePlan

@@ -54,6 +54,7 @@ pub fn read_all<S: Source>(alloc: Global, from: &mut S, limit: usize) -> Result<
     ensures few { IfOk result (λ text. length text ≤ limit) }
     ensures too_long { result ≡ Err ReadFail.TooLong → ((bytes : List ℕ) × (length bytes ≡ limit + 1) × TakesOff (S.left from.old) bytes (S.left from.new)) }
     ensures no_memory { result ≡ Err ReadFail.NoMemory → ((bytes : List ℕ) × (length bytes ≤ limit) × TakesOff (S.left from.old) bytes (S.left from.new)) }
+    ensures few_at_a_fault { result ≡ Err ReadFail.ReadFault → ((bytes : List ℕ) × (length bytes ≤ limit) × TakesOff (S.left from.old) bytes (S.left from.new)) }
     ensures fault { result ≡ Err ReadFail.ReadFault → HasRisen (S.faults from.old) (S.faults from.new) }
     ensures no_fault { result ≢ Err ReadFail.ReadFault → S.faults from.new ≡ S.faults from.old }
 {

@@ -234,3 +234,45 @@ fn an_array_and_a_stream_are_not_joined(rt: HostRuntime) -> Result<(), Fail> {
     assert!(rt; agrees::<Catenate>(alloc, parts.as_slice(), &Val::Err(Cause::Explicit))?);
     Ok(())
 }
+
+/// The value of the whole list.
+fn value<R: Reduction + Drop>(alloc: Global, vs: &[Val]) -> Result<Val, Fail> {
+    if vs.len() > 100 {
+        return Err("too long".into());
+    }
+    Ok(reduce::<R>(alloc, vs)?.done())
+}
+
+/// The value as a list of one.
+fn alone(alloc: Global, v: Val) -> Result<Items, Fail> {
+    let mut items = Items::new(alloc);
+    items.add(v)?;
+    Ok(items)
+}
+
+#[test]
+fn the_last_of_one_is_that_one(rt: HostRuntime) -> Result<(), Fail> {
+    let alloc = rt.alloc();
+    let items = alone(alloc, Val::Int(7))?;
+    let last = value::<Last>(alloc, items.as_slice())?;
+    assert!(rt; same(&last, &Val::Int(7)));
+    Ok(())
+}
+
+#[test]
+fn one_array_is_joined_to_itself(rt: HostRuntime) -> Result<(), Fail> {
+    let alloc = rt.alloc();
+    let parts = alone(alloc, array(alloc, 3, &[1, 2])?)?;
+    let whole = value::<Catenate>(alloc, parts.as_slice())?;
+    assert!(rt; same(&whole, &array(alloc, 3, &[1, 2])?));
+    Ok(())
+}
+
+#[test]
+fn one_value_is_gathered_at_place_1(rt: HostRuntime) -> Result<(), Fail> {
+    let alloc = rt.alloc();
+    let items = alone(alloc, Val::Int(7))?;
+    let gathered = value::<Gather>(alloc, items.as_slice())?;
+    assert!(rt; same(&gathered, &array(alloc, 1, &[7])?));
+    Ok(())
+}

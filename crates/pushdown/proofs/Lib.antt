@@ -4,3 +4,4 @@ pub mod RowTests
 pub mod Values
 pub mod Sizes
 pub mod Spelling
+pub mod Fits

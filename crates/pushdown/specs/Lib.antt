@@ -4,3 +4,4 @@ pub mod Rows
 pub mod Engine
 pub mod Meaning
 pub mod Spelling
+pub mod Fits

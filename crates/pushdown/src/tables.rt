@@ -6,7 +6,7 @@ ghost use Rattle.pushdown.specs.Rows.{are_bounds, grammar_in, rows_of, table_in}
 use crate::Symbol;
 
 /// The room for classes of tokens in a row, the end's class 0 among them.
-pub const CLASSES: usize = 80;
+pub const CLASSES: usize = 81;
 
 /// A grammar and its table of choices. The last five rows tell why the table is right, and are read
 /// by its test alone.

@@ -7,3 +7,11 @@ pub mod Complete
 pub mod Whole
 pub mod Printing
 pub mod RoundTrip
+pub mod Follows
+pub mod Ends
+pub mod Search
+pub mod Joins
+pub mod Looks
+pub mod Fits
+pub mod Verdict
+pub mod Spelled

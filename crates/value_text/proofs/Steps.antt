@@ -65,7 +65,7 @@ digits_if : (b : Bool) (n c : ℕ) (t : List ℕ) → is_digit c ≡ b → Digit
 digits_if true n c t e d = record { row = c ∷ d.row; spelled = ap (λ (x : List ℕ). c ∷ x) d.spelled; digits = rw e d.digits; value = d.value }
 digits_if false n c t e d = record { row = []; spelled = refl; digits = refl; value = refl }
 
-digits_of : (n : ℕ) (s : List ℕ) → Digits n (number_from n s).0 s (number_from n s).1
+pub digits_of : (n : ℕ) (s : List ℕ) → Digits n (number_from n s).0 s (number_from n s).1
 digits_of n [] = record { row = []; spelled = refl; digits = refl; value = refl }
 digits_of n (c ∷ t) = digits_if (is_digit c) n c t refl (digits_of (n * 10 + (c - 48)) t)
 
@@ -78,7 +78,7 @@ no_digit true l e = absurd cc
 no_digit false l e = refl
 
 -- digits are read to their end
-digits_again : (n : ℕ) (row r : List ℕ) → list_all is_digit row ≡ true → ends_row r ≡ true → number_from n (row ++ r) ≡ (row_value n row, r)
+pub digits_again : (n : ℕ) (row r : List ℕ) → list_all is_digit row ≡ true → ends_row r ≡ true → number_from n (row ++ r) ≡ (row_value n row, r)
 digits_again n [] [] h e = refl
 digits_again n [] (c ∷ r) h e = rw (no_digit (is_digit c) (is_letter c) e) refl
 digits_again n (d ∷ row) r h e =

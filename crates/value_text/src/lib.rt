@@ -13,4 +13,4 @@ mod token;
 
 pub use fault::ValueFault;
 pub use print::print_value;
-pub use read::{printed_is_read, read_value, spells_one_value};
+pub use read::{printed_is_read, read_texts_fit, read_value, spells_one_value};

@@ -1,11 +1,13 @@
 //! What a text spells at a type.
-ghost use Rattle.std.specs.Prelude.{◌≡◌, ◌+◌, ◌<◌, ◌≤◌, ℕ, IfOk, MatchResult, Some, None, IsTrue, List, drop, length, slice_get};
+ghost use Rattle.std.specs.Prelude.{◌≡◌, ◌+◌, ◌<◌, ◌≤◌, ℕ, IfOk, MatchResult, Err, Some, None, IsTrue, List, drop, length, slice_get};
 ghost use Rattle.std.specs.Option.{option_copied};
 ghost use Rattle.value_text.specs.Tokens.{placed, past_blanks};
 ghost use Rattle.value_text.specs.Reading.{value_in, part_in, many_in, fields_in, array_in, stream_in, record_in, union_in, content_in, typed_in, text_in, text_at, no_gap, char_item, text_value};
 ghost use Rattle.value_text.specs.Grammar.{reads_value};
 ghost use Rattle.value_text.specs.Nesting.{nesting, has_small_tags};
 ghost use Rattle.value_text.specs.Printed.{value_bytes};
+ghost use Rattle.value_text.specs.Forms.{IsValueText, FirstBad};
+ghost use Rattle.value_text.specs.Faults.{PastLimits, MisfitAt, IsOfType, Explains, IsCause};
 ghost use Rattle.flow_value.specs.Well.{is_well};
 ghost use Rattle.flow_value.specs.declared.value.Val.{Val};
 ghost use Rattle.flow_value.specs.declared.ty.Ty.{Ty};
@@ -342,15 +344,27 @@ fn read(alloc: Global, text: &[u8], ty: &Ty) -> Result<Option<Val>, NoMemory>
     }
 }
 
+/// Why a value text is no value of the type.
+fn shape_fault(text: &[u8], ty: &Ty) -> ValueFault
+    requires spelled { IsValueText text.now }
+    requires unread { text_value text.now ty.now ≡ None }
+    ensures { Explains text.now ty.now result }
+{
+    match survey(Some(ty), 64, text, skip(text, 0)) {
+        None => ValueFault::TooLarge,
+        Some((misfit, _)) => ValueFault::WrongShape(text.len().saturating_sub(misfit.unwrap_or(0))),
+    }
+}
+
 /// Why the text is no value of the type.
-fn fault_of(alloc: Global, text: &[u8], ty: &Ty) -> ValueFault {
+fn fault_of(alloc: Global, text: &[u8], ty: &Ty) -> ValueFault
+    requires unread { text_value text.now ty.now ≡ None }
+    ensures { IsCause text.now ty.now result }
+{
     match first_bad(alloc, text) {
         Err(_) => ValueFault::NoMemory,
         Ok(Some(byte)) => ValueFault::BadSpelling(byte),
-        Ok(None) => match survey(Some(ty), 64, text, skip(text, 0)) {
-            None => ValueFault::TooLarge,
-            Some(found) => ValueFault::WrongShape(found.wrong.unwrap_or(0)),
-        },
+        Ok(None) => shape_fault(text, ty),
     }
 }
 
@@ -364,6 +378,12 @@ pub fn read_value(alloc: Global, text: &[u8], ty: &Ty) -> Result<Val, ValueFault
         result
         (λ w. w ≡ v)
         (λ e. e ≡ ValueFault.NoMemory) }
+    // No value text: some begins with the first k bytes, and none with one more, or the text ends.
+    ensures bad_spelling { (k : ℕ) → result ≡ Err (ValueFault.BadSpelling k) → FirstBad text.now k }
+    // A value text past a limit.
+    ensures too_large { result ≡ Err ValueFault.TooLarge → PastLimits text.now }
+    // A value text within the limits whose leftmost part of another form begins at byte k.
+    ensures wrong_shape { (k : ℕ) → result ≡ Err (ValueFault.WrongShape k) → MisfitAt text.now ty.now k }
 {
     match read(alloc, text, ty)? {
         Some(v) => Ok(v),
@@ -380,4 +400,10 @@ pub fn spells_one_value()
 /// as those of every `Val` have.
 pub fn printed_is_read()
     ensures { (ty : Ty) (v : Val) → IsTrue (is_well ty v) → nesting v ≤ 64 → IsTrue (has_small_tags v) → reads_value (value_bytes v) ty v }
+{}
+
+/// What spells a value of a type is a value text within the limits, each part of its type's form; so
+/// no text that has a fault spells a value.
+pub fn read_texts_fit()
+    ensures { (bytes : List ℕ) (ty : Ty) (v : Val) → reads_value bytes ty v → IsOfType bytes ty }
 {}

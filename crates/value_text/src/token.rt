@@ -135,7 +135,7 @@ pub fn integer(text: &[u8], at: usize) -> Option<(i64, usize)>
     }
 }
 
-fn hex_digit(c: u8) -> Option<u8>
+pub fn hex_digit(c: u8) -> Option<u8>
     ensures value { result ≡ hex_digit c }
     ensures small { IfSome result (λ n. n < 16) }
 {
@@ -160,7 +160,7 @@ fn hex(text: &[u8], at: usize) -> Option<(u8, usize)>
     }
 }
 
-fn escape_of(d: u8) -> Option<u8>
+pub fn escape_of(d: u8) -> Option<u8>
     ensures { result ≡ escape_of d }
 {
     match d {

@@ -1,5 +1,5 @@
-use Rattle.std.proofs.Common.{◌≡◌, ℕ, List, Option, Some, None, length, is_some, IsTrue, arith, subst, sym, ap, ap₂, ◌∙◌, set-set, length-set}
-use Rattle.std.proofs.lemmas.List.{get_or_read}
+use Rattle.std.proofs.Common.{◌≡◌, ◌<◌, ℕ, List, Option, Some, None, length, is_some, IsTrue, arith, subst, sym, ap, ap₂, ◌∙◌, set-set, length-set}
+use Rattle.std.proofs.lemmas.List.{get_or_read, get_or-set_same, get_or-set_other}
 use Rattle.std.proofs.lemmas.Int.{to_z-of_z}
 use Rattle.std.specs.List.{list_all}
 use Rattle.std.specs.Prelude.{slice_set, ℤ}
@@ -45,6 +45,9 @@ returns c =
     let view : List (Option Entry) → PoolView = λ l. record { entries = l; spare = c.self.inside.spare.len } in
     let was = builds_is (entry_at (view slots) k) _
     (subst (λ (v : PoolView). BuildsAnd (entry_at v k) (λ room. IsTrue (list_all is_written room.places))) (sym c.self.view_is) c.requires.written) in
+    let gone = c.replace-old.new.dest in
+    let o = c.replace-vacant.new.dest in
+    let near : k < length (slice_set slots k gone) = subst (λ (n : ℕ). k < n) (sym (length-set slots k gone)) (within slots k was) in
     let read = get_or_read slots k c.index_mut.result.now (within slots k was) c.index_mut.ensures.value None in
     let is = ap (λ (v : PoolView). entry_at v k) (sym c.self.view_is) ∙ sym read ∙ sym c.replace-old.ensures.value ∙ c.in-Some-Parts.is ∙ ap (λ (e : Entry). Some e) c.in-Some-Parts.field-0-is in
     let array = c.seal.ensures.array in
@@ -62,4 +65,11 @@ returns c =
             ∙ ap (λ (o : Option Entry). view (slice_set slots k o)) sealed
             ∙ ap put c.self.view_is,
       );
+      now = if_builds (entry_at c.args.self.now k) _ c.in-Some-Parts.building is (
+        array.0,
+        c.seal.result.id,
+        array.1,
+        get_or-set_same (slice_set slots k gone) k o None near ∙ sealed,
+      );
+      others = λ m other. get_or-set_other (slice_set slots k gone) k m o None other ∙ get_or-set_other slots k m gone None other ∙ ap (λ (v : PoolView). entry_at v m) c.self.view_is;
     }

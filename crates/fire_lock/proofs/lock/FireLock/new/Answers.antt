@@ -7,7 +7,7 @@ use Rattle.fire_lock.proofs.lock.FireLock.new.Goals as goal
 
 pub new-requires : goal.new-requires
 new-requires g c = let e = c.in_ok-slots.ensures in
-    subst (λ (slots : List (Place g.row.M.Denot g.row.M-Event.Denot g.row.M-Reply.Denot)). Kept g.M.Machine.starts g.M.Machine.plays c.args.passes c.of.result.value (opening (0 ∷ 0 ∷ 0 ∷ 0 ∷ []) slots (first c.args.passes c.of.result.value)))
+    subst (λ (slots : List (Place g.row.M.Denot g.row.M-Event.Denot g.row.M-Reply.Denot)). Kept g.M.Machine.starts g.M.Machine.plays c.args.passes c.of.result.value (opening (0 ∷ 0 ∷ 0 ∷ 0 ∷ 0 ∷ []) slots (first c.args.passes c.of.result.value)))
     (sym e.slot)
     (opens_it g.M.Machine.starts g.M.Machine.plays c.args.passes c.of.result.value (record { machine = c.args.machine; played = None }) (sym c.of.ensures) (subst g.M.Machine.starts (sym c.of.ensures) c.requires.starts) c.requires.some)
 

@@ -5,7 +5,7 @@ use Rattle.fire_lock.proofs.Told.{may_play, step_told, step_adds}
 use Rattle.fire_lock.proofs.lock.FireLock.step.Goals as goal
 
 pub play-reply-requires-clause-turn : goal.play-reply-requires-clause-turn
-play-reply-requires-clause-turn g c = let t = c.take_turn.ensures.turn in let p = c.pass.inside in let v = p.seat.me.0 in let is = c.pass.view_is in (
+play-reply-requires-clause-turn g c = let t = c.take_turn-before.ensures.turn in let p = c.pass.inside in let v = p.seat.me.0 in let is = c.pass.view_is in (
   t.0,
   t.1,
   ap (λ v. v.turn) t.2.view,
@@ -16,9 +16,9 @@ play-reply-requires-clause-turn g c = let t = c.take_turn.ensures.turn in let p 
 )
 
 pub returns-clause-step : goal.returns-clause-step
-returns-clause-step g c = let v = c.pass.inside.seat.me.0 in let t = c.take_turn.ensures.turn in let played = c.play-reply.ensures.played in let is = c.pass.view_is in
+returns-clause-step g c = let v = c.pass.inside.seat.me.0 in let t = c.take_turn-before.ensures.turn in let played = c.play-reply.ensures.played in let is = c.pass.view_is in
     step_told g.M.Machine.starts g.M.Machine.plays c.pass.inside.seat.table_id c.announce.new.seat.table_id c.args.self.now.start c.args.pass.now v _ _ t.0.machine _ _ _ is
-    (c.announce.ensures.lock ∙ (c.play-reply.ensures.lock ∙ c.take_turn.ensures.lock)) t.2 (ap (λ p. p.start) is ∙ c.requires.lock.1) c.pass.invariant.0
+    (c.announce.ensures.lock ∙ (c.play-reply.ensures.lock ∙ c.take_turn-before.ensures.lock)) t.2 (ap (λ p. p.start) is ∙ c.requires.lock.1) c.pass.invariant.0
     played.0 played.1 played.2 played.3 (ap (λ m. m.0) c.announce.ensures.same ∙ c.play-reply.ensures.view)
 
 pub returns-clause-mine : goal.returns-clause-mine

@@ -1,0 +1,16 @@
+pub mod Tables
+pub mod Ops
+pub mod Rows
+pub mod Kinds
+pub mod Types
+pub mod Parts
+pub mod Units
+pub mod Literals
+pub mod Formed
+pub mod Ports
+pub mod Typing
+pub mod Cycles
+pub mod Ready
+pub mod Normal
+pub mod Lines
+pub mod Reads

@@ -1,0 +1,14 @@
+//! Callers of the pool, proved by its clauses alone: a value that two threads read while the pool goes on, and an
+//! array whose parts two threads write.
+#![tactic(auto)]
+
+mod building;
+mod lending;
+mod opening;
+
+pub use building::build_by_two;
+pub use lending::{Seen, lend_to_two};
+pub use opening::empty_pool;
+
+#[cfg(test)]
+mod tests;

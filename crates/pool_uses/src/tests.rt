@@ -1,0 +1,32 @@
+use crate::{build_by_two, empty_pool, lend_to_two};
+use flow_value::{Items, Val, array_of, same};
+use std::alloc::Global;
+use std::test::Fail;
+
+#[test]
+fn a_value_is_read_by_two_threads_while_another_passes_through(
+    rt: HostRuntime,
+) -> Result<(), Fail> {
+    let pool = empty_pool(rt.alloc(), 2)?;
+    let seen = lend_to_two(&rt, pool);
+    assert_eq!(rt; seen, (7, 7, 5));
+    Ok(())
+}
+
+/// The integers as an array from 1.
+fn array(alloc: Global, numbers: &[i64]) -> Result<Val, Fail> {
+    let mut items = Items::new(alloc);
+    for n in numbers {
+        items.add(Val::Int(*n))?;
+    }
+    Ok(array_of(1, items))
+}
+
+#[test]
+fn an_array_is_written_by_two_threads(rt: HostRuntime) -> Result<(), Fail> {
+    let alloc = rt.alloc();
+    let pool = empty_pool(alloc, 0)?;
+    let built = build_by_two(&rt, alloc, pool)?;
+    assert!(rt; same(&built, &array(alloc, &[10, 20])?));
+    Ok(())
+}

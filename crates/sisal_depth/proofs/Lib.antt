@@ -1,0 +1,5 @@
+pub mod Stacks
+pub mod Walks
+pub mod Folds
+pub mod Depths
+pub mod Finals

@@ -1,0 +1,11 @@
+pub mod Plans
+pub mod TokenClasses
+pub mod Saying
+pub mod Joins
+pub mod Keeps
+pub mod Keepings
+pub mod Raws
+pub mod Reading
+pub mod Goals
+pub mod Complete
+pub mod Units

@@ -1,0 +1,9 @@
+pub mod Acts
+pub mod Classes
+pub mod Derived
+pub mod Language
+pub mod Phrases
+pub mod Placed
+pub mod Plan
+pub mod Sorts
+pub mod Spells
