@@ -7,8 +7,8 @@ ghost use Rattle.sisal_top.specs.Graph.{fired};
 ghost use Rattle.sisal_top.specs.Making.{Gives, GiveAll, Grows, Stands, named, scope_in, undone};
 
 use crate::graph::{Graph, Input, Node};
-use flow_value::{NoMemory, Scalar2, Seq};
 use first_form::Expr;
+use flow_value::{NoMemory, Scalar2, Seq};
 use std::alloc::Global;
 
 /// What a name stands for.

@@ -7,8 +7,8 @@ ghost use Rattle.sisal_top.specs.Graph.{input_value};
 use crate::firing::{fire, lent, literal};
 use crate::graph::Input;
 use crate::making::make_all;
-use flow_value::{NoMemory, Seq, Text, Val};
 use first_form::Expr;
+use flow_value::{NoMemory, Seq, Text, Val};
 use std::alloc::Global;
 use value_text::print_value;
 

@@ -124,7 +124,10 @@ impl From<ParseFault> for Status {
 
     fn from(fault: ParseFault) -> Status {
         match fault {
-            ParseFault::Syntax { token, line } => Status::Syntax(SyntaxFault::Token { token, line }),
+            ParseFault::Syntax { token, line } => Status::Syntax(SyntaxFault::Token {
+                token,
+                line,
+            }),
             ParseFault::TooDeep(line) => Status::Syntax(SyntaxFault::TooDeep(line)),
             ParseFault::NoMemory => Status::NoMemory,
         }
