@@ -35,7 +35,10 @@ impl Values {
             arms: rest.into_seq(),
             otherwise: in_order(otherwise),
         };
-        self.push(Value::AnExpr(Expr { line: word.line, kind: ExprKind::TagCase(case) }))
+        self.push(Value::AnExpr(Expr {
+            line: word.line,
+            kind: ExprKind::TagCase(case),
+        }))
     }
 
     /// `subject = @name subject_more`
@@ -81,7 +84,16 @@ impl Values {
         let compared = self.take_tail();
         let all = self.take_tail();
         let any = self.take_tail();
-        self.push(Value::ARest(SubjectRest::Rest(ExprRest { call, posts, factors, terms, parts, compared, all, any })))
+        self.push(Value::ARest(SubjectRest::Rest(ExprRest {
+            call,
+            posts,
+            factors,
+            terms,
+            parts,
+            compared,
+            all,
+            any,
+        })))
     }
 
     /// `arms =`
@@ -114,7 +126,11 @@ impl Values {
         let _colon = self.take_token();
         let results = self.take_exprs();
         tags.push(named(&tag))?;
-        self.push(Value::AnArm(Arm { line: word.line, tags: tags.into_seq(), results: results.into_seq() }))
+        self.push(Value::AnArm(Arm {
+            line: word.line,
+            tags: tags.into_seq(),
+            results: results.into_seq(),
+        }))
     }
 
     /// `otherwise = "otherwise" ":" exprs`

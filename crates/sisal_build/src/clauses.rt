@@ -43,7 +43,12 @@ impl Values {
         let value = self.take_expr();
         let mask = self.take_maybe_mask();
         let kind = gathered_of(&word.kind);
-        self.push(Value::AClause(Clause { line: word.line, kind, value, mask }))
+        self.push(Value::AClause(Clause {
+            line: word.line,
+            kind,
+            value,
+            mask,
+        }))
     }
 
     /// `clause = "value" "of" fold expr mask`
@@ -56,7 +61,12 @@ impl Values {
         let kind = self.take_clause_kind();
         let value = self.take_expr();
         let mask = self.take_maybe_mask();
-        self.push(Value::AClause(Clause { line: word.line, kind, value, mask }))
+        self.push(Value::AClause(Clause {
+            line: word.line,
+            kind,
+            value,
+            mask,
+        }))
     }
 
     /// `fold =`

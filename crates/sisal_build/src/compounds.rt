@@ -26,7 +26,10 @@ impl Values {
         let elements = self.take_maybe_elements();
         let _close = self.take_token();
         let kind = ExprKind::Array(name, elements);
-        self.push(Value::AnExpr(Expr { line: word.line, kind }))
+        self.push(Value::AnExpr(Expr {
+            line: word.line,
+            kind,
+        }))
     }
 
     /// `other = "stream" named "[" args "]"`
@@ -40,7 +43,10 @@ impl Values {
         let values = self.take_exprs();
         let _close = self.take_token();
         let kind = ExprKind::Stream(name, values.into_seq());
-        self.push(Value::AnExpr(Expr { line: word.line, kind }))
+        self.push(Value::AnExpr(Expr {
+            line: word.line,
+            kind,
+        }))
     }
 
     /// `other = "record" named "[" fv fvs "]"`
@@ -56,7 +62,10 @@ impl Values {
         let _close = self.take_token();
         rest.push(first)?;
         let kind = ExprKind::Record(name, rest.into_seq());
-        self.push(Value::AnExpr(Expr { line: word.line, kind }))
+        self.push(Value::AnExpr(Expr {
+            line: word.line,
+            kind,
+        }))
     }
 
     /// `other = "union" @name "[" @name content "]"`
@@ -72,7 +81,10 @@ impl Values {
         let _close = self.take_token();
         let value = Held::new(alloc, content(&tag, written))?;
         let kind = ExprKind::Union(name_in(&name), name_in(&tag), value);
-        self.push(Value::AnExpr(Expr { line: word.line, kind }))
+        self.push(Value::AnExpr(Expr {
+            line: word.line,
+            kind,
+        }))
     }
 
     /// `other = "let" defs "in" exprs "end" "let"`
@@ -87,7 +99,10 @@ impl Values {
         let _end = self.take_token();
         let _let = self.take_token();
         let kind = ExprKind::Let(defs.into_seq(), values.into_seq());
-        self.push(Value::AnExpr(Expr { line: word.line, kind }))
+        self.push(Value::AnExpr(Expr {
+            line: word.line,
+            kind,
+        }))
     }
 
     /// `other = "if" expr "then" exprs elses "end" "if"`
@@ -104,7 +119,10 @@ impl Values {
         let _if = self.take_token();
         let test = Held::new(alloc, test)?;
         let kind = ExprKind::If(test, yes.into_seq(), no.into_seq());
-        self.push(Value::AnExpr(Expr { line: word.line, kind }))
+        self.push(Value::AnExpr(Expr {
+            line: word.line,
+            kind,
+        }))
     }
 
     /// `other = "for" loop "end" "for"`
@@ -117,7 +135,10 @@ impl Values {
         let _end = self.take_token();
         let _for = self.take_token();
         let kind = ExprKind::For(whole);
-        self.push(Value::AnExpr(Expr { line: word.line, kind }))
+        self.push(Value::AnExpr(Expr {
+            line: word.line,
+            kind,
+        }))
     }
 
     /// `is_what = "error"`
@@ -180,7 +201,10 @@ impl Values {
         let test = Held::new(alloc, test)?;
         let kind = ExprKind::If(test, yes.into_seq(), no.into_seq());
         let mut results = Back::new(alloc);
-        results.push(Expr { line: word.line, kind })?;
+        results.push(Expr {
+            line: word.line,
+            kind,
+        })?;
         self.push(Value::Exprs(results))
     }
 

@@ -62,7 +62,10 @@ impl Values {
         let _assign = self.take_token();
         let values = self.take_exprs();
         rest.push(first)?;
-        self.push(Value::ADef(Def { targets: rest.into_seq(), values: values.into_seq() }))
+        self.push(Value::ADef(Def {
+            targets: rest.into_seq(),
+            values: values.into_seq(),
+        }))
     }
 
     /// `targets =`

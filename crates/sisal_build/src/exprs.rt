@@ -95,7 +95,10 @@ impl Values {
         let operand = self.take_expr();
         let operand = Held::new(alloc, operand)?;
         let kind = ExprKind::Prefix(prefix_of(&operator.kind), operand);
-        self.push(Value::AnExpr(Expr { line: operator.line, kind }))
+        self.push(Value::AnExpr(Expr {
+            line: operator.line,
+            kind,
+        }))
     }
 
     /// `inv = rel`
@@ -167,7 +170,10 @@ impl Values {
         let word = self.take_token();
         let name = self.take_token();
         let kind = ExprKind::Old(name_in(&name));
-        self.push(Value::AnExpr(Expr { line: word.line, kind }))
+        self.push(Value::AnExpr(Expr {
+            line: word.line,
+            kind,
+        }))
     }
 
     /// `other = "integer" "(" expr ")"`
@@ -181,7 +187,10 @@ impl Values {
         let _close = self.take_token();
         let value = Held::new(alloc, value)?;
         let kind = ExprKind::Convert(scalar_of(&word.kind), value);
-        self.push(Value::AnExpr(Expr { line: word.line, kind }))
+        self.push(Value::AnExpr(Expr {
+            line: word.line,
+            kind,
+        }))
     }
 
     /// `other = "(" expr ")"`
@@ -193,7 +202,10 @@ impl Values {
         let inner = self.take_expr();
         let _close = self.take_token();
         let kind = ExprKind::Group(Held::new(alloc, inner)?);
-        self.push(Value::AnExpr(Expr { line: open.line, kind }))
+        self.push(Value::AnExpr(Expr {
+            line: open.line,
+            kind,
+        }))
     }
 
     /// `other = "error" "[" type "]"`
@@ -206,7 +218,10 @@ impl Values {
         let ty = self.take_written();
         let _close = self.take_token();
         let kind = ExprKind::ErrorOf(ty);
-        self.push(Value::AnExpr(Expr { line: word.line, kind }))
+        self.push(Value::AnExpr(Expr {
+            line: word.line,
+            kind,
+        }))
     }
 
     /// `other = "is" is_what "(" expr ")"`

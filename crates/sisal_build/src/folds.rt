@@ -137,12 +137,7 @@ pub fn called(token: &Placed, call: Option<Back<Expr>>) -> Expr
 }
 
 /// A test for the error value, or for a tag.
-pub fn asked(
-    alloc: Global,
-    line: u32,
-    tag: Option<u32>,
-    value: Expr,
-) -> Result<Expr, NoMemory>
+pub fn asked(alloc: Global, line: u32, tag: Option<u32>, value: Expr) -> Result<Expr, NoMemory>
     ensures { IfOk result (λ e. e ≡ asked line tag value) }
 {
     let value = Held::new(alloc, value)?;

@@ -132,7 +132,12 @@ impl Values {
         let is_until = test.is_until;
         let test = Held::new(alloc, test.test)?;
         let defs = defs.into_seq();
-        self.push(Value::ATurn(Turn { is_first: true, is_until, test, defs }))
+        self.push(Value::ATurn(Turn {
+            is_first: true,
+            is_until,
+            test,
+            defs,
+        }))
     }
 
     /// `turn = "repeat" defs test`
@@ -146,7 +151,12 @@ impl Values {
         let is_until = test.is_until;
         let test = Held::new(alloc, test.test)?;
         let defs = defs.into_seq();
-        self.push(Value::ATurn(Turn { is_first: false, is_until, test, defs }))
+        self.push(Value::ATurn(Turn {
+            is_first: false,
+            is_until,
+            test,
+            defs,
+        }))
     }
 
     /// `test = "while" expr`

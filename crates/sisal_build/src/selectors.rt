@@ -122,7 +122,10 @@ impl Values {
         let name = self.take_token();
         let _colon = self.take_token();
         let value = self.take_expr();
-        self.push(Value::AValue(FieldValue { field: named(&name), value }))
+        self.push(Value::AValue(FieldValue {
+            field: named(&name),
+            value,
+        }))
     }
 
     /// `fvs =`

@@ -104,7 +104,10 @@ impl Values {
         let _colon = self.take_token();
         let ty = self.take_written();
         names.push(named(&name))?;
-        self.push(Value::AField(Field { names: names.into_seq(), ty }))
+        self.push(Value::AField(Field {
+            names: names.into_seq(),
+            ty,
+        }))
     }
 
     /// `tagfs = ";" tagfs_more`

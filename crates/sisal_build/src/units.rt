@@ -25,7 +25,10 @@ impl Values {
         self.take_nothing();
         let items = self.take_items();
         names.push(named(&name))?;
-        self.push(Value::AnOutline(Outline { defines: names.into_seq(), items: items.into_seq() }))
+        self.push(Value::AnOutline(Outline {
+            defines: names.into_seq(),
+            items: items.into_seq(),
+        }))
     }
 
     /// `names =`
@@ -94,7 +97,11 @@ impl Values {
         let _equal = self.take_token();
         let ty = self.take_written();
         self.take_nothing();
-        self.push(Value::AnItem(Item::Alias(TypeDef { line: word.line, name: name_in(&name), ty })))
+        self.push(Value::AnItem(Item::Alias(TypeDef {
+            line: word.line,
+            name: name_in(&name),
+            ty,
+        })))
     }
 
     /// `item = "forward" "function" header semi`
@@ -106,7 +113,11 @@ impl Values {
         let _function = self.take_token();
         let header = self.take_header();
         self.take_nothing();
-        self.push(Value::AnItem(Item::Function(FunDef { line: word.line, header, kind: FunKind::Forward })))
+        self.push(Value::AnItem(Item::Function(FunDef {
+            line: word.line,
+            header,
+            kind: FunKind::Forward,
+        })))
     }
 
     /// `item = "global" header semi`
@@ -117,7 +128,11 @@ impl Values {
         let word = self.take_token();
         let header = self.take_header();
         self.take_nothing();
-        self.push(Value::AnItem(Item::Function(FunDef { line: word.line, header, kind: FunKind::Global })))
+        self.push(Value::AnItem(Item::Function(FunDef {
+            line: word.line,
+            header,
+            kind: FunKind::Global,
+        })))
     }
 
     /// `item = "function" header exprs "end" "function" semi`
@@ -132,7 +147,11 @@ impl Values {
         let _function = self.take_token();
         self.take_nothing();
         let kind = FunKind::Defined(results.into_seq());
-        self.push(Value::AnItem(Item::Function(FunDef { line: word.line, header, kind })))
+        self.push(Value::AnItem(Item::Function(FunDef {
+            line: word.line,
+            header,
+            kind,
+        })))
     }
 
     /// `header = @name "(" fields_more "returns" type types ")"`
@@ -148,6 +167,10 @@ impl Values {
         let mut results = self.take_types();
         let _close = self.take_token();
         results.push(first)?;
-        self.push(Value::AHeader(Header { name: named(&name), params: params.into_seq(), results: results.into_seq() }))
+        self.push(Value::AHeader(Header {
+            name: named(&name),
+            params: params.into_seq(),
+            results: results.into_seq(),
+        }))
     }
 }

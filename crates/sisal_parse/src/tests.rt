@@ -26,9 +26,21 @@ fn names_the_first_token_at_which_no_unit_goes_on(rt: HostRuntime) -> Result<(),
         ("", 1, 1),
         ("type t = integer", 1, 1),
         ("define f\nfunction f(returns integer)\n 1", 10, 3),
-        ("define f\nfunction f(returns integer)\n 1 +\nend function", 11, 4),
-        ("define f function f(returns integer) a = b = c end function", 12, 1),
-        ("define f function f(x: integer returns integer) x[1; 2] end function", 15, 1),
+        (
+            "define f\nfunction f(returns integer)\n 1 +\nend function",
+            11,
+            4,
+        ),
+        (
+            "define f function f(returns integer) a = b = c end function",
+            12,
+            1,
+        ),
+        (
+            "define f function f(x: integer returns integer) x[1; 2] end function",
+            15,
+            1,
+        ),
     ];
     for (text, token, line) in texts {
         let fault = fault_in(rt.alloc(), text.as_bytes())?;

@@ -47,8 +47,8 @@ token_at-requires c =
 pub loop-k-preserved-in-Continue-branch-2 : goal.loop-k-preserved-in-Continue-branch-2
 loop-k-preserved-in-Continue-branch-2 c =
     let t : ReadTurn sisal plan c.args.steps.now (placed 0 c.args.tokens.now) c.loop-k.k c.loop-k.left c.loop-k.values nowhere = read_turn sisal plan c.args.steps.now (placed 0 c.args.tokens.now) c.loop-k.k c.loop-k.left c.loop-k.values nowhere c.loop-k-test.true c.loop-k.invariant.within (all_read c.args.steps.now c.args.tokens.now c.requires) c.in-Read.is c.loop-k.invariant.place c.loop-k.invariant.values in
-    let made : c.push.new.self ≡ AToken c.in_ok-token.token ∷ c.loop-k.values = c.in_ok-push-in-Read.ensures in
-    let same : c.in_ok-token.token ≡ get_or (placed 0 c.args.tokens.now) (c.loop-k.left - 1) nowhere = c.in_ok-token.ensures in
+    let made : c.push.new.self ≡ AToken c.in_ok-token-in-Read.token ∷ c.loop-k.values = c.in_ok-push-in-Read.ensures in
+    let same : c.in_ok-token-in-Read.token ≡ get_or (placed 0 c.args.tokens.now) (c.loop-k.left - 1) nowhere = c.in_ok-token-in-Read.ensures in
     record { within = omega arith; place = t.place; values = t.values ∙ ap (λ s. Some s) (ap (λ k. AToken k ∷ c.loop-k.values) (sym same) ∙ sym made) }
 
 pub perform-requires : goal.perform-requires
