@@ -2,7 +2,7 @@
 use Rattle.std.proofs.Common.{◌≡◌, ℕ, ◌+◌, ◌≤◌, List, ◌++◌, length, take, Option, Some, Result, Ok, Err, sym, subst, ap, ◌∙◌, arith, append_assoc}
 use Rattle.std.proofs.Math.Seq.{take-append-add, take-length}
 use Rattle.std.proofs.lemmas.List.{take-append-le, length-append}
-use Rattle.std.specs.Result.{OnOk, OnErr}
+use Rattle.std.specs.Result.{IsErr, OnOk, OnErr}
 use Rattle.flow_io.specs.Bytes.{AddsOn}
 use Rattle.flow_io.specs.declared.failed.Failed.{Failed}
 use Rattle.sisal_top.specs.Lines.{Takes}
@@ -19,6 +19,11 @@ pub takes_first : (e : Failed) (before after : Option (List ℕ)) (xs ys : List 
     → Takes (Err e) before xs after → Takes (Err e) before (xs ++ ys) after
 takes_first e before after xs ys f =
     (f.0, omega (arith, f.1, length-append xs ys), subst (λ bs. AddsOn before bs after) (sym (take-append-le f.0 xs ys f.1)) f.2)
+
+pub takes_failed : (r : Result (Unit {0}) Failed) (e : Failed) (before after : Option (List ℕ)) (xs ys : List ℕ)
+    → IsErr r → Takes (Err e) before xs after → Takes r before (xs ++ ys) after
+takes_failed (Ok u) e before after xs ys is f = absurd is
+takes_failed (Err x) e before after xs ys is f = takes_first x before after xs ys f
 
 -- a second write behind a first one
 pub takes_then : (r : Result (Unit {0}) Failed) (before mid after : Option (List ℕ)) (xs ys : List ℕ)
