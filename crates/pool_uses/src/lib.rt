@@ -5,10 +5,12 @@
 mod building;
 mod lending;
 mod opening;
+mod sharing;
 
 pub use building::build_by_two;
 pub use lending::{Seen, lend_to_two};
 pub use opening::empty_pool;
+pub use sharing::build_by_four;
 
 #[cfg(test)]
 mod tests;
