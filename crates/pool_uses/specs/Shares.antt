@@ -29,6 +29,6 @@ abbrev pub number_at : ℕ → Place Val
 number_at i = written (value.Int (pos (i + 1)))
 
 -- so many integers from `first` on
-pub counted : ℕ → ℕ → List Val
+unfoldable pub counted : ℕ → ℕ → List Val
 counted zero first = []
 counted (suc n) first = value.Int (pos first) ∷ counted n (first + 1)
