@@ -89,7 +89,7 @@ abbrev pub back_from : ℕ → ℕ → List (Place Val)
 back_from k n = replicate k away ++ map written (counted (n - k) (k + 1))
 
 pub none_back : (n : ℕ) → replicate n away ≡ back_from n n
-  unfolding counted
+unfolding counted
 none_back n = let no : 0 ≡ n - n = omega arith in sym (append-nil (replicate n away)) ∙ ap (λ m. replicate n away ++ map written (counted m (n + 1))) no
 
 pub all_back : (n : ℕ) → back_from 0 n ≡ map written (counted n 1)
@@ -109,7 +109,7 @@ module _ (k n : ℕ) (within : k < n) where
   join_fits = let a = length-append (replicate (k + 1) away) here in let b : length (replicate {A = Place Val} (k + 1) away) ≡ k + 1 = length-replicate (k + 1) away in omega arith
 
   pub back_more : spliced (back_from (k + 1) n) k (number_at k ∷ []) ≡ back_from k n
-    unfolding counted
+  unfolding counted
   back_more = let more : suc (n - (k + 1)) ≡ n - k = omega arith in ap (λ ps. spliced ps k (number_at k ∷ [])) last_away ∙ spliced_behind gone away here k (length-replicate k away) (number_at k)
       ∙ ap (λ m. gone ++ map written (counted m (k + 1))) more
 
@@ -134,7 +134,7 @@ module _ (number : ℕ) (start : Ptr) (place : ℕ → Place Val) (parts : List 
 
 -- what is sealed
 counted_long : (n first : ℕ) → length (counted n first) ≡ n
-  unfolding counted
+unfolding counted
 counted_long zero first = refl
 counted_long (suc n) first = ap suc (counted_long n (first + 1))
 
@@ -156,7 +156,7 @@ values (unwritten ∷ ps) = values ps
 values (written x ∷ ps) = x ∷ values ps
 
 values-written : {X : Type 0} (xs : List X) → values (map written xs) ≡ xs
-  unfolding values
+unfolding values
 values-written [] = refl
 values-written (x ∷ xs) = ap (λ ys. x ∷ ys) (values-written xs)
 
