@@ -7,7 +7,6 @@ use lib.ListN.{length-map}
 use mathlib.Core.Logic.{dite}
 use native.Mathlib.Decide.{ℕ_discrete}
 use denote.RawPtr.{Ptr}
-use Rattle.lease.specs.Lending.{Lending}
 use Rattle.flow_value.specs.Bounds.{IsWithinLength}
 use Rattle.flow_value.specs.declared.value.Val.{Val}
 use Rattle.flow_value.specs.declared.value.Val.TheVariants as value
@@ -23,8 +22,8 @@ use Rattle.pool_uses.specs.Shares.{room_at, share, AreShares, with_place, number
 pub if_room : (o : Option Entry) (P : RoomView Val → Type 0) (start : Ptr) (places : List (Place Val)) → o ≡ room_at start places → IfBuilds o P → P (record { start = start; places = places })
 if_room o P start places is p = subst (λ (x : Option Entry). IfBuilds x P) is p
 
-pub if_whole : (o : Option Entry) (P : Lending Val → Type 0) (w : Lending Val) → o ≡ Some (entry.Whole w) → IfHolds o P → P w
-if_whole o P w is p = subst (λ (x : Option Entry). IfHolds x P) is p
+pub if_whole : (o : Option Entry) (taken v : Val) (id : ℕ) → o ≡ Some (entry.Whole (record { value = v; out = 0; id = id })) → IfHolds o (λ w. taken ≡ w.value) → taken ≡ v
+if_whole o taken v id is p = subst (λ (x : Option Entry). IfHolds x (λ w. taken ≡ w.value)) is p
 
 pub room_and : (o : Option Entry) (P : RoomView Val → Type 0) (start : Ptr) (places : List (Place Val)) → o ≡ room_at start places → P (record { start = start; places = places }) → BuildsAnd o P
 room_and o P start places is p = subst (λ (x : Option Entry). BuildsAnd x P) (sym is) p

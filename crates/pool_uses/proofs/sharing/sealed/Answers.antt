@@ -30,5 +30,5 @@ returns-clause-array c =
     let now = if_room (entry_at c.args.pool.now c.args.key.number)
         (λ room. (items : List Val) × (id : ℕ) × (map written items ≡ room.places) × (after ≡ Some (entry.Whole (record { value = value.Arr (bounded (pos 1) items); out = 0; id = id }))))
         whole.0 (map written (counted c.args.n 1)) whole.1 c.seal.ensures.now in
-    if_whole after (λ w. c.take.result ≡ w.value) (record { value = value.Arr (bounded (pos 1) now.0); out = 0; id = now.1 }) now.3 c.take.ensures.value
+    if_whole after c.take.result (value.Arr (bounded (pos 1) now.0)) now.1 now.3 c.take.ensures.value
     ∙ ap (λ xs. value.Arr (bounded (pos 1) xs)) (same_written now.0 (counted c.args.n 1) now.2)
