@@ -1,5 +1,5 @@
-//! Callers of the pool, proved by its clauses alone: a value that two threads read while the pool goes on, and an
-//! array whose parts two threads write.
+//! Callers of the pool, proved by its clauses alone: a value that two threads read while the pool goes on, an array
+//! whose parts two threads write, and one of any size each place of which is a segment that one of four threads writes.
 #![tactic(auto)]
 
 mod building;
