@@ -1,4 +1,5 @@
 -- A room that is cut into segments of one place each, and put together again from the last to the first.
+use Rattle.std.proofs.Math.Facts.{yes_leb}
 use Rattle.std.proofs.Common.{◌≡◌, ◌≢◌, ℕ, zero, suc, ◌+◌, ◌-◌, ◌<◌, ◌≤◌, List, [], ◌∷◌, ◌++◌, length, map, replicate, take, drop, Option, Some, refl, sym, ap, subst, ◌∙◌, arith, slice_index_or, pos}
 use Rattle.std.proofs.lemmas.List.{append_assoc, append-nil, drop_at, drop-drop, take_at, get_or_append_left, get_or_push, length-append, length-replicate, length_push, replicate_more}
 use Rattle.std.specs.Prelude.{IsTrue}
@@ -121,8 +122,8 @@ module _ (number : ℕ) (start : Ptr) (place : ℕ → Place Val) (parts : List 
   shares_more last shares is i d within =
       let long = length_push parts last in
       dite (ℕ_discrete i (length parts))
-          (λ same. get_or_push parts last d i (sym same) ∙ is ∙ ap (λ j. share number start j (place j)) (sym same))
-          (λ other. get_or_append_left parts (last ∷ []) d i (omega arith) ∙ shares i d (omega arith))
+      (λ same. get_or_push parts last d i (sym same) ∙ is ∙ ap (λ j. share number start j (place j)) (sym same))
+      (λ other. get_or_append_left parts (last ∷ []) d i (omega arith) ∙ shares i d (omega arith))
 
   module _ (last : Cut) (shares : AreShares number start place (parts ++ last ∷ [])) where
     pub shares_before : AreShares number start place parts
@@ -142,7 +143,7 @@ all_written [] = refl
 all_written (x ∷ xs) = all_written xs
 
 within_length : (n : ℕ) → n ≤ 4194304 → IsWithinLength (pos 1) n
-within_length n few = record { few = few; high = omega arith; low = omega arith }
+within_length n few = record { few = few; high = record { le = yes_leb (omega (arith, few)) }; low = record { le = tt } }
 
 pub counted_fits : (n : ℕ) → n ≤ 4194304 → IsWithinLength (pos 1) (length (map written (counted n 1)))
 counted_fits n few = subst (IsWithinLength (pos 1)) (sym (length-map (counted n 1) written ∙ counted_long n 1)) (within_length n few)

@@ -1,4 +1,5 @@
 use Rattle.std.proofs.Common.{◌≡◌, ℕ, ◌+◌, ◌<◌, ◌≤◌, ◌∷◌, [], length, Some, refl, sym, ap, subst, ◌∙◌, arith}
+use Rattle.std.specs.Option.{MatchOption}
 use Rattle.std.specs.Vec.{vec_len}
 use Rattle.segment.specs.Places.{IsOf}
 use Rattle.segment.specs.Runs.{spliced}
@@ -52,13 +53,16 @@ loop-part-preserved c =
     let after = c.join_segment.new.self in
     let joined = subst (λ (s : Cut). IfBuilds (entry_at c.loop-part.pool s.number) (λ room. entry_at after s.number ≡ Some (entry.Parts (record room { places = spliced room.places s.part.from s.part.places })))) is c.join_segment.ensures.now in
     let now = if_room (entry_at c.loop-part.pool number) (λ room. entry_at after number ≡ Some (entry.Parts (record room { places = spliced room.places k (number_at k ∷ []) })))
-        start (back_from (k + 1) n) at joined in
-    ((start, now ∙ ap (room_at start) (back_more k n within) ∙ ap (λ m. room_at start (back_from m n)) (sym count), shares_before number start number_at rest.items c.in-Some.part shares),
-    omega arith, λ m other. c.join_segment.ensures.others m (λ e. other (e ∙ ap (λ (s : Cut). s.number) is)) ∙ v.2 m other)
+    start (back_from (k + 1) n) at joined in (
+      (start, now ∙ ap (room_at start) (back_more k n within) ∙ ap (λ m. room_at start (back_from m n)) (sym count), shares_before number start number_at rest.items c.in-Some.part shares),
+      omega arith,
+      λ m other. c.join_segment.ensures.others m (λ e. other (e ∙ ap (λ (s : Cut). s.number) is)) ∙ v.2 m other,
+    )
 
 pub returns-clause-whole : goal.returns-clause-whole
 returns-clause-whole c =
     let v = c.loop-part.invariant.0 in
     let n = vec_len c.args.parts in
-    let none : vec_len c.loop-part.parts ≡ 0 = c.in-None.ensures.cases.0 in
+    let none : vec_len c.loop-part.parts ≡ 0 =
+    (subst (λ o. MatchOption o ((vec_len c.loop-part.parts ≡ 0) × (vec_len c.pop.new.self ≡ 0)) (λ _. vec_len c.pop.new.self + 1 ≡ vec_len c.loop-part.parts)) c.in_default.is c.pop.ensures.cases).0 in
     (v.0, v.1 ∙ ap (λ m. room_at v.0 (back_from m n)) none ∙ ap (room_at v.0) (all_back n))
