@@ -1,4 +1,4 @@
-use crate::{build_by_two, empty_pool, lend_to_two};
+use crate::{build_by_four, build_by_two, empty_pool, lend_to_two};
 use flow_value::{Items, Val, array_of, same};
 use std::alloc::Global;
 use std::test::Fail;
@@ -28,5 +28,23 @@ fn an_array_is_written_by_two_threads(rt: HostRuntime) -> Result<(), Fail> {
     let pool = empty_pool(alloc, 0)?;
     let built = build_by_two(&rt, alloc, pool)?;
     assert!(rt; same(&built, &array(alloc, &[10, 20])?));
+    Ok(())
+}
+
+/// The integers from 1 to `n` as an array from 1.
+fn counted(alloc: Global, n: i64) -> Result<Val, Fail> {
+    let mut items = Items::new(alloc);
+    for i in 0..n {
+        items.add(Val::Int(i + 1))?;
+    }
+    Ok(array_of(1, items))
+}
+
+#[test]
+fn sixteen_segments_are_written_by_four_threads(rt: HostRuntime) -> Result<(), Fail> {
+    let alloc = rt.alloc();
+    let pool = empty_pool(alloc, 0)?;
+    let built = build_by_four(&rt, alloc, pool, 16)?;
+    assert!(rt; same(&built, &counted(alloc, 16)?));
     Ok(())
 }
