@@ -1,5 +1,5 @@
 -- What a sink has taken, whether it took all or failed.
-use Rattle.std.proofs.Common.{◌≡◌, ℕ, ◌+◌, ◌≤◌, List, ◌++◌, length, take, Option, Some, Result, Ok, Err, sym, subst, ap, ◌∙◌, arith, append_assoc}
+use Rattle.std.proofs.Common.{◌≡◌, ℕ, ◌+◌, ◌≤◌, List, ◌++◌, length, take, Option, Some, Result, Ok, Err, true≢false, sym, subst, ap, ◌∙◌, arith, append_assoc}
 use Rattle.std.proofs.Math.Seq.{take-append-add, take-length}
 use Rattle.std.proofs.lemmas.List.{take-append-le, length-append}
 use Rattle.std.specs.Result.{IsErr, OnOk, OnErr}
@@ -22,7 +22,7 @@ takes_first e before after xs ys f =
 
 pub takes_failed : (r : Result (Unit {0}) Failed) (e : Failed) (before after : Option (List ℕ)) (xs ys : List ℕ)
     → IsErr r → Takes (Err e) before xs after → Takes r before (xs ++ ys) after
-takes_failed (Ok u) e before after xs ys is f = absurd is
+takes_failed (Ok u) e before after xs ys is f = absurd (true≢false (sym is))
 takes_failed (Err x) e before after xs ys is f = takes_first x before after xs ys f
 
 -- a second write behind a first one
