@@ -57,8 +57,8 @@ fn answer(alloc: Global, text: &[u8]) -> Answer {
 
 fn main(rt: HostRuntime) -> io::Result<()> {
     let reader = BufReader::new(rt.alloc(), rt.stdin())?;
-    for line in reader.lines() {
-        let text = line?.replace("@", "\n")?;
+    for line in reader.lines(rt.alloc()) {
+        let text = line?.replace(rt.alloc(), "@", "\n")?;
         match answer(rt.alloc(), text.as_bytes()) {
             Answer::Unit(items) => println!(rt; "unit {items}")?,
             Answer::Lex(kind, line) => println!(rt; "lex {kind} line {line}")?,
