@@ -42,7 +42,7 @@ fn syntactic(fault: ParseFault) -> Answer {
 }
 
 /// What a text is.
-fn answer(alloc: Global, text: &[u8]) -> Answer {
+fn told(alloc: Global, text: &[u8]) -> Answer {
     if text.len() > MOST_BYTES {
         return Answer::Nothing;
     }
@@ -59,7 +59,7 @@ fn main(rt: HostRuntime) -> io::Result<()> {
     let reader = BufReader::new(rt.alloc(), rt.stdin())?;
     for line in reader.lines(rt.alloc()) {
         let text = line?.replace(rt.alloc(), "@", "\n")?;
-        match answer(rt.alloc(), text.as_bytes()) {
+        match told(rt.alloc(), text.as_bytes()) {
             Answer::Unit(items) => println!(rt; "unit {items}")?,
             Answer::Lex(kind, line) => println!(rt; "lex {kind} line {line}")?,
             Answer::Token(token, line) => println!(rt; "token {token} line {line}")?,
