@@ -1,0 +1,46 @@
+//! What a type is made of.
+ghost use Rattle.std.specs.Prelude.{◌≡◌, Some, slice_get, option_map, IfSome};
+ghost use Rattle.type_table.specs.Forms.{members_of};
+
+use flow_value::Seq;
+
+/// A member of a record or union: its name, by its number among the names of the text, and its
+/// type, by its number in the table.
+#[derive(Clone, Copy)]
+pub struct Member {
+    /// The name.
+    pub name: u32,
+    /// The type.
+    pub ty: u32,
+}
+
+/// What a type is made of; a part is named by its number in the table.
+#[derive(Drop)]
+pub enum Form {
+    /// `boolean`
+    Boolean,
+    /// `character`
+    Character,
+    /// `integer`
+    Integer,
+    /// `null`
+    Null,
+    /// `array [t]`
+    Array(u32),
+    /// `stream [t]`
+    Stream(u32),
+    /// `record [name : t; ..]`, the fields in order.
+    Record(Seq<Member>),
+    /// `union [name : t; ..]`, the tags in order.
+    Union(Seq<Member>),
+}
+
+/// The fields of a record, the tags of a union.
+pub fn members_of(form: &Form) -> &[Member]
+    ensures { result.now ≡ members_of form.now }
+{
+    match form {
+        Form::Record(members) | Form::Union(members) => members.as_slice(),
+        _ => &[],
+    }
+}

@@ -1,0 +1,13 @@
+//! The types of a program, each once, by number.
+#![tactic(auto)]
+
+mod form;
+mod key;
+mod store;
+mod types;
+
+pub use form::{Form, Member};
+pub use types::{BOOLEAN, CHARACTER, INTEGER, NULL, TEXT, Types};
+
+#[cfg(test)]
+mod tests;
