@@ -1,8 +1,3 @@
-mod Scopes
-pub mod Chains
-pub mod TokenClasses
-pub mod Sound
-pub mod Complete
-pub mod Depths
-pub mod Plans
+pub mod Lists
 pub mod Programs
+pub mod Scopes

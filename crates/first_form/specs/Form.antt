@@ -1,29 +1,24 @@
--- Which texts are of the first form.
-use Rattle.std.specs.Prelude.{◌≡◌, ℕ, ◌+◌, ◌≤◌, Bool, true, ◌&&◌, not, List, [], ◌∷◌, map, max, nat_eq, All, Some, slice_get, codes}
+-- Which units are programs of the first form, with which results.
+use Rattle.std.specs.Prelude.{◌≡◌, ℕ, ◌+◌, Bool, true, ◌&&◌, not, List, [], ◌∷◌, length, map, nat_eq, All, Some, slice_get, codes}
 use Rattle.std.specs.List.{list_any}
+use Rattle.sisal_lex.specs.declared.token.Kind.TheVariants as kind
+use Rattle.sisal_lex.specs.declared.token.Word.TheVariants as word
+use Rattle.sisal_lex.specs.declared.token.Token.{Token}
 use Rattle.sisal_lex.specs.declared.token.Tokens.{Tokens}
+use Rattle.sisal_tree.specs.declared.expr.Expr as tree
+use Rattle.sisal_tree.specs.declared.unit.Unit as whole
+use Rattle.sisal_tree.specs.declared.unit.Written.{Written}
+use Rattle.sisal_tree.specs.declared.unit.Named.{Named}
+use Rattle.sisal_tree.specs.declared.unit.Header.{Header}
+use Rattle.sisal_tree.specs.declared.unit.FunDef.{FunDef}
+use Rattle.sisal_tree.specs.declared.unit.FunKind.TheVariants as fun
+use Rattle.sisal_tree.specs.declared.unit.Item.TheVariants as item
 use Rattle.first_form.specs.declared.tree.Expr.{Expr}
 use Rattle.first_form.specs.declared.tree.Expr.TheOpen.{Expr-F}
 use Rattle.first_form.specs.declared.tree.Expr.TheFolds.{fold-Expr}
-use Rattle.first_form.specs.Grammar.{IsUnit}
+use Rattle.first_form.specs.Reading.{readings}
 
--- the greatest of these numbers, 0 of none
-abbrev pub greatest : List (ℕ × ℕ) → ℕ
-greatest [] = 0
-greatest (d ∷ ds) = max d.1 (greatest ds)
-
--- a number or name has depth 1, another expression 1 more than the greatest depth of its parts
-abbrev pub depth_step : Expr-F ℕ → ℕ
-depth_step (Expr-F.Number n) = 1
-depth_step (Expr-F.Name x) = 1
-depth_step (Expr-F.Group e) = e + 1
-depth_step (Expr-F.Sum a b) = max a b + 1
-depth_step (Expr-F.Difference a b) = max a b + 1
-depth_step (Expr-F.Product a b) = max a b + 1
-depth_step (Expr-F.Let ds e) = max (greatest ds) e + 1
-
-abbrev pub depth_of : Expr → ℕ
-depth_of = fold-Expr ℕ depth_step
+-- ---- names are defined before they are used
 
 abbrev pub is_among : ℕ → List ℕ → Bool
 is_among x xs = list_any (nat_eq x) xs
@@ -54,10 +49,35 @@ closed_step (Expr-F.Let ds e) names = all_differ (names_of ds) && closed_along d
 abbrev pub is_closed : Expr → List ℕ → Bool
 is_closed = fold-Expr (List ℕ → Bool) closed_step
 
--- these tokens are a program of the first form with these results
-pub record IsProgram (tokens : Tokens) (results : List Expr) : Type 0 where
-  pub main : ℕ
-  pub named : slice_get tokens.names main ≡ Some (codes "main")
-  pub spelled : IsUnit main (map (λ t. t.kind) tokens.list) results
-  pub shallow : All (λ e. depth_of e ≤ 200) results
+-- ---- the one function `main`
+
+-- a written type is the word `integer`
+pub record IsInteger (tokens : List Token) (ty : Written) : Type 0 where
+  pub token : Token
+  pub there : slice_get tokens ty.from ≡ Some token
+  pub word : token.kind ≡ kind.Word word.WInteger
+  pub one : ty.to ≡ ty.from + 1
+
+-- the header of a function `main` without parameters and with so many results, each an integer
+pub record IsMainHeader (tokens : Tokens) (results : ℕ) (h : Header) : Type 0 where
+  pub main : slice_get tokens.names h.name.name ≡ Some (codes "main")
+  pub no_params : h.params ≡ []
+  pub integers : All (IsInteger tokens.list) h.results
+  pub many : length h.results ≡ results
+
+-- the unit is `define main` and the function `main` with these results
+pub record IsMain (u : whole.Unit) (results : List tree.Expr) : Type 0 where
+  pub defined : Named
+  pub function : FunDef
+  pub defines : u.defines ≡ defined ∷ []
+  pub items : u.items ≡ item.Function function ∷ []
+  pub same : function.header.name.name ≡ defined.name
+  pub header : IsMainHeader u.tokens (length results) function.header
+  pub is : function.kind ≡ fun.Defined results
+
+-- the unit is a program of the first form with these results
+pub record IsProgram (u : whole.Unit) (results : List Expr) : Type 0 where
+  pub written : List tree.Expr
+  pub main : IsMain u written
+  pub read : readings written ≡ Some results
   pub closed : All (λ e. is_closed e [] ≡ true) results

@@ -1,12 +1,4 @@
-pub mod Actions
 pub mod Closed
 pub mod Form
-pub mod Grammar
-pub mod Language
-pub mod Marks
-pub mod Plan
 pub mod Reading
-pub mod Saying
-pub mod Sizes
-pub mod Stack
 pub mod Value

@@ -1,7 +1,7 @@
 -- What an expression of the first form means: SISAL Language Reference Manual 1.2, expressions.
 -- Operators work on exact whole numbers; a result outside 64 signed bits is an error value, and so
 -- is what is made of an error value.
-use Rattle.std.specs.Prelude.{ℕ, Bool, if◌then◌else◌, List, [], ◌∷◌, map, nat_eq}
+use Rattle.std.specs.Prelude.{ℕ, if◌then◌else◌, List, [], ◌∷◌, map, nat_eq}
 use Rattle.flow_value.specs.Scalar.{strict2, row2}
 use Rattle.flow_value.specs.declared.operation.Scalar2.TheVariants as two
 use Rattle.flow_value.specs.declared.value.Val.{Val}

@@ -1,14 +1,11 @@
-//! From the tokens of a SISAL text to its tree.
+//! From the tree of a SISAL text to the results of a program of the first form.
 #![tactic(auto)]
 
-mod build;
 mod closed;
 mod first;
-mod mark;
-mod sizes;
-mod table;
+mod main_function;
+mod reading;
 mod tree;
-mod values;
 
 pub use first::{first_form, one_program};
 pub use tree::Expr;

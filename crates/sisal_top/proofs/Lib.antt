@@ -1,3 +1,4 @@
+pub mod Fronts
 pub mod Graphs
 pub mod Makes
 pub mod Names

@@ -12,28 +12,32 @@ use Rattle.first_form.specs.declared.tree.Expr.{Expr}
 use Rattle.sisal_grammar.specs.Phrases.{unit}
 use Rattle.sisal_grammar.specs.Placed.{placed}
 use Rattle.sisal_grammar.specs.Spells.{Spells}
-use Rattle.sisal_grammar.specs.declared.value.Outline.{Outline}
 use Rattle.sisal_parse.specs.Faults.{IsFirstBad, IsTooDeep}
+use Rattle.sisal_parse.specs.Units.{outline}
 use Rattle.sisal_tree.specs.Depth.{depth_of}
+use Rattle.sisal_tree.specs.declared.unit.Unit as tree
 use Rattle.sisal_top.specs.Status.{of_lexer}
 use Rattle.sisal_top.specs.declared.status.Status.{Status}
 use Rattle.sisal_top.specs.declared.status.Status.TheVariants as status
 use Rattle.sisal_top.specs.declared.status.SyntaxFault.TheVariants as syntax
 
+-- these bytes are this unit, which nests at most 200 deep
+pub record IsUnitOf (bytes : List ℕ) (u : tree.Unit) : Type 0 where
+  pub lexed : tokens_of bytes ≡ Ok u.tokens
+  pub spelled : Spells unit (placed 0 u.tokens.list) (outline u)
+  pub shallow : depth_of u.items ≤ 200
+
 -- these bytes are a program of the first form with these results
 pub record IsText (bytes : List ℕ) (results : List Expr) : Type 0 where
-  pub tokens : Tokens
-  pub lexed : tokens_of bytes ≡ Ok tokens
-  pub program : IsProgram tokens results
+  pub unit : tree.Unit
+  pub is : IsUnitOf bytes unit
+  pub program : IsProgram unit results
 
--- These bytes are a unit that nests at most 200 deep, and no program of the first form.
+-- these bytes are a unit, and no program of the first form
 pub record IsNotBuilt (bytes : List ℕ) : Type 0 where
-  pub tokens : Tokens
-  pub lexed : tokens_of bytes ≡ Ok tokens
-  pub outline : Outline
-  pub spelled : Spells unit (placed 0 tokens.list) outline
-  pub shallow : depth_of outline.items ≤ 200
-  pub other : (results : List Expr) → IsProgram tokens results → ⊥
+  pub unit : tree.Unit
+  pub is : IsUnitOf bytes unit
+  pub other : (results : List Expr) → IsProgram unit results → ⊥
 
 -- these bytes have no tokens: there are too many, or the first fault of a token leads to this status
 abbrev pub HasNoTokens : List ℕ → Status → Type 0

@@ -19,6 +19,6 @@ pub fn trees(alloc: Global, text: &[u8]) -> Result<Option<Seq<Expr>>, Status>
 {
     let tokens = lex(alloc, text)?;
     let unit = parse(alloc, tokens)?;
-    let read = first_form(alloc, &unit.tokens)?;
+    let read = first_form(alloc, &unit)?;
     Ok(read)
 }

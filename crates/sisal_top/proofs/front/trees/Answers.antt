@@ -1,19 +1,20 @@
-use Rattle.std.proofs.Common.{◌≡◌, ◌∙◌, ap, subst, List, Ok, None}
-use Rattle.sisal_lex.specs.declared.token.Tokens.{Tokens}
-use Rattle.first_form.specs.Form.{IsProgram}
-use Rattle.first_form.specs.declared.tree.Expr.{Expr}
-use Rattle.sisal_parse.specs.Units.{outline}
+use Rattle.std.proofs.Common.{◌≡◌, ◌∙◌, ap, Ok, None}
+use Rattle.std.proofs.lemmas.Option.{IfSome_then}
+use Rattle.sisal_top.specs.Program.{IsUnitOf}
+use Rattle.sisal_top.proofs.Fronts.{is_unit}
 use Rattle.sisal_top.proofs.front.trees.Goals as goal
+
+pub returns-clause-found : goal.returns-clause-found
+returns-clause-found c =
+    let is : IsUnitOf c.args.text.now c.in_ok-unit.unit =
+    is_unit c.args.text.now c.in_ok-tokens.tokens c.in_ok-unit.unit c.in_ok-tokens.ensures.tokens c.in_ok-unit.ensures.same c.in_ok-unit.ensures.spelled c.in_ok-unit.ensures.shallow in
+    IfSome_then c.in_ok-read.read c.in_ok-read.ensures.found (λ es program. record { unit = c.in_ok-unit.unit; is = is; program = program })
 
 pub returns-clause-none : goal.returns-clause-none
 returns-clause-none c = λ is.
     let none : c.in_ok-read.read ≡ None = cc is in
-    let none_there = c.first_form.ensures.none (c.in_ok-read.was ∙ ap Ok none) in
     record {
-      tokens = c.in_ok-tokens.tokens;
-      lexed = c.in_ok-tokens.ensures.tokens;
-      outline = outline c.in_ok-unit.unit;
-      spelled = c.in_ok-unit.ensures.spelled;
-      shallow = c.in_ok-unit.ensures.shallow;
-      other = subst (λ (t : Tokens). (es : List Expr) → IsProgram t es → ⊥) c.in_ok-unit.ensures.same none_there;
+      unit = c.in_ok-unit.unit;
+      is = is_unit c.args.text.now c.in_ok-tokens.tokens c.in_ok-unit.unit c.in_ok-tokens.ensures.tokens c.in_ok-unit.ensures.same c.in_ok-unit.ensures.spelled c.in_ok-unit.ensures.shallow;
+      other = c.first_form.ensures.none (c.in_ok-read.was ∙ ap Ok none);
     }
