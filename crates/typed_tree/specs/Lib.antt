@@ -1,0 +1,4 @@
+pub mod BuiltIns
+pub mod Scopes
+pub mod Types
+pub mod Typing
