@@ -145,35 +145,35 @@ pub data Gives : BuiltIn → List Ty → Ty → Type 0 where
   an_abs : Gives call.Abs (ty.Int ∷ []) ty.Int
   a_max : Gives call.Max (ty.Int ∷ ty.Int ∷ []) ty.Int
   a_min : Gives call.Min (ty.Int ∷ ty.Int ∷ []) ty.Int
-  array_fill : {e : Ty} → Gives call.ArrayFill (ty.Int ∷ ty.Int ∷ e ∷ []) (ty.Arr e)
-  array_addh : {e : Ty} → Gives call.ArrayAddHigh (ty.Arr e ∷ e ∷ []) (ty.Arr e)
-  array_addl : {e : Ty} → Gives call.ArrayAddLow (ty.Arr e ∷ e ∷ []) (ty.Arr e)
-  array_remh : {e : Ty} → Gives call.ArrayRemoveHigh (ty.Arr e ∷ []) (ty.Arr e)
-  array_reml : {e : Ty} → Gives call.ArrayRemoveLow (ty.Arr e ∷ []) (ty.Arr e)
-  array_setl : {e : Ty} → Gives call.ArraySetLow (ty.Arr e ∷ ty.Int ∷ []) (ty.Arr e)
-  array_adjust : {e : Ty} → Gives call.ArrayAdjust (ty.Arr e ∷ ty.Int ∷ ty.Int ∷ []) (ty.Arr e)
-  array_liml : {e : Ty} → Gives call.ArrayLimitLow (ty.Arr e ∷ []) ty.Int
-  array_limh : {e : Ty} → Gives call.ArrayLimitHigh (ty.Arr e ∷ []) ty.Int
-  array_size : {e : Ty} → Gives call.ArraySize (ty.Arr e ∷ []) ty.Int
-  stream_append : {e : Ty} → Gives call.StreamAppend (ty.Stream e ∷ e ∷ []) (ty.Stream e)
-  stream_size : {e : Ty} → Gives call.StreamSize (ty.Stream e ∷ []) ty.Int
-  stream_empty : {e : Ty} → Gives call.StreamEmpty (ty.Stream e ∷ []) ty.Bool
-  stream_first : {e : Ty} → Gives call.StreamFirst (ty.Stream e ∷ []) e
-  stream_rest : {e : Ty} → Gives call.StreamRest (ty.Stream e ∷ []) (ty.Stream e)
+  array_fill : (e : Ty) → Gives call.ArrayFill (ty.Int ∷ ty.Int ∷ e ∷ []) (ty.Arr e)
+  array_addh : (e : Ty) → Gives call.ArrayAddHigh (ty.Arr e ∷ e ∷ []) (ty.Arr e)
+  array_addl : (e : Ty) → Gives call.ArrayAddLow (ty.Arr e ∷ e ∷ []) (ty.Arr e)
+  array_remh : (e : Ty) → Gives call.ArrayRemoveHigh (ty.Arr e ∷ []) (ty.Arr e)
+  array_reml : (e : Ty) → Gives call.ArrayRemoveLow (ty.Arr e ∷ []) (ty.Arr e)
+  array_setl : (e : Ty) → Gives call.ArraySetLow (ty.Arr e ∷ ty.Int ∷ []) (ty.Arr e)
+  array_adjust : (e : Ty) → Gives call.ArrayAdjust (ty.Arr e ∷ ty.Int ∷ ty.Int ∷ []) (ty.Arr e)
+  array_liml : (e : Ty) → Gives call.ArrayLimitLow (ty.Arr e ∷ []) ty.Int
+  array_limh : (e : Ty) → Gives call.ArrayLimitHigh (ty.Arr e ∷ []) ty.Int
+  array_size : (e : Ty) → Gives call.ArraySize (ty.Arr e ∷ []) ty.Int
+  stream_append : (e : Ty) → Gives call.StreamAppend (ty.Stream e ∷ e ∷ []) (ty.Stream e)
+  stream_size : (e : Ty) → Gives call.StreamSize (ty.Stream e ∷ []) ty.Int
+  stream_empty : (e : Ty) → Gives call.StreamEmpty (ty.Stream e ∷ []) ty.Bool
+  stream_first : (e : Ty) → Gives call.StreamFirst (ty.Stream e ∷ []) e
+  stream_rest : (e : Ty) → Gives call.StreamRest (ty.Stream e ∷ []) (ty.Stream e)
 
 -- ---- clauses
 
 -- a clause over values of a type makes this type
 pub data Makes : ClauseKind → Ty → Ty → Type 0 where
-  array_of : {e : Ty} → Makes made.Array e (ty.Arr e)
-  stream_of : {e : Ty} → Makes made.Stream e (ty.Stream e)
+  array_of : (e : Ty) → Makes made.Array e (ty.Arr e)
+  stream_of : (e : Ty) → Makes made.Stream e (ty.Stream e)
   value_of : {e : Ty} → Makes made.Last e e
   sum : {d : Direction} → Makes (made.Reduce d reduction.Sum) ty.Int ty.Int
   product : {d : Direction} → Makes (made.Reduce d reduction.Product) ty.Int ty.Int
   least : {d : Direction} → Makes (made.Reduce d reduction.Least) ty.Int ty.Int
   greatest : {d : Direction} → Makes (made.Reduce d reduction.Greatest) ty.Int ty.Int
-  catenate_arrays : {d : Direction} {e : Ty} → Makes (made.Reduce d reduction.Catenate) (ty.Arr e) (ty.Arr e)
-  catenate_streams : {d : Direction} {e : Ty} → Makes (made.Reduce d reduction.Catenate) (ty.Stream e) (ty.Stream e)
+  catenate_arrays : {d : Direction} (e : Ty) → Makes (made.Reduce d reduction.Catenate) (ty.Arr e) (ty.Arr e)
+  catenate_streams : {d : Direction} (e : Ty) → Makes (made.Reduce d reduction.Catenate) (ty.Stream e) (ty.Stream e)
 
 -- the clauses of `for G1 cross G2 ..` are of the same kinds over the results of the inner ones
 pub data MakesThrough (kind : ClauseKind) : ℕ → Ty → Ty → Type 0 where

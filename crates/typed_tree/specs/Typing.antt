@@ -1,6 +1,6 @@
 -- The typing rules of SISAL (SISAL Language Reference Manual 1.2): which expressions have values of which types, a rule for
 -- each production, and the typed tree of each.
-use Rattle.std.specs.Prelude.{◌≡◌, ◌⊎◌, ℕ, List, [], ◌∷◌, map, flat_map, length, Bool, true, false, Option, Some, None, slice_get, Contains, All, is_some}
+use Rattle.std.specs.Prelude.{◌≡◌, ◌⊎◌, ℕ, List, [], ◌∷◌, ◌++◌, map, flat_map, length, Bool, true, false, Option, Some, None, slice_get, Contains, All, is_some}
 use Rattle.name_scope.specs.Newest.{newest}
 use Rattle.sisal_lex.specs.Words.{beside}
 use Rattle.flow_value.specs.declared.ty.Ty.{Ty}
@@ -211,14 +211,14 @@ module _ (k : Known) (denotes : Written → Ty → Type 0) where
           → Types s e t (ty.Rec ms ∷ []) → Replaces s ms vs us → AreDistinct (map (λ v. v.field.name) vs) → Number k ns (ty.Rec ms ∷ [])
           → Types s (at l (tree.Replace e vs)) (with l ns (typed.Replace t us)) (ty.Rec ms ∷ [])
       -- an array of no elements has the type that is named
-      empty_array : {s : Scope} {l x : ℕ} {a : Ty} {ns : List ℕ} → IsTypeNamed k x (ty.Arr a) → Number k ns (ty.Arr a ∷ [])
+      empty_array : {s : Scope} {l x : ℕ} (a : Ty) {ns : List ℕ} → IsTypeNamed k x (ty.Arr a) → Number k ns (ty.Arr a ∷ [])
           → Types s (at l (tree.Array (Some x) None)) (with l ns (typed.Array None)) (ty.Arr a ∷ [])
       array : {s : Scope} {l : ℕ} {a : Ty} {tys : List Ty} {x : Option ℕ} {low : Expr} {t : TypedExpr} {es : List Expr} {ts : List TypedExpr} {ns : List ℕ}
           → Types s low t (ty.Int ∷ []) → AreTyped s es ts (a ∷ tys) → All (λ b. b ≡ a) tys
           → IsNamedType k x (ty.Arr a) → IsShallow (ty.Arr a) → Number k ns (ty.Arr a ∷ [])
           → Types s (at l (tree.Array x (Some (roll-Elements (record { lower = low; values = es })))))
               (with l ns (typed.Array (Some (roll-TypedElements (record { lower = t; values = ts }))))) (ty.Arr a ∷ [])
-      empty_stream : {s : Scope} {l x : ℕ} {a : Ty} {ns : List ℕ} → IsTypeNamed k x (ty.Stream a) → Number k ns (ty.Stream a ∷ [])
+      empty_stream : {s : Scope} {l x : ℕ} (a : Ty) {ns : List ℕ} → IsTypeNamed k x (ty.Stream a) → Number k ns (ty.Stream a ∷ [])
           → Types s (at l (tree.Stream (Some x) [])) (with l ns (typed.Stream [])) (ty.Stream a ∷ [])
       stream : {s : Scope} {l : ℕ} {a : Ty} {tys : List Ty} {x : Option ℕ} {es : List Expr} {ts : List TypedExpr} {ns : List ℕ}
           → AreTyped s es ts (a ∷ tys) → All (λ b. b ≡ a) tys
