@@ -2,3 +2,4 @@ pub mod BuiltIns
 pub mod Scopes
 pub mod Types
 pub mod Typing
+pub mod Breaks
