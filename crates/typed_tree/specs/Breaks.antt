@@ -32,8 +32,8 @@ use Rattle.sisal_tree.specs.declared.expr.PrefixOperator.{PrefixOperator}
 use Rattle.sisal_tree.specs.declared.expr.BinaryOperator.{BinaryOperator}
 use Rattle.sisal_tree.specs.declared.expr.ClauseKind.{ClauseKind}
 use Rattle.sisal_tree.specs.declared.expr.FieldValue.{FieldValue}
-use Rattle.sisal_tree.specs.declared.expr.Elements.{roll-Elements}
-use Rattle.sisal_tree.specs.declared.expr.Def.{Def, roll-Def}
+use Rattle.sisal_tree.specs.declared.expr.Elements.{Elements, roll-Elements}
+use Rattle.sisal_tree.specs.declared.expr.Def.{Def, roll-Def, out-Def}
 use Rattle.sisal_tree.specs.declared.expr.Target.{Target}
 use Rattle.sisal_tree.specs.declared.expr.TagCase.{roll-TagCase}
 use Rattle.sisal_tree.specs.declared.expr.Arm.{Arm, roll-Arm, out-Arm}
@@ -115,7 +115,7 @@ line_of (x ∷ xs) = x.name.line
 
 -- the value of a target is of another type than is declared
 abbrev pub IsMistyped : (Written → Ty → Type 0) → Target → Ty → Type 0
-IsMistyped denotes x a = (w : Written) × (x.ty ≡ Some w) × (b : Ty) × denotes w b × (a ≢ b)
+IsMistyped denotes x a = (w : Written) × (b : Ty) × (x.ty ≡ Some w) × denotes w b × (a ≢ b)
 
 -- a target and the value at its place
 pub data IsPair : List Target → List Ty → Target → Ty → Type 0 where
@@ -124,13 +124,13 @@ pub data IsPair : List Target → List Ty → Target → Ty → Type 0 where
 
 -- a loop name that the turn defines anew with another type
 abbrev pub IsRetyped : List (ℕ × Meaning) → ℕ → Ty → Type 0
-IsRetyped loop x a = (level : ℕ) (before : Ty) × (newest x loop ≡ Some (At level before)) × (a ≢ before)
+IsRetyped loop x a = (level : ℕ) × (before : Ty) × (newest x loop ≡ Some (At level before)) × (a ≢ before)
 
 -- ---- rules
 
 -- `denotes` says what a written type stands for, and `misnames` which rule it breaks, and where
 module _ (k : Known) (denotes : Written → Ty → Type 0) (misnames : Written → ℕ → ℕ → Type 0) where
-  Typed : Scope → Expr → TypedExpr → List Ty → Type 0
+  abbrev pub Typed : Scope → Expr → TypedExpr → List Ty → Type 0
   Typed s e t tys = Types k denotes s e t tys
 
   mutual
@@ -140,8 +140,8 @@ module _ (k : Known) (denotes : Written → Ty → Type 0) (misnames : Written �
       no_loop_name : {s : Scope} {l x : ℕ} → IsUnknown (newest x s.olds) → Breaks s (at l (tree.Old x)) 10 l
       in_group : {s : Scope} {l rule line : ℕ} {e : Expr} → Breaks s e rule line → Breaks s (at l (tree.Group e)) rule line
       -- calls
-      unknown_function : {s : Scope} {l x : ℕ} {es : List Expr} → NoFunction k x → NoBuiltIn k x → Breaks s (at l (tree.Call x es)) 11 l
-      in_arguments : {s : Scope} {l x rule line : ℕ} {es : List Expr} → BreaksIn s es rule line → Breaks s (at l (tree.Call x es)) rule line
+      unknown_function : {s : Scope} {l : ℕ} (x : ℕ) (es : List Expr) → NoFunction k x → NoBuiltIn k x → Breaks s (at l (tree.Call x es)) 11 l
+      in_arguments : {s : Scope} {l rule line : ℕ} (x : ℕ) {es : List Expr} → BreaksIn s es rule line → Breaks s (at l (tree.Call x es)) rule line
       arguments : {s : Scope} {l x n : ℕ} {f : Signature} {es : List Expr} {ts : List TypedExpr} {tys : List Ty}
           → IsFunction k x n f → AreTyped k denotes s es ts tys → tys ≢ f.params → Breaks s (at l (tree.Call x es)) 12 l
       operands : {s : Scope} {l x : ℕ} {b : BuiltIn} {es : List Expr} {ts : List TypedExpr} {tys : List Ty}
@@ -149,145 +149,145 @@ module _ (k : Known) (denotes : Written → Ty → Type 0) (misnames : Written �
       deep_call : {s : Scope} {l x : ℕ} {a : Ty} {b : BuiltIn} {es : List Expr} {ts : List TypedExpr} {tys : List Ty}
           → IsBuiltIn k x b → AreTyped k denotes s es ts tys → Gives b tys a → (IsShallow a → ⊥) → Breaks s (at l (tree.Call x es)) 4 l
       -- operators
-      in_convert : {s : Scope} {l rule line : ℕ} {c : Scalar} {e : Expr} → BreaksOne s e rule line → Breaks s (at l (tree.Convert c e)) rule line
-      converted : {s : Scope} {l : ℕ} {a : Ty} {c : Scalar} {e : Expr} {t : TypedExpr}
+      in_convert : {s : Scope} {l rule line : ℕ} (c : Scalar) {e : Expr} → BreaksOne s e rule line → Breaks s (at l (tree.Convert c e)) rule line
+      converted : {s : Scope} {l : ℕ} {a : Ty} (c : Scalar) {e : Expr} {t : TypedExpr}
           → Typed s e t (a ∷ []) → (IsConverted c a → ⊥) → Breaks s (at l (tree.Convert c e)) 15 l
       in_error_of : {s : Scope} {l rule line : ℕ} {w : Written} → misnames w rule line → Breaks s (at l (tree.ErrorOf w)) rule line
       in_is_error : {s : Scope} {l rule line : ℕ} {e : Expr} → BreaksOne s e rule line → Breaks s (at l (tree.IsError e)) rule line
-      in_prefix : {s : Scope} {l rule line : ℕ} {o : PrefixOperator} {e : Expr} → BreaksOne s e rule line → Breaks s (at l (tree.Prefix o e)) rule line
-      prefixed : {s : Scope} {l : ℕ} {a : Ty} {o : PrefixOperator} {e : Expr} {t : TypedExpr}
+      in_prefix : {s : Scope} {l rule line : ℕ} (o : PrefixOperator) {e : Expr} → BreaksOne s e rule line → Breaks s (at l (tree.Prefix o e)) rule line
+      prefixed : {s : Scope} {l : ℕ} {a : Ty} (o : PrefixOperator) {e : Expr} {t : TypedExpr}
           → Typed s e t (a ∷ []) → a ≢ prefix_type o → Breaks s (at l (tree.Prefix o e)) 15 l
-      in_left : {s : Scope} {l rule line : ℕ} {o : BinaryOperator} {e f : Expr} → BreaksOne s e rule line → Breaks s (at l (tree.Binary o e f)) rule line
-      in_right : {s : Scope} {l rule line : ℕ} {o : BinaryOperator} {e f : Expr} → BreaksOne s f rule line → Breaks s (at l (tree.Binary o e f)) rule line
-      joined : {s : Scope} {l : ℕ} {a b : Ty} {o : BinaryOperator} {e f : Expr} {t u : TypedExpr}
+      in_left : {s : Scope} {l rule line : ℕ} (o : BinaryOperator) {e : Expr} (f : Expr) → BreaksOne s e rule line → Breaks s (at l (tree.Binary o e f)) rule line
+      in_right : {s : Scope} {l rule line : ℕ} (o : BinaryOperator) {f : Expr} (e : Expr) → BreaksOne s f rule line → Breaks s (at l (tree.Binary o e f)) rule line
+      joined : {s : Scope} {l : ℕ} {a b : Ty} (o : BinaryOperator) {e f : Expr} {t u : TypedExpr}
           → Typed s e t (a ∷ []) → Typed s f u (b ∷ []) → (a ≢ b) ⊎ (AreOperands o a → ⊥) → Breaks s (at l (tree.Binary o e f)) 15 l
       -- arrays
-      in_array : {s : Scope} {l rule line : ℕ} {e i : Expr} → BreaksOne s e rule line → Breaks s (at l (tree.Select e i)) rule line
-      in_index : {s : Scope} {l rule line : ℕ} {e i : Expr} → BreaksOne s i rule line → Breaks s (at l (tree.Select e i)) rule line
+      in_array : {s : Scope} {l rule line : ℕ} {e : Expr} (i : Expr) → BreaksOne s e rule line → Breaks s (at l (tree.Select e i)) rule line
+      in_index : {s : Scope} {l rule line : ℕ} {i : Expr} (e : Expr) → BreaksOne s i rule line → Breaks s (at l (tree.Select e i)) rule line
       selected : {s : Scope} {l : ℕ} {a b : Ty} {e i : Expr} {t u : TypedExpr}
           → Typed s e t (a ∷ []) → Typed s i u (b ∷ []) → NoArray a ⊎ (b ≢ ty.Int) → Breaks s (at l (tree.Select e i)) 19 l
-      in_updated : {s : Scope} {l rule line : ℕ} {e i f : Expr} → BreaksOne s e rule line → Breaks s (at l (tree.Update e i f)) rule line
-      in_place : {s : Scope} {l rule line : ℕ} {e i f : Expr} → BreaksOne s i rule line → Breaks s (at l (tree.Update e i f)) rule line
-      in_value : {s : Scope} {l rule line : ℕ} {e i f : Expr} → BreaksOne s f rule line → Breaks s (at l (tree.Update e i f)) rule line
+      in_updated : {s : Scope} {l rule line : ℕ} {e : Expr} (i f : Expr) → BreaksOne s e rule line → Breaks s (at l (tree.Update e i f)) rule line
+      in_place : {s : Scope} {l rule line : ℕ} {i : Expr} (e f : Expr) → BreaksOne s i rule line → Breaks s (at l (tree.Update e i f)) rule line
+      in_value : {s : Scope} {l rule line : ℕ} {f : Expr} (e i : Expr) → BreaksOne s f rule line → Breaks s (at l (tree.Update e i f)) rule line
       updated : {s : Scope} {l : ℕ} {a b c : Ty} {e i f : Expr} {t u v : TypedExpr}
           → Typed s e t (a ∷ []) → Typed s i u (b ∷ []) → Typed s f v (c ∷ []) → (a ≢ ty.Arr c) ⊎ (b ≢ ty.Int) → Breaks s (at l (tree.Update e i f)) 19 l
       -- records
-      in_record : {s : Scope} {l x rule line : ℕ} {e : Expr} → BreaksOne s e rule line → Breaks s (at l (tree.Field e x)) rule line
-      no_record : {s : Scope} {l x : ℕ} {a : Ty} {e : Expr} {t : TypedExpr} → Typed s e t (a ∷ []) → NoRecord a → Breaks s (at l (tree.Field e x)) 20 l
-      no_field : {s : Scope} {l x : ℕ} (ms : List Member) {e : Expr} {t : TypedExpr} → Typed s e t (ty.Rec ms ∷ []) → NoMember k ms x → Breaks s (at l (tree.Field e x)) 20 l
-      in_replaced : {s : Scope} {l rule line : ℕ} {e : Expr} {vs : List FieldValue} → BreaksOne s e rule line → Breaks s (at l (tree.Replace e vs)) rule line
-      in_replacement : {s : Scope} {l rule line : ℕ} {v : FieldValue} {e : Expr} {vs : List FieldValue}
+      in_record : {s : Scope} {l rule line : ℕ} (x : ℕ) {e : Expr} → BreaksOne s e rule line → Breaks s (at l (tree.Field e x)) rule line
+      no_record : {s : Scope} {l : ℕ} (x : ℕ) {a : Ty} {e : Expr} {t : TypedExpr} → Typed s e t (a ∷ []) → NoRecord a → Breaks s (at l (tree.Field e x)) 20 l
+      no_field : {s : Scope} {l : ℕ} (x : ℕ) (ms : List Member) {e : Expr} {t : TypedExpr} → Typed s e t (ty.Rec ms ∷ []) → NoMember k ms x → Breaks s (at l (tree.Field e x)) 20 l
+      in_replaced : {s : Scope} {l rule line : ℕ} {e : Expr} (vs : List FieldValue) → BreaksOne s e rule line → Breaks s (at l (tree.Replace e vs)) rule line
+      in_replacement : {s : Scope} {l rule line : ℕ} {v : FieldValue} (e : Expr) (vs : List FieldValue)
           → Contains vs v → BreaksOne s v.value rule line → Breaks s (at l (tree.Replace e vs)) rule line
-      replaced_no_record : {s : Scope} {l : ℕ} {a : Ty} {e : Expr} {t : TypedExpr} {vs : List FieldValue}
+      replaced_no_record : {s : Scope} {l : ℕ} {a : Ty} {e : Expr} {t : TypedExpr} (vs : List FieldValue)
           → Typed s e t (a ∷ []) → NoRecord a → Breaks s (at l (tree.Replace e vs)) 20 l
-      replaced_by_another : {s : Scope} {l : ℕ} {a : Ty} (ms : List Member) {v : FieldValue} {e : Expr} {t u : TypedExpr} {vs : List FieldValue}
+      replaced_by_another : {s : Scope} {l : ℕ} {a : Ty} (ms : List Member) {v : FieldValue} {e : Expr} {t u : TypedExpr} (vs : List FieldValue)
           → Typed s e t (ty.Rec ms ∷ []) → Contains vs v → Typed s v.value u (a ∷ []) → NoMemberOf k ms v.field.name a → Breaks s (at l (tree.Replace e vs)) 20 l
-      replaced_twice : {s : Scope} {l : ℕ} {a : Ty} {e : Expr} {t : TypedExpr} {vs : List FieldValue}
+      replaced_twice : {s : Scope} {l : ℕ} {a : Ty} {e : Expr} {t : TypedExpr} (vs : List FieldValue)
           → Typed s e t (a ∷ []) → (AreDistinct (map (λ v. v.field.name) vs) → ⊥) → Breaks s (at l (tree.Replace e vs)) 20 l
       -- constructors
-      array_name : {s : Scope} {l x : ℕ} {es : _} → newest x k.types ≡ None → Breaks s (at l (tree.Array (Some x) es)) 2 l
+      array_name : {s : Scope} {l : ℕ} (x : ℕ) (es : Option Elements) → newest x k.types ≡ None → Breaks s (at l (tree.Array (Some x) es)) 2 l
       empty_array : {s : Scope} {l : ℕ} → Breaks s (at l (tree.Array None None)) 19 l
-      empty_no_array : {s : Scope} {l x : ℕ} {a : Ty} → IsTypeNamed k x a → NoArray a → Breaks s (at l (tree.Array (Some x) None)) 19 l
-      in_lower : {s : Scope} {l rule line : ℕ} {x : Option ℕ} {low : Expr} {es : List Expr} → BreaksOne s low rule line
+      empty_no_array : {s : Scope} {l : ℕ} (x : ℕ) (a : Ty) → IsTypeNamed k x a → NoArray a → Breaks s (at l (tree.Array (Some x) None)) 19 l
+      in_lower : {s : Scope} {l rule line : ℕ} (x : Option ℕ) (low : Expr) (es : List Expr) → BreaksOne s low rule line
           → Breaks s (at l (tree.Array x (Some (roll-Elements (record { lower = low; values = es }))))) rule line
-      in_elements : {s : Scope} {l rule line : ℕ} {x : Option ℕ} {low : Expr} {es : List Expr} → BreaksIn s es rule line
+      in_elements : {s : Scope} {l rule line : ℕ} (x : Option ℕ) (low : Expr) (es : List Expr) → BreaksIn s es rule line
           → Breaks s (at l (tree.Array x (Some (roll-Elements (record { lower = low; values = es }))))) rule line
-      lower : {s : Scope} {l : ℕ} {a : Ty} {x : Option ℕ} {low : Expr} {t : TypedExpr} {es : List Expr} → Typed s low t (a ∷ []) → a ≢ ty.Int
+      lower : {s : Scope} {l : ℕ} {a : Ty} (x : Option ℕ) (low : Expr) {t : TypedExpr} (es : List Expr) → Typed s low t (a ∷ []) → a ≢ ty.Int
           → Breaks s (at l (tree.Array x (Some (roll-Elements (record { lower = low; values = es }))))) 19 l
-      elements : {s : Scope} {l : ℕ} {a b : Ty} {tys : List Ty} {x : Option ℕ} {low : Expr} {es : List Expr} {ts : List TypedExpr}
+      elements : {s : Scope} {l : ℕ} {a : Ty} (b : Ty) {tys : List Ty} (x : Option ℕ) (low : Expr) (es : List Expr) {ts : List TypedExpr}
           → AreTyped k denotes s es ts (a ∷ tys) → Contains tys b → b ≢ a
           → Breaks s (at l (tree.Array x (Some (roll-Elements (record { lower = low; values = es }))))) 19 l
-      another_array : {s : Scope} {l x : ℕ} {a b : Ty} {tys : List Ty} {low : Expr} {es : List Expr} {ts : List TypedExpr}
+      another_array : {s : Scope} {l : ℕ} (x : ℕ) {a : Ty} (b : Ty) {tys : List Ty} (low : Expr) (es : List Expr) {ts : List TypedExpr}
           → AreTyped k denotes s es ts (a ∷ tys) → IsTypeNamed k x b → b ≢ ty.Arr a
           → Breaks s (at l (tree.Array (Some x) (Some (roll-Elements (record { lower = low; values = es }))))) 19 l
-      deep_array : {s : Scope} {l : ℕ} {a : Ty} {tys : List Ty} {x : Option ℕ} {low : Expr} {es : List Expr} {ts : List TypedExpr}
+      deep_array : {s : Scope} {l : ℕ} {a : Ty} {tys : List Ty} (x : Option ℕ) (low : Expr) (es : List Expr) {ts : List TypedExpr}
           → AreTyped k denotes s es ts (a ∷ tys) → (IsShallow (ty.Arr a) → ⊥)
           → Breaks s (at l (tree.Array x (Some (roll-Elements (record { lower = low; values = es }))))) 4 l
-      stream_name : {s : Scope} {l x : ℕ} {es : List Expr} → newest x k.types ≡ None → Breaks s (at l (tree.Stream (Some x) es)) 2 l
+      stream_name : {s : Scope} {l : ℕ} (x : ℕ) (es : List Expr) → newest x k.types ≡ None → Breaks s (at l (tree.Stream (Some x) es)) 2 l
       empty_stream : {s : Scope} {l : ℕ} → Breaks s (at l (tree.Stream None [])) 19 l
-      empty_no_stream : {s : Scope} {l x : ℕ} {a : Ty} → IsTypeNamed k x a → NoStream a → Breaks s (at l (tree.Stream (Some x) [])) 19 l
-      in_stream : {s : Scope} {l rule line : ℕ} {x : Option ℕ} {es : List Expr} → BreaksIn s es rule line → Breaks s (at l (tree.Stream x es)) rule line
-      stream_elements : {s : Scope} {l : ℕ} {a b : Ty} {tys : List Ty} {x : Option ℕ} {es : List Expr} {ts : List TypedExpr}
+      empty_no_stream : {s : Scope} {l : ℕ} (x : ℕ) (a : Ty) → IsTypeNamed k x a → NoStream a → Breaks s (at l (tree.Stream (Some x) [])) 19 l
+      in_stream : {s : Scope} {l rule line : ℕ} (x : Option ℕ) {es : List Expr} → BreaksIn s es rule line → Breaks s (at l (tree.Stream x es)) rule line
+      stream_elements : {s : Scope} {l : ℕ} {a : Ty} (b : Ty) {tys : List Ty} (x : Option ℕ) {es : List Expr} {ts : List TypedExpr}
           → AreTyped k denotes s es ts (a ∷ tys) → Contains tys b → b ≢ a → Breaks s (at l (tree.Stream x es)) 19 l
-      another_stream : {s : Scope} {l x : ℕ} {a b : Ty} {tys : List Ty} {es : List Expr} {ts : List TypedExpr}
+      another_stream : {s : Scope} {l : ℕ} (x : ℕ) {a : Ty} (b : Ty) {tys : List Ty} {es : List Expr} {ts : List TypedExpr}
           → AreTyped k denotes s es ts (a ∷ tys) → IsTypeNamed k x b → b ≢ ty.Stream a → Breaks s (at l (tree.Stream (Some x) es)) 19 l
-      deep_stream : {s : Scope} {l : ℕ} {a : Ty} {tys : List Ty} {x : Option ℕ} {es : List Expr} {ts : List TypedExpr}
+      deep_stream : {s : Scope} {l : ℕ} {a : Ty} {tys : List Ty} (x : Option ℕ) {es : List Expr} {ts : List TypedExpr}
           → AreTyped k denotes s es ts (a ∷ tys) → (IsShallow (ty.Stream a) → ⊥) → Breaks s (at l (tree.Stream x es)) 4 l
-      record_name : {s : Scope} {l x : ℕ} {vs : List FieldValue} → newest x k.types ≡ None → Breaks s (at l (tree.Record (Some x) vs)) 2 l
-      in_field : {s : Scope} {l rule line : ℕ} {x : Option ℕ} {v : FieldValue} {vs : List FieldValue}
+      record_name : {s : Scope} {l : ℕ} (x : ℕ) (vs : List FieldValue) → newest x k.types ≡ None → Breaks s (at l (tree.Record (Some x) vs)) 2 l
+      in_field : {s : Scope} {l rule line : ℕ} (x : Option ℕ) {v : FieldValue} (vs : List FieldValue)
           → Contains vs v → BreaksOne s v.value rule line → Breaks s (at l (tree.Record x vs)) rule line
-      field_twice : {s : Scope} {l : ℕ} {x : Option ℕ} {vs : List FieldValue} → (AreDistinct (map (λ v. v.field.name) vs) → ⊥) → Breaks s (at l (tree.Record x vs)) 20 l
-      another_record : {s : Scope} {l x : ℕ} {b : Ty} {ms : List Member} {vs : List FieldValue} {ts : List TypedExpr}
+      field_twice : {s : Scope} {l : ℕ} (x : Option ℕ) (vs : List FieldValue) → (AreDistinct (map (λ v. v.field.name) vs) → ⊥) → Breaks s (at l (tree.Record x vs)) 20 l
+      another_record : {s : Scope} {l : ℕ} (x : ℕ) (b : Ty) {ms : List Member} {vs : List FieldValue} {ts : List TypedExpr}
           → HasFields k denotes s vs ts ms → IsTypeNamed k x b → b ≢ ty.Rec ms → Breaks s (at l (tree.Record (Some x) vs)) 20 l
-      deep_record : {s : Scope} {l : ℕ} {x : Option ℕ} {ms : List Member} {vs : List FieldValue} {ts : List TypedExpr}
+      deep_record : {s : Scope} {l : ℕ} (x : Option ℕ) {ms : List Member} {vs : List FieldValue} {ts : List TypedExpr}
           → HasFields k denotes s vs ts ms → (IsShallow (ty.Rec ms) → ⊥) → Breaks s (at l (tree.Record x vs)) 4 l
       -- unions
-      union_name : {s : Scope} {l x tag : ℕ} {e : Expr} → newest x k.types ≡ None → Breaks s (at l (tree.Union x tag e)) 2 l
-      in_content : {s : Scope} {l x tag rule line : ℕ} {e : Expr} → BreaksOne s e rule line → Breaks s (at l (tree.Union x tag e)) rule line
-      no_union : {s : Scope} {l x tag : ℕ} {a : Ty} {e : Expr} → IsTypeNamed k x a → NoUnion a → Breaks s (at l (tree.Union x tag e)) 21 l
-      content : {s : Scope} {l x tag : ℕ} {a : Ty} (ms : List Member) {e : Expr} {t : TypedExpr}
+      union_name : {s : Scope} {l : ℕ} (x tag : ℕ) (e : Expr) → newest x k.types ≡ None → Breaks s (at l (tree.Union x tag e)) 2 l
+      in_content : {s : Scope} {l rule line : ℕ} (x tag : ℕ) {e : Expr} → BreaksOne s e rule line → Breaks s (at l (tree.Union x tag e)) rule line
+      no_union : {s : Scope} {l : ℕ} (x tag : ℕ) (a : Ty) (e : Expr) → IsTypeNamed k x a → NoUnion a → Breaks s (at l (tree.Union x tag e)) 21 l
+      content : {s : Scope} {l : ℕ} (x tag : ℕ) {a : Ty} (ms : List Member) {e : Expr} {t : TypedExpr}
           → IsTypeNamed k x (ty.Uni ms) → Typed s e t (a ∷ []) → NoMemberOf k ms tag a → Breaks s (at l (tree.Union x tag e)) 21 l
-      in_is_tag : {s : Scope} {l x rule line : ℕ} {e : Expr} → BreaksOne s e rule line → Breaks s (at l (tree.IsTag x e)) rule line
-      is_no_union : {s : Scope} {l x : ℕ} {a : Ty} {e : Expr} {t : TypedExpr} → Typed s e t (a ∷ []) → NoUnion a → Breaks s (at l (tree.IsTag x e)) 21 l
-      is_no_tag : {s : Scope} {l x : ℕ} (ms : List Member) {e : Expr} {t : TypedExpr} → Typed s e t (ty.Uni ms ∷ []) → NoMember k ms x → Breaks s (at l (tree.IsTag x e)) 21 l
+      in_is_tag : {s : Scope} {l rule line : ℕ} (x : ℕ) {e : Expr} → BreaksOne s e rule line → Breaks s (at l (tree.IsTag x e)) rule line
+      is_no_union : {s : Scope} {l : ℕ} (x : ℕ) {a : Ty} {e : Expr} {t : TypedExpr} → Typed s e t (a ∷ []) → NoUnion a → Breaks s (at l (tree.IsTag x e)) 21 l
+      is_no_tag : {s : Scope} {l : ℕ} (x : ℕ) (ms : List Member) {e : Expr} {t : TypedExpr} → Typed s e t (ty.Uni ms ∷ []) → NoMember k ms x → Breaks s (at l (tree.IsTag x e)) 21 l
       -- `let` and `if`
-      in_definitions : {s : Scope} {l rule line : ℕ} {ds : List Def} {es : List Expr} → BreaksDefs s ds rule line → Breaks s (at l (tree.Let ds es)) rule line
+      in_definitions : {s : Scope} {l rule line : ℕ} {ds : List Def} (es : List Expr) → BreaksDefs s ds rule line → Breaks s (at l (tree.Let ds es)) rule line
       in_results : {s after : Scope} {l rule line : ℕ} {ds : List Def} {us : List TypedDef} {made : List Ty} {es : List Expr}
           → Defines k denotes s ds us made after → BreaksIn after es rule line → Breaks s (at l (tree.Let ds es)) rule line
-      in_test : {s : Scope} {l rule line : ℕ} {c : Expr} {es fs : List Expr} → BreaksOne s c rule line → Breaks s (at l (tree.If c es fs)) rule line
-      in_then : {s : Scope} {l rule line : ℕ} {c : Expr} {es fs : List Expr} → BreaksIn s es rule line → Breaks s (at l (tree.If c es fs)) rule line
-      in_else : {s : Scope} {l rule line : ℕ} {c : Expr} {es fs : List Expr} → BreaksIn s fs rule line → Breaks s (at l (tree.If c es fs)) rule line
-      test : {s : Scope} {l : ℕ} {a : Ty} {c : Expr} {t : TypedExpr} {es fs : List Expr} → Typed s c t (a ∷ []) → a ≢ ty.Bool → Breaks s (at l (tree.If c es fs)) 17 l
-      branches : {s : Scope} {l : ℕ} {c : Expr} {es fs : List Expr} {ts us : List TypedExpr} {tys others : List Ty}
+      in_test : {s : Scope} {l rule line : ℕ} {c : Expr} (es fs : List Expr) → BreaksOne s c rule line → Breaks s (at l (tree.If c es fs)) rule line
+      in_then : {s : Scope} {l rule line : ℕ} (c : Expr) {es : List Expr} (fs : List Expr) → BreaksIn s es rule line → Breaks s (at l (tree.If c es fs)) rule line
+      in_else : {s : Scope} {l rule line : ℕ} (c : Expr) {fs : List Expr} (es : List Expr) → BreaksIn s fs rule line → Breaks s (at l (tree.If c es fs)) rule line
+      test : {s : Scope} {l : ℕ} {a : Ty} {c : Expr} {t : TypedExpr} (es fs : List Expr) → Typed s c t (a ∷ []) → a ≢ ty.Bool → Breaks s (at l (tree.If c es fs)) 17 l
+      branches : {s : Scope} {l : ℕ} (c : Expr) {es fs : List Expr} {ts us : List TypedExpr} {tys others : List Ty}
           → AreTyped k denotes s es ts tys → AreTyped k denotes s fs us others → tys ≢ others → Breaks s (at l (tree.If c es fs)) 17 l
       -- `tagcase`
-      in_subject : {s : Scope} {l rule line : ℕ} {x : Option ℕ} {e : Expr} {arms : List Arm} {other : Option (List Expr)} → BreaksOne s e rule line
+      in_subject : {s : Scope} {l rule line : ℕ} (x : Option ℕ) (e : Expr) (arms : List Arm) (other : Option (List Expr)) → BreaksOne s e rule line
           → Breaks s (at l (tree.TagCase (roll-TagCase (record { name = x; subject = e; arms = arms; otherwise = other })))) rule line
-      case_no_union : {s : Scope} {l : ℕ} {a : Ty} {x : Option ℕ} {e : Expr} {t : TypedExpr} {arms : List Arm} {other : Option (List Expr)} → Typed s e t (a ∷ []) → NoUnion a
+      case_no_union : {s : Scope} {l : ℕ} {a : Ty} (x : Option ℕ) (e : Expr) {t : TypedExpr} (arms : List Arm) (other : Option (List Expr)) → Typed s e t (a ∷ []) → NoUnion a
           → Breaks s (at l (tree.TagCase (roll-TagCase (record { name = x; subject = e; arms = arms; otherwise = other })))) 18 l
-      in_arms : {s : Scope} {l rule line : ℕ} (ms : List Member) {x : Option ℕ} {e : Expr} {t : TypedExpr} {arm : Arm} {arms : List Arm} {other : Option (List Expr)}
+      in_arms : {s : Scope} {l rule line : ℕ} (ms : List Member) (x : Option ℕ) (e : Expr) {t : TypedExpr} {arm : Arm} (arms : List Arm) (other : Option (List Expr))
           → Typed s e t (ty.Uni ms ∷ []) → Contains arms arm → BreaksArm s x ms arm rule line
           → Breaks s (at l (tree.TagCase (roll-TagCase (record { name = x; subject = e; arms = arms; otherwise = other })))) rule line
-      tag_twice : {s : Scope} {l line : ℕ} (ms : List Member) {x : Option ℕ} {e : Expr} {t : TypedExpr} {arms : List Arm} {other : Option (List Expr)}
+      tag_twice : {s : Scope} {l line : ℕ} (ms : List Member) (x : Option ℕ) (e : Expr) {t : TypedExpr} (arms : List Arm) (other : Option (List Expr))
           → Typed s e t (ty.Uni ms ∷ []) → IsTwice (flat_map (λ arm. (out-Arm arm).tags) arms) line
           → Breaks s (at l (tree.TagCase (roll-TagCase (record { name = x; subject = e; arms = arms; otherwise = other })))) 18 line
-      no_arm : {s : Scope} {l : ℕ} (ms : List Member) {x : Option ℕ} {e : Expr} {t : TypedExpr} {arms : List Arm} {other : Option (List Expr)}
+      no_arm : {s : Scope} {l : ℕ} (ms : List Member) (x : Option ℕ) (e : Expr) {t : TypedExpr} (arms : List Arm) (other : Option (List Expr))
           → Typed s e t (ty.Uni ms ∷ []) → (AreAllNamed k (map (λ arm. names_of (out-Arm arm).tags) arms) ms other → ⊥)
           → Breaks s (at l (tree.TagCase (roll-TagCase (record { name = x; subject = e; arms = arms; otherwise = other })))) 18 l
-      arms_differ : {s : Scope} {l : ℕ} {tys others : List Ty} (ms : List Member) {x : Option ℕ} {e : Expr} {t : TypedExpr} {arm brm : Arm} {arms : List Arm} {other : Option (List Expr)}
+      arms_differ : {s : Scope} {l : ℕ} {tys others : List Ty} (ms : List Member) (x : Option ℕ) (e : Expr) {t : TypedExpr} {arm brm : Arm} (arms : List Arm) (other : Option (List Expr))
           → Typed s e t (ty.Uni ms ∷ []) → Contains arms arm → HasResults s x ms arm tys → Contains arms brm → HasResults s x ms brm others → tys ≢ others
           → Breaks s (at l (tree.TagCase (roll-TagCase (record { name = x; subject = e; arms = arms; otherwise = other })))) 18 l
-      otherwise_differs : {s : Scope} {l : ℕ} {tys others : List Ty} (ms : List Member) {x : Option ℕ} {e : Expr} {t : TypedExpr} {arm : Arm} {arms : List Arm} {es : List Expr} {ts : List TypedExpr}
+      otherwise_differs : {s : Scope} {l : ℕ} {tys others : List Ty} (ms : List Member) (x : Option ℕ) (e : Expr) {t : TypedExpr} {arm : Arm} (arms : List Arm) (es : List Expr) {ts : List TypedExpr}
           → Typed s e t (ty.Uni ms ∷ []) → Contains arms arm → HasResults s x ms arm tys → AreTyped k denotes s es ts others → tys ≢ others
           → Breaks s (at l (tree.TagCase (roll-TagCase (record { name = x; subject = e; arms = arms; otherwise = Some es })))) 18 l
-      in_otherwise : {s : Scope} {l rule line : ℕ} {x : Option ℕ} {e : Expr} {arms : List Arm} {es : List Expr} → BreaksIn s es rule line
+      in_otherwise : {s : Scope} {l rule line : ℕ} (x : Option ℕ) (e : Expr) (arms : List Arm) (es : List Expr) → BreaksIn s es rule line
           → Breaks s (at l (tree.TagCase (roll-TagCase (record { name = x; subject = e; arms = arms; otherwise = Some es })))) rule line
       -- `for`
-      in_generators : {s : Scope} {l rule line : ℕ} {gs : List (List Generator)} {ds : List Def} {cs : List Clause} → BreaksGroups s gs rule line
+      in_generators : {s : Scope} {l rule line : ℕ} {gs : List (List Generator)} (ds : List Def) (cs : List Clause) → BreaksGroups s gs rule line
           → Breaks s (at l (tree.For (loop.Product gs ds cs))) rule line
-      in_body : {s within : Scope} {l rule line : ℕ} {gs : List (List Generator)} {hs : List (List TypedGenerator)} {ds : List Def} {cs : List Clause}
+      in_body : {s within : Scope} {l rule line : ℕ} {gs : List (List Generator)} {hs : List (List TypedGenerator)} {ds : List Def} (cs : List Clause)
           → Crosses k denotes s gs hs within → BreaksDefs within ds rule line → Breaks s (at l (tree.For (loop.Product gs ds cs))) rule line
-      in_clauses : {s within inside : Scope} {l rule line : ℕ} {gs : List (List Generator)} {hs : List (List TypedGenerator)} {ds : List Def} {us : List TypedDef} {made : List Ty} {cs : List Clause} {c : Clause}
+      in_clauses : {s within inside : Scope} {l rule line : ℕ} {gs : List (List Generator)} {hs : List (List TypedGenerator)} {ds : List Def} {us : List TypedDef} {made : List Ty} (cs : List Clause) {c : Clause}
           → Crosses k denotes s gs hs within → Defines k denotes within ds us made inside → Contains cs c → BreaksClause inside (length gs) c rule line
           → Breaks s (at l (tree.For (loop.Product gs ds cs))) rule line
-      in_initial : {s : Scope} {l rule line : ℕ} {ds es : List Def} {cs : List Clause} (is_first is_until : Bool) {e : Expr} → BreaksDefs s ds rule line
+      in_initial : {s : Scope} {l rule line : ℕ} (ds es : List Def) (cs : List Clause) (is_first is_until : Bool) (e : Expr) → BreaksDefs s ds rule line
           → Breaks s (at l (tree.For (loop.Initial ds (roll-Turn (record { is_first = is_first; is_until = is_until; test = e; defs = es })) cs))) rule line
-      in_loop_test : {s started : Scope} {l rule line : ℕ} {ds es : List Def} {us : List TypedDef} {first : List Ty} {cs : List Clause} (is_first is_until : Bool) {e : Expr}
+      in_loop_test : {s started : Scope} {l rule line : ℕ} (ds es : List Def) {us : List TypedDef} {first : List Ty} (cs : List Clause) (is_first is_until : Bool) (e : Expr)
           → Defines k denotes s ds us first started → BreaksOne started e rule line
           → Breaks s (at l (tree.For (loop.Initial ds (roll-Turn (record { is_first = is_first; is_until = is_until; test = e; defs = es })) cs))) rule line
-      loop_test : {s started : Scope} {l : ℕ} {a : Ty} {ds es : List Def} {us : List TypedDef} {first : List Ty} {cs : List Clause} (is_first is_until : Bool) {e : Expr} {t : TypedExpr}
+      loop_test : {s started : Scope} {l : ℕ} {a : Ty} (ds es : List Def) {us : List TypedDef} {first : List Ty} (cs : List Clause) (is_first is_until : Bool) (e : Expr) {t : TypedExpr}
           → Defines k denotes s ds us first started → Typed started e t (a ∷ []) → a ≢ ty.Bool
           → Breaks s (at l (tree.For (loop.Initial ds (roll-Turn (record { is_first = is_first; is_until = is_until; test = e; defs = es })) cs))) 23 l
-      in_turn_of : {s started : Scope} {l rule line : ℕ} {ds es : List Def} {us : List TypedDef} {first : List Ty} {cs : List Clause} (is_first is_until : Bool) {e : Expr}
+      in_turn_of : {s started : Scope} {l rule line : ℕ} (ds es : List Def) {us : List TypedDef} {first : List Ty} (cs : List Clause) (is_first is_until : Bool) (e : Expr)
           → Defines k denotes s ds us first started → BreaksDefs (in_turn (loop_of s ds first) (targets es) started) es rule line
           → Breaks s (at l (tree.For (loop.Initial ds (roll-Turn (record { is_first = is_first; is_until = is_until; test = e; defs = es })) cs))) rule line
-      retyped : {s started turned : Scope} {l : ℕ} {a : Ty} {x : Target} {ds before : List Def} {xs : List Target} {after : List Def} {us vs : List TypedDef}
-          {first earlier tys : List Ty} {es : List Expr} {ts : List TypedExpr} {cs : List Clause} (is_first is_until : Bool) {e : Expr}
+      retyped : {s started turned : Scope} {l : ℕ} {a : Ty} {x : Target} (ds before : List Def) (xs : List Target) (after : List Def) {us vs : List TypedDef}
+          {first earlier tys : List Ty} (es : List Expr) {ts : List TypedExpr} (cs : List Clause) (is_first is_until : Bool) (e : Expr)
           → Defines k denotes s ds us first started
           → Defines k denotes (in_turn (loop_of s ds first) (targets (before ++ roll-Def (record { targets = xs; values = es }) ∷ after)) started) before vs earlier turned
           → AreTyped k denotes turned es ts tys → IsPair xs tys x a → IsRetyped (loop_of s ds first) x.name.name a
           → Breaks s (at l (tree.For (loop.Initial ds (roll-Turn (record { is_first = is_first; is_until = is_until; test = e; defs = before ++ roll-Def (record { targets = xs; values = es }) ∷ after })) cs))) 23 (line_of xs)
-      in_loop_clauses : {s started : Scope} {l rule line : ℕ} {ds es : List Def} {us : List TypedDef} {first : List Ty} {cs : List Clause} {c : Clause} (is_first is_until : Bool) {e : Expr}
+      in_loop_clauses : {s started : Scope} {l rule line : ℕ} (ds es : List Def) {us : List TypedDef} {first : List Ty} (cs : List Clause) (c : Clause) (is_first is_until : Bool) (e : Expr)
           → Defines k denotes s ds us first started → Contains cs c → BreaksClause started 1 c rule line
           → Breaks s (at l (tree.For (loop.Initial ds (roll-Turn (record { is_first = is_first; is_until = is_until; test = e; defs = es })) cs))) rule line
 
@@ -303,15 +303,15 @@ module _ (k : Known) (denotes : Written → Ty → Type 0) (misnames : Written �
     -- definitions in order: one breaks a rule where those before it are typed
     pub data BreaksDefs : Scope → List Def → ℕ → ℕ → Type 0 where
       defined_twice : {s : Scope} {line : ℕ} {ds : List Def} → IsTwice (named_in (targets_in ds)) line → BreaksDefs s ds 8 line
-      in_values : {s : Scope} {rule line : ℕ} {xs : List Target} {es : List Expr} {ds : List Def} → BreaksIn s es rule line
+      in_values : {s : Scope} {rule line : ℕ} (xs : List Target) (es : List Expr) {ds : List Def} → BreaksIn s es rule line
           → BreaksDefs s (roll-Def (record { targets = xs; values = es }) ∷ ds) rule line
-      number_of_values : {s : Scope} {xs : List Target} {es : List Expr} {ts : List TypedExpr} {tys : List Ty} {ds : List Def} → AreTyped k denotes s es ts tys → length tys ≢ length xs
+      number_of_values : {s : Scope} (xs : List Target) (es : List Expr) {ts : List TypedExpr} {tys : List Ty} {ds : List Def} → AreTyped k denotes s es ts tys → length tys ≢ length xs
           → BreaksDefs s (roll-Def (record { targets = xs; values = es }) ∷ ds) 14 (line_of xs)
-      in_declared : {s : Scope} {rule line : ℕ} {x : Target} {w : Written} {xs : List Target} {es : List Expr} {ds : List Def} → Contains xs x → x.ty ≡ Some w → misnames w rule line
+      in_declared : {s : Scope} {rule line : ℕ} (x : Target) (w : Written) (xs : List Target) (es : List Expr) {ds : List Def} → Contains xs x → x.ty ≡ Some w → misnames w rule line
           → BreaksDefs s (roll-Def (record { targets = xs; values = es }) ∷ ds) rule line
-      declared : {s : Scope} {a : Ty} {x : Target} {xs : List Target} {es : List Expr} {ts : List TypedExpr} {tys : List Ty} {ds : List Def}
+      declared : {s : Scope} {a : Ty} {x : Target} (xs : List Target) (es : List Expr) {ts : List TypedExpr} {tys : List Ty} {ds : List Def}
           → AreTyped k denotes s es ts tys → IsPair xs tys x a → IsMistyped denotes x a → BreaksDefs s (roll-Def (record { targets = xs; values = es }) ∷ ds) 14 (line_of xs)
-      after_one : {s : Scope} {rule line : ℕ} {xs : List Target} {es : List Expr} {ts : List TypedExpr} {tys : List Ty} {ds : List Def}
+      after_one : {s : Scope} {rule line : ℕ} (xs : List Target) (es : List Expr) {ts : List TypedExpr} {tys : List Ty} {ds : List Def}
           → AreTyped k denotes s es ts tys → AreTargets denotes xs tys → BreaksDefs (define_all (names_in xs) tys s) ds rule line
           → BreaksDefs s (roll-Def (record { targets = xs; values = es }) ∷ ds) rule line
 
@@ -322,40 +322,40 @@ module _ (k : Known) (denotes : Written → Ty → Type 0) (misnames : Written �
           → Generates k denotes s group h names tys → BreaksGroups (define_all names tys s) gs rule line → BreaksGroups s (group ∷ gs) rule line
 
     pub data BreaksGenerator : Scope → Generator → ℕ → ℕ → Type 0 where
-      in_from : {s : Scope} {rule line : ℕ} {n : Named} {e : Expr} {to : Option Expr} {i : Option ℕ} → BreaksOne s e rule line
+      in_from : {s : Scope} {rule line : ℕ} (n : Named) (e : Expr) (to : Option Expr) (i : Option ℕ) → BreaksOne s e rule line
           → BreaksGenerator s (roll-Generator (record { name = n; from = e; to = to; at = i })) rule line
-      in_to : {s : Scope} {rule line : ℕ} {n : Named} {e f : Expr} {i : Option ℕ} → BreaksOne s f rule line
+      in_to : {s : Scope} {rule line : ℕ} (n : Named) (e f : Expr) (i : Option ℕ) → BreaksOne s f rule line
           → BreaksGenerator s (roll-Generator (record { name = n; from = e; to = Some f; at = i })) rule line
-      bounds : {s : Scope} {a b : Ty} (n : Named) {e f : Expr} {t u : TypedExpr} {i : Option ℕ} → Typed s e t (a ∷ []) → Typed s f u (b ∷ []) → (a ≢ ty.Int) ⊎ (b ≢ ty.Int)
+      bounds : {s : Scope} {a b : Ty} (n : Named) (e f : Expr) {t u : TypedExpr} (i : Option ℕ) → Typed s e t (a ∷ []) → Typed s f u (b ∷ []) → (a ≢ ty.Int) ⊎ (b ≢ ty.Int)
           → BreaksGenerator s (roll-Generator (record { name = n; from = e; to = Some f; at = i })) 22 n.line
-      at_range : {s : Scope} {i : ℕ} (n : Named) {e f : Expr} → BreaksGenerator s (roll-Generator (record { name = n; from = e; to = Some f; at = Some i })) 22 n.line
-      no_sequence : {s : Scope} {a : Ty} (n : Named) {e : Expr} {t : TypedExpr} {i : Option ℕ} → Typed s e t (a ∷ []) → NoSequence a
+      at_range : {s : Scope} (i : ℕ) (n : Named) (e f : Expr) → BreaksGenerator s (roll-Generator (record { name = n; from = e; to = Some f; at = Some i })) 22 n.line
+      no_sequence : {s : Scope} {a : Ty} (n : Named) (e : Expr) {t : TypedExpr} (i : Option ℕ) → Typed s e t (a ∷ []) → NoSequence a
           → BreaksGenerator s (roll-Generator (record { name = n; from = e; to = None; at = i })) 22 n.line
 
     pub data BreaksClause : Scope → ℕ → Clause → ℕ → ℕ → Type 0 where
-      in_clause : {s : Scope} {groups l rule line : ℕ} {kind : ClauseKind} {e : Expr} {m : Option Mask} → BreaksOne s e rule line
+      in_clause : {s : Scope} (groups l rule line : ℕ) (kind : ClauseKind) (e : Expr) (m : Option Mask) → BreaksOne s e rule line
           → BreaksClause s groups (roll-Clause (record { line = l; kind = kind; value = e; mask = m })) rule line
-      in_mask : {s : Scope} {groups l rule line : ℕ} {kind : ClauseKind} {e : Expr} {m : Mask} → BreaksOne s m.test rule line
+      in_mask : {s : Scope} (groups l rule line : ℕ) (kind : ClauseKind) (e : Expr) (m : Mask) → BreaksOne s m.test rule line
           → BreaksClause s groups (roll-Clause (record { line = l; kind = kind; value = e; mask = Some m })) rule line
-      mask : {s : Scope} {groups l : ℕ} {a : Ty} {kind : ClauseKind} {e : Expr} {m : Mask} {t : TypedExpr} → Typed s m.test t (a ∷ []) → a ≢ ty.Bool
+      mask : {s : Scope} (groups l : ℕ) {a : Ty} (kind : ClauseKind) (e : Expr) (m : Mask) {t : TypedExpr} → Typed s m.test t (a ∷ []) → a ≢ ty.Bool
           → BreaksClause s groups (roll-Clause (record { line = l; kind = kind; value = e; mask = Some m })) 23 l
-      reduction : {s : Scope} {groups l : ℕ} {a : Ty} {kind : ClauseKind} {e : Expr} {t : TypedExpr} {m : Option Mask} → Typed s e t (a ∷ []) → ((b : Ty) → MakesThrough kind groups a b → ⊥)
+      reduction : {s : Scope} (groups l : ℕ) {a : Ty} (kind : ClauseKind) (e : Expr) {t : TypedExpr} (m : Option Mask) → Typed s e t (a ∷ []) → ((b : Ty) → MakesThrough kind groups a b → ⊥)
           → BreaksClause s groups (roll-Clause (record { line = l; kind = kind; value = e; mask = m })) 23 l
-      deep_clause : {s : Scope} {groups l : ℕ} {a b : Ty} {kind : ClauseKind} {e : Expr} {t : TypedExpr} {m : Option Mask} → Typed s e t (a ∷ []) → MakesThrough kind groups a b → (IsShallow b → ⊥)
+      deep_clause : {s : Scope} (groups l : ℕ) {a b : Ty} (kind : ClauseKind) (e : Expr) {t : TypedExpr} (m : Option Mask) → Typed s e t (a ∷ []) → MakesThrough kind groups a b → (IsShallow b → ⊥)
           → BreaksClause s groups (roll-Clause (record { line = l; kind = kind; value = e; mask = m })) 4 l
 
     pub data BreaksArm : Scope → Option ℕ → List Member → Arm → ℕ → ℕ → Type 0 where
-      no_tag : {s : Scope} {l : ℕ} {x : Option ℕ} {ms : List Member} {n : Named} {tags : List Named} {es : List Expr} → Contains tags n → NoMember k ms n.name
+      no_tag : {s : Scope} (l : ℕ) {x : Option ℕ} {ms : List Member} {n : Named} (tags : List Named) (es : List Expr) → Contains tags n → NoMember k ms n.name
           → BreaksArm s x ms (roll-Arm (record { line = l; tags = tags; results = es })) 18 n.line
-      contents : {s : Scope} {l : ℕ} {a b : Ty} {x : Option ℕ} {ms : List Member} {n m : Named} {tags : List Named} {es : List Expr}
+      contents : {s : Scope} (l : ℕ) (a b : Ty) {x : Option ℕ} {ms : List Member} (n m : Named) (tags : List Named) (es : List Expr)
           → Contains tags n → IsTag k ms n.name a → Contains tags m → IsTag k ms m.name b → a ≢ b
           → BreaksArm s x ms (roll-Arm (record { line = l; tags = tags; results = es })) 18 l
-      in_arm : {s : Scope} {l rule line : ℕ} (content : Ty) {x : Option ℕ} {ms : List Member} {tags : List Named} {es : List Expr}
+      in_arm : {s : Scope} (l rule line : ℕ) (content : Ty) {x : Option ℕ} {ms : List Member} (tags : List Named) (es : List Expr)
           → All (λ tag. IsTag k ms tag content) (names_of tags) → BreaksIn (with_content x content s) es rule line
           → BreaksArm s x ms (roll-Arm (record { line = l; tags = tags; results = es })) rule line
 
     -- the types of the results of an arm
     pub data HasResults : Scope → Option ℕ → List Member → Arm → List Ty → Type 0 where
-      results : {s : Scope} {l : ℕ} (content : Ty) {x : Option ℕ} {ms : List Member} {tags : List Named} {es : List Expr} {ts : List TypedExpr} {tys : List Ty}
+      results : {s : Scope} (l : ℕ) (content : Ty) {x : Option ℕ} {ms : List Member} (tags : List Named) (es : List Expr) {ts : List TypedExpr} {tys : List Ty}
           → All (λ tag. IsTag k ms tag content) (names_of tags) → AreTyped k denotes (with_content x content s) es ts tys
           → HasResults s x ms (roll-Arm (record { line = l; tags = tags; results = es })) tys
