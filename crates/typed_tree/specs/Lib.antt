@@ -1,0 +1,5 @@
+pub mod BuiltIns
+pub mod Scopes
+pub mod Types
+pub mod Typing
+pub mod Breaks
