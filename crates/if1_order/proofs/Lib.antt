@@ -1,0 +1,5 @@
+pub mod Members
+pub mod Within
+pub mod Walks
+pub mod Orders
+pub mod Units

@@ -1,0 +1,10 @@
+//! Orders of the nodes of a graph along its data edges, and nodes that reach themselves.
+#![tactic(auto)]
+
+mod arranged;
+mod circles;
+mod feeders;
+mod walk;
+
+pub use arranged::{NodeOrder, order};
+pub use circles::{ports_link, wrong_order};
