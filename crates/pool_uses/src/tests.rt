@@ -1,4 +1,4 @@
-use crate::{build_by_four, build_by_two, empty_pool, lend_to_two};
+use crate::{build_beside, build_by_four, build_by_two, empty_pool, lend_to_two, reserve_beside};
 use flow_value::{Items, Val, array_of, same};
 use std::alloc::Global;
 use std::test::Fail;
@@ -47,4 +47,18 @@ fn sixteen_segments_are_written_by_four_threads(rt: HostRuntime) -> Result<(), F
     let built = build_by_four(&rt, alloc, pool, 16)?;
     assert!(rt; same(&built, &counted(alloc, 16)?));
     Ok(())
+}
+
+/// Where memory is ample nothing is refused: run it by `rt try --test --fail-alloc 1..`, which refuses each request in turn.
+#[test]
+fn a_pool_that_is_refused_memory_is_as_it_was(rt: HostRuntime) {
+    let alloc = rt.alloc();
+    for values in 2..10 {
+        if let Ok(pool) = empty_pool(alloc, values) {
+            assert_eq!(rt; reserve_beside(alloc, pool, 20), (7, 5));
+        }
+        if let Ok(pool) = empty_pool(alloc, values) {
+            assert_eq!(rt; build_beside(alloc, pool), (7, 5));
+        }
+    }
 }
