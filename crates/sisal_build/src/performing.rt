@@ -9,8 +9,8 @@ ghost use Rattle.sisal_values.specs.Stack.{Tops};
 use crate::task::{Task, task_of};
 use flow_value::NoMemory;
 use sisal_expr_acts::{perform_case, perform_compound, perform_expr, perform_selector};
-use sisal_unit_acts::{perform_clause, perform_def, perform_loop, perform_type, perform_unit};
 use sisal_grammar::Action;
+use sisal_unit_acts::{perform_clause, perform_def, perform_loop, perform_type, perform_unit};
 use sisal_values::Values;
 use std::alloc::Global;
 

@@ -4,8 +4,8 @@ ghost use Rattle.std.specs.Prelude.{◌≡◌};
 ghost use Rattle.sisal_build.specs.Tasks.{task_action};
 
 use sisal_expr_acts::{CaseAct, CompoundAct, ExprAct, SelectorAct};
-use sisal_unit_acts::{ClauseAct, DefAct, LoopAct, TypeAct, UnitAct};
 use sisal_grammar::Action;
+use sisal_unit_acts::{ClauseAct, DefAct, LoopAct, TypeAct, UnitAct};
 
 /// An action, by its topic.
 #[derive(Clone, Copy)]
