@@ -9,13 +9,14 @@ ghost use Rattle.sisal_grammar.specs.Classes.{class_of};
 ghost use Rattle.sisal_grammar.specs.Language.{language};
 ghost use Rattle.sisal_grammar.specs.Placed.{placed};
 ghost use Rattle.sisal_grammar.specs.Plan.{plan};
-ghost use Rattle.sisal_build.specs.Stack.{nowhere};
+ghost use Rattle.sisal_build.specs.Nowhere.{nowhere};
 
-use crate::stack::Values;
+use crate::performing::perform;
 use flow_value::{NoMemory, Seq};
 use pushdown::Step;
 use sisal_grammar::{Outline, Placed, Value, action_of, class_of};
 use sisal_lex::{Kind, Token};
+use sisal_values::Values;
 use std::alloc::Global;
 
 /// The unit whose derivation these steps are: they are taken from the last to the first, so that the
@@ -55,7 +56,7 @@ fn values_of(alloc: Global, steps: &[Step], tokens: &[Token]) -> Result<Values, 
                 let token = token_at(alloc, tokens, left)?;
                 values.push(Value::AToken(token))?;
             }
-            Step::Open(production) => values.perform(alloc, action_of(production))?,
+            Step::Open(production) => perform(&mut values, alloc, action_of(production))?,
         }
     }
     Ok(values)

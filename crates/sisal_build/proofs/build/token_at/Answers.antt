@@ -1,5 +1,5 @@
 use Rattle.std.proofs.Common.{◌≡◌, ◌<◌}
-use Rattle.sisal_build.specs.Stack.{nowhere}
+use Rattle.sisal_build.specs.Nowhere.{nowhere}
 use Rattle.sisal_build.proofs.Places.{placed_alike}
 use Rattle.sisal_build.proofs.build.token_at.Goals as goal
 

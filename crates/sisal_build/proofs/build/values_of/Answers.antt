@@ -15,7 +15,8 @@ use Rattle.sisal_grammar.specs.Placed.{placed}
 use Rattle.sisal_grammar.specs.Plan.{plan}
 use Rattle.sisal_grammar.specs.Sorts.{args}
 use Rattle.sisal_grammar.proofs.Plans.{plan_typed}
-use Rattle.sisal_build.specs.Stack.{Tops, nowhere}
+use Rattle.sisal_values.specs.Stack.{Tops}
+use Rattle.sisal_build.specs.Nowhere.{nowhere}
 use Rattle.sisal_build.proofs.Places.{placed_length, placed_classes, map_length}
 use Rattle.sisal_build.proofs.Finals.{tops, derived}
 use Rattle.sisal_build.proofs.build.values_of.Goals as goal
@@ -59,5 +60,5 @@ perform-requires c =
 pub loop-k-preserved : goal.loop-k-preserved
 loop-k-preserved c =
     let t : OpenTurn sisal plan c.args.steps.now (placed 0 c.args.tokens.now) c.loop-k.k c.loop-k.left c.in-Open.production c.loop-k.values = open_turn language sisal plan plan_typed (Rule 0 ∷ []) c.args.steps.now (placed 0 c.args.tokens.now) c.loop-k.k c.loop-k.left c.in-Open.production c.loop-k.values (derived c.args.steps.now c.args.tokens.now c.requires) c.loop-k-test.true c.loop-k.invariant.within c.in-Open.is c.loop-k.invariant.place c.loop-k.invariant.values in
-    let made : Some c.perform.new.self ≡ perform sisal c.action_of.result c.loop-k.values = c.in_ok-perform-in-Open.ensures in
+    let made : Some c.perform.new.stack ≡ perform sisal c.action_of.result c.loop-k.values = c.in_ok-perform-in-Open.ensures in
     record { within = omega arith; place = t.place; values = t.values ∙ (ap (λ a. perform sisal a c.loop-k.values) (sym c.action_of.ensures) ∙ sym made) }
