@@ -1,2 +1,10 @@
 pub mod Pieces
 pub mod Ranges
+pub mod Alls
+pub mod Bodies
+pub mod Depths
+pub mod Spelled
+pub mod Arranged
+pub mod Gives
+pub mod Walk
+pub mod Whole

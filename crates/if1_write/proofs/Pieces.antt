@@ -57,7 +57,7 @@ chosen : (b : Bool) (ks ls : List Line) → text_of (if b then ks else ls) ≡ (
 chosen true ks ls = refl
 chosen false ks ls = refl
 
-same_length : {A B : Type 0} (f : A → B) (xs : List A) → length (map f xs) ≡ length xs
+pub same_length : {A B : Type 0} (f : A → B) (xs : List A) → length (map f xs) ≡ length xs
 same_length f [] = refl
 same_length f (x ∷ xs) = ap suc (same_length f xs)
 
