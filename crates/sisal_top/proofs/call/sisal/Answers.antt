@@ -11,4 +11,4 @@ returns-in-Ok-write_all-clause-answers g c = λ told is.
     let wrote : AddsOn (taken c.args.out.now) c.in-Ok.printed (taken c.write_all.new.to) =
     subst (λ (bs : List ℕ). AddsOn (taken c.args.out.now) bs (taken c.write_all.new.to)) c.as_slice.ensures c.in-Ok-write_all.ensures.all in
     subst (λ (s : Status). Answers (bytes_of c.args.words.now) told s (taken c.args.out.now) (taken c.write_all.new.to)) (sym c.report-in-Ok-write_all.ensures.same)
-        (c.in-Ok.printed, c.in-Ok.ensures.gives told is, wrote)
+    (c.in-Ok.printed, c.in-Ok.ensures.gives told is, wrote)
