@@ -51,7 +51,7 @@ of_other : (l port m : ℕ) → (m ≡ l → ⊥) → (es : List Edge) → filte
 of_other l port m h es =
     none_pass (fills l port) (into es m)
     (λ k d i. not_there l port (get_or (into es m) k d)
-        (λ e. h (sym (at_node (get_or (into es m) k d) (filter_passes (λ (f : Edge). f.node == m) es k d i)) ∙ e)))
+    (λ e. h (sym (at_node (get_or (into es m) k d) (filter_passes (λ (f : Edge). f.node == m) es k d i)) ∙ e)))
   where
     at_node : (f : Edge) → (f.node == m) ≡ true → f.node ≡ m
     at_node f t = elim (eqb_tells f.node m) [ inl p ↦ p.1 | inr p ↦ absurd (true≢false (sym t ∙ p.0)) ]
@@ -86,12 +86,12 @@ present : (l port : ℕ) (es : List Edge) (ns : List Node) (m : Node) → IsOnce
 present l port es [] m o h = absurd (none-some m h)
 present l port es (n ∷ ns) m o h =
     let both : filter (fills l port) (into es (label_of n)) ++ filter (fills l port) (groups es ns) ≡ filter (fills l port) es =
-        elim (eqb_tells (label_of n) l) [
-          | inl p ↦ this_one l port es ns (label_of n) p.1 (others ns (label_of n) o.0)
-          | inr p ↦
-            ap (λ t. t ++ filter (fills l port) (groups es ns)) (of_other l port (label_of n) p.1 es)
-            ∙ present l port es ns m o.1 (named_first n ns l (Some m) p.0 h)
-        ] in
+    elim (eqb_tells (label_of n) l) [
+      | inl p ↦ this_one l port es ns (label_of n) p.1 (others ns (label_of n) o.0)
+      | inr p ↦
+          ap (λ t. t ++ filter (fills l port) (groups es ns)) (of_other l port (label_of n) p.1 es)
+          ∙ present l port es ns m o.1 (named_first n ns l (Some m) p.0 h)
+    ] in
     filter-append (fills l port) (into es (label_of n)) (groups es ns) ∙ both
 
 missing : (ns : List Node) (l : ℕ) → node_at ns l ≡ None → All (λ n. label_of n ≡ l → ⊥) ns
@@ -124,15 +124,15 @@ whole : (l port : ℕ) (es : List Edge) (ns : List Node) → IsOnce (map label_o
     filter (fills l port) (groups es ns ++ into es 0) ≡ filter (fills l port) es
 whole l port es ns once ones there =
     let both : filter (fills l port) (groups es ns) ++ filter (fills l port) (into es 0) ≡ filter (fills l port) es =
-        elim (eqb_tells 0 l) [
-          | inl p ↦
-            ap (λ t. t ++ filter (fills l port) (into es 0)) (absent l port es ns (λ k d i e. none_zero (label_of (get_or ns k d)) (ones k d i) (e ∙ sym p.1)))
-            ∙ (ap (λ k. filter (fills l port) (into es k)) p.1 ∙ of_node l port es)
-          | inr p ↦
-            ap (λ t. filter (fills l port) (groups es ns) ++ t) (of_other l port 0 p.1 es)
-            ∙ append-nil (filter (fills l port) (groups es ns))
-            ∙ at_nodes l port es ns once there p.1 (node_at ns l) refl
-        ] in
+    elim (eqb_tells 0 l) [
+      | inl p ↦
+          ap (λ t. t ++ filter (fills l port) (into es 0)) (absent l port es ns (λ k d i e. none_zero (label_of (get_or ns k d)) (ones k d i) (e ∙ sym p.1)))
+          ∙ (ap (λ k. filter (fills l port) (into es k)) p.1 ∙ of_node l port es)
+      | inr p ↦
+          ap (λ t. filter (fills l port) (groups es ns) ++ t) (of_other l port 0 p.1 es)
+          ∙ append-nil (filter (fills l port) (groups es ns))
+          ∙ at_nodes l port es ns once there p.1 (node_at ns l) refl
+    ] in
     filter-append (fills l port) (groups es ns) (into es 0) ∙ both
   where
     none_zero : (n : ℕ) → 1 ≤ n → n ≡ 0 → ⊥

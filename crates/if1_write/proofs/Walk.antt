@@ -38,7 +38,7 @@ found (n ∷ ns) o =
     All-cons (λ m. node_at (n ∷ ns) (label_of m) ≡ Some m) n ns
     (ap (λ (b : Bool). cond b (Some n) (node_at ns (label_of n))) (eq-eqb (label_of n) (label_of n) refl))
     (λ k d i. ap (λ (b : Bool). cond b (Some n) (node_at ns (label_of (get_or ns k d)))) (differs (label_of n) (label_of (get_or ns k d)) (λ e. others ns (label_of n) o.0 k d i (sym e)))
-        ∙ found ns o.1 k d i)
+    ∙ found ns o.1 k d i)
 
 there : (u : Unit1) (p : Place) (l : ℕ) (o : Option Node) → node_at (out-Graph p.graph).nodes l ≡ o → IsEndFilled u p l o → Present (out-Graph p.graph).nodes l
 there u p l (Some n) e h = inr (n, e)
@@ -142,7 +142,11 @@ walk u (suc more) home g low all =
     let ns = (out-Graph g).nodes in
     at_place u (suc more) p s
     (λ k d i. node_given u g (suc more) (get_or ns k d) (facts u p s k d i)
-        (λ some. (more, refl, parts_given u more (out-Node (get_or ns k d)).subs
-            (parts_walk u more (λ home s l a. walk u more home s l a) g (get_or ns k d) 0 (out-Node (get_or ns k d)).subs
-            (parts_below (get_or ns k d) more (nodes_below g (suc more) low k d i))
-            (inner_of (Sound u) more home g all k d i)))))
+    (λ some. (
+      more,
+      refl,
+      parts_given u more (out-Node (get_or ns k d)).subs
+          (parts_walk u more (λ home s l a. walk u more home s l a) g (get_or ns k d) 0 (out-Node (get_or ns k d)).subs
+          (parts_below (get_or ns k d) more (nodes_below g (suc more) low k d i))
+          (inner_of (Sound u) more home g all k d i)),
+    )))

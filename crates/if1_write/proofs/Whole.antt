@@ -114,12 +114,12 @@ written u ready normal =
     let formed = ready.formed in
     let given = functions_given u most_levels 0 u.graphs formed.nesting (sounds u (places u) formed.graphs normal ready.ports) in
     let good = All-append Good (map import_line u.imports) (flat_map function_lines u.graphs)
-        (All-map Good import_line u.imports (λ k d i. import_good u.types (get_or u.imports k d) (formed.imports k d i)))
-        (all_joined Good function_lines u.graphs (λ k d i. function_lines_good u most_levels (get_or u.graphs k d) (given k d i))) in
+    (All-map Good import_line u.imports (λ k d i. import_good u.types (get_or u.imports k d) (formed.imports k d i)))
+    (all_joined Good function_lines u.graphs (λ k d i. function_lines_good u most_levels (get_or u.graphs k d) (given k d i))) in
     let spelled : All IsSpelled (lines_of u) = subst (All IsSpelled) (sym (in_two u))
-        (All-append IsSpelled (types u) (rest u)
-        (All-map IsSpelled entry_line u.types (λ k d i. entry_spelled u.types (get_or u.types k d) formed.types.entries (formed.types.entries k d i)))
-        (λ k d i. (good k d i).1)) in
+    (All-append IsSpelled (types u) (rest u)
+    (All-map IsSpelled entry_line u.types (λ k d i. entry_spelled u.types (get_or u.types k d) formed.types.entries (formed.types.entries k d i)))
+    (λ k d i. (good k d i).1)) in
     record {
       lines = lines_of u;
       read = ap (map line_of) (text_lines (lines_of u) spelled) ∙ all_read (lines_of u) spelled;

@@ -217,7 +217,7 @@ module _ (k : Known) (denotes : Written → Ty → Type 0) where
           → Types s low t (ty.Int ∷ []) → AreTyped s es ts (a ∷ tys) → All (λ b. b ≡ a) tys
           → IsNamedType k x (ty.Arr a) → IsShallow (ty.Arr a) → Number k ns (ty.Arr a ∷ [])
           → Types s (at l (tree.Array x (Some (roll-Elements (record { lower = low; values = es })))))
-              (with l ns (typed.Array (Some (roll-TypedElements (record { lower = t; values = ts }))))) (ty.Arr a ∷ [])
+          (with l ns (typed.Array (Some (roll-TypedElements (record { lower = t; values = ts }))))) (ty.Arr a ∷ [])
       empty_stream : {s : Scope} {l x : ℕ} (a : Ty) {ns : List ℕ} → IsTypeNamed k x (ty.Stream a) → Number k ns (ty.Stream a ∷ [])
           → Types s (at l (tree.Stream (Some x) [])) (with l ns (typed.Stream [])) (ty.Stream a ∷ [])
       stream : {s : Scope} {l : ℕ} {a : Ty} {tys : List Ty} {x : Option ℕ} {es : List Expr} {ts : List TypedExpr} {ns : List ℕ}
@@ -244,7 +244,7 @@ module _ (k : Known) (denotes : Written → Ty → Type 0) where
           → Types s e t (ty.Uni ms ∷ []) → AreArms s x ms tys arms typed_arms tags → AreDistinct (flat_map (λ names. names) tags)
           → AreAllNamed k tags ms other → IsOtherwise s tys other typed_other → Chooses k tags ms choices → Number k ns tys
           → Types s (at l (tree.TagCase (roll-TagCase (record { name = x; subject = e; arms = arms; otherwise = other }))))
-              (with l ns (typed.TagCase (roll-TypedCase (record { is_named = is_some x; subject = t; arms = typed_arms; choices = choices; otherwise = typed_other })))) tys
+          (with l ns (typed.TagCase (roll-TypedCase (record { is_named = is_some x; subject = t; arms = typed_arms; choices = choices; otherwise = typed_other })))) tys
       for_product : {s within inside : Scope} {l : ℕ} {made tys : List Ty} {ns : List ℕ} {gs : List (List Generator)} {hs : List (List TypedGenerator)}
           {ds : List Def} {us : List TypedDef} {cs : List Clause} {ts : List TypedClause}
           → Crosses s gs hs within → Defines within ds us made inside → AreDistinct (targets ds) → AreClauses inside (length gs) cs ts tys → Number k ns tys
@@ -256,9 +256,9 @@ module _ (k : Known) (denotes : Written → Ty → Type 0) where
           → KeepTypes (loop_of s ds first) (targets es) later
           → AreClauses started 1 cs ts tys → Number k ns tys
           → Types s (at l (tree.For (loop.Initial ds (roll-Turn (record { is_first = is_first; is_until = is_until; test = test; defs = es })) cs)))
-              (with l ns (typed.For (typed_loop.Initial us
-              (roll-TypedTurn (record { is_first = is_first; is_until = is_until; test = t; defs = vs; renewed = renewed (renewals (loop_of s ds first) started.height (targets es)) }))
-              ts))) tys
+          (with l ns (typed.For (typed_loop.Initial us
+          (roll-TypedTurn (record { is_first = is_first; is_until = is_until; test = t; defs = vs; renewed = renewed (renewals (loop_of s ds first) started.height (targets es)) }))
+          ts))) tys
 
     -- expressions in order, and the types of all their values
     pub data AreTyped : Scope → List Expr → List TypedExpr → List Ty → Type 0 where
@@ -287,7 +287,7 @@ module _ (k : Known) (denotes : Written → Ty → Type 0) where
       a_def : {s after : Scope} (xs : List Target) {es : List Expr} {ts : List TypedExpr} {tys others : List Ty} {ds : List Def} {us : List TypedDef}
           → AreTyped s es ts tys → AreTargets denotes xs tys → Defines (define_all (names_in xs) tys s) ds us others after
           → Defines s (roll-Def (record { targets = xs; values = es }) ∷ ds)
-              (roll-TypedDef (record { targets = length xs; values = ts }) ∷ us) (tys ++ others) after
+          (roll-TypedDef (record { targets = length xs; values = ts }) ∷ us) (tys ++ others) after
 
     -- Groups of generators, each of which sees the names of the groups before it.
     pub data Crosses : Scope → List (List Generator) → List (List TypedGenerator) → Scope → Type 0 where
@@ -302,18 +302,18 @@ module _ (k : Known) (denotes : Written → Ty → Type 0) where
       range : {s : Scope} (n : Named) {e f : Expr} {t u : TypedExpr} {names : List ℕ} {tys : List Ty} {gs : List Generator} {hs : List TypedGenerator}
           → Types s e t (ty.Int ∷ []) → Types s f u (ty.Int ∷ []) → Generates s gs hs names tys
           → Generates s (roll-Generator (record { name = n; from = e; to = Some f; at = None }) ∷ gs)
-              (roll-TypedGenerator (record { from = t; to = Some u; is_indexed = false }) ∷ hs)
-              (n.name ∷ names) (ty.Int ∷ tys)
+          (roll-TypedGenerator (record { from = t; to = Some u; is_indexed = false }) ∷ hs)
+          (n.name ∷ names) (ty.Int ∷ tys)
       elements : {s : Scope} (n : Named) {a b : Ty} {e : Expr} {t : TypedExpr} {names : List ℕ} {tys : List Ty} {gs : List Generator} {hs : List TypedGenerator}
           → Types s e t (a ∷ []) → IsSequence a b → Generates s gs hs names tys
           → Generates s (roll-Generator (record { name = n; from = e; to = None; at = None }) ∷ gs)
-              (roll-TypedGenerator (record { from = t; to = None; is_indexed = false }) ∷ hs)
-              (n.name ∷ names) (b ∷ tys)
+          (roll-TypedGenerator (record { from = t; to = None; is_indexed = false }) ∷ hs)
+          (n.name ∷ names) (b ∷ tys)
       indexed : {s : Scope} (n : Named) {i : ℕ} {a b : Ty} {e : Expr} {t : TypedExpr} {names : List ℕ} {tys : List Ty} {gs : List Generator} {hs : List TypedGenerator}
           → Types s e t (a ∷ []) → IsSequence a b → Generates s gs hs names tys
           → Generates s (roll-Generator (record { name = n; from = e; to = None; at = Some i }) ∷ gs)
-              (roll-TypedGenerator (record { from = t; to = None; is_indexed = true }) ∷ hs)
-              (n.name ∷ i ∷ names) (b ∷ ty.Int ∷ tys)
+          (roll-TypedGenerator (record { from = t; to = None; is_indexed = true }) ∷ hs)
+          (n.name ∷ i ∷ names) (b ∷ ty.Int ∷ tys)
 
     -- the clauses of a loop of so many groups, and the types that they make
     pub data AreClauses : Scope → ℕ → List Clause → List TypedClause → List Ty → Type 0 where
@@ -322,7 +322,7 @@ module _ (k : Known) (denotes : Written → Ty → Type 0) where
           {cs : List Clause} {ts : List TypedClause} {tys : List Ty}
           → Types s e t (a ∷ []) → MakesThrough kind groups a b → IsShallow b → IsMask s m n → AreClauses s groups cs ts tys
           → AreClauses s groups (roll-Clause (record { line = l; kind = kind; value = e; mask = m }) ∷ cs)
-              (roll-TypedClause (record { kind = kind; value = t; mask = n }) ∷ ts) (b ∷ tys)
+          (roll-TypedClause (record { kind = kind; value = t; mask = n }) ∷ ts) (b ∷ tys)
 
     pub data IsMask : Scope → Option Mask → Option TypedMask → Type 0 where
       no_mask : {s : Scope} → IsMask s None None
@@ -337,7 +337,7 @@ module _ (k : Known) (denotes : Written → Ty → Type 0) where
           → All (λ tag. IsTag k ms tag content) (names_of names) → AreTyped (with_content x content s) es ts tys
           → AreArms s x ms tys arms typed_arms tags
           → AreArms s x ms tys (roll-Arm (record { line = l; tags = names; results = es }) ∷ arms)
-              (roll-TypedArm (record { results = ts }) ∷ typed_arms) (names_of names ∷ tags)
+          (roll-TypedArm (record { results = ts }) ∷ typed_arms) (names_of names ∷ tags)
 
     -- the name of the content is not in force in `otherwise`
     pub data IsOtherwise : Scope → List Ty → Option (List Expr) → Option (List TypedExpr) → Type 0 where
