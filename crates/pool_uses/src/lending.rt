@@ -10,7 +10,7 @@ use std::thread::{Threads, join_mut};
 pub type Seen = (i64, i64, i64);
 
 /// Puts a value in and takes it out again.
-fn pass_through(pool: &mut Pool, value: Val) -> Val
+pub(crate) fn pass_through(pool: &mut Pool, value: Val) -> Val
     requires room { 0 < pool.old.spare }
     ensures value { result ≡ value }
     ensures as_before { (n : ℕ) → entry_at pool.new n ≡ entry_at pool.old n }
@@ -20,7 +20,7 @@ fn pass_through(pool: &mut Pool, value: Val) -> Val
 }
 
 /// The integer, if the value is one.
-fn number(value: &Val) -> i64 {
+pub(crate) fn number(value: &Val) -> i64 {
     match value {
         Val::Int(n) => *n,
         _ => 0,

@@ -1,15 +1,18 @@
 //! Callers of the pool, proved by its clauses alone: a value that two threads read while the pool goes on, an array
-//! whose parts two threads write, and one of any size each place of which is a segment that one of four threads writes.
+//! whose parts two threads write, one of any size each place of which is a segment that one of four threads writes, and
+//! a pool that is refused memory.
 #![tactic(auto)]
 
 mod building;
 mod lending;
 mod opening;
+mod refusing;
 mod sharing;
 
 pub use building::build_by_two;
 pub use lending::{Seen, lend_to_two};
 pub use opening::empty_pool;
+pub use refusing::{Kept, build_beside, reserve_beside};
 pub use sharing::build_by_four;
 
 #[cfg(test)]

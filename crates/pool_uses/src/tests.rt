@@ -1,4 +1,4 @@
-use crate::{build_by_four, build_by_two, empty_pool, lend_to_two};
+use crate::{build_beside, build_by_four, build_by_two, empty_pool, lend_to_two, reserve_beside};
 use flow_value::{Items, Val, array_of, same};
 use std::alloc::Global;
 use std::test::Fail;
@@ -47,4 +47,25 @@ fn sixteen_segments_are_written_by_four_threads(rt: HostRuntime) -> Result<(), F
     let built = build_by_four(&rt, alloc, pool, 16)?;
     assert!(rt; same(&built, &counted(alloc, 16)?));
     Ok(())
+}
+
+// Where memory is ample nothing is refused: `rt try --test --fail-alloc N` refuses the Nth request of each test. The pool
+// has the first seven, and those of `reserve` and `build` come next.
+
+#[test]
+fn a_pool_that_is_refused_room_is_as_it_was(rt: HostRuntime) {
+    let alloc = rt.alloc();
+    let Ok(pool) = empty_pool(alloc, 4) else {
+        return;
+    };
+    assert_eq!(rt; reserve_beside(alloc, pool, 5), (7, 5));
+}
+
+#[test]
+fn a_pool_that_is_refused_an_array_is_as_it_was(rt: HostRuntime) {
+    let alloc = rt.alloc();
+    let Ok(pool) = empty_pool(alloc, 4) else {
+        return;
+    };
+    assert_eq!(rt; build_beside(alloc, pool), (7, 5));
 }
