@@ -1,7 +1,8 @@
 //! Typed expressions.
-use crate::built_in::BuiltIn;
-use flow_value::{Held, Numbers, Seq};
-use sisal_tree::{BinaryOperator, ClauseKind, Constant, PrefixOperator, Scalar};
+use flow_value::{Numbers, Seq};
+use loop_folds::{Folding, Masking};
+use sisal_tree::{Constant, Direction};
+use value_ops::Operation;
 
 /// A typed expression. The names in force at a place are levels: 0 for the first parameter of the
 /// function, and one more for each name that comes into force after it.
@@ -16,7 +17,9 @@ pub struct TypedExpr {
     pub kind: TypedKind,
 }
 
-/// What a typed expression is.
+/// What a typed expression is. The parts of each form are lists of expressions, whose values stand
+/// one after another; a list of definitions has one list of values for each definition, and these
+/// come into force at the next levels.
 #[derive(Drop)]
 #[cycle(typed)]
 pub enum TypedKind {
@@ -25,140 +28,72 @@ pub enum TypedKind {
     /// The value at a level: a name, or `old` and a name.
     Value(u32),
     /// `"(" expr ")"`
-    Group(Held<TypedExpr>),
+    Group(Seq<TypedExpr>),
     /// A call of a function, by its number among the functions of the program.
     Call(u32, Seq<TypedExpr>),
-    /// A call that is built in.
-    BuiltIn(BuiltIn, Seq<TypedExpr>),
-    /// `integer(e)`, `boolean(e)` or `character(e)`
-    Convert(Scalar, Held<TypedExpr>),
-    /// `error[type]`
-    ErrorOf,
-    /// `is error(e)`
-    IsError(Held<TypedExpr>),
-    /// `is tag(e)`, by the place of the tag in its union, from 0.
-    IsTag(u32, Held<TypedExpr>),
-    /// An operator before its operand.
-    Prefix(PrefixOperator, Held<TypedExpr>),
-    /// An operator between two operands.
-    Binary(BinaryOperator, Held<TypedExpr>, Held<TypedExpr>),
-    /// `a[i]`
-    Select(Held<TypedExpr>, Held<TypedExpr>),
-    /// `a[i: v]`
-    Update(Held<TypedExpr>, Held<TypedExpr>, Held<TypedExpr>),
-    /// `r.name`, by the place of the field in its record, from 0.
-    Field(Held<TypedExpr>, u32),
-    /// `r replace [name: e; ..]`
-    Replace(Held<TypedExpr>, Seq<TypedField>),
-    /// `array [low: e, ..]`, or the empty array.
-    Array(Option<TypedElements>),
-    /// `stream [e, ..]`
-    Stream(Seq<TypedExpr>),
-    /// `record [field: e; ..]`, its values in the order of its fields.
-    Record(Seq<TypedExpr>),
-    /// `union name [tag: e]`, by the place of the tag in its union, from 0.
-    Union(u32, Held<TypedExpr>),
+    /// An operator, a constructor, a selection or a call that is built in, on its operands.
+    Apply(Operation, Seq<TypedExpr>),
     /// `let defs in exprs end let`
-    Let(Seq<TypedDef>, Seq<TypedExpr>),
+    Let(Seq<Seq<TypedExpr>>, Seq<TypedExpr>),
     /// `if test then exprs else exprs end if`
-    If(Held<TypedExpr>, Seq<TypedExpr>, Seq<TypedExpr>),
-    /// `tagcase .. end tagcase`
-    TagCase(TypedCase),
-    /// `for .. end for`
-    For(TypedLoop),
+    If(Seq<TypedExpr>, Seq<TypedExpr>, Seq<TypedExpr>),
+    /// `tagcase .. end tagcase`: the union, and the results of each arm, those of `otherwise` last.
+    Case(Case, Seq<TypedExpr>, Seq<Seq<TypedExpr>>),
+    /// `for .. end for` over generators: their bounds, the definitions, and the values of the
+    /// clauses, each with its mask behind it where it has one.
+    Product(Product, Seq<TypedExpr>, Seq<Seq<TypedExpr>>, Seq<TypedExpr>),
+    /// `for initial .. end for`: the initial part, the test, the turn, and the values of the
+    /// clauses, each with its mask behind it where it has one.
+    Initial(
+        Turns,
+        Seq<Seq<TypedExpr>>,
+        Seq<TypedExpr>,
+        Seq<Seq<TypedExpr>>,
+        Seq<TypedExpr>,
+    ),
 }
 
-/// A field that is given a value.
+/// The arms of a `tagcase`.
 #[derive(Drop)]
-#[cycle(typed)]
-pub struct TypedField {
-    /// The place of the field in its record, from 0.
-    pub place: u32,
-    /// Its value.
-    pub value: TypedExpr,
-}
-
-/// The lower bound of an array and its elements.
-#[derive(Drop)]
-#[cycle(typed)]
-pub struct TypedElements {
-    /// The lower bound.
-    pub lower: Held<TypedExpr>,
-    /// The elements.
-    pub values: Seq<TypedExpr>,
-}
-
-/// A definition: the values of its targets, in order, come into force at the next levels.
-#[derive(Drop)]
-#[cycle(typed)]
-pub struct TypedDef {
-    /// The number of targets.
-    pub targets: u32,
-    /// The values.
-    pub values: Seq<TypedExpr>,
-}
-
-/// `tagcase`: the content of the union is in force in the arms, at the next level, where it is named.
-#[derive(Drop)]
-#[cycle(typed)]
-pub struct TypedCase {
-    /// Whether the content has a name.
-    pub is_named: bool,
-    /// The union.
-    pub subject: Held<TypedExpr>,
-    /// The results of each arm.
-    pub arms: Seq<TypedArm>,
-    /// For each tag of the union the place of its arm, and the number of arms for one that no arm names.
+pub struct Case {
+    /// In how many arms, from the first, the content of the union is in force at the next level.
+    pub named: u32,
+    /// For each tag of the union the place of its arm.
     pub choices: Numbers,
-    /// The results of the tags that no arm names.
-    pub otherwise: Option<Seq<TypedExpr>>,
 }
 
-/// The results of an arm.
-#[derive(Drop)]
-#[cycle(typed)]
-pub struct TypedArm {
-    /// The results.
-    pub results: Seq<TypedExpr>,
+/// What a generator goes over.
+#[derive(Clone, Copy, Debug, PartialEq, Eq)]
+pub enum Source {
+    /// The numbers from one bound to another.
+    Range,
+    /// The elements of an array or a stream.
+    Elements,
+    /// The elements, and behind each its index.
+    Indexed,
 }
 
-/// What stands between `for` and `end for`.
+/// The generators and clauses of a loop over one group of generators. The names of the generators
+/// come into force in order, an index behind its element.
 #[derive(Drop)]
-#[cycle(typed)]
-pub enum TypedLoop {
-    /// The groups of generators, the definitions and the clauses.
-    Product(Seq<Seq<TypedGenerator>>, Seq<TypedDef>, Seq<TypedClause>),
-    /// The initial part, the turn and the clauses.
-    Initial(Seq<TypedDef>, TypedTurn, Seq<TypedClause>),
+pub struct Product {
+    /// What each generator goes over.
+    pub sources: Seq<Source>,
+    /// The clauses.
+    pub clauses: Seq<ClauseForm>,
 }
 
-/// A generator: its elements, and then their indices where these have a name, come into force at
-/// the next levels behind the names of the generators before it.
+/// The turns and clauses of a `for initial`.
 #[derive(Drop)]
-#[cycle(typed)]
-pub struct TypedGenerator {
-    /// The first number of a range, or the array or stream.
-    pub from: TypedExpr,
-    /// The last number of a range.
-    pub to: Option<TypedExpr>,
-    /// Whether the index has a name.
-    pub is_indexed: bool,
-}
-
-/// The turn of a loop with its test.
-#[derive(Drop)]
-#[cycle(typed)]
-pub struct TypedTurn {
+pub struct Turns {
     /// Whether the test stands before the turn.
     pub is_first: bool,
     /// Whether the loop goes on until the test holds, and not while it holds.
     pub is_until: bool,
-    /// The test.
-    pub test: Held<TypedExpr>,
-    /// The definitions of the turn.
-    pub defs: Seq<TypedDef>,
-    /// The loop names that the turn defines anew: the level of each, and that of its new value.
+    /// The loop names that a turn defines anew.
     pub renewed: Seq<Renewed>,
+    /// The clauses.
+    pub clauses: Seq<ClauseForm>,
 }
 
 /// A loop name that a turn defines anew.
@@ -170,24 +105,13 @@ pub struct Renewed {
     pub value: u32,
 }
 
-/// A result of a loop.
-#[derive(Drop)]
-#[cycle(typed)]
-pub struct TypedClause {
+/// A clause of a loop.
+#[derive(Clone, Copy)]
+pub struct ClauseForm {
     /// What is made of the values.
-    pub kind: ClauseKind,
-    /// The value of each place.
-    pub value: TypedExpr,
-    /// Which places are kept, where not all are.
-    pub mask: Option<TypedMask>,
-}
-
-/// `when e` or `unless e`
-#[derive(Drop)]
-#[cycle(typed)]
-pub struct TypedMask {
-    /// Whether a place is kept where the test doesn't hold.
-    pub is_unless: bool,
-    /// The test.
-    pub test: TypedExpr,
+    pub folding: Folding,
+    /// How a reduction groups.
+    pub direction: Direction,
+    /// Which values are kept.
+    pub masking: Masking,
 }

@@ -7,8 +7,5 @@ mod expr;
 mod program;
 
 pub use built_in::{BuiltIn, built_in_named};
-pub use expr::{
-    Renewed, TypedArm, TypedCase, TypedClause, TypedDef, TypedElements, TypedExpr, TypedField,
-    TypedGenerator, TypedKind, TypedLoop, TypedMask, TypedTurn,
-};
+pub use expr::{Case, ClauseForm, Product, Renewed, Source, Turns, TypedExpr, TypedKind};
 pub use program::{Function, Program};
