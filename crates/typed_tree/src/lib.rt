@@ -7,5 +7,5 @@ mod expr;
 mod program;
 
 pub use built_in::{BuiltIn, built_in_named};
-pub use expr::{Case, ClauseForm, Product, Renewed, Source, Turns, TypedExpr, TypedKind};
+pub use expr::{Case, ClauseForm, Product, Source, Turns, TypedExpr, TypedKind};
 pub use program::{Function, Program};
