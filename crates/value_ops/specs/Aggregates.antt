@@ -1,5 +1,5 @@
 -- Rows of arrays, streams and records that are no errors, on exact whole numbers.
-use Rattle.std.specs.Prelude.{ℕ, ◌-◌, ℤ, pos, negsuc, ◌+ℤ◌, ◌-ℤ◌, ◌&&◌, nat_eq, nat_lt, int_le, if◌then◌else◌, List, [], ◌∷◌, ◌++◌, length, take, drop, replicate, slice_get, slice_set, Option, Some, None, option_map, option_and_then}
+use Rattle.std.specs.Prelude.{ℕ, ◌-◌, ℤ, pos, negsuc, ◌+ℤ◌, ◌-ℤ◌, Bool, ◌&&◌, nat_eq, nat_lt, int_le, if◌then◌else◌, List, [], ◌∷◌, ◌++◌, length, take, drop, replicate, slice_get, slice_set, Option, Some, None, option_map, option_and_then}
 use Rattle.flow_value.specs.declared.value.Val.{Val}
 use Rattle.flow_value.specs.declared.value.Val.TheOpen.{Val-F}
 use Rattle.flow_value.specs.declared.value.Val.TheVariants as val
@@ -7,6 +7,7 @@ use Rattle.flow_value.specs.declared.value.Val.TheViews.{out-Val}
 use Rattle.flow_value.specs.declared.cause.Cause.TheVariants as cause
 use Rattle.flow_value.specs.Aggregates.{array_val, stream_val}
 use Rattle.flow_value.specs.Bounds.{Bounded, bounded}
+use Rattle.flow_value.specs.Scalar.{unless_error}
 use Rattle.value_ops.specs.Arity.{explicit, unless_errors}
 use Rattle.value_ops.specs.Views.{on_list}
 
@@ -22,9 +23,16 @@ places lo hi = natural ((hi +ℤ pos 1) -ℤ lo)
 abbrev pub last_place : Bounded Val → ℤ
 last_place a = (a.lo +ℤ pos (length a.items)) -ℤ pos 1
 
+abbrev pub is_place : Bounded Val → ℤ → Bool
+is_place a i = int_le a.lo i && int_le i (last_place a)
+
 -- how far a place of the array is above its lower bound
 abbrev pub place_of : Bounded Val → ℤ → Option ℕ
-place_of a i = if int_le a.lo i && int_le i (last_place a) then Some (natural (i -ℤ a.lo)) else None
+place_of a i = if is_place a i then Some (natural (i -ℤ a.lo)) else None
+
+-- the places from `lo` to `hi` are places of the array, or there are none
+abbrev pub are_places : Bounded Val → ℤ → ℤ → Bool
+are_places a lo hi = int_le a.lo lo && int_le hi (last_place a) && int_le lo (hi +ℤ pos 1)
 
 abbrev pub or_bounds : Option Val → Val
 or_bounds None = val.Err cause.Bounds
@@ -62,10 +70,9 @@ without_first a = unless_empty a.items (array_val (a.lo +ℤ pos 1) (drop 1 a.it
 abbrev pub from_bound : Bounded Val → ℤ → Val
 from_bound a lo = array_val lo a.items
 
--- the places from `lo` to `hi`, which are places of the array, or none of them
 abbrev pub adjusted : Bounded Val → ℤ → ℤ → Val
 adjusted a lo hi =
-    if int_le a.lo lo && int_le hi (last_place a) && int_le lo (hi +ℤ pos 1)
+    if are_places a lo hi
     then array_val lo (take (places lo hi) (drop (natural (lo -ℤ a.lo)) a.items))
     else val.Err cause.Bounds
 
@@ -95,16 +102,17 @@ abbrev pub all_items : (Val-F Val → Option (List Val)) → List Val → Option
 all_items f [] = Some []
 all_items f (v ∷ vs) = joined (f (out-Val v)) (all_items f vs)
 
+abbrev pub unless_alone : List Val → Val → Val
+unless_alone [] w = explicit
+unless_alone (v ∷ vs) w = w
+
 -- two or more arrays from the first one's lower bound, or two or more streams
 abbrev pub catenated : List Val → Val
 catenated [] = explicit
-catenated (a ∷ []) = explicit
-catenated (a ∷ b ∷ vs) =
-    let all = a ∷ b ∷ vs in
-    on_list
-    (λ x. or_explicit (option_map (array_val x.lo) (all_items array_items_in all)))
-    (λ xs. or_explicit (option_map stream_val (all_items stream_items_in all)))
-    a
+catenated (a ∷ vs) =
+    let arrays : Bounded Val → Val = λ x. or_explicit (option_map (array_val x.lo) (joined (Some x.items) (all_items array_items_in vs))) in
+    let streams : List Val → Val = λ xs. or_explicit (option_map stream_val (joined (Some xs) (all_items stream_items_in vs))) in
+    unless_alone vs (unless_error a (unless_errors vs (on_list arrays streams a)))
 
 -- the record with values at these places, one after another
 abbrev pub changed : List ℕ → List Val → List Val → Val

@@ -1,9 +1,18 @@
 //! What each operation on values gives.
 #![tactic(auto)]
 
+mod arrays;
+mod ends;
 mod feed;
+mod kinds;
+mod listed;
+mod makers;
 mod operation;
+mod places;
+mod records;
 mod rows;
+mod scalars;
+mod sizes;
 mod values;
 
 pub use operation::Operation;
