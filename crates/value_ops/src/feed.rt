@@ -1,5 +1,5 @@
 //! The operands of an operation in order, without the ports that have none.
-ghost use Rattle.std.specs.Prelude.{◌≡◌, [], ◌∷◌, MatchOption, IfOk};
+ghost use Rattle.std.specs.Prelude.{◌≡◌, [], ◌∷◌, map, MatchOption, IfOk};
 ghost use Rattle.flow_value.specs.declared.value.Val.{Val};
 ghost use Rattle.value_ops.specs.Given.{values_in};
 ghost use Rattle.value_ops.specs.Arity.{explicit, of_one, of_two, of_three};
@@ -104,5 +104,16 @@ impl<'a> Feed<'a> {
             items.add(kept(alloc, v)?)?;
         }
         Ok(items)
+    }
+
+    /// All operands that are still to be given, as they are.
+    pub fn values(mut self, alloc: Global) -> Result<Vec<Value<'a>>, NoMemory>
+        ensures { IfOk result (λ vs. map value_of vs.items ≡ self.entry) }
+    {
+        let mut values = Vec::new(alloc);
+        while let Some(v) = self.next() {
+            values.push(v)?;
+        }
+        Ok(values)
     }
 }

@@ -2,6 +2,7 @@
 #![tactic(auto)]
 
 mod arrays;
+mod catenate;
 mod ends;
 mod feed;
 mod kinds;

@@ -96,8 +96,9 @@ fn change_all(
 {
     let mut fields = kept_items(alloc, fields)?;
     for place in places {
-        let Some(v) = given.next() else {
-            return Ok(Val::Err(Cause::Explicit));
+        let v = match given.next() {
+            Some(v) => v,
+            None => return Ok(Val::Err(Cause::Explicit)),
         };
         if *place as usize >= fields.len() {
             return Ok(Val::Err(Cause::Explicit));
