@@ -63,7 +63,9 @@ fn no_errors(values: &[Value<'_>]) -> Result<(), Val>
     ensures refused { IfErr result (λ e. (w : Val) → e ≡ unless_errors (map value_of values.now) w) }
 {
     for one in values {
-        no_error(seen(one))?;
+        if let Err(error) = no_error(seen(one)) {
+            return Err(error);
+        }
     }
     Ok(())
 }
