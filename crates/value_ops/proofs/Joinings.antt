@@ -13,7 +13,7 @@ use Rattle.flow_value.specs.Aggregates.{array_val, stream_val}
 use Rattle.flow_value.specs.Bounds.{Bounded}
 use Rattle.flow_value.specs.Scalar.{unless_error}
 use Rattle.value_ops.specs.Arity.{explicit, unless_errors}
-use Rattle.value_ops.specs.Aggregates.{array_items_in, stream_items_in, joined, all_items, or_explicit, unless_alone, catenated, changed}
+use Rattle.value_ops.specs.Aggregates.{array_items_in, stream_items_in, joined, all_items, or_explicit, unless_alone, catenated, replaced}
 use Rattle.value_ops.specs.Views.{list_in}
 use Rattle.value_ops.specs.Operand.{value_of}
 use Rattle.value_ops.specs.declared.values.Value.{Value}
@@ -21,8 +21,8 @@ use Rattle.value_ops.specs.Catenation.{part_in, items_in, all_in, whole_in}
 use Rattle.value_ops.specs.declared.catenate.Joining.{Joining}
 use Rattle.value_ops.specs.declared.catenate.Joining.TheVariants as joining
 
-pub changed-short : (ps : List ℕ) (i : ℕ) (fields : List Val) → i < length ps → changed (drop i ps) [] fields ≡ explicit
-changed-short ps i fields h = ap (λ qs. changed qs [] fields) (drop-cons ps i 0 h)
+pub replaced-short : (ps : List ℕ) (i : ℕ) (fields : List Val) → i < length ps → replaced (drop i ps) [] fields ≡ fields
+replaced-short ps i fields h = ap (λ qs. replaced qs [] fields) (drop-cons ps i 0 h)
 
 -- one more of a kind, in an option
 more : (x y : Option (List Val)) (ys : List Val) → is_some (joined x y) ≡ true → (is_some y ≡ true → y ≡ Some ys) → joined x y ≡ Some (unwrap_or x [] ++ ys)
@@ -38,10 +38,6 @@ all_in-is (joining.Arrays lo) (v ∷ vs) some =
 all_in-is joining.Streams [] some = refl
 all_in-is joining.Streams (v ∷ vs) some =
     more (part_in joining.Streams v) (all_in joining.Streams vs) _ some (all_in-is joining.Streams vs)
-
-pub whole-size : (j : Joining) (xs : List Val) → 4194304 < length xs → whole_in j xs ≡ val.Err cause.Size
-whole-size (joining.Arrays lo) xs h = grind (arith, nat_tests)
-whole-size joining.Streams xs h = grind (arith, nat_tests)
 
 unless_alone-several : (vs : List Val) (w : Val) → vs ≢ [] → unless_alone vs w ≡ w
 unless_alone-several [] w several = absurd (several refl)

@@ -8,7 +8,8 @@ ghost use Rattle.value_ops.specs.Operations.{op_value};
 
 use crate::feed::Feed;
 use crate::kinds::{array, array_and_integer, array_and_integers};
-use crate::listed::{Placed, kept_item, kept_items, kept_part};
+use crate::limits::array_limits;
+use crate::listed::{Placed, kept_item, kept_items, kept_part, slice_of};
 use crate::operation::Operation;
 use crate::places::{are_places_of, distance, is_place_of, last_of, natural_of, room};
 use crate::values::{Value, kept, seen};
@@ -108,11 +109,20 @@ pub fn set_low(alloc: Global, given: Feed<'_>) -> Result<Val, NoMemory>
 {
     match given.two() {
         Some((a, lo)) => match array_and_integer(a, seen(&lo)) {
-            Ok((a, lo)) => Ok(array_of(lo, kept_items(alloc, a.items)?)),
+            Ok((a, lo)) => from_low(alloc, a, lo),
             Err(refused) => Ok(refused),
         },
         None => Ok(Val::Err(Cause::Explicit)),
     }
+}
+
+fn from_low(alloc: Global, a: Placed<'_>, lo: i64) -> Result<Val, NoMemory>
+    ensures { IfOk result (λ v. v ≡ from_bound (array_of a.entry) lo) }
+{
+    if let Err(error) = array_limits(lo, slice_of(&a.items).len()) {
+        return Ok(error);
+    }
+    Ok(array_of(lo, kept_items(alloc, a.items)?))
 }
 
 /// Some places of an array.

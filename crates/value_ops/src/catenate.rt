@@ -1,5 +1,5 @@
 //! The elements of several arrays or streams in a row.
-ghost use Rattle.std.specs.Prelude.{◌≡◌, ◌∷◌, ◌++◌, ◌+◌, ◌≤◌, ◌↔◌, map, length, flat_map, min, IfOk, IfErr, IsTrue, is_some, Some, option_map, MatchOption};
+ghost use Rattle.std.specs.Prelude.{List, ◌≡◌, ◌∷◌, ◌++◌, ◌+◌, ◌≤◌, ◌↔◌, map, length, flat_map, min, IfOk, IfErr, IsTrue, is_some, Some, option_map, MatchOption};
 ghost use Rattle.flow_value.specs.declared.value.Val.{Val};
 ghost use Rattle.value_ops.specs.Aggregates.{joined, or_explicit, catenated};
 ghost use Rattle.value_ops.specs.Arity.{unless_errors};
@@ -9,6 +9,7 @@ ghost use Rattle.value_ops.specs.Operations.{op_value};
 
 use crate::feed::Feed;
 use crate::kinds::{list, no_error};
+use crate::limits::array_limits;
 use crate::listed::{Listed, Sequence, kept_items, slice_of};
 use crate::operation::Operation;
 use crate::values::{Value, seen};
@@ -34,11 +35,7 @@ pub fn catenate(alloc: Global, mut given: Feed<'_>) -> Result<Val, NoMemory>
     }
 }
 
-fn catenate_from(
-    alloc: Global,
-    first: Value<'_>,
-    rest: Vec<Value<'_>>,
-) -> Result<Val, NoMemory>
+fn catenate_from(alloc: Global, first: Value<'_>, rest: Vec<Value<'_>>) -> Result<Val, NoMemory>
     ensures { IfOk result (λ v. v ≡ catenated (value_of first.entry ∷ map value_of rest.entry.items)) }
 {
     if rest.is_empty() {
@@ -81,11 +78,26 @@ fn join(
     if !are_all(joining, rest.as_slice()) {
         return Ok(Val::Err(Cause::Explicit));
     }
-    if slice_of(&first).len().saturating_add(count_all(joining, rest.as_slice())) > MOST_ELEMENTS {
-        return Ok(Val::Err(Cause::Size));
+    let count = slice_of(&first)
+        .len()
+        .saturating_add(count_all(joining, rest.as_slice()));
+    if let Err(error) = whole_limits(joining, count) {
+        return Ok(error);
     }
     let items = append_all(alloc, joining, kept_items(alloc, first)?, rest)?;
     Ok(whole(joining, items))
+}
+
+fn whole_limits(joining: Joining, count: usize) -> Result<(), Val>
+    ensures { IfErr result (λ e. (vs : List Val) → count ≡ min (length vs) 18446744073709551615 → e ≡ whole_in joining vs) }
+{
+    if count > MOST_ELEMENTS {
+        return Err(Val::Err(Cause::Size));
+    }
+    match joining {
+        Joining::Arrays(lo) => array_limits(lo, count),
+        Joining::Streams => Ok(()),
+    }
 }
 
 /// Whether all are of the kind.

@@ -1,12 +1,14 @@
 //! The ends of arrays and streams.
 ghost use Rattle.std.specs.Prelude.{◌≡◌, ◌<◌, ◌∷◌, [], ◌++◌, length, drop, IfOk};
+ghost use Rattle.flow_value.specs.Aggregates.{stream_val};
 ghost use Rattle.flow_value.specs.Bounds.{IsWithin};
-ghost use Rattle.value_ops.specs.Aggregates.{with_first, without_last, without_first, first_of, rest_of};
+ghost use Rattle.value_ops.specs.Aggregates.{with_last, with_first, without_last, without_first, first_of, rest_of};
 ghost use Rattle.value_ops.specs.Operand.{value_of, items_of, array_of};
 ghost use Rattle.value_ops.specs.Operations.{op_value};
 
 use crate::feed::Feed;
 use crate::kinds::{array, list, stream};
+use crate::limits::array_limits;
 use crate::listed::{Listed, Placed, Sequence, kept_item, kept_items, kept_part, slice_of};
 use crate::operation::Operation;
 use crate::values::{Value, kept};
@@ -19,12 +21,30 @@ pub fn add_high(alloc: Global, given: Feed<'_>) -> Result<Val, NoMemory>
 {
     match given.two() {
         Some((a, v)) => match list(a) {
-            Ok(Sequence::Array(a)) => Ok(array_of(a.lo, with_high(alloc, a.items, v)?)),
-            Ok(Sequence::Stream(items)) => Ok(stream_of(with_high(alloc, items, v)?)),
+            Ok(Sequence::Array(a)) => high_after(alloc, a, v),
+            Ok(Sequence::Stream(items)) => append(alloc, items, v),
             Err(refused) => Ok(refused),
         },
         None => Ok(Val::Err(Cause::Explicit)),
     }
+}
+
+fn high_after(alloc: Global, a: Placed<'_>, v: Value<'_>) -> Result<Val, NoMemory>
+    ensures { IfOk result (λ w. w ≡ with_last (value_of v.entry) (array_of a.entry)) }
+{
+    if let Err(error) = array_limits(a.lo, slice_of(&a.items).len() + 1) {
+        return Ok(error);
+    }
+    Ok(array_of(a.lo, with_high(alloc, a.items, v)?))
+}
+
+fn append(alloc: Global, items: Listed<'_>, v: Value<'_>) -> Result<Val, NoMemory>
+    ensures { IfOk result (λ w. w ≡ stream_val (items_of items.entry ++ value_of v.entry ∷ [])) }
+{
+    if slice_of(&items).len() >= MOST_ELEMENTS {
+        return Ok(Val::Err(Cause::Size));
+    }
+    Ok(stream_of(with_high(alloc, items, v)?))
 }
 
 fn with_high(alloc: Global, items: Listed<'_>, v: Value<'_>) -> Result<Items, NoMemory>

@@ -1,5 +1,5 @@
 //! The operands of an operation in order, without the ports that have none.
-ghost use Rattle.std.specs.Prelude.{◌≡◌, [], ◌∷◌, map, MatchOption, IfOk};
+ghost use Rattle.std.specs.Prelude.{◌≡◌, [], ◌∷◌, map, length, MatchOption, IfOk};
 ghost use Rattle.flow_value.specs.declared.value.Val.{Val};
 ghost use Rattle.value_ops.specs.Given.{values_in};
 ghost use Rattle.value_ops.specs.Arity.{explicit, of_one, of_two, of_three};
@@ -56,6 +56,20 @@ impl<'a> Feed<'a> {
             }
         }
         None
+    }
+
+    /// How many operands are still to be given.
+    pub fn count(&self) -> usize
+        ensures { result ≡ length self.now }
+    {
+        let mut count = 0;
+        for port in self.next..self.operands.ports() {
+            match self.operands.value(port) {
+                Some(_) => count += 1,
+                None => {}
+            }
+        }
+        count
     }
 
     /// The operand, where there is exactly one.

@@ -179,11 +179,7 @@ pub fn array_and_integer<'a>(a: Value<'a>, i: &Val) -> Result<(Placed<'a>, i64),
 }
 
 /// An array and two integers.
-pub fn array_and_integers<'a>(
-    a: Value<'a>,
-    m: &Val,
-    n: &Val,
-) -> Result<(Placed<'a>, i64, i64), Val>
+pub fn array_and_integers<'a>(a: Value<'a>, m: &Val, n: &Val) -> Result<(Placed<'a>, i64, i64), Val>
     ensures array { IfOk result (λ p. value_of a.entry ≡ Val.Arr (array_of p.0)) }
     ensures fits { IfOk result (λ p. IsWithin p.0.lo (items_of p.0.items)) }
     ensures integers { IfOk result (λ p. (m.now ≡ Val.Int p.1) × (n.now ≡ Val.Int p.2)) }

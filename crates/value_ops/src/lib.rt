@@ -6,6 +6,7 @@ mod catenate;
 mod ends;
 mod feed;
 mod kinds;
+mod limits;
 mod listed;
 mod makers;
 mod operation;
@@ -14,6 +15,8 @@ mod records;
 mod rows;
 mod scalars;
 mod sizes;
+#[cfg(test)]
+mod tests;
 mod values;
 
 pub use operation::Operation;

@@ -1,12 +1,14 @@
 //! Arrays and streams of given elements.
 ghost use Rattle.std.specs.Prelude.{◌≡◌, ℤ, pos, ◌++◌, IfOk, MatchResult, replicate};
 ghost use Rattle.flow_value.specs.declared.value.Val.{Val};
+ghost use Rattle.flow_value.specs.Aggregates.{array_val};
 ghost use Rattle.value_ops.specs.Aggregates.{filled};
 ghost use Rattle.value_ops.specs.Operand.{value_of};
 ghost use Rattle.value_ops.specs.Operations.{op_value};
 
 use crate::feed::Feed;
 use crate::kinds::{integer, integers};
+use crate::limits::array_limits;
 use crate::operation::Operation;
 use crate::places::{natural_of, room};
 use crate::values::{Value, kept, seen};
@@ -19,11 +21,20 @@ pub fn array_from(alloc: Global, mut given: Feed<'_>) -> Result<Val, NoMemory>
 {
     match given.next() {
         Some(lo) => match integer(seen(&lo)) {
-            Ok(lo) => Ok(array_of(lo, given.all(alloc)?)),
+            Ok(lo) => array_of_all(alloc, lo, given),
             Err(refused) => Ok(refused),
         },
         None => Ok(Val::Err(Cause::Explicit)),
     }
+}
+
+fn array_of_all(alloc: Global, lo: i64, given: Feed<'_>) -> Result<Val, NoMemory>
+    ensures { IfOk result (λ v. v ≡ array_val lo given.entry) }
+{
+    if let Err(error) = array_limits(lo, given.count()) {
+        return Ok(error);
+    }
+    Ok(array_of(lo, given.all(alloc)?))
 }
 
 /// The empty array from 1.

@@ -1,6 +1,7 @@
 //! Records and unions.
-ghost use Rattle.std.specs.Prelude.{◌≡◌, IfOk, length, slice_get, nat_eq};
-ghost use Rattle.value_ops.specs.Aggregates.{changed, or_explicit};
+ghost use Rattle.std.specs.Prelude.{◌≡◌, IfOk, length, slice_get, slice_set, nat_eq, nat_lt};
+ghost use Rattle.std.specs.List.{list_all};
+ghost use Rattle.value_ops.specs.Aggregates.{changed, replaced, or_explicit};
 ghost use Rattle.value_ops.specs.Arity.{strict};
 ghost use Rattle.value_ops.specs.Views.{on_union};
 ghost use Rattle.value_ops.specs.Operand.{value_of, items_of};
@@ -90,23 +91,51 @@ fn change_all(
     alloc: Global,
     places: &[u32],
     fields: Listed<'_>,
-    mut given: Feed<'_>,
+    given: Feed<'_>,
 ) -> Result<Val, NoMemory>
     ensures { IfOk result (λ v. v ≡ changed places.now given.entry (items_of fields.entry)) }
 {
-    let mut fields = kept_items(alloc, fields)?;
-    for place in places {
-        let v = match given.next() {
-            Some(v) => v,
-            None => return Ok(Val::Err(Cause::Explicit)),
-        };
-        if *place as usize >= fields.len() {
-            return Ok(Val::Err(Cause::Explicit));
-        }
-        fields.set(*place as usize, kept(alloc, v)?);
+    if given.count() != places.len() || !are_fields(places, slice_of(&fields).len()) {
+        return Ok(Val::Err(Cause::Explicit));
     }
-    match given.next() {
-        Some(_) => Ok(Val::Err(Cause::Explicit)),
-        None => Ok(Val::Rec(fields)),
+    let fields = kept_items(alloc, fields)?;
+    Ok(Val::Rec(replace_all(alloc, places, fields, given)?))
+}
+
+/// Whether all places are below the number of fields.
+fn are_fields(places: &[u32], count: usize) -> bool
+    ensures { result ≡ list_all (λ p. nat_lt p count) places.now }
+{
+    for place in places {
+        if *place as usize >= count {
+            return false;
+        }
+    }
+    true
+}
+
+fn replace_all(
+    alloc: Global,
+    places: &[u32],
+    fields: Items,
+    mut given: Feed<'_>,
+) -> Result<Items, NoMemory>
+    ensures { IfOk result (λ fs. fs ≡ replaced places.now given.entry fields) }
+{
+    let mut fields = fields;
+    for place in places {
+        match given.next() {
+            Some(v) => set_field(&mut fields, *place as usize, kept(alloc, v)?),
+            None => return Ok(fields),
+        }
+    }
+    Ok(fields)
+}
+
+fn set_field(fields: &mut Items, place: usize, v: Val)
+    ensures { fields.new ≡ slice_set fields.old place v }
+{
+    if place < fields.len() {
+        fields.set(place, v);
     }
 }
