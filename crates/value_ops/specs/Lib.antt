@@ -1,0 +1,7 @@
+pub mod Aggregates
+pub mod Arity
+pub mod Catenation
+pub mod Given
+pub mod Operand
+pub mod Operations
+pub mod Views
