@@ -54,7 +54,8 @@ impl Clause {
     }
 
     /// Adds a value at the end. A value that is not kept, or that follows a mask that is an error, is
-    /// let go at once. On want of memory all is as it was.
+    /// let go at once. On want of memory, and past 2^62 - 1 values, it is refused, and all is as it
+    /// was.
     pub fn put(&mut self, v: Val, keep: Keep) -> Result<(), NoMemory>
         ensures added { OnOk result (self.new.cells ≡ self.old.cells ++ (v, keep) ∷ []) }
         ensures folding { self.new.folding ≡ self.old.folding }
