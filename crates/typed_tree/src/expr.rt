@@ -90,19 +90,11 @@ pub struct Turns {
     pub is_first: bool,
     /// Whether the loop goes on until the test holds, and not while it holds.
     pub is_until: bool,
-    /// The loop names that a turn defines anew.
-    pub renewed: Seq<Renewed>,
+    /// For each name of the turn, in order, the level of the loop name that it renews, where it is
+    /// one.
+    pub renewed: Seq<Option<u32>>,
     /// The clauses.
     pub clauses: Seq<ClauseForm>,
-}
-
-/// A loop name that a turn defines anew.
-#[derive(Clone, Copy)]
-pub struct Renewed {
-    /// The level of the loop name.
-    pub name: u32,
-    /// The level of its new value in the turn.
-    pub value: u32,
 }
 
 /// A clause of a loop.
