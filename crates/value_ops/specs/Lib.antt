@@ -1,0 +1,5 @@
+pub mod Aggregates
+pub mod Arity
+pub mod Given
+pub mod Operations
+pub mod Views
