@@ -90,8 +90,8 @@ pub struct Turns {
     pub is_first: bool,
     /// Whether the loop goes on until the test holds, and not while it holds.
     pub is_until: bool,
-    /// For each name of the turn, in order, the level of the loop name that it renews, where it is
-    /// one.
+    /// For each name of the turn, in order, the place among the loop names, from 0, of the one that
+    /// it renews, where it is one.
     pub renewed: Seq<Option<u32>>,
     /// The clauses.
     pub clauses: Seq<ClauseForm>,
