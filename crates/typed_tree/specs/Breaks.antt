@@ -45,7 +45,7 @@ use Rattle.sisal_tree.specs.declared.expr.Mask.{Mask}
 use Rattle.typed_tree.specs.declared.built_in.BuiltIn.{BuiltIn}
 use Rattle.typed_tree.specs.declared.expr.TypedExpr.{TypedExpr}
 use Rattle.typed_tree.specs.declared.expr.Source.{Source}
-use Rattle.typed_tree.specs.Scopes.{Meaning, At, Later, Scope, define_all, targets, AreDistinct, in_turn, KeepTypes}
+use Rattle.typed_tree.specs.Scopes.{Meaning, At, Scope, define_all, targets, AreDistinct, in_turn}
 use Rattle.typed_tree.specs.Types.{Member, IsSequence, IsShallow, IsConverted, prefix_type, AreOperands, Gives, MakesThrough}
 use Rattle.typed_tree.specs.Typing.{Signature, Known, IsFunction, IsBuiltIn, IsTypeNamed, Has, IsTag, at, names_of, AreAllNamed, AreTargets, names_in, loop_of, with_content, AreTyped, Types, HasFields, Defines, Generates}
 
@@ -310,15 +310,15 @@ module _ (k : Known) (denotes : Written → Ty → Type 0) (misnames : Written �
           → BreaksDefs s (roll-Def (record { targets = xs; values = es }) ∷ ds) rule line
 
     -- a loop of so many groups of generators in all: one breaks a rule where those before it are typed, or what is inside of all
-    pub data BreaksGroups (groups : ℕ) : Scope → List (List Generator) → List Def → List Clause → ℕ → ℕ → Type 0 where
-      here : {s : Scope} {rule line : ℕ} {g : Generator} {group : List Generator} {gs : List (List Generator)} {ds : List Def} {cs : List Clause}
+    pub data BreaksGroups : ℕ → Scope → List (List Generator) → List Def → List Clause → ℕ → ℕ → Type 0 where
+      here : {groups : ℕ} {s : Scope} {rule line : ℕ} {g : Generator} {group : List Generator} {gs : List (List Generator)} {ds : List Def} {cs : List Clause}
           → Contains group g → BreaksGenerator s g rule line → BreaksGroups groups s (group ∷ gs) ds cs rule line
-      named_twice : {s : Scope} {line : ℕ} {group : List Generator} {gs : List (List Generator)} {ds : List Def} {cs : List Clause}
+      named_twice : {groups : ℕ} {s : Scope} {line : ℕ} {group : List Generator} {gs : List (List Generator)} {ds : List Def} {cs : List Clause}
           → IsTwice (generators_in group) line → BreaksGroups groups s (group ∷ gs) ds cs 8 line
-      after_group : {s : Scope} {rule line : ℕ} {names : List ℕ} {tys : List Ty} {group : List Generator} {sources : List Source} {bounds : List TypedExpr} {gs : List (List Generator)} {ds : List Def} {cs : List Clause}
+      after_group : {groups : ℕ} {s : Scope} {rule line : ℕ} {names : List ℕ} {tys : List Ty} {group : List Generator} {sources : List Source} {bounds : List TypedExpr} {gs : List (List Generator)} {ds : List Def} {cs : List Clause}
           → Generates k denotes s group sources bounds names tys → AreDistinct names → BreaksGroups groups (define_all names tys s) gs ds cs rule line → BreaksGroups groups s (group ∷ gs) ds cs rule line
-      in_body : {s : Scope} {rule line : ℕ} {ds : List Def} {cs : List Clause} → BreaksDefs s ds rule line → BreaksGroups groups s [] ds cs rule line
-      in_clauses : {s inside : Scope} {rule line : ℕ} {ds : List Def} {us : List (List TypedExpr)} {made : List Ty} (cs : List Clause) {c : Clause}
+      in_body : {groups : ℕ} {s : Scope} {rule line : ℕ} {ds : List Def} {cs : List Clause} → BreaksDefs s ds rule line → BreaksGroups groups s [] ds cs rule line
+      in_clauses : {groups : ℕ} {s inside : Scope} {rule line : ℕ} {ds : List Def} {us : List (List TypedExpr)} {made : List Ty} (cs : List Clause) {c : Clause}
           → Defines k denotes s ds us made inside → Contains cs c → BreaksClause inside groups c rule line → BreaksGroups groups s [] ds cs rule line
 
     pub data BreaksGenerator : Scope → Generator → ℕ → ℕ → Type 0 where

@@ -21,8 +21,8 @@ use Rattle.value_ops.specs.declared.operation.Operation.{Operation}
 use Rattle.value_ops.specs.declared.operation.Operation.TheVariants as operation
 use Rattle.loop_folds.specs.declared.folding.Folding.{Folding}
 use Rattle.loop_folds.specs.declared.folding.Folding.TheVariants as folding
-use Rattle.loop_folds.specs.declared.folding.Masking.{Masking}
-use Rattle.loop_folds.specs.declared.folding.Masking.TheVariants as masking
+use Rattle.loop_folds.specs.declared.masking.Masking.{Masking}
+use Rattle.loop_folds.specs.declared.masking.Masking.TheVariants as masking
 use Rattle.typed_tree.specs.declared.built_in.BuiltIn.{BuiltIn}
 use Rattle.typed_tree.specs.declared.built_in.BuiltIn.TheVariants as call
 use Rattle.typed_tree.specs.declared.expr.ClauseForm.{ClauseForm}

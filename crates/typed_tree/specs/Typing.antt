@@ -17,14 +17,14 @@ use Rattle.sisal_tree.specs.declared.expr.PrefixOperator.{PrefixOperator}
 use Rattle.sisal_tree.specs.declared.expr.BinaryOperator.{BinaryOperator}
 use Rattle.sisal_tree.specs.declared.expr.ClauseKind.{ClauseKind}
 use Rattle.sisal_tree.specs.declared.expr.FieldValue.{FieldValue}
-use Rattle.sisal_tree.specs.declared.expr.Elements.{Elements, roll-Elements}
+use Rattle.sisal_tree.specs.declared.expr.Elements.{roll-Elements}
 use Rattle.sisal_tree.specs.declared.expr.Def.{Def, roll-Def}
 use Rattle.sisal_tree.specs.declared.expr.Target.{Target}
-use Rattle.sisal_tree.specs.declared.expr.TagCase.{TagCase, roll-TagCase}
+use Rattle.sisal_tree.specs.declared.expr.TagCase.{roll-TagCase}
 use Rattle.sisal_tree.specs.declared.expr.Arm.{Arm, roll-Arm}
 use Rattle.sisal_tree.specs.declared.expr.Loop.TheVariants as loop
 use Rattle.sisal_tree.specs.declared.expr.Generator.{Generator, roll-Generator}
-use Rattle.sisal_tree.specs.declared.expr.Turn.{Turn, roll-Turn}
+use Rattle.sisal_tree.specs.declared.expr.Turn.{roll-Turn}
 use Rattle.sisal_tree.specs.declared.expr.Clause.{Clause, roll-Clause, out-Clause}
 use Rattle.sisal_tree.specs.declared.expr.Mask.{Mask}
 use Rattle.flow_value.specs.declared.operation.Scalar1.TheVariants as unary
@@ -36,9 +36,8 @@ use Rattle.typed_tree.specs.declared.expr.TypedKind.TheVariants as typed
 use Rattle.typed_tree.specs.declared.expr.Source.{Source}
 use Rattle.typed_tree.specs.declared.expr.Source.TheVariants as source
 use Rattle.typed_tree.specs.declared.expr.ClauseForm.{ClauseForm}
-use Rattle.typed_tree.specs.declared.expr.Renewed.{Renewed}
 use Rattle.typed_tree.specs.BuiltIns.{built_ins}
-use Rattle.typed_tree.specs.Scopes.{Meaning, At, Later, Scope, define, define_all, targets, AreDistinct, loop_names, in_turn, KeepTypes, renewals}
+use Rattle.typed_tree.specs.Scopes.{Meaning, At, Scope, define, define_all, targets, AreDistinct, loop_names, in_turn, KeepTypes, renewals}
 use Rattle.typed_tree.specs.Types.{Member, IsMember, IsSequence, IsShallow, AreNumbers, constant_type, scalar_type, IsConverted, prefix_type, AreOperands, binary_type, Gives, Makes}
 use Rattle.typed_tree.specs.Operations.{prefix_operation, binary_operation, convert_operation, built_in_operation, clause_form}
 
@@ -144,9 +143,6 @@ AreTargets denotes _ _ = ⊥
 
 abbrev pub names_in : List Target → List ℕ
 names_in xs = map (λ x. x.name.name) xs
-
-abbrev pub renewed : List (ℕ × ℕ) → List Renewed
-renewed rs = map (λ r. record { name = r.0; value = r.1 }) rs
 
 -- the names of a loop, which its initial part defines with values of these types, the newest first
 abbrev pub loop_of : Scope → List Def → List Ty → List (ℕ × Meaning)
@@ -261,7 +257,7 @@ module _ (k : Known) (denotes : Written → Ty → Type 0) where
           → KeepTypes (loop_of s ds first) (targets es) later
           → AreClauses started cs forms ts tys → Number k ns tys
           → Types s (at l (tree.For (loop.Initial ds (roll-Turn (record { is_first = is_first; is_until = is_until; test = test; defs = es })) cs)))
-          (with l ns (typed.Initial (record { is_first = is_first; is_until = is_until; renewed = renewed (renewals (loop_of s ds first) started.height (targets es)); clauses = forms })
+          (with l ns (typed.Initial (record { is_first = is_first; is_until = is_until; renewed = renewals (loop_of s ds first) s.height (targets es); clauses = forms })
           us (t ∷ []) vs ts)) tys
 
     -- expressions in order, and the types of all their values

@@ -1,7 +1,10 @@
 //! The operations that operators, conversions and calls that are built in stand for.
 ghost use Rattle.std.specs.Prelude.{◌≡◌};
 ghost use Rattle.typed_tree.specs.Operations.{
-    binary_operation, built_in_operation, convert_operation, prefix_operation,
+  binary_operation,
+  built_in_operation,
+  convert_operation,
+  prefix_operation,
 };
 
 use crate::built_in::BuiltIn;
