@@ -4,3 +4,6 @@ pub mod Types
 pub mod Operations
 pub mod Typing
 pub mod Breaks
+pub mod Written
+pub mod Units
+pub mod Faults

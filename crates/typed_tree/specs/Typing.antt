@@ -41,9 +41,10 @@ use Rattle.typed_tree.specs.Scopes.{Meaning, At, Scope, define, define_all, targ
 use Rattle.typed_tree.specs.Types.{Member, IsMember, IsSequence, IsShallow, AreNumbers, constant_type, scalar_type, IsConverted, prefix_type, AreOperands, binary_type, Gives, Makes}
 use Rattle.typed_tree.specs.Operations.{prefix_operation, binary_operation, convert_operation, built_in_operation, clause_form}
 
--- a function by its name, the types of its parameters and those of its results
+-- a function by its name, the names and types of its parameters, and the types of its results
 pub record Signature : Type 0 where
   pub name : ℕ
+  pub parameters : List ℕ
   pub params : List Ty
   pub results : List Ty
 
