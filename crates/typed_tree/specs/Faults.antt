@@ -5,7 +5,7 @@
 --  7  `define` names a function that is not defined here, or `forward` one that is neither defined here nor `global`
 --  8  a name stands twice in one list of parameters
 -- 13  the values of a function are not of the types of its header
-use Rattle.std.specs.Prelude.{◌≡◌, ◌≢◌, ℕ, List, [], ◌∷◌, map, flat_map, Some, Contains}
+use Rattle.std.specs.Prelude.{◌≡◌, ◌≢◌, ℕ, List, [], ◌∷◌, map, flat_map, Some, None, Contains}
 use Rattle.std.specs.List.{filter}
 use Rattle.name_scope.specs.Newest.{newest}
 use Rattle.flow_value.specs.declared.ty.Ty.{Ty}
@@ -58,7 +58,7 @@ module _ (u : tree.Unit) where
     in_header : {types : List (ℕ × Ty)} {f : FunDef} {items : List Item} {rule line : ℕ}
         → BreaksHeader types f.header rule line → BreaksItems types (item.Function f ∷ items) rule line
     after_type : {types : List (ℕ × Ty)} {d : TypeDef} {a : Ty} {items : List Item} {rule line : ℕ}
-        → denotes u types d.ty a → BreaksItems ((d.name, a) ∷ types) items rule line → BreaksItems types (item.Alias d ∷ items) rule line
+        → denotes u types d.ty a → newest d.name types ≡ None → BreaksItems ((d.name, a) ∷ types) items rule line → BreaksItems types (item.Alias d ∷ items) rule line
     after_function : {types : List (ℕ × Ty)} {f : FunDef} {items : List Item} {rule line : ℕ}
         → BreaksItems types items rule line → BreaksItems types (item.Function f ∷ items) rule line
 

@@ -20,6 +20,16 @@ use Rattle.typed_tree.specs.Types.{Member, IsShallow}
 use Rattle.typed_tree.specs.Typing.{names_of}
 use Rattle.typed_tree.specs.Breaks.{IsTwice}
 
+-- `array` or `stream`, and what it makes of the type of its elements
+pub data IsSequenceWord : Placed → (Ty → Ty) → Type 0 where
+  array : {t : Placed} → IsWord word.WArray t → IsSequenceWord t ty.Arr
+  stream : {t : Placed} → IsWord word.WStream t → IsSequenceWord t ty.Stream
+
+-- `record`, or `union`, whose tags may stand without a type, and what it makes of its members
+pub data IsMembersWord : Placed → (without : Bool) → (List Member → Ty) → Type 0 where
+  a_record : {t : Placed} → IsWord word.WRecord t → IsMembersWord t false ty.Rec
+  a_union : {t : Placed} → IsWord word.WUnion t → IsMembersWord t true ty.Uni
+
 -- `spellings` says how the names of the text are spelled, and `types` which names of types are known, the newest first
 module _ (spellings : List (List ℕ)) (types : List (ℕ × Ty)) where
   -- members of these names, as they are spelled, all of one type
@@ -36,34 +46,29 @@ module _ (spellings : List (List ℕ)) (types : List (ℕ × Ty)) where
       character : {t : Placed} → IsWord word.WCharacter t → Denotes (t ∷ []) ty.Char
       null : {t : Placed} → IsWord word.WNull t → Denotes (t ∷ []) ty.Null
       a_name : {t : Placed} {a : Ty} → IsName t → newest (name_in t) types ≡ Some a → Denotes (t ∷ []) a
-      array : {t u v : Placed} {ts : List Placed} {a : Ty}
-          → IsWord word.WArray t → IsSign sign.SOpenBracket u → Denotes ts a → IsSign sign.SCloseBracket v → IsShallow (ty.Arr a)
-          → Denotes (t ∷ u ∷ (ts ++ (v ∷ []))) (ty.Arr a)
-      stream : {t u v : Placed} {ts : List Placed} {a : Ty}
-          → IsWord word.WStream t → IsSign sign.SOpenBracket u → Denotes ts a → IsSign sign.SCloseBracket v → IsShallow (ty.Stream a)
-          → Denotes (t ∷ u ∷ (ts ++ (v ∷ []))) (ty.Stream a)
-      a_record : {t u v : Placed} {ts : List Placed} {ns : List Named} {ms : List Member}
-          → IsWord word.WRecord t → IsSign sign.SOpenBracket u → HasMembers false ts ns ms → IsSign sign.SCloseBracket v
-          → AreDistinct (names_of ns) → IsShallow (ty.Rec ms) → Denotes (t ∷ u ∷ (ts ++ (v ∷ []))) (ty.Rec ms)
-      a_union : {t u v : Placed} {ts : List Placed} {ns : List Named} {ms : List Member}
-          → IsWord word.WUnion t → IsSign sign.SOpenBracket u → HasMembers true ts ns ms → IsSign sign.SCloseBracket v
-          → AreDistinct (names_of ns) → IsShallow (ty.Uni ms) → Denotes (t ∷ u ∷ (ts ++ (v ∷ []))) (ty.Uni ms)
+      sequence : {t u v : Placed} {make : Ty → Ty} {ts : List Placed} {a : Ty}
+          → IsSequenceWord t make → IsSign sign.SOpenBracket u → Denotes ts a → IsSign sign.SCloseBracket v → IsShallow (make a)
+          → Denotes (t ∷ u ∷ (ts ++ (v ∷ []))) (make a)
+      members : {t u v : Placed} {without : Bool} {make : List Member → Ty} {ts : List Placed} {ns : List Named} {ms : List Member}
+          → IsMembersWord t without make → IsSign sign.SOpenBracket u → HasMembers without ts ns ms → IsSign sign.SCloseBracket v
+          → AreDistinct (names_of ns) → IsShallow (make ms)
+          → Denotes (t ∷ u ∷ (ts ++ (v ∷ []))) (make ms)
 
-    -- What stands in the brackets of a record, or of a union: the names where they stand, and the members.
+    -- what stands in the brackets of a record or a union: the names where they stand, and the members
     pub data HasMembers : Bool → List Placed → List Named → List Member → Type 0 where
-      last : {is_union : Bool} {ts us : List Placed} {ns : List Named} {ms : List Member} {s : Option (Unit {0})}
-          → IsGroup is_union ts ns ms → Spells (maybe semicolon) us s → HasMembers is_union (ts ++ us) ns ms
-      more : {is_union : Bool} {t : Placed} {ts us : List Placed} {ns os : List Named} {ms others : List Member}
-          → IsGroup is_union ts ns ms → IsSign sign.SSemicolon t → HasMembers is_union us os others
-          → HasMembers is_union (ts ++ (t ∷ us)) (ns ++ os) (ms ++ others)
+      last : {without : Bool} {ts us : List Placed} {ns : List Named} {ms : List Member} {s : Option (Unit {0})}
+          → HasType without ts ns ms → Spells (maybe semicolon) us s → HasMembers without (ts ++ us) ns ms
+      more : {without : Bool} {t : Placed} {ts us : List Placed} {ns os : List Named} {ms others : List Member}
+          → HasType without ts ns ms → IsSign sign.SSemicolon t → HasMembers without us os others
+          → HasMembers without (ts ++ (t ∷ us)) (ns ++ os) (ms ++ others)
 
-    -- names of one type; tags without a type are of type null
-    pub data IsGroup : Bool → List Placed → List Named → List Member → Type 0 where
-      of_type : {is_union : Bool} {t u : Placed} {ts us : List Placed} {ns : List Named} {a : Ty} {ms : List Member}
+    -- names with their type; without one, it is null
+    pub data HasType : Bool → List Placed → List Named → List Member → Type 0 where
+      of_type : {without : Bool} {t u : Placed} {ts us : List Placed} {ns : List Named} {a : Ty} {ms : List Member}
           → IsName t → Spells (many comma_name) ts ns → IsSign sign.SColon u → Denotes us a → AreOf a (named t ∷ ns) ms
-          → IsGroup is_union (t ∷ (ts ++ (u ∷ us))) (named t ∷ ns) ms
+          → HasType without (t ∷ (ts ++ (u ∷ us))) (named t ∷ ns) ms
       of_null : {t : Placed} {ts : List Placed} {ns : List Named} {ms : List Member}
-          → IsName t → Spells (many comma_name) ts ns → AreOf ty.Null (named t ∷ ns) ms → IsGroup true (t ∷ ts) (named t ∷ ns) ms
+          → IsName t → Spells (many comma_name) ts ns → AreOf ty.Null (named t ∷ ns) ms → HasType true (t ∷ ts) (named t ∷ ns) ms
 
   mutual
     -- the tokens, which are a type, break a rule on a line
@@ -71,42 +76,27 @@ module _ (spellings : List (List ℕ)) (types : List (ℕ × Ty)) where
       unknown : {t : Placed} → IsName t → newest (name_in t) types ≡ None → Misnames (t ∷ []) 2 t.line
       real : {t : Placed} → IsWord word.WReal t → Misnames (t ∷ []) 3 t.line
       double_real : {t : Placed} → IsWord word.WDoubleReal t → Misnames (t ∷ []) 3 t.line
-      in_array : {t u v : Placed} {ts : List Placed} {rule line : ℕ}
-          → IsWord word.WArray t → IsSign sign.SOpenBracket u → Misnames ts rule line → IsSign sign.SCloseBracket v
+      in_elements : {t u v : Placed} {make : Ty → Ty} {ts : List Placed} {rule line : ℕ}
+          → IsSequenceWord t make → IsSign sign.SOpenBracket u → Misnames ts rule line → IsSign sign.SCloseBracket v
           → Misnames (t ∷ u ∷ (ts ++ (v ∷ []))) rule line
-      deep_array : {t u v : Placed} {ts : List Placed} {a : Ty}
-          → IsWord word.WArray t → IsSign sign.SOpenBracket u → Denotes ts a → IsSign sign.SCloseBracket v → (IsShallow (ty.Arr a) → ⊥)
+      deep_sequence : {t u v : Placed} {make : Ty → Ty} {ts : List Placed} {a : Ty}
+          → IsSequenceWord t make → IsSign sign.SOpenBracket u → Denotes ts a → IsSign sign.SCloseBracket v → (IsShallow (make a) → ⊥)
           → Misnames (t ∷ u ∷ (ts ++ (v ∷ []))) 4 t.line
-      in_stream : {t u v : Placed} {ts : List Placed} {rule line : ℕ}
-          → IsWord word.WStream t → IsSign sign.SOpenBracket u → Misnames ts rule line → IsSign sign.SCloseBracket v
+      in_members : {t u v : Placed} {without : Bool} {make : List Member → Ty} {ts : List Placed} {rule line : ℕ}
+          → IsMembersWord t without make → IsSign sign.SOpenBracket u → MisnamesMember without ts rule line → IsSign sign.SCloseBracket v
           → Misnames (t ∷ u ∷ (ts ++ (v ∷ []))) rule line
-      deep_stream : {t u v : Placed} {ts : List Placed} {a : Ty}
-          → IsWord word.WStream t → IsSign sign.SOpenBracket u → Denotes ts a → IsSign sign.SCloseBracket v → (IsShallow (ty.Stream a) → ⊥)
+      deep_members : {t u v : Placed} {without : Bool} {make : List Member → Ty} {ts : List Placed} {ns : List Named} {ms : List Member}
+          → IsMembersWord t without make → IsSign sign.SOpenBracket u → HasMembers without ts ns ms → IsSign sign.SCloseBracket v → (IsShallow (make ms) → ⊥)
           → Misnames (t ∷ u ∷ (ts ++ (v ∷ []))) 4 t.line
-      in_record : {t u v : Placed} {ts : List Placed} {rule line : ℕ}
-          → IsWord word.WRecord t → IsSign sign.SOpenBracket u → MisnamesMember false ts rule line → IsSign sign.SCloseBracket v
-          → Misnames (t ∷ u ∷ (ts ++ (v ∷ []))) rule line
-      field_twice : {t u v : Placed} {ts : List Placed} {ns : List Named} {ms : List Member} {line : ℕ}
-          → IsWord word.WRecord t → IsSign sign.SOpenBracket u → HasMembers false ts ns ms → IsSign sign.SCloseBracket v → IsTwice ns line
+      member_twice : {t u v : Placed} {without : Bool} {make : List Member → Ty} {ts : List Placed} {ns : List Named} {ms : List Member} {line : ℕ}
+          → IsMembersWord t without make → IsSign sign.SOpenBracket u → HasMembers without ts ns ms → IsSign sign.SCloseBracket v → IsTwice ns line
           → Misnames (t ∷ u ∷ (ts ++ (v ∷ []))) 5 line
-      deep_record : {t u v : Placed} {ts : List Placed} {ns : List Named} {ms : List Member}
-          → IsWord word.WRecord t → IsSign sign.SOpenBracket u → HasMembers false ts ns ms → IsSign sign.SCloseBracket v → (IsShallow (ty.Rec ms) → ⊥)
-          → Misnames (t ∷ u ∷ (ts ++ (v ∷ []))) 4 t.line
-      in_union : {t u v : Placed} {ts : List Placed} {rule line : ℕ}
-          → IsWord word.WUnion t → IsSign sign.SOpenBracket u → MisnamesMember true ts rule line → IsSign sign.SCloseBracket v
-          → Misnames (t ∷ u ∷ (ts ++ (v ∷ []))) rule line
-      tag_twice : {t u v : Placed} {ts : List Placed} {ns : List Named} {ms : List Member} {line : ℕ}
-          → IsWord word.WUnion t → IsSign sign.SOpenBracket u → HasMembers true ts ns ms → IsSign sign.SCloseBracket v → IsTwice ns line
-          → Misnames (t ∷ u ∷ (ts ++ (v ∷ []))) 5 line
-      deep_union : {t u v : Placed} {ts : List Placed} {ns : List Named} {ms : List Member}
-          → IsWord word.WUnion t → IsSign sign.SOpenBracket u → HasMembers true ts ns ms → IsSign sign.SCloseBracket v → (IsShallow (ty.Uni ms) → ⊥)
-          → Misnames (t ∷ u ∷ (ts ++ (v ∷ []))) 4 t.line
 
     -- the type of a member breaks a rule, where those of the members before it denote types
     pub data MisnamesMember : Bool → List Placed → ℕ → ℕ → Type 0 where
-      here : {is_union : Bool} {t u : Placed} {ts us : List Placed} {ns : List Named} {rule line : ℕ} (rest : List Placed)
+      here : {without : Bool} {t u : Placed} {ts us : List Placed} {ns : List Named} {rule line : ℕ} (rest : List Placed)
           → IsName t → Spells (many comma_name) ts ns → IsSign sign.SColon u → Misnames us rule line
-          → MisnamesMember is_union (t ∷ (ts ++ (u ∷ (us ++ rest)))) rule line
-      later : {is_union : Bool} {t : Placed} {ts us : List Placed} {ns : List Named} {ms : List Member} {rule line : ℕ}
-          → IsGroup is_union ts ns ms → IsSign sign.SSemicolon t → MisnamesMember is_union us rule line
-          → MisnamesMember is_union (ts ++ (t ∷ us)) rule line
+          → MisnamesMember without (t ∷ (ts ++ (u ∷ (us ++ rest)))) rule line
+      later : {without : Bool} {t : Placed} {ts us : List Placed} {ns : List Named} {ms : List Member} {rule line : ℕ}
+          → HasType without ts ns ms → IsSign sign.SSemicolon t → MisnamesMember without us rule line
+          → MisnamesMember without (ts ++ (t ∷ us)) rule line
