@@ -1,5 +1,5 @@
 -- What is kept of the cells of a clause once a cell was added.
-use Rattle.std.proofs.Common.{◌≡◌, ℕ, ◌≤◌, List, [], ◌∷◌, ◌++◌, length, Option, Some, None, refl, sym, ◌∙◌, ap, subst, append-nil, arith}
+use Rattle.std.proofs.Common.{◌≡◌, ◌≤◌, List, [], ◌∷◌, ◌++◌, length, Option, Some, None, refl, sym, ◌∙◌, ap, subst, append-nil, arith}
 use Rattle.flow_value.specs.declared.cause.Cause.{Cause}
 use Rattle.flow_value.specs.declared.value.Val.{Val}
 use Rattle.flow_reduce.specs.Elements.{or_else}
@@ -66,7 +66,7 @@ counted-most (making.Product t) vs s = rw s (omega arith)
 counted-most (making.Least t) vs s = rw s (omega arith)
 counted-most (making.Greatest t) vs s = rw s (omega arith)
 counted-most (making.CatenateArrays t) vs s = rw s (omega arith)
-counted-most (making.CatenateStreams none t) vs s = rw s.1 (omega arith)
+counted-most (making.CatenateStreams first t) vs s = rw s.1 (omega arith)
 
 -- a reduction has counted no more than there are cells
 pub counted-few : (f : Option Cause) (m : Making) (cells : List Cell) → IsMaking f m cells → f ≡ None → counted m ≤ length cells

@@ -1,5 +1,5 @@
 -- The value of what was kept is that of all elements, and what is kept grows with them.
-use Rattle.std.proofs.Common.{◌≡◌, ◌≤◌, ◌<◌, Bool, true, false, ℤ, if◌then◌else◌, List, [], ◌∷◌, ◌++◌, length, take, refl, sym, ◌∙◌, ap, arith}
+use Rattle.std.proofs.Common.{◌≡◌, ◌≤◌, ◌<◌, Bool, true, false, ℤ, if◌then◌else◌, List, [], ◌∷◌, ◌++◌, length, refl, sym, ◌∙◌, ap, arith}
 use Rattle.std.proofs.lemmas.Bool.{leb-true, leb-false}
 use Rattle.std.proofs.lemmas.List.{take_all, length-take-le}
 use Rattle.flow_value.specs.Aggregates.{in_bounds_val, array_val, stream_val}
@@ -26,11 +26,11 @@ if_few-by f vs false many =
     ap (λ b. if b then f (kept vs) else val.Err cause.Size) (few-kept vs (leb-false (length vs) 4194304 many))
     ∙ sym (ap (λ b. if b then f vs else val.Err cause.Size) many)
 
-pub array_val-kept : (lo : ℤ) (items vs : List Val) → items ≡ kept vs → array_val lo items ≡ array_val lo vs
-array_val-kept lo items vs e = ap (array_val lo) e ∙ if_few-by (in_bounds_val lo) vs (is_few (length vs)) refl
+pub array_done : (lo : ℤ) (items vs : List Val) (r : Val) → r ≡ array_val lo items → items ≡ kept vs → r ≡ array_val lo vs
+array_done lo items vs r e p = e ∙ ap (array_val lo) p ∙ if_few-by (in_bounds_val lo) vs (is_few (length vs)) refl
 
-pub stream_val-kept : (items vs : List Val) → items ≡ kept vs → stream_val items ≡ stream_val vs
-stream_val-kept items vs e = ap stream_val e ∙ if_few-by val.Stream vs (is_few (length vs)) refl
+pub stream_done : (items vs : List Val) (r : Val) → r ≡ stream_val items → items ≡ kept vs → r ≡ stream_val vs
+stream_done items vs r e p = e ∙ ap stream_val p ∙ if_few-by val.Stream vs (is_few (length vs)) refl
 
 pub kept-added : (items new vs : List Val) (v : Val) → new ≡ kept (items ++ v ∷ []) → items ≡ kept vs → new ≡ kept (vs ++ v ∷ [])
 kept-added items new vs v e p = e ∙ ap (λ xs. kept (xs ++ v ∷ [])) p ∙ take-take-append 4194305 vs (v ∷ [])

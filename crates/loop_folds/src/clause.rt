@@ -11,16 +11,17 @@ use std::alloc::Global;
 use std::marker::Model;
 use std::snapshot::Snapshot;
 
-/// How many cells a clause has at most.
+// How many values a clause can have.
 const MOST_CELLS: usize = 4611686018427387903;
 
-/// The values of one clause so far, as far as they matter: contracts see what it makes of them,
-/// and each value with what its mask says, in order.
+/// The values of one clause of a loop so far, as far as they matter: a reduction keeps no list, and
+/// an array or a stream one value more than it may have. Contracts see what the clause makes of its
+/// values, and each value with what its mask says, in order.
 #[derive(Drop)]
 pub struct Clause {
     failure: Option<Cause>,
     making: Making,
-    // They have no bytes.
+    // Contracts alone read them: a snapshot has no bytes.
     cells: Seq<Snapshot<(Val, Keep)>>,
 }
 
@@ -52,7 +53,9 @@ impl Clause {
         }
     }
 
-    /// Adds a value at the end. On want of memory all is as it was.
+    /// Adds a value at the end. A value that is not kept, or that follows a mask that is an error, is
+    /// let go at once. On want of memory, and past 2^62 - 1 values, it is refused, and all is as it
+    /// was.
     pub fn put(&mut self, v: Val, keep: Keep) -> Result<(), NoMemory>
         ensures added { OnOk result (self.new.cells ≡ self.old.cells ++ (v, keep) ∷ []) }
         ensures folding { self.new.folding ≡ self.old.folding }
@@ -74,7 +77,8 @@ impl Clause {
         }
     }
 
-    /// The value of the clause, arrays from a lower bound; takes no memory.
+    /// The value of the clause, arrays from a lower bound: the error of the first mask that is one,
+    /// and else what is made of the kept values. It takes no memory.
     pub fn done(self, lower: i64) -> Val
         ensures { result ≡ fold_value self.folding lower self.cells }
     {

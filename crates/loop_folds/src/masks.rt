@@ -22,13 +22,7 @@ fn mask_says(if_true: Keep, if_false: Keep, mask: &Val) -> Keep
     ensures { result ≡ mask_says if_true if_false mask.now }
 {
     match mask {
-        Val::Bool(b) => {
-            if *b {
-                if_true
-            } else {
-                if_false
-            }
-        }
+        Val::Bool(b) => { if *b { if_true } else { if_false } }
         Val::Err(cause) => Keep::Failed(*cause),
         _ => Keep::Failed(Cause::Explicit),
     }

@@ -1,6 +1,6 @@
-use Rattle.std.proofs.Common.{rules, ◌<◌, ◌≤◌, length, arith}
+use Rattle.std.proofs.Common.{arith}
 use Rattle.std.proofs.lemmas.List.{length-map}
-use Rattle.loop_folds.specs.Makings.{told, counted}
+use Rattle.loop_folds.specs.Makings.{told}
 use Rattle.loop_folds.proofs.Added.{counted-few}
 use Rattle.loop_folds.proofs.clause.Clause.put.Goals as goal
 
