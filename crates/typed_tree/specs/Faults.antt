@@ -26,7 +26,7 @@ use Rattle.typed_tree.specs.declared.expr.TypedExpr.{TypedExpr}
 use Rattle.typed_tree.specs.Typing.{IsBuiltIn, AreTyped}
 use Rattle.typed_tree.specs.Breaks.{IsTwice, BreaksIn}
 use Rattle.typed_tree.specs.Written.{Misnames}
-use Rattle.typed_tree.specs.Units.{is_given, Declared, given, signatures, parameters, written, denotes, known, Declares, AreDeclared}
+use Rattle.typed_tree.specs.Units.{is_given, Declared, given, parameters, written, denotes, known, Declares, AreDeclared}
 
 -- the functions of items
 abbrev pub functions : List Item → List FunDef
