@@ -30,11 +30,11 @@ use Rattle.typed_tree.specs.Written.{Denotes}
 
 -- whether the function itself is given, here or in another unit, and not only its header
 abbrev pub is_given : FunDef → Bool
-is_given f = given f.kind
+is_given f = is_whole f.kind
   where
-    given : FunKind → Bool
-    given fun.Forward = false
-    given _ = true
+    is_whole : FunKind → Bool
+    is_whole fun.Forward = false
+    is_whole _ = true
 
 -- a function, the names of types that are known where it stands, the newest first, and what its header says
 pub record Declared : Type 0 where
