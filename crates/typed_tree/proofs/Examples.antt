@@ -6,7 +6,7 @@
 --     function main(n: integer; p: pair returns row)
 --       for i in 1, n returns array of i end for
 --     end function
-use Rattle.std.proofs.Common.{◌≡◌, ℕ, List, [], ◌∷◌, Some, None, refl, pos, ap, ◌∙◌, max, zero, suc, ◌≢◌, arith}
+use Rattle.std.proofs.Common.{◌≡◌, ℕ, List, [], ◌∷◌, Option, Some, None, false, refl, pos, ap, ◌∙◌, max, zero, suc, ◌≢◌, arith}
 use Rattle.std.specs.Prelude.{codes, Contains}
 use Rattle.flow_value.specs.declared.ty.Ty.{Ty}
 use Rattle.flow_value.specs.declared.ty.Ty.TheVariants as ty
@@ -25,8 +25,9 @@ use Rattle.sisal_tree.specs.declared.expr.Expr.{Expr}
 use Rattle.sisal_tree.specs.declared.expr.ExprKind.TheVariants as tree
 use Rattle.sisal_tree.specs.declared.expr.Constant.TheVariants as constant
 use Rattle.sisal_tree.specs.declared.expr.Loop.TheVariants as loop
-use Rattle.sisal_tree.specs.declared.expr.Generator.{roll-Generator}
+use Rattle.sisal_tree.specs.declared.expr.Generator.{Generator, roll-Generator}
 use Rattle.sisal_tree.specs.declared.expr.Clause.{roll-Clause}
+use Rattle.sisal_tree.specs.declared.expr.Mask.{Mask}
 use Rattle.sisal_tree.specs.declared.expr.ClauseKind.TheVariants as made
 use Rattle.sisal_tree.specs.declared.expr.Direction.TheVariants as towards
 use Rattle.sisal_grammar.specs.Spells.{IsWord, IsSign, IsName, Spells}
@@ -34,6 +35,7 @@ use Rattle.sisal_grammar.specs.Spells as spells
 use Rattle.type_table.specs.declared.form.Form.{Form}
 use Rattle.type_table.specs.declared.form.Form.TheVariants as form
 use Rattle.loop_folds.specs.declared.folding.Folding.TheVariants as folding
+use Rattle.loop_folds.specs.declared.masking.Masking.{Masking}
 use Rattle.loop_folds.specs.declared.masking.Masking.TheVariants as masking
 use Rattle.typed_tree.specs.declared.expr.TypedExpr.{TypedExpr}
 use Rattle.typed_tree.specs.declared.expr.TypedKind.TheVariants as typed
@@ -78,13 +80,15 @@ tokens =
     []
 
 abbrev names : List (List ℕ)
-names = codes "main" ∷ codes "row" ∷ codes "pair" ∷ codes "a" ∷ codes "b" ∷ codes "n" ∷ codes "p" ∷ codes "i" ∷ []
+names = codes "main" ∷ codes "row" ∷ codes "pair" ∷ codes "a" ∷ codes "b" ∷ codes "n" ∷ codes "p" ∷ codes "i" ∷ codes "j" ∷ []
+
+-- a generator from 1 to a name
+abbrev one_to : ℕ → ℕ → List Generator
+one_to x y =
+    roll-Generator (record { name = record { name = x; line = 5 }; from = at 5 (tree.Constant (constant.Integer (pos 1))); to = Some (at 5 (tree.Name y)); at = None }) ∷ []
 
 abbrev body : Expr
-body = at 5 (tree.For (loop.Product
-    ((roll-Generator (record { name = record { name = 7; line = 5 }; from = at 5 (tree.Constant (constant.Integer (pos 1))); to = Some (at 5 (tree.Name 5)); at = None }) ∷ []) ∷ [])
-    []
-    (roll-Clause (record { line = 5; kind = made.Array; value = at 5 (tree.Name 7); mask = None }) ∷ [])))
+body = at 5 (tree.For (loop.Product (one_to 7 5 ∷ []) [] (roll-Clause (record { line = 5; kind = made.Array; value = at 5 (tree.Name 7); mask = None }) ∷ [])))
 
 abbrev main : FunDef
 main = record {
@@ -110,14 +114,18 @@ unit = record {
 }
 
 abbrev forms : List Form
-forms = form.Boolean ∷ form.Character ∷ form.Integer ∷ form.Null ∷ form.Array 1 ∷ form.Array 2 ∷ form.Record (record { name = 3; ty = 5 } ∷ record { name = 4; ty = 5 } ∷ []) ∷ []
+forms = form.Boolean ∷ form.Character ∷ form.Integer ∷ form.Null ∷ form.Array 1 ∷ form.Array 2 ∷ form.Record (record { name = 3; ty = 5 } ∷ record { name = 4; ty = 5 } ∷ []) ∷ form.Array 5 ∷ []
+
+-- a loop from 1 to the value at a level, with one clause
+abbrev typed_loop : ℕ → Masking → ℕ → List TypedExpr → TypedExpr
+typed_loop number m level values = with 5 (number ∷ []) (typed.Product
+    (record { sources = source.Range ∷ []; clauses = record { folding = folding.Array; direction = towards.Any; masking = m } ∷ [] })
+    (with 5 (2 ∷ []) (typed.Constant (constant.Integer (pos 1))) ∷ with 5 (2 ∷ []) (typed.Value level) ∷ [])
+    []
+    values)
 
 abbrev typed_body : TypedExpr
-typed_body = with 5 (5 ∷ []) (typed.Product
-    (record { sources = source.Range ∷ []; clauses = record { folding = folding.Array; direction = towards.Any; masking = masking.All } ∷ [] })
-    (with 5 (2 ∷ []) (typed.Constant (constant.Integer (pos 1))) ∷ with 5 (2 ∷ []) (typed.Value 0) ∷ [])
-    []
-    (with 5 (2 ∷ []) (typed.Value 2) ∷ []))
+typed_body = typed_loop 5 masking.All 0 (with 5 (2 ∷ []) (typed.Value 2) ∷ [])
 
 abbrev program : Program
 program = record {
@@ -241,6 +249,34 @@ is_typed = record {
   functions = units.a_function (record { line = refl; name = refl; parameters = refl; params = (types_are.integer refl, (pair_number, tt)); results = (row_number, tt); body = units.defined (rule.more body_is rule.no_more) }) units.no_function;
   defines = units.a_name (record { function = declared; there = refl; named = refl; body = body ∷ []; defined = refl }) units.no_name;
 }
+
+-- ---- loops in loops
+
+abbrev mask : Option Mask
+mask = Some (record { is_unless = false; test = at 5 (tree.Constant constant.True) })
+
+-- for i in 1, n cross j in 1, i returns array of j when true end for
+abbrev crossed : Expr
+crossed = at 5 (tree.For (loop.Product (one_to 7 5 ∷ one_to 8 7 ∷ []) []
+    (roll-Clause (record { line = 5; kind = made.Array; value = at 5 (tree.Name 8); mask = mask }) ∷ [])))
+
+abbrev typed_crossed : TypedExpr
+typed_crossed = typed_loop 7 masking.All 0 (typed_loop 5 masking.When 2 (with 5 (2 ∷ []) (typed.Value 3) ∷ with 5 (0 ∷ []) (typed.Constant constant.True) ∷ []) ∷ [])
+
+rows_are_shallow : IsShallow (ty.Arr row)
+rows_are_shallow = omega (arith, depth_array row, row_depth)
+
+crossed_is : Types k (denotes unit known) (parameters signature) crossed typed_crossed (ty.Arr row ∷ [])
+crossed_is = rule.for_product (rule.a_group
+    (rule.range (record { name = 7; line = 5 }) (rule.constant integers) (rule.name refl integers) rule.no_generator)
+    (none_in 7, tt)
+    (rule.one_group
+    (rule.range (record { name = 8; line = 5 }) (rule.constant integers) (rule.name refl integers) rule.no_generator)
+    (none_in 8, tt) rule.no_def tt
+    (rule.a_clause 5 (rule.name refl integers) (types_are.array_of ty.Int) row_is_shallow (rule.a_mask (rule.constant (record { each = (types_are.boolean refl, tt) }))) rule.no_clause)
+    numbers)
+    (rule.a_clause 5 (at 5 (tree.Name 8)) mask (types_are.array_of row) rows_are_shallow rule.no_clause)
+    (record { each = (types_are.array refl row_number, tt) }))
 
 -- ---- a real type
 

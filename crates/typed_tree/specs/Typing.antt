@@ -25,7 +25,7 @@ use Rattle.sisal_tree.specs.declared.expr.Arm.{Arm, roll-Arm}
 use Rattle.sisal_tree.specs.declared.expr.Loop.TheVariants as loop
 use Rattle.sisal_tree.specs.declared.expr.Generator.{Generator, roll-Generator}
 use Rattle.sisal_tree.specs.declared.expr.Turn.{roll-Turn}
-use Rattle.sisal_tree.specs.declared.expr.Clause.{Clause, roll-Clause, out-Clause}
+use Rattle.sisal_tree.specs.declared.expr.Clause.{Clause, roll-Clause}
 use Rattle.sisal_tree.specs.declared.expr.Mask.{Mask}
 use Rattle.flow_value.specs.declared.operation.Scalar1.TheVariants as unary
 use Rattle.value_ops.specs.declared.operation.Operation.TheVariants as operation
@@ -162,9 +162,9 @@ named_arms (Some x) arms = length arms
 -- what clauses make of the results of a loop inside of theirs, without masks
 pub data Folds : List Clause → List Ty → List ClauseForm → List Ty → Type 0 where
   no_clause : Folds [] [] [] []
-  a_clause : (c : Clause) {a b : Ty} {cs : List Clause} {tys made : List Ty} {forms : List ClauseForm}
-      → Makes (out-Clause c).kind a b → IsShallow b → Folds cs tys forms made
-      → Folds (c ∷ cs) (a ∷ tys) (clause_form (out-Clause c).kind a None ∷ forms) (b ∷ made)
+  a_clause : (l : ℕ) {kind : ClauseKind} {a b : Ty} (e : Expr) (m : Option Mask) {cs : List Clause} {tys made : List Ty} {forms : List ClauseForm}
+      → Makes kind a b → IsShallow b → Folds cs tys forms made
+      → Folds (roll-Clause (record { line = l; kind = kind; value = e; mask = m }) ∷ cs) (a ∷ tys) (clause_form kind a None ∷ forms) (b ∷ made)
 
 -- ---- rules
 
