@@ -262,7 +262,7 @@ module _ (k : Known) (denotes : Written → Ty → Type 0) (misnames : Written �
       in_otherwise : {s : Scope} {l rule line : ℕ} (x : Option ℕ) (e : Expr) (arms : List Arm) (es : List Expr) → BreaksIn s es rule line
           → Breaks s (at l (tree.TagCase (roll-TagCase (record { name = x; subject = e; arms = arms; otherwise = Some es })))) rule line
       -- `for`
-      in_groups : {s : Scope} {l rule line : ℕ} {gs : List (List Generator)} {ds : List Def} {cs : List Clause} → BreaksGroups (length gs) s gs ds cs rule line
+      in_groups : {s : Scope} {l rule line : ℕ} {gs : List (List Generator)} {ds : List Def} {cs : List Clause} → BreaksGroups (length gs) l s gs ds cs rule line
           → Breaks s (at l (tree.For (loop.Product gs ds cs))) rule line
       in_initial : {s : Scope} {l rule line : ℕ} (ds es : List Def) (cs : List Clause) (is_first is_until : Bool) (e : Expr) → BreaksDefs s ds rule line
           → Breaks s (at l (tree.For (loop.Initial ds (roll-Turn (record { is_first = is_first; is_until = is_until; test = e; defs = es })) cs))) rule line
@@ -282,7 +282,7 @@ module _ (k : Known) (denotes : Written → Ty → Type 0) (misnames : Written �
           → AreTyped k denotes turned es ts tys → IsPair xs tys x a → IsRetyped (loop_of s ds first) x.name.name a
           → Breaks s (at l (tree.For (loop.Initial ds (roll-Turn (record { is_first = is_first; is_until = is_until; test = e; defs = before ++ roll-Def (record { targets = xs; values = es }) ∷ after })) cs))) 23 (line_of xs)
       in_loop_clauses : {s started : Scope} {l rule line : ℕ} (ds es : List Def) {us : List (List TypedExpr)} {first : List Ty} (cs : List Clause) (c : Clause) (is_first is_until : Bool) (e : Expr)
-          → Defines k denotes s ds us first started → Contains cs c → BreaksClause started 1 c rule line
+          → Defines k denotes s ds us first started → Contains cs c → BreaksClause started 1 l c rule line
           → Breaks s (at l (tree.For (loop.Initial ds (roll-Turn (record { is_first = is_first; is_until = is_until; test = e; defs = es })) cs))) rule line
 
     -- where one value is wanted
@@ -309,17 +309,18 @@ module _ (k : Known) (denotes : Written → Ty → Type 0) (misnames : Written �
           → AreTyped k denotes s es ts tys → AreTargets denotes xs tys → BreaksDefs (define_all (names_in xs) tys s) ds rule line
           → BreaksDefs s (roll-Def (record { targets = xs; values = es }) ∷ ds) rule line
 
-    -- a loop of so many groups of generators in all: one breaks a rule where those before it are typed, or what is inside of all
-    pub data BreaksGroups : ℕ → Scope → List (List Generator) → List Def → List Clause → ℕ → ℕ → Type 0 where
-      here : {groups : ℕ} {s : Scope} {rule line : ℕ} {g : Generator} {group : List Generator} {gs : List (List Generator)} {ds : List Def} {cs : List Clause}
-          → Contains group g → BreaksGenerator s g rule line → BreaksGroups groups s (group ∷ gs) ds cs rule line
-      named_twice : {groups : ℕ} {s : Scope} {line : ℕ} {group : List Generator} {gs : List (List Generator)} {ds : List Def} {cs : List Clause}
-          → IsTwice (generators_in group) line → BreaksGroups groups s (group ∷ gs) ds cs 8 line
-      after_group : {groups : ℕ} {s : Scope} {rule line : ℕ} {names : List ℕ} {tys : List Ty} {group : List Generator} {sources : List Source} {bounds : List TypedExpr} {gs : List (List Generator)} {ds : List Def} {cs : List Clause}
-          → Generates k denotes s group sources bounds names tys → AreDistinct names → BreaksGroups groups (define_all names tys s) gs ds cs rule line → BreaksGroups groups s (group ∷ gs) ds cs rule line
-      in_body : {groups : ℕ} {s : Scope} {rule line : ℕ} {ds : List Def} {cs : List Clause} → BreaksDefs s ds rule line → BreaksGroups groups s [] ds cs rule line
-      in_clauses : {groups : ℕ} {s inside : Scope} {rule line : ℕ} {ds : List Def} {us : List (List TypedExpr)} {made : List Ty} (cs : List Clause) {c : Clause}
-          → Defines k denotes s ds us made inside → Contains cs c → BreaksClause inside groups c rule line → BreaksGroups groups s [] ds cs rule line
+    -- a loop of so many groups of generators in all, from a line on: one breaks a rule where those before it are typed, or what
+    -- is inside of all
+    pub data BreaksGroups : ℕ → ℕ → Scope → List (List Generator) → List Def → List Clause → ℕ → ℕ → Type 0 where
+      here : {groups from : ℕ} {s : Scope} {rule line : ℕ} {g : Generator} {group : List Generator} {gs : List (List Generator)} {ds : List Def} {cs : List Clause}
+          → Contains group g → BreaksGenerator s g rule line → BreaksGroups groups from s (group ∷ gs) ds cs rule line
+      named_twice : {groups from : ℕ} {s : Scope} {line : ℕ} {group : List Generator} {gs : List (List Generator)} {ds : List Def} {cs : List Clause}
+          → IsTwice (generators_in group) line → BreaksGroups groups from s (group ∷ gs) ds cs 8 line
+      after_group : {groups from : ℕ} {s : Scope} {rule line : ℕ} {names : List ℕ} {tys : List Ty} {group : List Generator} {sources : List Source} {bounds : List TypedExpr} {gs : List (List Generator)} {ds : List Def} {cs : List Clause}
+          → Generates k denotes s group sources bounds names tys → AreDistinct names → BreaksGroups groups from (define_all names tys s) gs ds cs rule line → BreaksGroups groups from s (group ∷ gs) ds cs rule line
+      in_body : {groups from : ℕ} {s : Scope} {rule line : ℕ} {ds : List Def} {cs : List Clause} → BreaksDefs s ds rule line → BreaksGroups groups from s [] ds cs rule line
+      in_clauses : {groups from : ℕ} {s inside : Scope} {rule line : ℕ} {ds : List Def} {us : List (List TypedExpr)} {made : List Ty} (cs : List Clause) {c : Clause}
+          → Defines k denotes s ds us made inside → Contains cs c → BreaksClause inside groups from c rule line → BreaksGroups groups from s [] ds cs rule line
 
     pub data BreaksGenerator : Scope → Generator → ℕ → ℕ → Type 0 where
       in_from : {s : Scope} {rule line : ℕ} (n : Named) (e : Expr) (to : Option Expr) (i : Option ℕ) → BreaksOne s e rule line
@@ -332,17 +333,18 @@ module _ (k : Known) (denotes : Written → Ty → Type 0) (misnames : Written �
       no_sequence : {s : Scope} {a : Ty} (n : Named) (e : Expr) {t : TypedExpr} (i : Option ℕ) → Typed s e t (a ∷ []) → NoSequence a
           → BreaksGenerator s (roll-Generator (record { name = n; from = e; to = None; at = i })) 22 n.line
 
-    pub data BreaksClause : Scope → ℕ → Clause → ℕ → ℕ → Type 0 where
-      in_clause : {s : Scope} (groups l rule line : ℕ) (kind : ClauseKind) (e : Expr) (m : Option Mask) → BreaksOne s e rule line
-          → BreaksClause s groups (roll-Clause (record { line = l; kind = kind; value = e; mask = m })) rule line
-      in_mask : {s : Scope} (groups l rule line : ℕ) (kind : ClauseKind) (e : Expr) (m : Mask) → BreaksOne s m.test rule line
-          → BreaksClause s groups (roll-Clause (record { line = l; kind = kind; value = e; mask = Some m })) rule line
-      mask : {s : Scope} (groups l : ℕ) {a : Ty} (kind : ClauseKind) (e : Expr) (m : Mask) {t : TypedExpr} → Typed s m.test t (a ∷ []) → a ≢ ty.Bool
-          → BreaksClause s groups (roll-Clause (record { line = l; kind = kind; value = e; mask = Some m })) 23 l
-      reduction : {s : Scope} (groups l : ℕ) {a : Ty} (kind : ClauseKind) (e : Expr) {t : TypedExpr} (m : Option Mask) → Typed s e t (a ∷ []) → ((b : Ty) → MakesThrough kind groups a b → ⊥)
-          → BreaksClause s groups (roll-Clause (record { line = l; kind = kind; value = e; mask = m })) 23 l
-      deep_clause : {s : Scope} (groups l : ℕ) {a b : Ty} (kind : ClauseKind) (e : Expr) {t : TypedExpr} (m : Option Mask) → Typed s e t (a ∷ []) → MakesThrough kind groups a b → (IsShallow b → ⊥)
-          → BreaksClause s groups (roll-Clause (record { line = l; kind = kind; value = e; mask = m })) 4 l
+    -- a clause of a loop of so many groups, from a line on
+    pub data BreaksClause : Scope → ℕ → ℕ → Clause → ℕ → ℕ → Type 0 where
+      in_clause : {s : Scope} (groups from l rule line : ℕ) (kind : ClauseKind) (e : Expr) (m : Option Mask) → BreaksOne s e rule line
+          → BreaksClause s groups from (roll-Clause (record { line = l; kind = kind; value = e; mask = m })) rule line
+      in_mask : {s : Scope} (groups from l rule line : ℕ) (kind : ClauseKind) (e : Expr) (m : Mask) → BreaksOne s m.test rule line
+          → BreaksClause s groups from (roll-Clause (record { line = l; kind = kind; value = e; mask = Some m })) rule line
+      mask : {s : Scope} (groups from l : ℕ) {a : Ty} (kind : ClauseKind) (e : Expr) (m : Mask) {t : TypedExpr} → Typed s m.test t (a ∷ []) → a ≢ ty.Bool
+          → BreaksClause s groups from (roll-Clause (record { line = l; kind = kind; value = e; mask = Some m })) 23 l
+      reduction : {s : Scope} (groups from l : ℕ) {a : Ty} (kind : ClauseKind) (e : Expr) {t : TypedExpr} (m : Option Mask) → Typed s e t (a ∷ []) → ((b : Ty) → MakesThrough kind groups a b → ⊥)
+          → BreaksClause s groups from (roll-Clause (record { line = l; kind = kind; value = e; mask = m })) 23 l
+      deep_clause : {s : Scope} (groups from l : ℕ) {a b : Ty} (kind : ClauseKind) (e : Expr) {t : TypedExpr} (m : Option Mask) → Typed s e t (a ∷ []) → MakesThrough kind groups a b → (IsShallow b → ⊥)
+          → BreaksClause s groups from (roll-Clause (record { line = l; kind = kind; value = e; mask = m })) 4 from
 
     pub data BreaksArm : Scope → Option ℕ → List Member → Arm → ℕ → ℕ → Type 0 where
       no_tag : {s : Scope} (l : ℕ) {x : Option ℕ} {ms : List Member} {n : Named} (tags : List Named) (es : List Expr) → Contains tags n → NoMember k ms n.name

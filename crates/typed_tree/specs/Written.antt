@@ -88,9 +88,9 @@ module _ (spellings : List (List ℕ)) (types : List (ℕ × Ty)) where
       deep_members : {t u v : Placed} {without : Bool} {make : List Member → Ty} {ts : List Placed} {ns : List Named} {ms : List Member}
           → IsMembersWord t without make → IsSign sign.SOpenBracket u → HasMembers without ts ns ms → IsSign sign.SCloseBracket v → (IsShallow (make ms) → ⊥)
           → Misnames (t ∷ u ∷ (ts ++ (v ∷ []))) 4 t.line
-      member_twice : {t u v : Placed} {without : Bool} {make : List Member → Ty} {ts : List Placed} {ns : List Named} {ms : List Member} {line : ℕ}
-          → IsMembersWord t without make → IsSign sign.SOpenBracket u → HasMembers without ts ns ms → IsSign sign.SCloseBracket v → IsTwice ns line
-          → Misnames (t ∷ u ∷ (ts ++ (v ∷ []))) 5 line
+      -- a name stands twice among the members up to some place
+      member_twice : {t u : Placed} {without : Bool} {make : List Member → Ty} {ts : List Placed} {ns : List Named} {ms : List Member} {line : ℕ} (rest : List Placed)
+          → IsMembersWord t without make → IsSign sign.SOpenBracket u → HasMembers without ts ns ms → IsTwice ns line → Misnames (t ∷ u ∷ (ts ++ rest)) 5 line
 
     -- the type of a member breaks a rule, where those of the members before it denote types
     pub data MisnamesMember : Bool → List Placed → ℕ → ℕ → Type 0 where
