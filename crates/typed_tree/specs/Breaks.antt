@@ -44,11 +44,10 @@ use Rattle.sisal_tree.specs.declared.expr.Clause.{Clause, roll-Clause}
 use Rattle.sisal_tree.specs.declared.expr.Mask.{Mask}
 use Rattle.typed_tree.specs.declared.built_in.BuiltIn.{BuiltIn}
 use Rattle.typed_tree.specs.declared.expr.TypedExpr.{TypedExpr}
-use Rattle.typed_tree.specs.declared.expr.TypedDef.{TypedDef}
-use Rattle.typed_tree.specs.declared.expr.TypedGenerator.{TypedGenerator}
-use Rattle.typed_tree.specs.Scopes.{Meaning, At, Later, Scope, define_all, targets, AreDistinct, in_turn, KeepTypes}
+use Rattle.typed_tree.specs.declared.expr.Source.{Source}
+use Rattle.typed_tree.specs.Scopes.{Meaning, At, Scope, define_all, targets, AreDistinct, in_turn}
 use Rattle.typed_tree.specs.Types.{Member, IsSequence, IsShallow, IsConverted, prefix_type, AreOperands, Gives, MakesThrough}
-use Rattle.typed_tree.specs.Typing.{Signature, Known, IsFunction, IsBuiltIn, IsTypeNamed, Has, IsTag, at, names_of, AreAllNamed, AreTargets, names_in, loop_of, with_content, AreTyped, Types, HasFields, Defines, Generates, Crosses}
+use Rattle.typed_tree.specs.Typing.{Signature, Known, IsFunction, IsBuiltIn, IsTypeNamed, Has, IsTag, at, names_of, AreAllNamed, AreTargets, names_in, loop_of, with_content, AreTyped, Types, HasFields, Defines, Generates}
 
 -- ---- what is forbidden
 
@@ -232,7 +231,7 @@ module _ (k : Known) (denotes : Written → Ty → Type 0) (misnames : Written �
       is_no_tag : {s : Scope} {l : ℕ} (x : ℕ) (ms : List Member) {e : Expr} {t : TypedExpr} → Typed s e t (ty.Uni ms ∷ []) → NoMember k ms x → Breaks s (at l (tree.IsTag x e)) 21 l
       -- `let` and `if`
       in_definitions : {s : Scope} {l rule line : ℕ} {ds : List Def} (es : List Expr) → BreaksDefs s ds rule line → Breaks s (at l (tree.Let ds es)) rule line
-      in_results : {s after : Scope} {l rule line : ℕ} {ds : List Def} {us : List TypedDef} {made : List Ty} {es : List Expr}
+      in_results : {s after : Scope} {l rule line : ℕ} {ds : List Def} {us : List (List TypedExpr)} {made : List Ty} {es : List Expr}
           → Defines k denotes s ds us made after → BreaksIn after es rule line → Breaks s (at l (tree.Let ds es)) rule line
       in_test : {s : Scope} {l rule line : ℕ} {c : Expr} (es fs : List Expr) → BreaksOne s c rule line → Breaks s (at l (tree.If c es fs)) rule line
       in_then : {s : Scope} {l rule line : ℕ} (c : Expr) {es : List Expr} (fs : List Expr) → BreaksIn s es rule line → Breaks s (at l (tree.If c es fs)) rule line
@@ -263,32 +262,27 @@ module _ (k : Known) (denotes : Written → Ty → Type 0) (misnames : Written �
       in_otherwise : {s : Scope} {l rule line : ℕ} (x : Option ℕ) (e : Expr) (arms : List Arm) (es : List Expr) → BreaksIn s es rule line
           → Breaks s (at l (tree.TagCase (roll-TagCase (record { name = x; subject = e; arms = arms; otherwise = Some es })))) rule line
       -- `for`
-      in_generators : {s : Scope} {l rule line : ℕ} {gs : List (List Generator)} (ds : List Def) (cs : List Clause) → BreaksGroups s gs rule line
-          → Breaks s (at l (tree.For (loop.Product gs ds cs))) rule line
-      in_body : {s within : Scope} {l rule line : ℕ} {gs : List (List Generator)} {hs : List (List TypedGenerator)} {ds : List Def} (cs : List Clause)
-          → Crosses k denotes s gs hs within → BreaksDefs within ds rule line → Breaks s (at l (tree.For (loop.Product gs ds cs))) rule line
-      in_clauses : {s within inside : Scope} {l rule line : ℕ} {gs : List (List Generator)} {hs : List (List TypedGenerator)} {ds : List Def} {us : List TypedDef} {made : List Ty} (cs : List Clause) {c : Clause}
-          → Crosses k denotes s gs hs within → Defines k denotes within ds us made inside → Contains cs c → BreaksClause inside (length gs) c rule line
+      in_groups : {s : Scope} {l rule line : ℕ} {gs : List (List Generator)} {ds : List Def} {cs : List Clause} → BreaksGroups (length gs) l s gs ds cs rule line
           → Breaks s (at l (tree.For (loop.Product gs ds cs))) rule line
       in_initial : {s : Scope} {l rule line : ℕ} (ds es : List Def) (cs : List Clause) (is_first is_until : Bool) (e : Expr) → BreaksDefs s ds rule line
           → Breaks s (at l (tree.For (loop.Initial ds (roll-Turn (record { is_first = is_first; is_until = is_until; test = e; defs = es })) cs))) rule line
-      in_loop_test : {s started : Scope} {l rule line : ℕ} (ds es : List Def) {us : List TypedDef} {first : List Ty} (cs : List Clause) (is_first is_until : Bool) (e : Expr)
+      in_loop_test : {s started : Scope} {l rule line : ℕ} (ds es : List Def) {us : List (List TypedExpr)} {first : List Ty} (cs : List Clause) (is_first is_until : Bool) (e : Expr)
           → Defines k denotes s ds us first started → BreaksOne started e rule line
           → Breaks s (at l (tree.For (loop.Initial ds (roll-Turn (record { is_first = is_first; is_until = is_until; test = e; defs = es })) cs))) rule line
-      loop_test : {s started : Scope} {l : ℕ} {a : Ty} (ds es : List Def) {us : List TypedDef} {first : List Ty} (cs : List Clause) (is_first is_until : Bool) (e : Expr) {t : TypedExpr}
+      loop_test : {s started : Scope} {l : ℕ} {a : Ty} (ds es : List Def) {us : List (List TypedExpr)} {first : List Ty} (cs : List Clause) (is_first is_until : Bool) (e : Expr) {t : TypedExpr}
           → Defines k denotes s ds us first started → Typed started e t (a ∷ []) → a ≢ ty.Bool
           → Breaks s (at l (tree.For (loop.Initial ds (roll-Turn (record { is_first = is_first; is_until = is_until; test = e; defs = es })) cs))) 23 l
-      in_turn_of : {s started : Scope} {l rule line : ℕ} (ds es : List Def) {us : List TypedDef} {first : List Ty} (cs : List Clause) (is_first is_until : Bool) (e : Expr)
+      in_turn_of : {s started : Scope} {l rule line : ℕ} (ds es : List Def) {us : List (List TypedExpr)} {first : List Ty} (cs : List Clause) (is_first is_until : Bool) (e : Expr)
           → Defines k denotes s ds us first started → BreaksDefs (in_turn (loop_of s ds first) (targets es) started) es rule line
           → Breaks s (at l (tree.For (loop.Initial ds (roll-Turn (record { is_first = is_first; is_until = is_until; test = e; defs = es })) cs))) rule line
-      retyped : {s started turned : Scope} {l : ℕ} {a : Ty} {x : Target} (ds before : List Def) (xs : List Target) (after : List Def) {us vs : List TypedDef}
+      retyped : {s started turned : Scope} {l : ℕ} {a : Ty} {x : Target} (ds before : List Def) (xs : List Target) (after : List Def) {us vs : List (List TypedExpr)}
           {first earlier tys : List Ty} (es : List Expr) {ts : List TypedExpr} (cs : List Clause) (is_first is_until : Bool) (e : Expr)
           → Defines k denotes s ds us first started
           → Defines k denotes (in_turn (loop_of s ds first) (targets (before ++ roll-Def (record { targets = xs; values = es }) ∷ after)) started) before vs earlier turned
           → AreTyped k denotes turned es ts tys → IsPair xs tys x a → IsRetyped (loop_of s ds first) x.name.name a
           → Breaks s (at l (tree.For (loop.Initial ds (roll-Turn (record { is_first = is_first; is_until = is_until; test = e; defs = before ++ roll-Def (record { targets = xs; values = es }) ∷ after })) cs))) 23 (line_of xs)
-      in_loop_clauses : {s started : Scope} {l rule line : ℕ} (ds es : List Def) {us : List TypedDef} {first : List Ty} (cs : List Clause) (c : Clause) (is_first is_until : Bool) (e : Expr)
-          → Defines k denotes s ds us first started → Contains cs c → BreaksClause started 1 c rule line
+      in_loop_clauses : {s started : Scope} {l rule line : ℕ} (ds es : List Def) {us : List (List TypedExpr)} {first : List Ty} (cs : List Clause) (c : Clause) (is_first is_until : Bool) (e : Expr)
+          → Defines k denotes s ds us first started → Contains cs c → BreaksClause started 1 l c rule line
           → Breaks s (at l (tree.For (loop.Initial ds (roll-Turn (record { is_first = is_first; is_until = is_until; test = e; defs = es })) cs))) rule line
 
     -- where one value is wanted
@@ -315,11 +309,18 @@ module _ (k : Known) (denotes : Written → Ty → Type 0) (misnames : Written �
           → AreTyped k denotes s es ts tys → AreTargets denotes xs tys → BreaksDefs (define_all (names_in xs) tys s) ds rule line
           → BreaksDefs s (roll-Def (record { targets = xs; values = es }) ∷ ds) rule line
 
-    pub data BreaksGroups : Scope → List (List Generator) → ℕ → ℕ → Type 0 where
-      here : {s : Scope} {rule line : ℕ} {g : Generator} {group : List Generator} {gs : List (List Generator)} → Contains group g → BreaksGenerator s g rule line → BreaksGroups s (group ∷ gs) rule line
-      named_twice : {s : Scope} {line : ℕ} {group : List Generator} {gs : List (List Generator)} → IsTwice (generators_in group) line → BreaksGroups s (group ∷ gs) 8 line
-      after_group : {s : Scope} {rule line : ℕ} {names : List ℕ} {tys : List Ty} {group : List Generator} {h : List TypedGenerator} {gs : List (List Generator)}
-          → Generates k denotes s group h names tys → BreaksGroups (define_all names tys s) gs rule line → BreaksGroups s (group ∷ gs) rule line
+    -- a loop of so many groups of generators in all, from a line on: one breaks a rule where those before it are typed, or what
+    -- is inside of all
+    pub data BreaksGroups : ℕ → ℕ → Scope → List (List Generator) → List Def → List Clause → ℕ → ℕ → Type 0 where
+      here : {groups from : ℕ} {s : Scope} {rule line : ℕ} {g : Generator} {group : List Generator} {gs : List (List Generator)} {ds : List Def} {cs : List Clause}
+          → Contains group g → BreaksGenerator s g rule line → BreaksGroups groups from s (group ∷ gs) ds cs rule line
+      named_twice : {groups from : ℕ} {s : Scope} {line : ℕ} {group : List Generator} {gs : List (List Generator)} {ds : List Def} {cs : List Clause}
+          → IsTwice (generators_in group) line → BreaksGroups groups from s (group ∷ gs) ds cs 8 line
+      after_group : {groups from : ℕ} {s : Scope} {rule line : ℕ} {names : List ℕ} {tys : List Ty} {group : List Generator} {sources : List Source} {bounds : List TypedExpr} {gs : List (List Generator)} {ds : List Def} {cs : List Clause}
+          → Generates k denotes s group sources bounds names tys → AreDistinct names → BreaksGroups groups from (define_all names tys s) gs ds cs rule line → BreaksGroups groups from s (group ∷ gs) ds cs rule line
+      in_body : {groups from : ℕ} {s : Scope} {rule line : ℕ} {ds : List Def} {cs : List Clause} → BreaksDefs s ds rule line → BreaksGroups groups from s [] ds cs rule line
+      in_clauses : {groups from : ℕ} {s inside : Scope} {rule line : ℕ} {ds : List Def} {us : List (List TypedExpr)} {made : List Ty} (cs : List Clause) {c : Clause}
+          → Defines k denotes s ds us made inside → Contains cs c → BreaksClause inside groups from c rule line → BreaksGroups groups from s [] ds cs rule line
 
     pub data BreaksGenerator : Scope → Generator → ℕ → ℕ → Type 0 where
       in_from : {s : Scope} {rule line : ℕ} (n : Named) (e : Expr) (to : Option Expr) (i : Option ℕ) → BreaksOne s e rule line
@@ -332,17 +333,18 @@ module _ (k : Known) (denotes : Written → Ty → Type 0) (misnames : Written �
       no_sequence : {s : Scope} {a : Ty} (n : Named) (e : Expr) {t : TypedExpr} (i : Option ℕ) → Typed s e t (a ∷ []) → NoSequence a
           → BreaksGenerator s (roll-Generator (record { name = n; from = e; to = None; at = i })) 22 n.line
 
-    pub data BreaksClause : Scope → ℕ → Clause → ℕ → ℕ → Type 0 where
-      in_clause : {s : Scope} (groups l rule line : ℕ) (kind : ClauseKind) (e : Expr) (m : Option Mask) → BreaksOne s e rule line
-          → BreaksClause s groups (roll-Clause (record { line = l; kind = kind; value = e; mask = m })) rule line
-      in_mask : {s : Scope} (groups l rule line : ℕ) (kind : ClauseKind) (e : Expr) (m : Mask) → BreaksOne s m.test rule line
-          → BreaksClause s groups (roll-Clause (record { line = l; kind = kind; value = e; mask = Some m })) rule line
-      mask : {s : Scope} (groups l : ℕ) {a : Ty} (kind : ClauseKind) (e : Expr) (m : Mask) {t : TypedExpr} → Typed s m.test t (a ∷ []) → a ≢ ty.Bool
-          → BreaksClause s groups (roll-Clause (record { line = l; kind = kind; value = e; mask = Some m })) 23 l
-      reduction : {s : Scope} (groups l : ℕ) {a : Ty} (kind : ClauseKind) (e : Expr) {t : TypedExpr} (m : Option Mask) → Typed s e t (a ∷ []) → ((b : Ty) → MakesThrough kind groups a b → ⊥)
-          → BreaksClause s groups (roll-Clause (record { line = l; kind = kind; value = e; mask = m })) 23 l
-      deep_clause : {s : Scope} (groups l : ℕ) {a b : Ty} (kind : ClauseKind) (e : Expr) {t : TypedExpr} (m : Option Mask) → Typed s e t (a ∷ []) → MakesThrough kind groups a b → (IsShallow b → ⊥)
-          → BreaksClause s groups (roll-Clause (record { line = l; kind = kind; value = e; mask = m })) 4 l
+    -- a clause of a loop of so many groups, from a line on
+    pub data BreaksClause : Scope → ℕ → ℕ → Clause → ℕ → ℕ → Type 0 where
+      in_clause : {s : Scope} (groups from l rule line : ℕ) (kind : ClauseKind) (e : Expr) (m : Option Mask) → BreaksOne s e rule line
+          → BreaksClause s groups from (roll-Clause (record { line = l; kind = kind; value = e; mask = m })) rule line
+      in_mask : {s : Scope} (groups from l rule line : ℕ) (kind : ClauseKind) (e : Expr) (m : Mask) → BreaksOne s m.test rule line
+          → BreaksClause s groups from (roll-Clause (record { line = l; kind = kind; value = e; mask = Some m })) rule line
+      mask : {s : Scope} (groups from l : ℕ) {a : Ty} (kind : ClauseKind) (e : Expr) (m : Mask) {t : TypedExpr} → Typed s m.test t (a ∷ []) → a ≢ ty.Bool
+          → BreaksClause s groups from (roll-Clause (record { line = l; kind = kind; value = e; mask = Some m })) 23 l
+      reduction : {s : Scope} (groups from l : ℕ) {a : Ty} (kind : ClauseKind) (e : Expr) {t : TypedExpr} (m : Option Mask) → Typed s e t (a ∷ []) → ((b : Ty) → MakesThrough kind groups a b → ⊥)
+          → BreaksClause s groups from (roll-Clause (record { line = l; kind = kind; value = e; mask = m })) 23 l
+      deep_clause : {s : Scope} (groups from l : ℕ) {a b : Ty} (kind : ClauseKind) (e : Expr) {t : TypedExpr} (m : Option Mask) → Typed s e t (a ∷ []) → MakesThrough kind groups a b → (IsShallow b → ⊥)
+          → BreaksClause s groups from (roll-Clause (record { line = l; kind = kind; value = e; mask = m })) 4 from
 
     pub data BreaksArm : Scope → Option ℕ → List Member → Arm → ℕ → ℕ → Type 0 where
       no_tag : {s : Scope} (l : ℕ) {x : Option ℕ} {ms : List Member} {n : Named} (tags : List Named) (es : List Expr) → Contains tags n → NoMember k ms n.name

@@ -1,5 +1,9 @@
 pub mod BuiltIns
 pub mod Scopes
 pub mod Types
+pub mod Operations
 pub mod Typing
 pub mod Breaks
+pub mod Written
+pub mod Units
+pub mod Faults

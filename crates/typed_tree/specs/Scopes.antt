@@ -1,9 +1,8 @@
 -- The names in force at a place of a function (SISAL Language Reference Manual 1.2, scope): an inner name hides an outer one.
-use Rattle.std.specs.Prelude.{◌≡◌, ℕ, suc, List, [], ◌∷◌, ◌++◌, map, flat_map, Option, Some, None, Contains}
+use Rattle.std.specs.Prelude.{◌≡◌, ℕ, suc, ◌-◌, List, [], ◌∷◌, ◌++◌, map, flat_map, Option, Some, None, Contains}
 use Rattle.flow_value.specs.declared.ty.Ty.{Ty}
 use Rattle.name_scope.specs.Newest.{newest}
 use Rattle.sisal_tree.specs.declared.expr.Def.{Def, out-Def}
-use Rattle.sisal_tree.specs.declared.expr.Target.{Target}
 
 -- what a name stands for: the value at a level, of a type; or nothing yet, where it is a loop name that the turn defines later
 pub data Meaning : Type 0 where
@@ -70,12 +69,11 @@ KeepTypes loop [] ts = Unit {0}
 KeepTypes loop (x ∷ xs) [] = Unit {0}
 KeepTypes loop (x ∷ xs) (t ∷ ts) = KeepsType t (newest x loop) × KeepTypes loop xs ts
 
--- the loop names that the turn defines anew: the level of each, and that of its new value, where the turn's names come into
--- force from a level on
-abbrev pub renewals : List (ℕ × Meaning) → ℕ → List ℕ → List (ℕ × ℕ)
-renewals loop level [] = []
-renewals loop level (x ∷ xs) = renewal level (newest x loop) ++ renewals loop (suc level) xs
+-- for each name that the turn defines the place, among the loop names from the level of their first, of the one that it
+-- renews, where it is one
+abbrev pub renewals : List (ℕ × Meaning) → ℕ → List ℕ → List (Option ℕ)
+renewals loop first xs = map (λ x. place (newest x loop)) xs
   where
-    renewal : ℕ → Option Meaning → List (ℕ × ℕ)
-    renewal level (Some (At before t)) = (before, level) ∷ []
-    renewal level _ = []
+    place : Option Meaning → Option ℕ
+    place (Some (At level t)) = Some (level - first)
+    place _ = None

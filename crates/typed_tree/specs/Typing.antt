@@ -1,6 +1,6 @@
 -- The typing rules of SISAL (SISAL Language Reference Manual 1.2): which expressions have values of which types, a rule for
 -- each production, and the typed tree of each.
-use Rattle.std.specs.Prelude.{◌≡◌, ◌⊎◌, ℕ, List, [], ◌∷◌, ◌++◌, map, flat_map, length, Bool, true, false, Option, Some, None, slice_get, Contains, All, is_some}
+use Rattle.std.specs.Prelude.{◌≡◌, ◌⊎◌, ℕ, List, [], ◌∷◌, ◌++◌, map, flat_map, length, Bool, Option, Some, None, slice_get, Contains, All}
 use Rattle.name_scope.specs.Newest.{newest}
 use Rattle.sisal_lex.specs.Words.{beside}
 use Rattle.flow_value.specs.declared.ty.Ty.{Ty}
@@ -17,38 +17,34 @@ use Rattle.sisal_tree.specs.declared.expr.PrefixOperator.{PrefixOperator}
 use Rattle.sisal_tree.specs.declared.expr.BinaryOperator.{BinaryOperator}
 use Rattle.sisal_tree.specs.declared.expr.ClauseKind.{ClauseKind}
 use Rattle.sisal_tree.specs.declared.expr.FieldValue.{FieldValue}
-use Rattle.sisal_tree.specs.declared.expr.Elements.{Elements, roll-Elements}
+use Rattle.sisal_tree.specs.declared.expr.Elements.{roll-Elements}
 use Rattle.sisal_tree.specs.declared.expr.Def.{Def, roll-Def}
 use Rattle.sisal_tree.specs.declared.expr.Target.{Target}
-use Rattle.sisal_tree.specs.declared.expr.TagCase.{TagCase, roll-TagCase}
+use Rattle.sisal_tree.specs.declared.expr.TagCase.{roll-TagCase}
 use Rattle.sisal_tree.specs.declared.expr.Arm.{Arm, roll-Arm}
 use Rattle.sisal_tree.specs.declared.expr.Loop.TheVariants as loop
 use Rattle.sisal_tree.specs.declared.expr.Generator.{Generator, roll-Generator}
-use Rattle.sisal_tree.specs.declared.expr.Turn.{Turn, roll-Turn}
+use Rattle.sisal_tree.specs.declared.expr.Turn.{roll-Turn}
 use Rattle.sisal_tree.specs.declared.expr.Clause.{Clause, roll-Clause}
 use Rattle.sisal_tree.specs.declared.expr.Mask.{Mask}
+use Rattle.flow_value.specs.declared.operation.Scalar1.TheVariants as unary
+use Rattle.value_ops.specs.declared.operation.Operation.TheVariants as operation
 use Rattle.typed_tree.specs.declared.built_in.BuiltIn.{BuiltIn}
 use Rattle.typed_tree.specs.declared.expr.TypedExpr.{TypedExpr}
 use Rattle.typed_tree.specs.declared.expr.TypedKind.{TypedKind}
 use Rattle.typed_tree.specs.declared.expr.TypedKind.TheVariants as typed
-use Rattle.typed_tree.specs.declared.expr.TypedField.{TypedField}
-use Rattle.typed_tree.specs.declared.expr.TypedElements.{TypedElements, roll-TypedElements}
-use Rattle.typed_tree.specs.declared.expr.TypedDef.{TypedDef, roll-TypedDef, out-TypedDef}
-use Rattle.typed_tree.specs.declared.expr.TypedCase.{TypedCase, roll-TypedCase}
-use Rattle.typed_tree.specs.declared.expr.TypedArm.{TypedArm, roll-TypedArm}
-use Rattle.typed_tree.specs.declared.expr.TypedLoop.TheVariants as typed_loop
-use Rattle.typed_tree.specs.declared.expr.TypedGenerator.{TypedGenerator, roll-TypedGenerator}
-use Rattle.typed_tree.specs.declared.expr.TypedTurn.{TypedTurn, roll-TypedTurn}
-use Rattle.typed_tree.specs.declared.expr.TypedClause.{TypedClause, roll-TypedClause}
-use Rattle.typed_tree.specs.declared.expr.TypedMask.{TypedMask}
-use Rattle.typed_tree.specs.declared.expr.Renewed.{Renewed}
+use Rattle.typed_tree.specs.declared.expr.Source.{Source}
+use Rattle.typed_tree.specs.declared.expr.Source.TheVariants as source
+use Rattle.typed_tree.specs.declared.expr.ClauseForm.{ClauseForm}
 use Rattle.typed_tree.specs.BuiltIns.{built_ins}
-use Rattle.typed_tree.specs.Scopes.{Meaning, At, Later, Scope, define, define_all, targets, AreDistinct, loop_names, in_turn, KeepTypes, renewals}
-use Rattle.typed_tree.specs.Types.{Member, IsMember, IsSequence, IsShallow, AreNumbers, constant_type, scalar_type, IsConverted, prefix_type, AreOperands, binary_type, Gives, MakesThrough}
+use Rattle.typed_tree.specs.Scopes.{Meaning, At, Scope, define, define_all, targets, AreDistinct, loop_names, in_turn, KeepTypes, renewals}
+use Rattle.typed_tree.specs.Types.{Member, IsMember, IsSequence, IsShallow, AreNumbers, constant_type, scalar_type, IsConverted, prefix_type, AreOperands, binary_type, Gives, Makes}
+use Rattle.typed_tree.specs.Operations.{prefix_operation, binary_operation, convert_operation, built_in_operation, clause_form}
 
--- a function by its name, the types of its parameters and those of its results
+-- a function by its name, the names and types of its parameters, and the types of its results
 pub record Signature : Type 0 where
   pub name : ℕ
+  pub parameters : List ℕ
   pub params : List Ty
   pub results : List Ty
 
@@ -149,9 +145,6 @@ AreTargets denotes _ _ = ⊥
 abbrev pub names_in : List Target → List ℕ
 names_in xs = map (λ x. x.name.name) xs
 
-abbrev pub renewed : List (ℕ × ℕ) → List Renewed
-renewed rs = map (λ r. record { name = r.0; value = r.1 }) rs
-
 -- the names of a loop, which its initial part defines with values of these types, the newest first
 abbrev pub loop_of : Scope → List Def → List Ty → List (ℕ × Meaning)
 loop_of s ds ts = loop_names s.height (targets ds) ts
@@ -160,6 +153,18 @@ loop_of s ds ts = loop_names s.height (targets ds) ts
 abbrev pub with_content : Option ℕ → Ty → Scope → Scope
 with_content None content s = s
 with_content (Some x) content s = define x content s
+
+-- in how many arms, from the first, the content of the union is in force
+abbrev pub named_arms : Option ℕ → List Arm → ℕ
+named_arms None arms = 0
+named_arms (Some x) arms = length arms
+
+-- what clauses make of the results of a loop inside of theirs, without masks
+pub data Folds : List Clause → List Ty → List ClauseForm → List Ty → Type 0 where
+  no_clause : Folds [] [] [] []
+  a_clause : (l : ℕ) {kind : ClauseKind} {a b : Ty} (e : Expr) (m : Option Mask) {cs : List Clause} {tys made : List Ty} {forms : List ClauseForm}
+      → Makes kind a b → IsShallow b → Folds cs tys forms made
+      → Folds (roll-Clause (record { line = l; kind = kind; value = e; mask = m }) ∷ cs) (a ∷ tys) (clause_form kind a None ∷ forms) (b ∷ made)
 
 -- ---- rules
 
@@ -175,90 +180,86 @@ module _ (k : Known) (denotes : Written → Ty → Type 0) where
       old : {s : Scope} {l x level : ℕ} {a : Ty} {ns : List ℕ} → newest x s.olds ≡ Some (At level a) → Number k ns (a ∷ [])
           → Types s (at l (tree.Old x)) (with l ns (typed.Value level)) (a ∷ [])
       group : {s : Scope} {l : ℕ} {e : Expr} {t : TypedExpr} {tys : List Ty} {ns : List ℕ} → Types s e t tys → Number k ns tys
-          → Types s (at l (tree.Group e)) (with l ns (typed.Group t)) tys
+          → Types s (at l (tree.Group e)) (with l ns (typed.Group (t ∷ []))) tys
       call : {s : Scope} {l x n : ℕ} {f : Signature} {es : List Expr} {ts : List TypedExpr} {ns : List ℕ}
           → IsFunction k x n f → AreTyped s es ts f.params → Number k ns f.results
           → Types s (at l (tree.Call x es)) (with l ns (typed.Call n ts)) f.results
       built_in : {s : Scope} {l x : ℕ} {a : Ty} {b : BuiltIn} {es : List Expr} {ts : List TypedExpr} {tys : List Ty} {ns : List ℕ}
           → IsBuiltIn k x b → AreTyped s es ts tys → Gives b tys a → IsShallow a → Number k ns (a ∷ [])
-          → Types s (at l (tree.Call x es)) (with l ns (typed.BuiltIn b ts)) (a ∷ [])
+          → Types s (at l (tree.Call x es)) (with l ns (typed.Apply (built_in_operation b) ts)) (a ∷ [])
       convert : {s : Scope} {l : ℕ} {a : Ty} {c : Scalar} {e : Expr} {t : TypedExpr} {ns : List ℕ}
           → Types s e t (a ∷ []) → IsConverted c a → Number k ns (scalar_type c ∷ [])
-          → Types s (at l (tree.Convert c e)) (with l ns (typed.Convert c t)) (scalar_type c ∷ [])
+          → Types s (at l (tree.Convert c e)) (with l ns (typed.Apply (convert_operation c) (t ∷ []))) (scalar_type c ∷ [])
       error_of : {s : Scope} {l : ℕ} {a : Ty} {w : Written} {ns : List ℕ} → denotes w a → Number k ns (a ∷ [])
-          → Types s (at l (tree.ErrorOf w)) (with l ns typed.ErrorOf) (a ∷ [])
+          → Types s (at l (tree.ErrorOf w)) (with l ns (typed.Apply operation.Error [])) (a ∷ [])
       is_error : {s : Scope} {l : ℕ} {a : Ty} {e : Expr} {t : TypedExpr} {ns : List ℕ} → Types s e t (a ∷ []) → Number k ns (ty.Bool ∷ [])
-          → Types s (at l (tree.IsError e)) (with l ns (typed.IsError t)) (ty.Bool ∷ [])
+          → Types s (at l (tree.IsError e)) (with l ns (typed.Apply (operation.Unary unary.IsError) (t ∷ []))) (ty.Bool ∷ [])
       is_tag : {s : Scope} {l x place : ℕ} {content : Ty} {ms : List Member} {e : Expr} {t : TypedExpr} {ns : List ℕ}
           → Types s e t (ty.Uni ms ∷ []) → Has k ms x place content → Number k ns (ty.Bool ∷ [])
-          → Types s (at l (tree.IsTag x e)) (with l ns (typed.IsTag place t)) (ty.Bool ∷ [])
+          → Types s (at l (tree.IsTag x e)) (with l ns (typed.Apply (operation.IsTag place) (t ∷ []))) (ty.Bool ∷ [])
       prefix : {s : Scope} {l : ℕ} {o : PrefixOperator} {e : Expr} {t : TypedExpr} {ns : List ℕ}
           → Types s e t (prefix_type o ∷ []) → Number k ns (prefix_type o ∷ [])
-          → Types s (at l (tree.Prefix o e)) (with l ns (typed.Prefix o t)) (prefix_type o ∷ [])
+          → Types s (at l (tree.Prefix o e)) (with l ns (typed.Apply (prefix_operation o) (t ∷ []))) (prefix_type o ∷ [])
       binary : {s : Scope} {l : ℕ} {a : Ty} {o : BinaryOperator} {e f : Expr} {t u : TypedExpr} {ns : List ℕ}
           → Types s e t (a ∷ []) → Types s f u (a ∷ []) → AreOperands o a → Number k ns (binary_type o a ∷ [])
-          → Types s (at l (tree.Binary o e f)) (with l ns (typed.Binary o t u)) (binary_type o a ∷ [])
+          → Types s (at l (tree.Binary o e f)) (with l ns (typed.Apply (binary_operation o) (t ∷ u ∷ []))) (binary_type o a ∷ [])
       select : {s : Scope} {l : ℕ} {a : Ty} {e i : Expr} {t u : TypedExpr} {ns : List ℕ}
           → Types s e t (ty.Arr a ∷ []) → Types s i u (ty.Int ∷ []) → Number k ns (a ∷ [])
-          → Types s (at l (tree.Select e i)) (with l ns (typed.Select t u)) (a ∷ [])
+          → Types s (at l (tree.Select e i)) (with l ns (typed.Apply operation.Element (t ∷ u ∷ []))) (a ∷ [])
       update : {s : Scope} {l : ℕ} {a : Ty} {e i f : Expr} {t u v : TypedExpr} {ns : List ℕ}
           → Types s e t (ty.Arr a ∷ []) → Types s i u (ty.Int ∷ []) → Types s f v (a ∷ []) → Number k ns (ty.Arr a ∷ [])
-          → Types s (at l (tree.Update e i f)) (with l ns (typed.Update t u v)) (ty.Arr a ∷ [])
+          → Types s (at l (tree.Update e i f)) (with l ns (typed.Apply operation.Update (t ∷ u ∷ v ∷ []))) (ty.Arr a ∷ [])
       field : {s : Scope} {l x place : ℕ} {content : Ty} {ms : List Member} {e : Expr} {t : TypedExpr} {ns : List ℕ}
           → Types s e t (ty.Rec ms ∷ []) → Has k ms x place content → Number k ns (content ∷ [])
-          → Types s (at l (tree.Field e x)) (with l ns (typed.Field t place)) (content ∷ [])
-      replace : {s : Scope} {l : ℕ} {ms : List Member} {e : Expr} {t : TypedExpr} {vs : List FieldValue} {us : List TypedField} {ns : List ℕ}
-          → Types s e t (ty.Rec ms ∷ []) → Replaces s ms vs us → AreDistinct (map (λ v. v.field.name) vs) → Number k ns (ty.Rec ms ∷ [])
-          → Types s (at l (tree.Replace e vs)) (with l ns (typed.Replace t us)) (ty.Rec ms ∷ [])
+          → Types s (at l (tree.Field e x)) (with l ns (typed.Apply (operation.Field place) (t ∷ []))) (content ∷ [])
+      replace : {s : Scope} {l : ℕ} {ms : List Member} {e : Expr} {t : TypedExpr} {vs : List FieldValue} {places : List ℕ} {us : List TypedExpr} {ns : List ℕ}
+          → Types s e t (ty.Rec ms ∷ []) → Replaces s ms vs places us → AreDistinct (map (λ v. v.field.name) vs) → Number k ns (ty.Rec ms ∷ [])
+          → Types s (at l (tree.Replace e vs)) (with l ns (typed.Apply (operation.Change places) (t ∷ us))) (ty.Rec ms ∷ [])
       -- an array of no elements has the type that is named
       empty_array : {s : Scope} {l x : ℕ} (a : Ty) {ns : List ℕ} → IsTypeNamed k x (ty.Arr a) → Number k ns (ty.Arr a ∷ [])
-          → Types s (at l (tree.Array (Some x) None)) (with l ns (typed.Array None)) (ty.Arr a ∷ [])
+          → Types s (at l (tree.Array (Some x) None)) (with l ns (typed.Apply operation.EmptyArray [])) (ty.Arr a ∷ [])
       array : {s : Scope} {l : ℕ} {a : Ty} {tys : List Ty} {x : Option ℕ} {low : Expr} {t : TypedExpr} {es : List Expr} {ts : List TypedExpr} {ns : List ℕ}
           → Types s low t (ty.Int ∷ []) → AreTyped s es ts (a ∷ tys) → All (λ b. b ≡ a) tys
           → IsNamedType k x (ty.Arr a) → IsShallow (ty.Arr a) → Number k ns (ty.Arr a ∷ [])
           → Types s (at l (tree.Array x (Some (roll-Elements (record { lower = low; values = es })))))
-          (with l ns (typed.Array (Some (roll-TypedElements (record { lower = t; values = ts }))))) (ty.Arr a ∷ [])
+          (with l ns (typed.Apply operation.Array (t ∷ ts))) (ty.Arr a ∷ [])
       empty_stream : {s : Scope} {l x : ℕ} (a : Ty) {ns : List ℕ} → IsTypeNamed k x (ty.Stream a) → Number k ns (ty.Stream a ∷ [])
-          → Types s (at l (tree.Stream (Some x) [])) (with l ns (typed.Stream [])) (ty.Stream a ∷ [])
+          → Types s (at l (tree.Stream (Some x) [])) (with l ns (typed.Apply operation.Stream [])) (ty.Stream a ∷ [])
       stream : {s : Scope} {l : ℕ} {a : Ty} {tys : List Ty} {x : Option ℕ} {es : List Expr} {ts : List TypedExpr} {ns : List ℕ}
           → AreTyped s es ts (a ∷ tys) → All (λ b. b ≡ a) tys
           → IsNamedType k x (ty.Stream a) → IsShallow (ty.Stream a) → Number k ns (ty.Stream a ∷ [])
-          → Types s (at l (tree.Stream x es)) (with l ns (typed.Stream ts)) (ty.Stream a ∷ [])
+          → Types s (at l (tree.Stream x es)) (with l ns (typed.Apply operation.Stream ts)) (ty.Stream a ∷ [])
       -- a record has the fields as they are written
       a_record : {s : Scope} {l : ℕ} {x : Option ℕ} {ms : List Member} {vs : List FieldValue} {ts : List TypedExpr} {ns : List ℕ}
           → HasFields s vs ts ms → AreDistinct (map (λ v. v.field.name) vs)
           → IsNamedType k x (ty.Rec ms) → IsShallow (ty.Rec ms) → Number k ns (ty.Rec ms ∷ [])
-          → Types s (at l (tree.Record x vs)) (with l ns (typed.Record ts)) (ty.Rec ms ∷ [])
+          → Types s (at l (tree.Record x vs)) (with l ns (typed.Apply operation.Record ts)) (ty.Rec ms ∷ [])
       union : {s : Scope} {l x tag place : ℕ} {content : Ty} {ms : List Member} {e : Expr} {t : TypedExpr} {ns : List ℕ}
           → IsTypeNamed k x (ty.Uni ms) → Has k ms tag place content → Types s e t (content ∷ []) → Number k ns (ty.Uni ms ∷ [])
-          → Types s (at l (tree.Union x tag e)) (with l ns (typed.Union place t)) (ty.Uni ms ∷ [])
-      let_in : {s after : Scope} {l : ℕ} {ds : List Def} {us : List TypedDef} {made tys : List Ty} {es : List Expr} {ts : List TypedExpr} {ns : List ℕ}
+          → Types s (at l (tree.Union x tag e)) (with l ns (typed.Apply (operation.Union place) (t ∷ []))) (ty.Uni ms ∷ [])
+      let_in : {s after : Scope} {l : ℕ} {ds : List Def} {us : List (List TypedExpr)} {made tys : List Ty} {es : List Expr} {ts : List TypedExpr} {ns : List ℕ}
           → Defines s ds us made after → AreDistinct (targets ds) → AreTyped after es ts tys → Number k ns tys
           → Types s (at l (tree.Let ds es)) (with l ns (typed.Let us ts)) tys
       if_else : {s : Scope} {l : ℕ} {c : Expr} {t : TypedExpr} {es fs : List Expr} {ts us : List TypedExpr} {tys : List Ty} {ns : List ℕ}
           → Types s c t (ty.Bool ∷ []) → AreTyped s es ts tys → AreTyped s fs us tys → Number k ns tys
-          → Types s (at l (tree.If c es fs)) (with l ns (typed.If t ts us)) tys
+          → Types s (at l (tree.If c es fs)) (with l ns (typed.If (t ∷ []) ts us)) tys
       tag_case : {s : Scope} {l : ℕ} {ms : List Member} {x : Option ℕ} {e : Expr} {t : TypedExpr}
-          {arms : List Arm} {typed_arms : List TypedArm} {tags : List (List ℕ)} {choices ns : List ℕ} {tys : List Ty}
-          {other : Option (List Expr)} {typed_other : Option (List TypedExpr)}
+          {arms : List Arm} {typed_arms last : List (List TypedExpr)} {tags : List (List ℕ)} {choices ns : List ℕ} {tys : List Ty} {other : Option (List Expr)}
           → Types s e t (ty.Uni ms ∷ []) → AreArms s x ms tys arms typed_arms tags → AreDistinct (flat_map (λ names. names) tags)
-          → AreAllNamed k tags ms other → IsOtherwise s tys other typed_other → Chooses k tags ms choices → Number k ns tys
+          → AreAllNamed k tags ms other → IsOtherwise s tys other last → Chooses k tags ms choices → Number k ns tys
           → Types s (at l (tree.TagCase (roll-TagCase (record { name = x; subject = e; arms = arms; otherwise = other }))))
-          (with l ns (typed.TagCase (roll-TypedCase (record { is_named = is_some x; subject = t; arms = typed_arms; choices = choices; otherwise = typed_other })))) tys
-      for_product : {s within inside : Scope} {l : ℕ} {made tys : List Ty} {ns : List ℕ} {gs : List (List Generator)} {hs : List (List TypedGenerator)}
-          {ds : List Def} {us : List TypedDef} {cs : List Clause} {ts : List TypedClause}
-          → Crosses s gs hs within → Defines within ds us made inside → AreDistinct (targets ds) → AreClauses inside (length gs) cs ts tys → Number k ns tys
-          → Types s (at l (tree.For (loop.Product gs ds cs))) (with l ns (typed.For (typed_loop.Product hs us ts))) tys
+          (with l ns (typed.Case (record { named = named_arms x arms; choices = choices }) (t ∷ []) (typed_arms ++ last))) tys
+      for_product : {s : Scope} {l : ℕ} {tys : List Ty} {gs : List (List Generator)} {ds : List Def} {cs : List Clause} {t : TypedExpr}
+          → Crosses s l gs ds cs t tys → Types s (at l (tree.For (loop.Product gs ds cs))) t tys
       for_initial : {s started turned : Scope} {l : ℕ} {first later tys : List Ty} {ns : List ℕ} (is_first is_until : Bool) {test : Expr} {t : TypedExpr}
-          {ds es : List Def} {us vs : List TypedDef} {cs : List Clause} {ts : List TypedClause}
+          {ds es : List Def} {us vs : List (List TypedExpr)} {cs : List Clause} {forms : List ClauseForm} {ts : List TypedExpr}
           → Defines s ds us first started → AreDistinct (targets ds) → Types started test t (ty.Bool ∷ [])
           → Defines (in_turn (loop_of s ds first) (targets es) started) es vs later turned → AreDistinct (targets es)
           → KeepTypes (loop_of s ds first) (targets es) later
-          → AreClauses started 1 cs ts tys → Number k ns tys
+          → AreClauses started cs forms ts tys → Number k ns tys
           → Types s (at l (tree.For (loop.Initial ds (roll-Turn (record { is_first = is_first; is_until = is_until; test = test; defs = es })) cs)))
-          (with l ns (typed.For (typed_loop.Initial us
-          (roll-TypedTurn (record { is_first = is_first; is_until = is_until; test = t; defs = vs; renewed = renewed (renewals (loop_of s ds first) started.height (targets es)) }))
-          ts))) tys
+          (with l ns (typed.Initial (record { is_first = is_first; is_until = is_until; renewed = renewals (loop_of s ds first) s.height (targets es); clauses = forms })
+          us (t ∷ []) vs ts)) tys
 
     -- expressions in order, and the types of all their values
     pub data AreTyped : Scope → List Expr → List TypedExpr → List Ty → Type 0 where
@@ -266,12 +267,12 @@ module _ (k : Known) (denotes : Written → Ty → Type 0) where
       more : {s : Scope} {e : Expr} {t : TypedExpr} {tys others : List Ty} {es : List Expr} {ts : List TypedExpr}
           → Types s e t tys → AreTyped s es ts others → AreTyped s (e ∷ es) (t ∷ ts) (tys ++ others)
 
-    -- fields of a record that is changed
-    pub data Replaces : Scope → List Member → List FieldValue → List TypedField → Type 0 where
-      no_field : {s : Scope} {ms : List Member} → Replaces s ms [] []
-      a_field : {s : Scope} {ms : List Member} {n : Named} {place : ℕ} {a : Ty} {e : Expr} {t : TypedExpr} {vs : List FieldValue} {us : List TypedField}
-          → Has k ms n.name place a → Types s e t (a ∷ []) → Replaces s ms vs us
-          → Replaces s ms (record { field = n; value = e } ∷ vs) (record { place = place; value = t } ∷ us)
+    -- fields of a record that is changed, by their places
+    pub data Replaces : Scope → List Member → List FieldValue → List ℕ → List TypedExpr → Type 0 where
+      no_field : {s : Scope} {ms : List Member} → Replaces s ms [] [] []
+      a_field : {s : Scope} {ms : List Member} {n : Named} {place : ℕ} {a : Ty} {e : Expr} {t : TypedExpr} {vs : List FieldValue} {places : List ℕ} {us : List TypedExpr}
+          → Has k ms n.name place a → Types s e t (a ∷ []) → Replaces s ms vs places us
+          → Replaces s ms (record { field = n; value = e } ∷ vs) (place ∷ places) (t ∷ us)
 
     -- the fields of a new record
     pub data HasFields : Scope → List FieldValue → List TypedExpr → List Member → Type 0 where
@@ -282,65 +283,68 @@ module _ (k : Known) (denotes : Written → Ty → Type 0) where
 
     -- Definitions in order, each of which sees the earlier ones, with the types of all that is defined; the targets of one
     -- definition see none of each other.
-    pub data Defines : Scope → List Def → List TypedDef → List Ty → Scope → Type 0 where
+    pub data Defines : Scope → List Def → List (List TypedExpr) → List Ty → Scope → Type 0 where
       no_def : {s : Scope} → Defines s [] [] [] s
-      a_def : {s after : Scope} (xs : List Target) {es : List Expr} {ts : List TypedExpr} {tys others : List Ty} {ds : List Def} {us : List TypedDef}
+      a_def : {s after : Scope} (xs : List Target) {es : List Expr} {ts : List TypedExpr} {tys others : List Ty} {ds : List Def} {us : List (List TypedExpr)}
           → AreTyped s es ts tys → AreTargets denotes xs tys → Defines (define_all (names_in xs) tys s) ds us others after
-          → Defines s (roll-Def (record { targets = xs; values = es }) ∷ ds)
-          (roll-TypedDef (record { targets = length xs; values = ts }) ∷ us) (tys ++ others) after
+          → Defines s (roll-Def (record { targets = xs; values = es }) ∷ ds) (ts ∷ us) (tys ++ others) after
 
-    -- Groups of generators, each of which sees the names of the groups before it.
-    pub data Crosses : Scope → List (List Generator) → List (List TypedGenerator) → Scope → Type 0 where
-      no_group : {s : Scope} → Crosses s [] [] s
-      a_group : {s after : Scope} {names : List ℕ} {tys : List Ty} {g : List Generator} {h : List TypedGenerator} {gs : List (List Generator)} {hs : List (List TypedGenerator)}
-          → Generates s g h names tys → AreDistinct names → Crosses (define_all names tys s) gs hs after
-          → Crosses s (g ∷ gs) (h ∷ hs) after
+    -- A loop that begins on a line, over groups of generators, each of which sees the names of the groups before it: a group
+    -- before others is a loop of its own, over the results of the loop behind it.
+    pub data Crosses : Scope → ℕ → List (List Generator) → List Def → List Clause → TypedExpr → List Ty → Type 0 where
+      one_group : {s inside : Scope} {l : ℕ} {names ns : List ℕ} {tys made results : List Ty} {g : List Generator} {sources : List Source} {bounds : List TypedExpr}
+          {ds : List Def} {us : List (List TypedExpr)} {cs : List Clause} {forms : List ClauseForm} {ts : List TypedExpr}
+          → Generates s g sources bounds names tys → AreDistinct names → Defines (define_all names tys s) ds us made inside → AreDistinct (targets ds)
+          → AreClauses inside cs forms ts results → Number k ns results
+          → Crosses s l (g ∷ []) ds cs (with l ns (typed.Product (record { sources = sources; clauses = forms }) bounds us ts)) results
+      a_group : {s : Scope} {l : ℕ} {names ns : List ℕ} {tys inner results : List Ty} {g : List Generator} {gs : List (List Generator)} {sources : List Source} {bounds : List TypedExpr}
+          {ds : List Def} {cs : List Clause} {forms : List ClauseForm} {t : TypedExpr}
+          → Generates s g sources bounds names tys → AreDistinct names → Crosses (define_all names tys s) l gs ds cs t inner
+          → Folds cs inner forms results → Number k ns results
+          → Crosses s l (g ∷ gs) ds cs (with l ns (typed.Product (record { sources = sources; clauses = forms }) bounds [] (t ∷ []))) results
 
-    -- Generators of one group, which see none of each other: their names, with the types of these.
-    pub data Generates : Scope → List Generator → List TypedGenerator → List ℕ → List Ty → Type 0 where
-      no_generator : {s : Scope} → Generates s [] [] [] []
-      range : {s : Scope} (n : Named) {e f : Expr} {t u : TypedExpr} {names : List ℕ} {tys : List Ty} {gs : List Generator} {hs : List TypedGenerator}
-          → Types s e t (ty.Int ∷ []) → Types s f u (ty.Int ∷ []) → Generates s gs hs names tys
+    -- Generators of one group, which see none of each other: what they go over, their bounds, and their names with the types
+    -- of these.
+    pub data Generates : Scope → List Generator → List Source → List TypedExpr → List ℕ → List Ty → Type 0 where
+      no_generator : {s : Scope} → Generates s [] [] [] [] []
+      range : {s : Scope} (n : Named) {e f : Expr} {t u : TypedExpr} {names : List ℕ} {tys : List Ty} {gs : List Generator} {sources : List Source} {bounds : List TypedExpr}
+          → Types s e t (ty.Int ∷ []) → Types s f u (ty.Int ∷ []) → Generates s gs sources bounds names tys
           → Generates s (roll-Generator (record { name = n; from = e; to = Some f; at = None }) ∷ gs)
-          (roll-TypedGenerator (record { from = t; to = Some u; is_indexed = false }) ∷ hs)
-          (n.name ∷ names) (ty.Int ∷ tys)
-      elements : {s : Scope} (n : Named) {a b : Ty} {e : Expr} {t : TypedExpr} {names : List ℕ} {tys : List Ty} {gs : List Generator} {hs : List TypedGenerator}
-          → Types s e t (a ∷ []) → IsSequence a b → Generates s gs hs names tys
+          (source.Range ∷ sources) (t ∷ u ∷ bounds) (n.name ∷ names) (ty.Int ∷ tys)
+      elements : {s : Scope} (n : Named) {a b : Ty} {e : Expr} {t : TypedExpr} {names : List ℕ} {tys : List Ty} {gs : List Generator} {sources : List Source} {bounds : List TypedExpr}
+          → Types s e t (a ∷ []) → IsSequence a b → Generates s gs sources bounds names tys
           → Generates s (roll-Generator (record { name = n; from = e; to = None; at = None }) ∷ gs)
-          (roll-TypedGenerator (record { from = t; to = None; is_indexed = false }) ∷ hs)
-          (n.name ∷ names) (b ∷ tys)
-      indexed : {s : Scope} (n : Named) {i : ℕ} {a b : Ty} {e : Expr} {t : TypedExpr} {names : List ℕ} {tys : List Ty} {gs : List Generator} {hs : List TypedGenerator}
-          → Types s e t (a ∷ []) → IsSequence a b → Generates s gs hs names tys
+          (source.Elements ∷ sources) (t ∷ bounds) (n.name ∷ names) (b ∷ tys)
+      indexed : {s : Scope} (n : Named) {i : ℕ} {a b : Ty} {e : Expr} {t : TypedExpr} {names : List ℕ} {tys : List Ty} {gs : List Generator} {sources : List Source} {bounds : List TypedExpr}
+          → Types s e t (a ∷ []) → IsSequence a b → Generates s gs sources bounds names tys
           → Generates s (roll-Generator (record { name = n; from = e; to = None; at = Some i }) ∷ gs)
-          (roll-TypedGenerator (record { from = t; to = None; is_indexed = true }) ∷ hs)
-          (n.name ∷ i ∷ names) (b ∷ ty.Int ∷ tys)
+          (source.Indexed ∷ sources) (t ∷ bounds) (n.name ∷ i ∷ names) (b ∷ ty.Int ∷ tys)
 
-    -- the clauses of a loop of so many groups, and the types that they make
-    pub data AreClauses : Scope → ℕ → List Clause → List TypedClause → List Ty → Type 0 where
-      no_clause : {s : Scope} {groups : ℕ} → AreClauses s groups [] [] []
-      a_clause : {s : Scope} {groups : ℕ} (l : ℕ) {kind : ClauseKind} {a b : Ty} {e : Expr} {t : TypedExpr} {m : Option Mask} {n : Option TypedMask}
-          {cs : List Clause} {ts : List TypedClause} {tys : List Ty}
-          → Types s e t (a ∷ []) → MakesThrough kind groups a b → IsShallow b → IsMask s m n → AreClauses s groups cs ts tys
-          → AreClauses s groups (roll-Clause (record { line = l; kind = kind; value = e; mask = m }) ∷ cs)
-          (roll-TypedClause (record { kind = kind; value = t; mask = n }) ∷ ts) (b ∷ tys)
+    -- The clauses of a loop: their forms, their values, each with its mask behind it, and the types that they make.
+    pub data AreClauses : Scope → List Clause → List ClauseForm → List TypedExpr → List Ty → Type 0 where
+      no_clause : {s : Scope} → AreClauses s [] [] [] []
+      a_clause : {s : Scope} (l : ℕ) {kind : ClauseKind} {a b : Ty} {e : Expr} {t : TypedExpr} {m : Option Mask} {masks : List TypedExpr}
+          {cs : List Clause} {forms : List ClauseForm} {ts : List TypedExpr} {tys : List Ty}
+          → Types s e t (a ∷ []) → Makes kind a b → IsShallow b → IsMask s m masks → AreClauses s cs forms ts tys
+          → AreClauses s (roll-Clause (record { line = l; kind = kind; value = e; mask = m }) ∷ cs)
+          (clause_form kind a m ∷ forms) (t ∷ (masks ++ ts)) (b ∷ tys)
 
-    pub data IsMask : Scope → Option Mask → Option TypedMask → Type 0 where
-      no_mask : {s : Scope} → IsMask s None None
+    pub data IsMask : Scope → Option Mask → List TypedExpr → Type 0 where
+      no_mask : {s : Scope} → IsMask s None []
       a_mask : {s : Scope} {is_unless : Bool} {e : Expr} {t : TypedExpr} → Types s e t (ty.Bool ∷ [])
-          → IsMask s (Some (record { is_unless = is_unless; test = e })) (Some (record { is_unless = is_unless; test = t }))
+          → IsMask s (Some (record { is_unless = is_unless; test = e })) (t ∷ [])
 
     -- the arms of a `tagcase`, each with its tags, whose contents are of one type; the content is in force where it has a name
-    pub data AreArms : Scope → Option ℕ → List Member → List Ty → List Arm → List TypedArm → List (List ℕ) → Type 0 where
+    pub data AreArms : Scope → Option ℕ → List Member → List Ty → List Arm → List (List TypedExpr) → List (List ℕ) → Type 0 where
       no_arm : {s : Scope} {x : Option ℕ} {ms : List Member} {tys : List Ty} → AreArms s x ms tys [] [] []
       an_arm : {s : Scope} {x : Option ℕ} {ms : List Member} {tys : List Ty} (l : ℕ) (content : Ty) (names : List Named) {es : List Expr} {ts : List TypedExpr}
-          {arms : List Arm} {typed_arms : List TypedArm} {tags : List (List ℕ)}
+          {arms : List Arm} {typed_arms : List (List TypedExpr)} {tags : List (List ℕ)}
           → All (λ tag. IsTag k ms tag content) (names_of names) → AreTyped (with_content x content s) es ts tys
           → AreArms s x ms tys arms typed_arms tags
-          → AreArms s x ms tys (roll-Arm (record { line = l; tags = names; results = es }) ∷ arms)
-          (roll-TypedArm (record { results = ts }) ∷ typed_arms) (names_of names ∷ tags)
+          → AreArms s x ms tys (roll-Arm (record { line = l; tags = names; results = es }) ∷ arms) (ts ∷ typed_arms) (names_of names ∷ tags)
 
     -- the name of the content is not in force in `otherwise`
-    pub data IsOtherwise : Scope → List Ty → Option (List Expr) → Option (List TypedExpr) → Type 0 where
-      no_otherwise : {s : Scope} {tys : List Ty} → IsOtherwise s tys None None
+    pub data IsOtherwise : Scope → List Ty → Option (List Expr) → List (List TypedExpr) → Type 0 where
+      no_otherwise : {s : Scope} {tys : List Ty} → IsOtherwise s tys None []
       otherwise : {s : Scope} {tys : List Ty} {es : List Expr} {ts : List TypedExpr}
-          → AreTyped s es ts tys → IsOtherwise s tys (Some es) (Some ts)
+          → AreTyped s es ts tys → IsOtherwise s tys (Some es) (ts ∷ [])

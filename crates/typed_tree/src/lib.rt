@@ -4,8 +4,10 @@
 
 mod built_in;
 mod expr;
+mod operation;
 mod program;
 
 pub use built_in::{BuiltIn, built_in_named};
 pub use expr::{Case, ClauseForm, Product, Source, Turns, TypedExpr, TypedKind};
+pub use operation::{binary_operation, convert_operation, prefix_operation};
 pub use program::{Function, Program};
