@@ -1,23 +1,20 @@
 -- The rows of catenation and of change, part by part.
-use Rattle.std.proofs.Common.{◌≡◌, ◌≢◌, ℕ, suc, ◌+◌, ◌<◌, ◌≤◌, Bool, true, false, List, [], ◌∷◌, ◌++◌, map, length, drop, get_or, Option, Some, None, refl, ap, sym, ◌∙◌, arith, rules, length-append}
+use Rattle.std.proofs.Common.{◌≡◌, ◌≢◌, ℕ, ◌<◌, true, List, [], ◌∷◌, ◌++◌, map, length, drop, Option, Some, None, refl, ap, ◌∙◌, rules}
 use Rattle.std.specs.Option.{is_some, option_map, unwrap_or}
 use Rattle.std.specs.List.{flat_map}
-use Rattle.std.proofs.lemmas.Bool.Decides.{nat_tests}
 use Rattle.std.proofs.Math.Seq.{drop-cons}
 use Rattle.flow_value.specs.declared.value.Val.{Val}
 use Rattle.flow_value.specs.declared.value.Val.TheOpen.{Val-F}
 use Rattle.flow_value.specs.declared.value.Val.TheVariants as val
 use Rattle.flow_value.specs.declared.value.Val.TheViews as values
-use Rattle.flow_value.specs.declared.cause.Cause.TheVariants as cause
 use Rattle.flow_value.specs.Aggregates.{array_val, stream_val}
 use Rattle.flow_value.specs.Bounds.{Bounded}
-use Rattle.flow_value.specs.Scalar.{unless_error}
-use Rattle.value_ops.specs.Arity.{explicit, unless_errors}
+use Rattle.value_ops.specs.Arity.{unless_errors}
 use Rattle.value_ops.specs.Aggregates.{array_items_in, stream_items_in, joined, all_items, or_explicit, unless_alone, catenated, replaced}
 use Rattle.value_ops.specs.Views.{list_in}
 use Rattle.value_ops.specs.Operand.{value_of}
 use Rattle.value_ops.specs.declared.values.Value.{Value}
-use Rattle.value_ops.specs.Catenation.{part_in, items_in, all_in, whole_in}
+use Rattle.value_ops.specs.Catenation.{part_in, items_in, all_in}
 use Rattle.value_ops.specs.declared.catenate.Joining.{Joining}
 use Rattle.value_ops.specs.declared.catenate.Joining.TheVariants as joining
 

@@ -1,9 +1,9 @@
 -- What is put in a row, by the kind of the first operand.
-use Rattle.std.specs.Prelude.{List, [], Option, Some, None, unwrap_or}
+use Rattle.std.specs.Prelude.{List, [], Option, unwrap_or}
 use Rattle.flow_value.specs.declared.value.Val.{Val}
 use Rattle.flow_value.specs.declared.value.Val.TheViews.{out-Val}
 use Rattle.flow_value.specs.Aggregates.{array_val, stream_val}
-use Rattle.value_ops.specs.Aggregates.{array_items_in, stream_items_in, joined, all_items, or_explicit}
+use Rattle.value_ops.specs.Aggregates.{array_items_in, stream_items_in, all_items}
 use Rattle.value_ops.specs.declared.catenate.Joining.{Joining}
 use Rattle.value_ops.specs.declared.catenate.Joining.TheVariants as joining
 

@@ -83,17 +83,8 @@ fn part_in_place(items: Items, from: usize, count: usize) -> Items
     requires { from + count ≤ length items }
     ensures { result ≡ take count (drop from items) }
 {
-    let mut kept = without_front(items, from);
-    kept.truncate(count);
-    kept
-}
-
-/// The items without the first ones, in place.
-pub fn without_front(items: Items, from: usize) -> Items
-    requires { from ≤ length items }
-    ensures { result ≡ drop from items }
-{
     let mut kept = items.into_vec();
+    kept.truncate(from + count);
     cut_front(&mut kept, from);
     Items::from_vec(kept)
 }
@@ -102,5 +93,9 @@ fn cut_front(items: &mut Vec<Val>, from: usize)
     requires { from ≤ length items.old.items }
     ensures { items.new.items ≡ drop from items.old.items }
 {
-    drop(items.drain(..from));
+    if from == 1 {
+        drop(items.remove(0));
+    } else if from > 0 {
+        drop(items.drain(..from));
+    }
 }

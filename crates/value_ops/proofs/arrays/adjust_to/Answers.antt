@@ -1,7 +1,7 @@
-use Rattle.std.proofs.Common.{◌≡◌, ◌+◌, ◌≤◌, ◌≤ℤ◌, ◌+ℤ◌, ◌-ℤ◌, pos, true, length, sym, arith, rules}
+use Rattle.std.proofs.Common.{◌≡◌, ◌≤◌, true, length, arith, rules}
 use Rattle.std.proofs.lemmas.Int.{ints}
 use Rattle.value_ops.specs.Operand.{array_of, items_of}
-use Rattle.value_ops.specs.Aggregates.{natural, places, are_places}
+use Rattle.value_ops.specs.Aggregates.{are_places}
 use Rattle.value_ops.proofs.Parts.{part-length, part-within}
 use Rattle.value_ops.proofs.arrays.adjust_to.Goals as goal
 

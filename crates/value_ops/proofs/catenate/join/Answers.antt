@@ -1,7 +1,6 @@
-use Rattle.std.proofs.Common.{◌≡◌, ◌+◌, ◌++◌, true, map, length, min, Some, sym, ap, ◌∙◌, arith, rules, length-append}
+use Rattle.std.proofs.Common.{◌≡◌, ◌++◌, true, map, length, min, Some, sym, ap, ◌∙◌, arith, rules, length-append}
 use Rattle.std.specs.Option.{option_map, is_some}
 use Rattle.std.specs.List.{flat_map}
-use Rattle.flow_value.specs.declared.value.Val.{Val}
 use Rattle.value_ops.specs.Operand.{value_of, items_of}
 use Rattle.value_ops.specs.Aggregates.{or_explicit, joined}
 use Rattle.value_ops.specs.Catenation.{items_in, all_in, whole_in}

@@ -1,4 +1,4 @@
-use Rattle.std.proofs.Common.{arith, rules}
+use Rattle.std.proofs.Common.{arith}
 use Rattle.value_ops.proofs.Feeds.{counted, passed}
 use Rattle.value_ops.proofs.feed.Feed.count.Goals as goal
 use Rattle.value_ops.proofs.feed.Feed.count.Goals.{in-Some, in-None}
