@@ -7,3 +7,4 @@ pub mod Breaks
 pub mod Written
 pub mod Units
 pub mod Faults
+pub mod Entries
