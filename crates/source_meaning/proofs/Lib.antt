@@ -1,0 +1,12 @@
+pub mod AddedRows
+pub mod Begins
+pub mod Depths
+pub mod Follows
+pub mod Grows
+pub mod Laws
+pub mod Parts
+pub mod Renewals
+pub mod Rests
+pub mod Rounds
+pub mod Turns
+pub mod Walks

@@ -1,0 +1,284 @@
+//! What is done with the values of a list of expressions.
+ghost use Rattle.std.specs.Prelude.{◌≡◌, ℕ, ◌+◌, ◌<◌, ◌≤◌, List, OnOk, IfOk, map, length};
+ghost use Rattle.source_meaning.specs.Timed.{andthen, Moves, Passes};
+ghost use Rattle.source_meaning.specs.Words.{failed, value_at};
+ghost use Rattle.source_meaning.specs.Meaning.{meaning, definitions, results_of, with_content, arm_at, all_of};
+ghost use Rattle.source_meaning.specs.Pending.{Program, rest, load, weight, whole, before, fuel, StartsFull};
+ghost use Rattle.source_meaning.specs.Slots.{given_values};
+
+use crate::loops::{begin_round, collect, end_place, end_turn, renew};
+use crate::slots::Given;
+use crate::state::{After, Going, State};
+use crate::words::{Test, failed, test_of};
+use flow_value::{Cause, Items, NoMemory, Seq, Val, item_at};
+use std::alloc::Global;
+use std::mem;
+use typed_tree::{Case, Function, TypedExpr};
+
+/// Gives the same error for each of so many results.
+pub fn give_failed(
+    alloc: Global,
+    state: &mut State<'_>,
+    results: usize,
+    cause: Cause,
+) -> Result<(), NoMemory>
+    ensures given { OnOk result (given_values state.new.given ≡ failed results cause) }
+    ensures frames { state.new.frames ≡ state.old.frames }
+    ensures names { state.new.names ≡ state.old.names }
+    ensures steps { state.new.steps ≡ state.old.steps }
+{
+    let values = failed(alloc, results, cause)?;
+    state.given = Given::Many(values);
+    Ok(())
+}
+
+/// The definitions from the first on that has an expression.
+fn pending<'a>(defs: &'a [Seq<TypedExpr>]) -> &'a [Seq<TypedExpr>]
+    ensures same { (n : ℕ) (p : Program) (env : List Val) → definitions n p result.now env ≡ definitions n p defs.now env }
+    ensures first { StartsFull result.now }
+{
+    let mut left = defs;
+    while let Some((def, rest)) = left.split_first() {
+        if !def.is_empty() {
+            return left;
+        }
+        left = rest;
+    }
+    left
+}
+
+/// Has the next definitions made, with these values as names.
+fn bind<'a>(
+    alloc: Global,
+    state: &mut State<'a>,
+    defs: &'a [Seq<TypedExpr>],
+    values: Items,
+) -> Result<(), NoMemory>
+    ensures same { OnOk result ((n : ℕ) (p : Program) → before n p state.old.steps state.old.frames.items state.old.names (After.Bind defs.entry) values ≡ whole n p state.new.steps state.new.frames.items state.new.names (given_values state.new.given)) }
+    ensures steps { state.new.steps ≡ state.old.steps }
+    ensures load { OnOk result (load state.new.frames.items ≤ load state.old.frames.items + 1) }
+{
+    if state.names.append(values).is_err() {
+        return Err(NoMemory);
+    }
+    match pending(defs).split_first() {
+        Some((def, rest)) => {
+            state.list(alloc, After::Bind(rest), def.as_slice())?;
+            Ok(())
+        }
+        None => {
+            state.given = Given::Nothing;
+            Ok(())
+        }
+    }
+}
+
+/// Goes into the body of a function.
+pub fn enter<'a>(
+    alloc: Global,
+    program: &'a [Function],
+    state: &mut State<'a>,
+    number: u32,
+    values: Items,
+) -> Result<(), NoMemory>
+    ensures moves { OnOk result (Moves (λ n. before n program.now state.old.steps state.old.frames.items state.old.names (After.Enter number) values) (λ n. whole n program.now state.new.steps state.new.frames.items state.new.names (given_values state.new.given))) }
+    ensures steps { state.new.steps ≡ state.old.steps }
+    ensures load { OnOk result (load state.new.frames.items ≤ load state.old.frames.items + 1) }
+{
+    match item_at(program, number as usize) {
+        Some(function) => {
+            enter_function(alloc, state, function, values)?;
+            Ok(())
+        }
+        None => {
+            state.given = Given::Nothing;
+            Ok(())
+        }
+    }
+}
+
+fn enter_function<'a>(
+    alloc: Global,
+    state: &mut State<'a>,
+    function: &'a Function,
+    values: Items,
+) -> Result<(), NoMemory>
+    ensures means { OnOk result ((n : ℕ) (p : Program) → rest n p state.new.frames.items state.new.names (given_values state.new.given) ≡ andthen (results_of (length function.now.results) function.now.body (meaning n p) values) (rest n p state.old.frames.items state.old.names)) }
+    ensures steps { state.new.steps ≡ state.old.steps }
+    ensures load { OnOk result (load state.new.frames.items ≤ load state.old.frames.items + 1) }
+{
+    match &function.body {
+        Some(body) => {
+            let saved = mem::replace(&mut state.names, values);
+            state.list(alloc, After::Leave(saved), body.as_slice())
+        }
+        None => give_failed(alloc, state, function.results.len(), Cause::Explicit),
+    }
+}
+
+/// Takes one arm, or the error of the test.
+fn choose<'a>(
+    alloc: Global,
+    state: &mut State<'a>,
+    yes: &'a Seq<TypedExpr>,
+    no: &'a Seq<TypedExpr>,
+    results: usize,
+    values: Items,
+) -> Result<(), NoMemory>
+    ensures same { OnOk result ((n : ℕ) (p : Program) → before n p state.old.steps state.old.frames.items state.old.names (After.Choose yes.entry no.entry results) values ≡ whole n p state.new.steps state.new.frames.items state.new.names (given_values state.new.given)) }
+    ensures steps { state.new.steps ≡ state.old.steps }
+    ensures load { OnOk result (load state.new.frames.items ≤ load state.old.frames.items + 1) }
+{
+    match test_of(values.as_slice()) {
+        Test::Yes => state.list(alloc, After::Pass, yes.as_slice()),
+        Test::No => state.list(alloc, After::Pass, no.as_slice()),
+        Test::Failed(cause) => give_failed(alloc, state, results, cause),
+    }
+}
+
+/// The first of some values.
+fn first_value(values: Items) -> Val
+    ensures { result ≡ value_at values 0 }
+{
+    match values.into_vec().into_iter().next() {
+        Some(v) => v,
+        None => Val::Err(Cause::Explicit),
+    }
+}
+
+/// Takes the arm of a union's tag, or its error.
+fn pick<'a>(
+    alloc: Global,
+    state: &mut State<'a>,
+    case: &'a Case,
+    arms: &'a Seq<Seq<TypedExpr>>,
+    results: usize,
+    values: Items,
+) -> Result<(), NoMemory>
+    ensures same { OnOk result ((n : ℕ) (p : Program) → before n p state.old.steps state.old.frames.items state.old.names (After.Pick case.entry arms.entry results) values ≡ whole n p state.new.steps state.new.frames.items state.new.names (given_values state.new.given)) }
+    ensures steps { state.new.steps ≡ state.old.steps }
+    ensures load { OnOk result (load state.new.frames.items ≤ load state.old.frames.items + 1) }
+{
+    match first_value(values) {
+        Val::Uni(tag, content) => {
+            let place = item_at(case.choices.as_slice(), tag as usize).copied();
+            enter_arm(
+                alloc,
+                state,
+                case,
+                arms,
+                results,
+                place,
+                content.into_inner(),
+            )
+        }
+        Val::Err(cause) => give_failed(alloc, state, results, cause),
+        _ => give_failed(alloc, state, results, Cause::Explicit),
+    }
+}
+
+/// Goes into the arm at a place, with the content of the union as a name where it has one.
+fn enter_arm<'a>(
+    alloc: Global,
+    state: &mut State<'a>,
+    case: &'a Case,
+    arms: &'a Seq<Seq<TypedExpr>>,
+    results: usize,
+    place: Option<u32>,
+    content: Val,
+) -> Result<(), NoMemory>
+    ensures means { OnOk result ((n : ℕ) (p : Program) → rest n p state.new.frames.items state.new.names (given_values state.new.given)
+        ≡ andthen (arm_at case.now results (map all_of (map (map (meaning n p)) arms.now)) place content state.old.names) (rest n p state.old.frames.items state.old.names)) }
+    ensures steps { state.new.steps ≡ state.old.steps }
+    ensures load { OnOk result (load state.new.frames.items ≤ load state.old.frames.items + 1) }
+{
+    let Some(place) = place else {
+        return give_failed(alloc, state, results, Cause::Tag);
+    };
+    let Some(arm) = item_at(arms.as_slice(), place as usize) else {
+        return give_failed(alloc, state, results, Cause::Tag);
+    };
+    let mark = state.names.len();
+    add_content(&mut state.names, case.named, place, content)?;
+    state.list(alloc, After::Unbind(mark), arm.as_slice())?;
+    Ok(())
+}
+
+/// Has the content of a union come into force in the arm at a place, if that is one of the first
+/// so many.
+fn add_content(names: &mut Items, named: u32, place: u32, content: Val) -> Result<(), NoMemory>
+    ensures { OnOk result (names.new ≡ with_content named place content names.old) }
+{
+    if place < named {
+        names.add(content)?;
+    }
+    Ok(())
+}
+
+/// Does what comes after the values of a list.
+pub fn finish<'a>(
+    alloc: Global,
+    program: &'a [Function],
+    limit: u64,
+    state: &mut State<'a>,
+    after: After<'a>,
+    values: Items,
+) -> Result<Going, NoMemory>
+    ensures moves { IfOk result (λ g. g ≡ Going.On → Moves (λ n. before n program.now state.old.steps state.old.frames.items state.old.names after.entry values) (λ n. whole n program.now state.new.steps state.new.frames.items state.new.names (given_values state.new.given))) }
+    ensures limit { IfOk result (λ g. g ≡ Going.Limit → Passes limit (λ n. before n program.now state.old.steps state.old.frames.items state.old.names after.entry values)) }
+    ensures fuel { IfOk result (λ g. g ≡ Going.On → fuel limit state.new.steps state.new.frames.items < fuel limit state.old.steps state.old.frames.items + weight after.entry) }
+    ensures bound { IfOk result (λ g. state.old.steps ≤ limit → state.new.steps ≤ limit) }
+{
+    match after {
+        After::Bind(defs) => {
+            bind(alloc, state, defs, values)?;
+            Ok(Going::On)
+        }
+        After::Unbind(mark) => {
+            state.names.truncate(mark);
+            state.given = Given::Many(values);
+            Ok(Going::On)
+        }
+        After::Enter(number) => {
+            enter(alloc, program, state, number, values)?;
+            Ok(Going::On)
+        }
+        After::Leave(saved) => {
+            state.names = saved;
+            state.given = Given::Many(values);
+            Ok(Going::On)
+        }
+        After::Choose(yes, no, results) => {
+            choose(alloc, state, yes, no, results, values)?;
+            Ok(Going::On)
+        }
+        After::Pick(case, arms, results) => {
+            pick(alloc, state, case, arms, results, values)?;
+            Ok(Going::On)
+        }
+        After::Pass => {
+            state.given = Given::Many(values);
+            Ok(Going::On)
+        }
+        After::Next(walk) => {
+            let going = end_place(alloc, limit, state, walk, values)?;
+            Ok(going)
+        }
+        After::Start(round) => {
+            begin_round(alloc, state, round)?;
+            Ok(Going::On)
+        }
+        After::Kept(round) => {
+            let going = collect(alloc, limit, state, round, values)?;
+            Ok(going)
+        }
+        After::Tested(round) => {
+            let going = end_turn(alloc, limit, state, round, values)?;
+            Ok(going)
+        }
+        After::Renew(round) => {
+            renew(alloc, state, round)?;
+            Ok(Going::On)
+        }
+    }
+}

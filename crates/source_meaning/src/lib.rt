@@ -1,0 +1,17 @@
+//! What a typed SISAL program means: the values that its functions give, by the definition of the
+//! language in `specs/`, and an evaluator that computes them.
+#![tactic(auto)]
+
+mod begin;
+mod budget;
+mod evaluator;
+mod finish;
+mod loops;
+mod machine;
+mod rows;
+mod slots;
+mod sources;
+mod state;
+mod words;
+
+pub use evaluator::{Found, MeanFault, depths_agree, mean};
