@@ -1,5 +1,5 @@
 -- What is given at one depth is given at the next, form by form.
-use Rattle.std.proofs.Common.{◌≡◌, ℕ, zero, suc, pos, ◌+◌, ◌-◌, Bool, true, false, List, [], ◌∷◌, ◌++◌, map, length, drop, Option, Some, None, slice_get, sym, ap, subst}
+use Rattle.std.proofs.Common.{◌≡◌, ℕ, zero, suc, pos, Bool, true, false, List, [], ◌∷◌, ◌++◌, map, length, drop, Option, Some, None, slice_get, sym, ap, subst}
 use Rattle.flow_value.specs.declared.value.Val.{Val}
 use Rattle.flow_value.specs.declared.value.Val.TheOpen.{Val-F}
 use Rattle.flow_value.specs.declared.value.Val.TheViews.{out-Val}

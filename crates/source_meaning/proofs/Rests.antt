@@ -1,8 +1,7 @@
 -- What the pending work gives at one depth it gives at the next; a call and its body; parts of lists.
-use Rattle.std.proofs.Common.{◌≡◌, ℕ, ℤ, ◌-◌, zero, suc, ◌+◌, ◌<◌, ◌≤◌, arith, Bool, true, false, List, [], ◌∷◌, ◌++◌, map, take, drop, length, Option, Some, None, slice_get, refl, sym, ap, subst, ◌∙◌, append_assoc, append-nil}
+use Rattle.std.proofs.Common.{◌≡◌, ℕ, suc, ◌+◌, ◌<◌, arith, Bool, true, false, List, [], ◌∷◌, ◌++◌, take, drop, length, Option, Some, None, slice_get, refl, sym, ap, subst, ◌∙◌, append_assoc, append-nil}
 use Rattle.std.specs.Prelude.{fold}
 use Rattle.std.proofs.lemmas.List.Sums.{fold-append}
-use Rattle.std.proofs.Math.Seq.{take-length, take-append_seam, drop-append_seam}
 use Rattle.flow_value.specs.declared.value.Val.{Val}
 use Rattle.flow_value.specs.declared.value.Val.TheViews.{out-Val}
 use Rattle.flow_value.specs.declared.cause.Cause.{Cause}
@@ -14,24 +13,20 @@ use Rattle.source_meaning.specs.declared.words.Test.TheVariants as test
 use Rattle.source_meaning.specs.declared.state.Walked.{Walked}
 use Rattle.source_meaning.specs.declared.state.Walk.{Walk}
 use Rattle.source_meaning.specs.declared.state.Turned.{Turned}
-use Rattle.source_meaning.specs.declared.state.Round.{Round}
 use Rattle.source_meaning.specs.declared.state.After.{After}
 use Rattle.source_meaning.specs.declared.state.After.TheVariants as after
 use Rattle.source_meaning.specs.declared.state.Work.{Work}
 use Rattle.source_meaning.specs.declared.state.Work.TheVariants as work
-use Rattle.source_meaning.specs.declared.state.Listing.{Listing}
-use Rattle.source_meaning.specs.declared.state.Operating.{Operating}
 use Rattle.source_meaning.specs.declared.state.Frame.{Frame}
 use Rattle.source_meaning.specs.declared.state.Frame.TheVariants as frame
 use Rattle.source_meaning.specs.Timed.{Timed, given, plus, andthen, Below, Moves, Passes}
-use Rattle.source_meaning.specs.Words.{value_at, failed, test_of, goes_on}
+use Rattle.source_meaning.specs.Words.{value_at, test_of}
 use Rattle.source_meaning.specs.Slots.{slot_values}
-use Rattle.source_meaning.specs.Sources.{places_of, lower_of, names_at}
-use Rattle.source_meaning.specs.Rows.{with_row, with_rows, made}
-use Rattle.source_meaning.specs.Meaning.{Gives, Members, all_of, defined, body_of, chosen, arm_of, each, environments, at_place, over, renew, turned, looped, members, calls, meaning, meanings, definitions, function_gives}
-use Rattle.source_meaning.specs.Pending.{Program, Rest, walked_body, walk, spanned, turned_next, ended, closed, round, tested, collected, finish, operate, frame_rest, last, rest, before}
-use Rattle.source_meaning.proofs.Laws.{below_refl, below_plus, below_then, below_trans, below_same, moves_same, moves_on, plus_plus, plus_zero, then_same, then_then, plus_then, then_given, joined, given_then}
-use Rattle.source_meaning.proofs.Grows.{Less, meaning_grows, meanings_grow, definitions_grow, body_grow, calls_grow, members_below, each_below, over_below, chosen_below, arm_below, turned_below}
+use Rattle.source_meaning.specs.Sources.{places_of}
+use Rattle.source_meaning.specs.Meaning.{Gives, all_of, defined, at_place, calls, meaning, meanings, function_gives}
+use Rattle.source_meaning.specs.Pending.{Program, Rest, walked_body, walk, spanned, turned_next, closed, round, tested, collected, finish, operate, frame_rest, last, rest, before}
+use Rattle.source_meaning.proofs.Laws.{below_refl, below_plus, below_then, moves_same, moves_on, plus_zero, then_same, then_then, then_given, joined, given_then}
+use Rattle.source_meaning.proofs.Grows.{Less, meanings_grow, definitions_grow, body_grow, calls_grow, members_below, each_below, over_below, chosen_below, arm_below, turned_below}
 
 -- ---- definitions add names
 
@@ -59,7 +54,7 @@ walked_grows n p w = body_grow n p w.defs.now w.values.now
 pub walk_below : (n : ℕ) (p : Program) (w : Walk) (j k : Rest) (env : List Val) (fs : List ClauseCells) → Lower j k → Below (walk n p w j env fs) (walk (suc n) p w k env fs)
 walk_below n p w j k env fs h =
     below_then _ _ _ _ (each_below (at_place (walked_body n p w.parts)) (at_place (walked_body (suc n) p w.parts)) (λ e. below_plus 1 _ _ (walked_grows n p w.parts e)) _)
-        (λ rows. below_plus _ _ _ (h env _))
+    (λ rows. below_plus _ _ _ (h env _))
 
 pub spanned_below : (n : ℕ) (p : Program) (w : Walked) (j k : Rest) → Lower j k → Lower (spanned n p w j) (spanned (suc n) p w k)
 spanned_below n p w j k h env bs =
@@ -71,7 +66,7 @@ turned_grows n p t env l = turned_below n p t.form.now t.defs.now env l
 pub round_below : (n : ℕ) (p : Program) (t : Turned) (b : Bool) (j k : Rest) (env : List Val) (fs : List ClauseCells) (l : List Val) → Lower j k → Below (round n p t b j env fs l) (round (suc n) p t b k env fs l)
 round_below n p t b j k env fs l h =
     below_then _ _ _ _ (members_below n b t.form.now.is_until _ _ (turned_next n p t) (turned_next (suc n) p t) env (meanings_grow n p t.test.now) (turned_grows n p t env) l)
-        (λ s. below_then _ _ _ _ (each_below _ _ (λ m. meanings_grow n p t.values.now (env ++ m)) s.lists) (λ rows. closed_below t j k env _ s.failure h))
+    (λ s. below_then _ _ _ _ (each_below _ _ (λ m. meanings_grow n p t.values.now (env ++ m)) s.lists) (λ rows. closed_below t j k env _ s.failure h))
 
 pub tested_below : (n : ℕ) (p : Program) (t : Turned) (j k : Rest) (env : List Val) (fs : List ClauseCells) (l : List Val) (x : Test) → Lower j k → Below (tested n p t j env fs l x) (tested (suc n) p t k env fs l x)
 tested_below n p t j k env fs l test.Yes h = below_plus 1 _ _ (below_then _ _ _ _ (turned_grows n p t env l) (λ m. round_below n p t true j k env fs m h))
@@ -116,20 +111,20 @@ rest_grows n p fs = fold_below n p fs last last (λ env vs. below_refl _)
 -- a call gives what its body gives at the depth below
 pub entered : (p : Program) (f s : ℕ) (fs : List Frame) (env vs : List Val) → Moves (λ n. plus s (andthen (calls n p f vs) (rest n p fs env))) (λ n. plus s (andthen (calls (suc n) p f vs) (rest n p fs env)))
 entered p f s fs env vs = record {
-    keep = λ n. below_plus s _ _ (below_then (calls n p f vs) (calls (suc n) p f vs) _ _ (calls_grow n p f vs) (λ ws. below_refl _));
-    back = λ n. (suc n, below_plus s _ _ (below_then (calls (suc n) p f vs) (calls (suc n) p f vs) _ _ (below_refl _) (λ ws. rest_grows n p fs env ws)));
+  keep = λ n. below_plus s _ _ (below_then (calls n p f vs) (calls (suc n) p f vs) _ _ (calls_grow n p f vs) (λ ws. below_refl _));
+  back = λ n. (suc n, below_plus s _ _ (below_then (calls (suc n) p f vs) (calls (suc n) p f vs) _ _ (below_refl _) (λ ws. rest_grows n p fs env ws)));
 }
 
 -- the body of a call stands in the frames
 enter_is : (n : ℕ) (p : Program) (f s : ℕ) (o : Option Function) (fs : List Frame) (env vs : List Val) (b : Timed (List Val)) → slice_get p f ≡ o → b ≡ andthen (function_gives o (meaning n p) vs) (rest n p fs env)
-  → plus s (andthen (calls (suc n) p f vs) (rest n p fs env)) ≡ plus s b
+    → plus s (andthen (calls (suc n) p f vs) (rest n p fs env)) ≡ plus s b
 enter_is n p f s o fs env vs b h e = ap (λ x. plus s (andthen (function_gives x (meaning n p) vs) (rest n p fs env))) h ∙ ap (plus s) (sym e)
 
 pub enter_moves : (p : Program) (f s t : ℕ) (o : Option Function) (fs : List Frame) (env vs : List Val) (b : ℕ → Timed (List Val)) → slice_get p f ≡ o → t ≡ s → ((n : ℕ) → b n ≡ andthen (function_gives o (meaning n p) vs) (rest n p fs env))
-  → Moves (λ n. plus s (andthen (calls n p f vs) (rest n p fs env))) (λ n. plus t (b n))
+    → Moves (λ n. plus s (andthen (calls n p f vs) (rest n p fs env))) (λ n. plus t (b n))
 enter_moves p f s t o fs env vs b h q e =
     moves_on (λ n. plus s (andthen (calls n p f vs) (rest n p fs env))) (λ n. plus s (andthen (calls (suc n) p f vs) (rest n p fs env))) (λ n. plus t (b n)) (entered p f s fs env vs)
-        (moves_same _ _ (λ n. enter_is n p f s o fs env vs (b n) h (e n) ∙ ap (λ x. plus x (b n)) (sym q)))
+    (moves_same _ _ (λ n. enter_is n p f s o fs env vs (b n) h (e n) ∙ ap (λ x. plus x (b n)) (sym q)))
 
 -- ---- the same pending work under another name
 
@@ -143,11 +138,11 @@ along_limit limit p s fs env vs a b e h = subst (λ x. Passes limit (λ n. befor
 
 -- the first of some parts, behind these values
 pub part_is : (n : ℕ) (p : Program) (e : TypedExpr) (es : List TypedExpr) (env xs : List Val) (F : List Val → Timed (List Val))
-  → andthen (meanings n p (e ∷ es) env) (λ ws. F (xs ++ ws)) ≡ andthen (meaning n p e env) (λ ws. andthen (meanings n p es env) (λ us. F ((xs ++ ws) ++ us)))
+    → andthen (meanings n p (e ∷ es) env) (λ ws. F (xs ++ ws)) ≡ andthen (meaning n p e env) (λ ws. andthen (meanings n p es env) (λ us. F ((xs ++ ws) ++ us)))
 part_is n p e es env xs F =
     joined (meaning n p e env) (λ ws. andthen (meanings n p es env) (λ us. given (ws ++ us))) (λ ws. F (xs ++ ws)) (λ ws. andthen (meanings n p es env) (λ us. F ((xs ++ ws) ++ us)))
-        (λ ws. joined (meanings n p es env) (λ us. given (ws ++ us)) (λ us. F (xs ++ us)) (λ us. F ((xs ++ ws) ++ us))
-            (λ us. given_then (ws ++ us) (λ us. F (xs ++ us)) ∙ ap F (sym (append_assoc xs ws us))))
+    (λ ws. joined (meanings n p es env) (λ us. given (ws ++ us)) (λ us. F (xs ++ us)) (λ us. F ((xs ++ ws) ++ us))
+    (λ us. given_then (ws ++ us) (λ us. F (xs ++ us)) ∙ ap F (sym (append_assoc xs ws us))))
 
 pub no_part : (n : ℕ) (p : Program) (env xs : List Val) (F : List Val → Timed (List Val)) → andthen (meanings n p [] env) (λ ws. F (xs ++ ws)) ≡ F xs
 no_part n p env xs F = given_then [] (λ ws. F (xs ++ ws)) ∙ ap F (append-nil xs)

@@ -1,5 +1,5 @@
 -- What the definition says of the work that is left.
-use Rattle.std.specs.Prelude.{◌≡◌, ℕ, suc, zero, sum_by, ◌*◌, ◌-◌, ◌+◌, ℤ, pos, Bool, true, false, List, [], ◌∷◌, ◌++◌, map, Option, Some, None, fold, length, slice_get, take, drop, replicate}
+use Rattle.std.specs.Prelude.{◌≡◌, ℕ, sum_by, ◌*◌, ◌-◌, ◌+◌, pos, Bool, true, false, List, [], ◌∷◌, ◌++◌, map, Option, Some, None, fold, length, take, drop}
 use Rattle.flow_value.specs.declared.value.Val.{Val}
 use Rattle.flow_value.specs.declared.value.Val.TheViews.{out-Val}
 use Rattle.flow_value.specs.declared.cause.Cause.{Cause}
@@ -12,13 +12,10 @@ use Rattle.source_meaning.specs.declared.words.Test.TheVariants as test
 use Rattle.source_meaning.specs.declared.state.Walked.{Walked}
 use Rattle.source_meaning.specs.declared.state.Walk.{Walk}
 use Rattle.source_meaning.specs.declared.state.Turned.{Turned}
-use Rattle.source_meaning.specs.declared.state.Round.{Round}
 use Rattle.source_meaning.specs.declared.state.After.{After}
 use Rattle.source_meaning.specs.declared.state.After.TheVariants as after
 use Rattle.source_meaning.specs.declared.state.Work.{Work}
 use Rattle.source_meaning.specs.declared.state.Work.TheVariants as work
-use Rattle.source_meaning.specs.declared.state.Listing.{Listing}
-use Rattle.source_meaning.specs.declared.state.Operating.{Operating}
 use Rattle.source_meaning.specs.declared.state.Frame.{Frame}
 use Rattle.source_meaning.specs.declared.state.Frame.TheVariants as frame
 use Rattle.source_meaning.specs.Timed.{Timed, given, plus, andthen}
@@ -44,7 +41,7 @@ walked_body n p w = body_of (map (map (meaning n p)) w.defs.now) (map (meaning n
 abbrev pub walk : ℕ → Program → Walk → Rest → List Val → List ClauseCells → Timed (List Val)
 walk n p w k env fs =
     andthen (each (at_place (walked_body n p w.parts)) (environments w.parts.form.now.sources (slot_values env w.bounds) env w.count w.left))
-        (λ rows. plus (length w.parts.form.now.clauses) (k env (made (lower_of (slot_values env w.bounds)) (with_rows w.parts.form.now.clauses fs rows))))
+    (λ rows. plus (length w.parts.form.now.clauses) (k env (made (lower_of (slot_values env w.bounds)) (with_rows w.parts.form.now.clauses fs rows))))
 
 -- the loop begins, with these bounds
 abbrev pub spanned : ℕ → Program → Walked → Rest → Rest
@@ -72,7 +69,7 @@ closed t k env fs (Some c) = k env (failed t.results c)
 abbrev pub round : ℕ → Program → Turned → Bool → Rest → List Val → List ClauseCells → List Val → Timed (List Val)
 round n p t is_tested k env fs l =
     andthen (members n is_tested t.form.now.is_until (meanings n p t.test.now) (turned_next n p t) env l)
-        (λ s. andthen (each (λ m. meanings n p t.values.now (env ++ m)) s.lists) (λ rows. closed t k env (with_rows t.form.now.clauses fs rows) s.failure))
+    (λ s. andthen (each (λ m. meanings n p t.values.now (env ++ m)) s.lists) (λ rows. closed t k env (with_rows t.form.now.clauses fs rows) s.failure))
 
 -- after a test
 abbrev pub tested : ℕ → Program → Turned → Rest → List Val → List ClauseCells → List Val → Test → Timed (List Val)

@@ -1,5 +1,4 @@
-use Rattle.std.proofs.Common.{◌≡◌, ℕ, ◌+◌, ◌≤◌, List, [], ◌++◌, Some, sym, ap, ◌∙◌, arith}
-use Rattle.flow_value.specs.declared.value.Val.{Val}
+use Rattle.std.proofs.Common.{◌≡◌, ◌≤◌, ◌++◌, Some, sym, ap, ◌∙◌, arith}
 use Rattle.source_meaning.specs.Slots.{given_values}
 use Rattle.source_meaning.specs.Meaning.{calls}
 use Rattle.source_meaning.specs.Pending.{Program}

@@ -1,7 +1,4 @@
-use Rattle.std.proofs.Common.{rules, ◌≡◌, ℕ, ◌+◌, List}
-use Rattle.source_meaning.specs.Timed.{plus, Moves, Passes}
 use Rattle.source_meaning.specs.Slots.{given_values}
-use Rattle.source_meaning.specs.Pending.{rest, frame_rest, whole}
 use Rattle.source_meaning.proofs.Laws.{moves_same}
 use Rattle.source_meaning.proofs.Parts.{along_frame, along_frame_limit}
 use Rattle.source_meaning.proofs.machine.advance.Goals as goal

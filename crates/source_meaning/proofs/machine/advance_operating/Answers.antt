@@ -1,19 +1,14 @@
-use Rattle.std.proofs.Common.{rules, ◌≡◌, ℕ, suc, ◌+◌, ◌<◌, ◌≤◌, List, [], ◌∷◌, ◌++◌, length, take, drop, Option, Some, None, slice_get, refl, sym, ap, subst, ◌∙◌, arith}
+use Rattle.std.proofs.Common.{rules, ◌≡◌, ◌+◌, List, [], ◌∷◌, ◌++◌, refl, ap, ◌∙◌}
 use Rattle.flow_value.specs.declared.value.Val.{Val}
-use Rattle.value_ops.specs.Operations.{op_value}
-use Rattle.typed_tree.specs.declared.expr.TypedExpr.{TypedExpr}
-use Rattle.source_meaning.specs.declared.state.Listing.{Listing}
 use Rattle.source_meaning.specs.declared.state.Operating.{Operating}
-use Rattle.source_meaning.specs.declared.state.Frame.{Frame}
 use Rattle.source_meaning.specs.declared.state.Frame.TheVariants as frame
-use Rattle.source_meaning.specs.Timed.{Timed, given, andthen, plus, Moves, Passes}
+use Rattle.source_meaning.specs.Timed.{andthen, plus}
 use Rattle.source_meaning.specs.Slots.{slot_values, given_values}
-use Rattle.source_meaning.specs.Meaning.{meaning, meanings, calls}
-use Rattle.source_meaning.specs.Pending.{Program, rest, frame_rest, finish, operate, load, whole, before, before_work, fuel}
-use Rattle.source_meaning.proofs.Laws.{moves_same, moves_on, moves_to, passes_back, plus_plus}
-use Rattle.source_meaning.proofs.Rests.{nil_of, found, too_long}
-use Rattle.source_meaning.proofs.Parts.{listing_step, operating_step, listing_last, operating_last, listing_late, operating_late, taken}
-
+use Rattle.source_meaning.specs.Meaning.{meaning}
+use Rattle.source_meaning.specs.Pending.{rest, frame_rest}
+use Rattle.source_meaning.proofs.Laws.{moves_same, passes_back}
+use Rattle.source_meaning.proofs.Rests.{nil_of}
+use Rattle.source_meaning.proofs.Parts.{operating_step, operating_last}
 use Rattle.source_meaning.proofs.machine.advance_operating.Goals as goal
 
 pub returns-in_ok-operand-in-Some-clause-same : goal.returns-in_ok-operand-in-Some-clause-same
@@ -41,5 +36,5 @@ returns-in_ok-going-in-None-clause-limit c g p =
     let h : c.args.operating.left.now ≡ [] = nil_of _ c.in-None.ensures.cases in
     let hd : slot_values env c.add_slots.new.slots ≡ slot_values env c.args.operating.slots ++ given_values c.args.state.now.given = (let a = c.in_ok-add_slots.ensures c.args.state.now.names in search (rules, a)) in
     passes_back c.args.limit _ _
-        (moves_same _ _ (λ n. ap (plus c.args.state.now.steps) (operating_last n p c.args.operating (rest n p c.args.state.now.frames.items) env (given_values c.args.state.now.given) (slot_values env c.add_slots.new.slots) h hd)))
-        (c.in_ok-going-in-None.ensures.limit g p)
+    (moves_same _ _ (λ n. ap (plus c.args.state.now.steps) (operating_last n p c.args.operating (rest n p c.args.state.now.frames.items) env (given_values c.args.state.now.given) (slot_values env c.add_slots.new.slots) h hd)))
+    (c.in_ok-going-in-None.ensures.limit g p)

@@ -1,4 +1,4 @@
-use Rattle.std.proofs.Common.{ℕ, ◌≤◌, List}
+use Rattle.std.proofs.Common.{◌≤◌}
 use Rattle.source_meaning.specs.Timed.{Moves}
 use Rattle.source_meaning.specs.Slots.{given_values}
 use Rattle.source_meaning.specs.Pending.{whole, fuel}
@@ -6,8 +6,8 @@ use Rattle.source_meaning.proofs.machine.run.Given as goal
 
 abbrev pub invariant-loop-frame : goal.invariant-loop-frame
 invariant-loop-frame l = record {
-    moves : Moves (λ n. whole n l.program l.fn.state.steps l.fn.state.frames.items l.fn.state.names (given_values l.fn.state.given)) (λ n. whole n l.program l.state.steps l.state.frames.items l.state.names (given_values l.state.given));
-    bound : l.fn.state.steps ≤ l.limit → l.state.steps ≤ l.limit;
+  moves : Moves (λ n. whole n l.program l.fn.state.steps l.fn.state.frames.items l.fn.state.names (given_values l.fn.state.given)) (λ n. whole n l.program l.state.steps l.state.frames.items l.state.names (given_values l.state.given));
+  bound : l.fn.state.steps ≤ l.limit → l.state.steps ≤ l.limit;
 }
 
 abbrev pub decreases-loop-frame : goal.decreases-loop-frame
