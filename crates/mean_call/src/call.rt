@@ -1,0 +1,42 @@
+//! The values of a program on words.
+ghost use Rattle.std.specs.Prelude.{◌≡◌, ℕ, List, IfOk, IfErr};
+ghost use Rattle.flow_value.specs.declared.ty.Ty.{Ty};
+ghost use Rattle.flow_value.specs.declared.value.Val.{Val};
+ghost use Rattle.typed_tree.specs.declared.program.Program as whole;
+ghost use Rattle.mean_call.specs.Calls.{Gives, IsEntry, IsRefused};
+ghost use Rattle.mean_call.specs.Words.{AreRead};
+
+use crate::arguments::arguments;
+use crate::entry::find_entry;
+use crate::fault::{ArgumentFault, Refusal};
+use crate::linking::unlinked;
+use flow_value::Items;
+use run_words::MeanSet;
+use source_meaning::{MeanFault, mean};
+use std::alloc::Global;
+use typed_tree::Program;
+
+/// The values of the entry function on these words.
+pub fn evaluate(alloc: Global, program: &Program, set: &MeanSet) -> Result<Items, Refusal>
+    ensures values { IfOk result (Gives program.now set.now) }
+    ensures refused { IfErr result (IsRefused program.now set.now) }
+{
+    if let Some(name) = unlinked(alloc, program)? {
+        return Err(Refusal::Unlinked(name));
+    }
+    let Some(entry) = find_entry(alloc, program, set.entry.as_slice())? else {
+        return Err(Refusal::Argument(ArgumentFault::Entry));
+    };
+    let args = arguments(alloc, set.values.as_slice(), entry.types.as_slice())?;
+    match mean(alloc, program, entry.function, args, set.limit) {
+        Ok(found) => Ok(found.values),
+        Err(MeanFault::TurnLimit) => Err(Refusal::TurnLimit),
+        Err(MeanFault::NoMemory) => Err(Refusal::NoMemory),
+    }
+}
+
+/// Words have one entry with one list of types, and are one list of values of these types.
+pub fn one_call()
+    ensures entry { (p : whole.Program) (word : List ℕ) (f g : ℕ) (ts us : List Ty) → IsEntry p word f ts → IsEntry p word g us → (f ≡ g) × (ts ≡ us) }
+    ensures arguments { (words : List (List ℕ)) (ts : List Ty) (vs us : List Val) → AreRead words ts vs → AreRead words ts us → vs ≡ us }
+{}

@@ -1,0 +1,13 @@
+//! From a typed program and the words of its entry's arguments to the values of its results.
+#![tactic(auto)]
+
+mod arguments;
+mod call;
+mod entry;
+mod fault;
+mod linking;
+mod trees;
+
+pub use call::{evaluate, one_call};
+pub use fault::{ArgumentFault, Refusal};
+pub use trees::tree_of;
