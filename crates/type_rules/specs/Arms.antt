@@ -1,5 +1,5 @@
 -- Which arm each tag of a union has in a `tagcase` (SISAL Language Reference Manual 1.2, unions).
-use Rattle.std.specs.Prelude.{◌≡◌, ◌×◌, ℕ, Bool, true, false, ◌&&◌, List, [], ◌∷◌, length, replicate, map, Option, Some, None, Result, Ok, Err, nat_eq, is_some, slice_get, slice_set, if◌then◌else◌}
+use Rattle.std.specs.Prelude.{◌≡◌, ℕ, Bool, true, false, not, ◌&&◌, List, [], ◌∷◌, length, replicate, map, Option, Some, None, Result, Ok, Err, nat_eq, is_some, slice_get, slice_set, if◌then◌else◌}
 use Rattle.sisal_tree.specs.declared.unit.Named.{Named}
 use Rattle.type_table.specs.declared.form.Form.{Form}
 use Rattle.type_table.specs.declared.form.Member.{Member}
@@ -26,8 +26,8 @@ numbered none arms = map (number_or none) arms
 
 -- there is a tag, and it has no arm
 abbrev pub is_free : Option (Option ℕ) → Bool
-is_free (Some None) = true
-is_free _ = false
+is_free (Some arm) = not (is_some arm)
+is_free None = false
 
 -- the type of a tag's content, and the arms once the tag has this one
 abbrev pub chosen_at : List (Option ℕ) → ℕ → Option (ℕ × ℕ) → Option (ℕ × List (Option ℕ))

@@ -1,6 +1,6 @@
 -- What a clause of a loop makes of values of a type, by the numbers of types (SISAL Language Reference Manual 1.2, the results of
 -- loops).
-use Rattle.std.specs.Prelude.{◌≡◌, ◌×◌, ◌⊎◌, ℕ, Bool, List, Option, Some, None, nat_eq, slice_get, if◌then◌else◌}
+use Rattle.std.specs.Prelude.{◌≡◌, ◌⊎◌, ℕ, Bool, List, Option, Some, None, nat_eq, slice_get, if◌then◌else◌}
 use Rattle.sisal_tree.specs.declared.expr.ClauseKind.{ClauseKind}
 use Rattle.sisal_tree.specs.declared.expr.ClauseKind.TheVariants as made
 use Rattle.sisal_tree.specs.declared.expr.Reduction.{Reduction}
@@ -8,7 +8,7 @@ use Rattle.sisal_tree.specs.declared.expr.Reduction.TheVariants as reduction
 use Rattle.loop_folds.specs.declared.folding.Folding.{Folding}
 use Rattle.loop_folds.specs.declared.folding.Folding.TheVariants as folding
 use Rattle.loop_folds.specs.declared.masking.Masking.{Masking}
-use Rattle.loop_folds.specs.declared.masking.Masking.TheVariants as masking
+use Rattle.loop_folds.specs.declared.masking.Masking.TheVariants as keeps
 use Rattle.type_table.specs.declared.form.Form.{Form}
 use Rattle.type_table.specs.declared.form.Form.TheVariants as form
 use Rattle.typed_tree.specs.Operations.{direction_of}
@@ -23,8 +23,8 @@ use Rattle.type_rules.specs.Applies.{IsSorted, IsTooDeep}
 
 -- no mask, or one that is `unless` or not
 abbrev pub masking_by : Option Bool → Masking
-masking_by None = masking.All
-masking_by (Some is_unless) = if is_unless then masking.Unless else masking.When
+masking_by None = keeps.All
+masking_by (Some is_unless) = if is_unless then keeps.Unless else keeps.When
 
 abbrev pub catenation : Form → Option Folding
 catenation (form.Array e) = Some folding.CatenateArrays
@@ -56,11 +56,11 @@ makes_of forms (made.Reduce d r) n = kept (reduced forms r n) n
 
 -- this is the clause's form, and the type that it makes, where the table is that one afterwards
 pub record IsMade (forms : List Form) (kind : ClauseKind) (mask : Option Bool) (n : ℕ) (m : Made) (after : List Form) : Type 0 where
-  pub sort : Sort
-  pub folded : makes_of forms kind n ≡ Some (record { folding = m.form.folding; sort = sort })
+  pub result : Sort
+  pub folded : makes_of forms kind n ≡ Some (record { folding = m.form.folding; sort = result })
   pub direction : m.form.direction ≡ direction_of kind
   pub masking : m.form.masking ≡ masking_by mask
-  pub typed : IsSorted after sort m.ty
+  pub typed : IsSorted after result m.ty
 
 -- the clause makes nothing of the values, or a type that is too deep
 abbrev pub IsUnmade : List Form → ClauseKind → ℕ → Refused → Type 0

@@ -47,13 +47,19 @@ abbrev pub paired : List ℕ → List ℕ → List Member
 paired (x ∷ xs) (n ∷ ns) = record { name = x; ty = n } ∷ paired xs ns
 paired _ _ = []
 
+abbrev pub is_member : Member → Member → Bool
+is_member m o = nat_eq m.name o.name && nat_eq m.ty o.ty
+
 abbrev pub are_members : List Member → List Member → Bool
 are_members [] [] = true
-are_members (m ∷ ms) (o ∷ os) = nat_eq m.name o.name && (nat_eq m.ty o.ty && are_members ms os)
+are_members (m ∷ ms) (o ∷ os) = is_member m o && are_members ms os
 are_members _ _ = false
 
+abbrev pub are_fields : List Member → List Member → Bool
+are_fields fs ms = nat_eq (length fs) (length ms) && are_members fs ms
+
 abbrev pub has_fields : List Member → Form → Bool
-has_fields ms (form.Record fs) = are_members fs ms
+has_fields ms (form.Record fs) = are_fields fs ms
 has_fields ms _ = false
 
 abbrev pub are_fields_at : List Form → ℕ → List Member → Bool

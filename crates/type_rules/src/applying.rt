@@ -1,5 +1,5 @@
 //! What a form makes of its operands.
-ghost use Rattle.std.specs.Prelude.{◌≡◌, ◌<◌, ◌×◌, IfOk, IfErr, OnErr, IsTrue, length, All, map};
+ghost use Rattle.std.specs.Prelude.{◌≡◌, ◌<◌, IfOk, IfErr, OnErr, IsTrue, length, All, map};
 ghost use Rattle.type_table.specs.Tables.{IsOver};
 ghost use Rattle.type_rules.specs.Applies.{applies, rule_of, Grows, IsSorted, IsTooDeep, IsApplied, IsRefused};
 
@@ -21,11 +21,7 @@ fn rule_of(head: &Head) -> u8
     ensures { result ≡ rule_of head.now }
 {
     match head {
-        Head::Select
-        | Head::Update
-        | Head::Array(_)
-        | Head::EmptyArray(_)
-        | Head::Stream(_) => 19,
+        Head::Select | Head::Update | Head::Array(_) | Head::EmptyArray(_) | Head::Stream(_) => 19,
         Head::Field(_) | Head::Replace(_) | Head::Record(_, _) => 20,
         Head::Union(_, _) | Head::IsTag(_) => 21,
         _ => 15,

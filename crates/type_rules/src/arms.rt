@@ -1,6 +1,6 @@
 //! Which arm each tag of a union has in a `tagcase`.
 ghost use Rattle.std.specs.Prelude.{◌≡◌, ◌≤◌, ◌<◌, ◌++◌, ℕ, List, IfOk, IfErr, OnOk, OnErr, IfSome, IsNone, ◌↔◌, length, replicate, map, Some, None, Ok, Err, slice_get, slice_set};
-ghost use Rattle.std.specs.Option.{option_map, option_copied};
+ghost use Rattle.std.specs.Option.{option_map};
 ghost use Rattle.type_rules.specs.Parts.{tags_at};
 ghost use Rattle.type_rules.specs.Arms.{no_arms, are_all_named, numbered, number_or, is_free, chosen, agrees, gives_arm, IsArm, IsNoArm, IsFaultOf};
 
@@ -26,7 +26,7 @@ pub struct Choices {
 impl Choices {
     /// No tag has an arm; none where the type is no union.
     pub fn new(alloc: Global, types: &Types, union: u32) -> Result<Option<Choices>, NoMemory>
-        ensures { IfOk result (λ o. option_map (λ c. c.arms) o ≡ option_map no_arms (tags_at types.now union)) }
+        ensures arms { IfOk result (λ o. option_map (λ c. c.arms) o ≡ option_map no_arms (tags_at types.now union)) }
         ensures union { IfOk result (λ o. IfSome o (λ c. c.union ≡ union)) }
     {
         match tags_of(types, union) {
@@ -111,28 +111,22 @@ fn number_or(arm: Option<u32>, arms: u32) -> u32
     }
 }
 
-/// Whether there is a tag, and it has no arm yet.
-fn is_free(arm: Option<&Option<u32>>) -> bool
-    ensures { result ≡ is_free (option_copied arm) }
+/// Whether there is a tag at a place, and it has no arm yet.
+fn is_free(arms: &[Option<u32>], place: u32) -> bool
+    ensures { result ≡ is_free (slice_get arms.now place) }
 {
-    match arm {
-        Some(None) => true,
-        _ => false,
+    match item_at(arms, place as usize) {
+        Some(arm) => arm.is_none(),
+        None => false,
     }
 }
 
 /// Gives a tag its arm: the type of its content, where the union has the tag and it has no arm yet.
-fn choose(
-    union: u32,
-    arms: &mut Seq<Option<u32>>,
-    types: &Types,
-    tag: u32,
-    arm: u32,
-) -> Option<u32>
+fn choose(union: u32, arms: &mut Seq<Option<u32>>, types: &Types, tag: u32, arm: u32) -> Option<u32>
     ensures { option_map (λ ty. (ty, arms.new)) result ≡ chosen types.now union arms.old arm tag }
 {
     let (place, content) = member_in_union(types, union, tag)?;
-    if !is_free(item_at(arms.as_slice(), place as usize)) {
+    if !is_free(arms.as_slice(), place) {
         return None;
     }
     arms.set(place as usize, Some(arm));

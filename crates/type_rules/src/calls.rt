@@ -1,6 +1,6 @@
 //! Calls that are built in.
 ghost use Rattle.std.specs.Prelude.{◌≡◌, ◌&&◌, nat_eq, Some, None, is_some};
-ghost use Rattle.type_rules.specs.Calls.{integers, integer_pair, integer, filled, grown, shrunk, based, adjusted, measured, firsts, gives_of, called};
+ghost use Rattle.type_rules.specs.Calls.{integer_pair, integer, filled, grown, shrunk, based, adjusted, measured, firsts, gives_of, called};
 
 use crate::head::{Container, Outcome, Sort};
 use crate::lookups::{element_in, is_part};

@@ -47,7 +47,13 @@ fn masking_by(mask: Option<bool>) -> Masking
 {
     match mask {
         None => Masking::All,
-        Some(is_unless) => { if is_unless { Masking::Unless } else { Masking::When } }
+        Some(is_unless) => {
+            if is_unless {
+                Masking::Unless
+            } else {
+                Masking::When
+            }
+        }
     }
 }
 

@@ -29,9 +29,5 @@ pub fn outcome_of(operation: Operation, sort: Option<Sort>) -> Option<Outcome>
 pub fn sort_if(test: bool, ty: u32) -> Option<Sort>
     ensures { result ≡ sort_if test ty }
 {
-    if test {
-        Some(Sort::There(ty))
-    } else {
-        None
-    }
+    if test { Some(Sort::There(ty)) } else { None }
 }

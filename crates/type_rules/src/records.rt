@@ -1,7 +1,7 @@
 //! Records and unions.
 ghost use Rattle.std.specs.Prelude.{◌≡◌, ◌≤◌, ◌++◌, ◌&&◌, IfOk, nat_eq, length, drop, Some, None, map, ℕ, List};
 ghost use Rattle.std.specs.Option.{option_map};
-ghost use Rattle.type_rules.specs.Records.{fields, paired, are_members, are_fields_at, record_sort, field_place, all_places, replaces, records, unites, tests};
+ghost use Rattle.type_rules.specs.Records.{fields, paired, is_member, are_members, are_fields, are_fields_at, record_sort, field_place, all_places, replaces, records, unites, tests};
 
 use crate::distinct::are_distinct;
 use crate::head::{Outcome, Sort};
@@ -59,13 +59,14 @@ pub fn tests(types: &Types, tag: u32, operands: &[u32]) -> Option<Outcome>
 
 /// Names and types one by one, as many as there are of both.
 fn paired(alloc: Global, names: &[u32], types: &[u32]) -> Result<Seq<Member>, NoMemory>
+    requires { length names.now ≡ length types.now }
     ensures { IfOk result (λ ms. ms ≡ paired names.now types.now) }
 {
     let mut members = Seq::new(alloc);
-    for (name, ty) in names.iter().zip(types) {
+    for i in 0..names.len() {
         members.add(Member {
-            name: *name,
-            ty: *ty,
+            name: names[i],
+            ty: types[i],
         })?;
     }
     Ok(members)
@@ -73,17 +74,28 @@ fn paired(alloc: Global, names: &[u32], types: &[u32]) -> Result<Seq<Member>, No
 
 /// Whether members are the same, in order.
 fn are_members(members: &[Member], others: &[Member]) -> bool
+    requires { length members.now ≡ length others.now }
     ensures { result ≡ are_members members.now others.now }
 {
-    if members.len() != others.len() {
-        return false;
-    }
-    for (member, other) in members.iter().zip(others) {
-        if member.name != other.name || member.ty != other.ty {
+    for i in 0..members.len() {
+        if !is_member(members[i], others[i]) {
             return false;
         }
     }
     true
+}
+
+fn is_member(member: Member, other: Member) -> bool
+    ensures { result ≡ is_member member other }
+{
+    member.name == other.name && member.ty == other.ty
+}
+
+/// Whether fields are these, in order.
+fn are_fields(fields: &[Member], members: &[Member]) -> bool
+    ensures { result ≡ are_fields fields.now members.now }
+{
+    fields.len() == members.len() && are_members(fields, members)
 }
 
 /// Whether a type is the record of these fields.
@@ -91,7 +103,7 @@ fn are_fields_at(types: &Types, ty: u32, members: &[Member]) -> bool
     ensures { result ≡ are_fields_at types.now ty members.now }
 {
     match types.form(ty) {
-        Some(Form::Record(fields)) => are_members(fields.as_slice(), members),
+        Some(Form::Record(fields)) => are_fields(fields.as_slice(), members),
         _ => false,
     }
 }
@@ -135,11 +147,7 @@ fn field_place(types: &Types, ty: u32, name: u32, value: u32) -> Option<u32>
     ensures { result ≡ field_place types.now ty name value }
 {
     let (place, content) = field_at(types, ty, name)?;
-    if content == value {
-        Some(place)
-    } else {
-        None
-    }
+    if content == value { Some(place) } else { None }
 }
 
 /// The places of fields of these names and types, if each is there.
@@ -150,11 +158,12 @@ fn all_places(
     names: &[u32],
     values: &[u32],
 ) -> Result<Option<Numbers>, NoMemory>
+    requires { length names.now ≡ length values.now }
     ensures { IfOk result (λ o. o ≡ all_places types.now ty names.now values.now) }
 {
     let mut places = Seq::new(alloc);
-    for (name, value) in names.iter().zip(values) {
-        let Some(place) = field_place(types, ty, *name, *value) else {
+    for i in 0..names.len() {
+        let Some(place) = field_place(types, ty, names[i], values[i]) else {
             return Ok(None);
         };
         places.add(place)?;

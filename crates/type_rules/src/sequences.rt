@@ -91,7 +91,10 @@ pub fn arrays(types: &Types, named: Option<u32>, operands: &[u32]) -> Option<Out
     if !all_are(*first, more) {
         return None;
     }
-    outcome_of(Operation::Array, named_sort(types, Container::Array, named, *first))
+    outcome_of(
+        Operation::Array,
+        named_sort(types, Container::Array, named, *first),
+    )
 }
 
 /// `array T []`
@@ -99,7 +102,10 @@ pub fn empties(types: &Types, named: Option<u32>, operands: &[u32]) -> Option<Ou
     ensures { result ≡ empties types.now named operands.now }
 {
     match operands {
-        [] => outcome_of(Operation::EmptyArray, empty_sort(types, Container::Array, named)),
+        [] => outcome_of(
+            Operation::EmptyArray,
+            empty_sort(types, Container::Array, named),
+        ),
         _ => None,
     }
 }
@@ -109,10 +115,16 @@ pub fn streams(types: &Types, named: Option<u32>, operands: &[u32]) -> Option<Ou
     ensures { result ≡ streams types.now named operands.now }
 {
     let [first, more @ ..] = operands else {
-        return outcome_of(Operation::Stream, empty_sort(types, Container::Stream, named));
+        return outcome_of(
+            Operation::Stream,
+            empty_sort(types, Container::Stream, named),
+        );
     };
     if !all_are(*first, more) {
         return None;
     }
-    outcome_of(Operation::Stream, named_sort(types, Container::Stream, named, *first))
+    outcome_of(
+        Operation::Stream,
+        named_sort(types, Container::Stream, named, *first),
+    )
 }
