@@ -76,7 +76,8 @@ impl Choices {
             union: _,
             arms: chosen,
         } = self;
-        numbers(chosen.into_vec(), arms)
+        let chosen = chosen.into_vec();
+        numbers(*chosen.allocator(), chosen.as_slice(), arms)
     }
 }
 
@@ -92,11 +93,11 @@ fn no_arms(alloc: Global, tags: usize) -> Result<Seq<Option<u32>>, NoMemory>
 }
 
 /// The places of arms, each none as a number.
-fn numbers(chosen: Vec<Option<u32>>, none: u32) -> Result<Numbers, NoMemory>
-    ensures { IfOk result (λ places. places ≡ numbered none chosen.items) }
+fn numbers(alloc: Global, chosen: &[Option<u32>], none: u32) -> Result<Numbers, NoMemory>
+    ensures { IfOk result (λ places. places ≡ numbered none chosen.now) }
 {
-    let mut places = Seq::new(*chosen.allocator());
-    for arm in &chosen {
+    let mut places = Seq::new(alloc);
+    for arm in chosen {
         places.add(number_or(*arm, none))?;
     }
     Ok(places)

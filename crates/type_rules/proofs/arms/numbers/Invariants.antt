@@ -4,4 +4,4 @@ use Rattle.type_rules.proofs.arms.numbers.Given as goal
 
 -- the places so far, with those to come, are all
 abbrev pub invariant-loop-arm : goal.invariant-loop-arm
-invariant-loop-arm l = l.places ++ numbered l.none (drop l.arm-index l.chosen.items) ≡ numbered l.none l.chosen.items
+invariant-loop-arm l = l.places ++ numbered l.none (drop l.arm-index l.chosen) ≡ numbered l.none l.chosen

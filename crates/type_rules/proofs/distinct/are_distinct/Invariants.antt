@@ -10,3 +10,6 @@ invariant-loop-at l = record {
   seen : (x : ℕ) → contains nat_eq l.behind x ≡ list_any (nat_eq x) (drop l.at l.numbers);
   whole : are_distinct (drop l.at l.numbers) ≡ true;
 }
+
+abbrev pub decreases-loop-at : goal.decreases-loop-at
+decreases-loop-at l = l.at
