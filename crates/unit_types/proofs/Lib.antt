@@ -1,0 +1,5 @@
+pub mod Finds
+pub mod Numbered
+pub mod Given
+pub mod Standing
+pub mod Depth
