@@ -39,18 +39,19 @@ later_unknown false x d known o p same h none e = e
 
 pub find_known : (x known : ℕ) (ds : List (ℕ × Definition)) → IsPlaced ds → known_in (newest x ds) known ≡ newest x (drop (length (plain ds) - known) (plain ds))
 find_known x known [] h = ap (newest x) (sym (drop-nil (0 - known)))
-find_known x known (d ∷ ds) h = by (nat_lt (length (plain ds)) known) refl
+find_known x known (d ∷ ds) h = by (nat_lt (length (plain ds)) known) refl (find_known x known ds h.2)
   where
-    by : (b : Bool) → nat_lt (length (plain ds)) known ≡ b → known_in (newest x (d ∷ ds)) known ≡ newest x (drop (length (plain (d ∷ ds)) - known) (plain (d ∷ ds)))
-    by true t =
+    by : (b : Bool) → nat_lt (length (plain ds)) known ≡ b → known_in (newest x ds) known ≡ newest x (drop (length (plain ds) - known) (plain ds))
+        → known_in (newest x (d ∷ ds)) known ≡ newest x (drop (length (plain (d ∷ ds)) - known) (plain (d ∷ ds)))
+    by true t before =
         let below : length (plain ds) < known = grind (arith, nat_tests) in
         let none : length (plain (d ∷ ds)) - known ≡ 0 = omega arith in
         all_known x known (d ∷ ds) h (omega arith) ∙ ap (λ k. newest x (drop k (plain (d ∷ ds)))) (sym none)
-    by false t =
+    by false t before =
         let above : known ≤ length (plain ds) = grind (arith, nat_tests) in
         let some : length (plain (d ∷ ds)) - known ≡ suc (length (plain ds) - known) = omega arith in
         later_unknown (nat_eq x d.0) x d known (newest x ds) (newest x (drop (length (plain ds) - known) (plain ds)))
-            (λ t. grind (arith, nat_tests)) (omega (arith, h.0)) (λ e. ap (λ y. newest y ds) e ∙ h.1) (find_known x known ds h.2)
+            (λ t. grind (arith, nat_tests)) (omega (arith, h.0)) (λ e. ap (λ y. newest y ds) e ∙ h.1) before
         ∙ ap (λ k. newest x (drop k (plain (d ∷ ds)))) (sym some)
 
 -- whether a name has a type

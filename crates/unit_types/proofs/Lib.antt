@@ -1,5 +1,4 @@
 pub mod Finds
 pub mod Numbered
 pub mod Given
-pub mod Standing
-pub mod Depth
+pub mod Lists

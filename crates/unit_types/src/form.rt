@@ -1,5 +1,5 @@
 //! Numbers of types.
-ghost use Rattle.std.specs.Prelude.{◌≡◌, ◌↔◌, ◌<◌, length, All, true, slice_get, Some, IfSome, IfOk, IsNone};
+ghost use Rattle.std.specs.Prelude.{◌≡◌, ◌↔◌, ◌<◌, length, map, All, true, slice_get, Some, IfSome, IfOk, IsNone};
 ghost use Rattle.type_table.specs.Forms.{form_depth};
 ghost use Rattle.type_table.specs.Tables.{depths, AddsAtMost, IsOver};
 
@@ -34,7 +34,7 @@ fn is_over(types: &Types, form: &Form) -> bool
 
 /// Whether the types of the members have numbers below `n`.
 fn are_below(members: &[Member], n: usize) -> bool
-    ensures { result ≡ true → All (λ m. m.ty < n) members.now }
+    ensures { result ≡ true → All (λ t. t < n) (map (λ m. m.ty) members.now) }
 {
     for member in members {
         if member.ty as usize >= n {
