@@ -1,5 +1,5 @@
 -- How names come into force and end (SISAL Language Reference Manual 1.2, scope).
-use Rattle.std.specs.Prelude.{ℕ, ◌+◌, ◌-◌, suc, List, [], ◌∷◌, drop, length, Option, Some, None, if◌then◌else◌, IsSome, Bool, ltb}
+use Rattle.std.specs.Prelude.{ℕ, ◌+◌, ◌-◌, List, [], ◌∷◌, drop, length, Option, Some, None, if◌then◌else◌, ltb}
 use Rattle.name_scope.specs.Newest.{newest}
 use Rattle.sisal_tree.specs.declared.unit.Named.{Named}
 use Rattle.value_names.specs.declared.value.Meaning.{Meaning}
@@ -75,14 +75,14 @@ place_in_loop first x s = place_from first (loop_value first (newest x s.olds))
 
 -- ---- names that stand twice
 
+abbrev pub twice_if : Option (Unit {0}) → ℕ → Option ℕ → Option ℕ
+twice_if None line rest = rest
+twice_if (Some u) line rest = Some line
+
 -- the line of the first name that stands before it, in a list behind these names
 abbrev pub twice_onto : List (ℕ × Unit {0}) → List Named → Option ℕ
 twice_onto before [] = None
 twice_onto before (n ∷ ns) = twice_if (newest n.name before) n.line (twice_onto ((n.name, tt) ∷ before) ns)
-  where
-    twice_if : Option (Unit {0}) → ℕ → Option ℕ → Option ℕ
-    twice_if None line rest = rest
-    twice_if (Some u) line rest = Some line
 
 abbrev pub twice_in : List Named → Option ℕ
 twice_in ns = twice_onto [] ns
