@@ -5,3 +5,5 @@ pub mod Grown
 pub mod Sorted
 pub mod Telling
 pub mod Calling
+pub mod Verdicts
+pub mod Membership

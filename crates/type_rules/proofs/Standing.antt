@@ -11,6 +11,7 @@ use Rattle.type_table.specs.declared.form.Form.TheVariants as form
 use Rattle.type_table.specs.declared.form.Member.{Member as NumberedMember}
 use Rattle.type_table.specs.Tables.{IsWell}
 use Rattle.typed_tree.specs.Types.{Member, IsNumber, boolean, character, integer, null, array, stream, a_record, a_union, AreMembers, no_member, a_member, AreNumbers}
+use Rattle.type_rules.specs.Typed.{AreSpelledOnce}
 
 -- ---- by its form
 
@@ -124,9 +125,6 @@ module _ (forms : List Form) (names : List (List ℕ)) where
 
 -- ---- each once
 
--- each name is spelled in its own way
-abbrev pub AreSpelledOnce : List (List ℕ) → Type 0
-AreSpelledOnce names = (i j : ℕ) (s : List ℕ) → slice_get names i ≡ Some s → slice_get names j ≡ Some s → i ≡ j
 
 -- the members that stand for a list of fields that begins so
 pub record HasFirst (forms : List Form) (names : List (List ℕ)) (os : List NumberedMember) (f : Member) (fs : List Member) : Type 0 where
