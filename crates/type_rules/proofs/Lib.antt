@@ -7,3 +7,7 @@ pub mod Telling
 pub mod Calling
 pub mod Verdicts
 pub mod Membership
+pub mod Fielded
+pub mod Forming
+pub mod Clauses
+pub mod Deep

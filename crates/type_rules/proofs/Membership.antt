@@ -127,6 +127,11 @@ module _ (forms : List Form) (names : List (List ℕ)) (known : IsKnown forms na
       → (ms : List Member) × (content : Ty) × (a ≡ ty.Rec ms) × Has names ms x r.0 content × IsNumber forms names r.1 content
   field_found n a p x r e = field_by n a p x r (slice_get forms n) refl e
 
+  -- the same of a record that is known
+  pub field_in : (n : ℕ) (ms : List Member) → IsNumber forms names n (ty.Rec ms) → (x : ℕ) (r : ℕ × ℕ) → field_at forms n x ≡ Some r
+      → (content : Ty) × Has names ms x r.0 content × IsNumber forms names r.1 content
+  field_in n ms p x r e = let s = at_record forms names n ms p in found s.0 ms s.2 x r (sym (ap (part_if (field_part x)) s.1) ∙ e)
+
   pub field_absent : (n : ℕ) (ms : List Member) → IsNumber forms names n (ty.Rec ms) → (x place : ℕ) (content : Ty) → Has names ms x place content → field_at forms n x ≡ None → ⊥
   field_absent n ms p x place content has e =
       let s = at_record forms names n ms p in absent s.0 ms s.2 x place content has (sym (ap (part_if (field_part x)) s.1) ∙ e)

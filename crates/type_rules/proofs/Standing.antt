@@ -76,10 +76,10 @@ out_int = search (rules, types.the_lemmas)
 out_null : out-Ty ty.Null ≡ Ty-F.Null
 out_null = search (rules, types.the_lemmas)
 
-out_array : (t : Ty) → out-Ty (ty.Arr t) ≡ Ty-F.Arr t
+pub out_array : (t : Ty) → out-Ty (ty.Arr t) ≡ Ty-F.Arr t
 out_array t = search (rules, types.the_lemmas)
 
-out_stream : (t : Ty) → out-Ty (ty.Stream t) ≡ Ty-F.Stream t
+pub out_stream : (t : Ty) → out-Ty (ty.Stream t) ≡ Ty-F.Stream t
 out_stream t = search (rules, types.the_lemmas)
 
 out_record : (fs : List Member) → out-Ty (ty.Rec fs) ≡ Ty-F.Rec fs

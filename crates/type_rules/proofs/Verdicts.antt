@@ -62,7 +62,7 @@ as_many forms names (n ∷ ns) (t ∷ ts) p = ap suc (as_many forms names ns ts 
 -- ---- what the rules want of each form
 
 module _ (forms : List Form) (names : List (List ℕ)) where
-  abbrev Says : Head → List Ty → Type 0 → Type 0
+  abbrev pub Says : Head → List Ty → Type 0 → Type 0
   Says h ts P = (o : Operation) (t : Ty) → IsForm forms names h ts o t → P
 
   error_wants : {n : ℕ} {ts : List Ty} → Says (head.ErrorOf n) ts (length ts ≡ 0)
@@ -125,26 +125,26 @@ module _ (forms : List Form) (names : List (List ℕ)) where
 -- ---- forms
 
 module _ (forms : List Form) (names : List (List ℕ)) (known : IsKnown forms names) where
-  abbrev Made : Head → List Ty → Option Outcome → Type 0
+  abbrev pub Made : Head → List Ty → Option Outcome → Type 0
   Made h ts o = Verdict forms names h ts o
 
-  either : (h : Head) (ts : List Ty) (b : Bool) (x y : Option Outcome) → (b ≡ true → Made h ts x) → (b ≡ false → Made h ts y) → Made h ts (if b then x else y)
+  pub either : (h : Head) (ts : List Ty) (b : Bool) (x y : Option Outcome) → (b ≡ true → Made h ts x) → (b ≡ false → Made h ts y) → Made h ts (if b then x else y)
   either h ts true x y f g = f refl
   either h ts false x y f g = g refl
 
-  unless_told : {h : Head} {ts : List Ty} {P : Type 0} (b : Bool) → Tells b P → Says forms names h ts P → b ≡ false → Made h ts None
+  pub unless_told : {h : Head} {ts : List Ty} {P : Type 0} (b : Bool) → Tells b P → Says forms names h ts P → b ≡ false → Made h ts None
   unless_told b tells wants e = λ o t f. both_truths b (tells.back (wants o t f)) e
 
   -- operands of another number
-  off : {h : Head} {ts : List Ty} (ns : List ℕ) (m : ℕ) → AreNumbers forms names ns ts → Says forms names h ts (length ts ≡ m) → (length ns ≡ m → ⊥) → Made h ts None
+  pub off : {h : Head} {ts : List Ty} (ns : List ℕ) (m : ℕ) → AreNumbers forms names ns ts → Says forms names h ts (length ts ≡ m) → (length ns ≡ m → ⊥) → Made h ts None
   off {h} {ts} ns m p wants other = λ o t f. other (as_many forms names ns ts p ∙ wants o t f)
 
-  v_error : (n : ℕ) → n < length forms → (ns : List ℕ) (ts : List Ty) → AreNumbers forms names ns ts → Made (head.ErrorOf n) ts (error_of n ns)
+  pub v_error : (n : ℕ) → n < length forms → (ns : List ℕ) (ts : List Ty) → AreNumbers forms names ns ts → Made (head.ErrorOf n) ts (error_of n ns)
   v_error n there [] [] p = let s = known.stands n (get_or forms n form.Null) (slice_get-get_or forms n form.Null there) in (s.0, typed.error_of s.1, s.1)
   v_error n there [] (t ∷ ts) p = absurd p
   v_error n there (a ∷ ns) ts p = off (a ∷ ns) 0 p (error_wants forms names) (λ e. omega (arith, e))
 
-  v_errs : (ns : List ℕ) (ts : List Ty) → AreNumbers forms names ns ts → Made head.IsError ts (errs ns)
+  pub v_errs : (ns : List ℕ) (ts : List Ty) → AreNumbers forms names ns ts → Made head.IsError ts (errs ns)
   v_errs [] ts p = off [] 1 p (errs_wants forms names) (λ e. omega (arith, e))
   v_errs (a ∷ []) [] p = absurd p
   v_errs (a ∷ []) (t ∷ []) p = (ty.Bool, typed.is_error, boolean_is forms names known.table)
@@ -156,7 +156,7 @@ module _ (forms : List Form) (names : List (List ℕ)) (known : IsKnown forms na
   scalar_is scalar.Boolean = boolean_is forms names known.table
   scalar_is scalar.Character = character_is forms names known.table
 
-  v_convert : (c : Scalar) (ns : List ℕ) (ts : List Ty) → AreNumbers forms names ns ts → Made (head.Convert c) ts (converts c ns)
+  pub v_convert : (c : Scalar) (ns : List ℕ) (ts : List Ty) → AreNumbers forms names ns ts → Made (head.Convert c) ts (converts c ns)
   v_convert c [] ts p = off [] 1 p (convert_long forms names) (λ e. omega (arith, e))
   v_convert c (n ∷ []) [] p = absurd p
   v_convert c (n ∷ []) (a ∷ []) p =
@@ -169,7 +169,7 @@ module _ (forms : List Form) (names : List (List ℕ)) (known : IsKnown forms na
   prefix_is sign.Negate = integer_is forms names known.table
   prefix_is sign.Not = boolean_is forms names known.table
 
-  v_prefix : (o : PrefixOperator) (ns : List ℕ) (ts : List Ty) → AreNumbers forms names ns ts → Made (head.Prefix o) ts (prefixed o ns)
+  pub v_prefix : (o : PrefixOperator) (ns : List ℕ) (ts : List Ty) → AreNumbers forms names ns ts → Made (head.Prefix o) ts (prefixed o ns)
   v_prefix o [] ts p = off [] 1 p (prefix_long forms names) (λ e. omega (arith, e))
   v_prefix o (n ∷ []) [] p = absurd p
   v_prefix o (n ∷ []) (a ∷ []) p =
@@ -202,7 +202,7 @@ module _ (forms : List Form) (names : List (List ℕ)) (known : IsKnown forms na
     back = λ e. eq-eqb n m (one_number forms names known.table.well known.spelled n m b (subst (IsNumber forms names n) e p) q);
   }
 
-  v_binary : (o : BinaryOperator) (ns : List ℕ) (ts : List Ty) → AreNumbers forms names ns ts → Made (head.Binary o) ts (combines forms o ns)
+  pub v_binary : (o : BinaryOperator) (ns : List ℕ) (ts : List Ty) → AreNumbers forms names ns ts → Made (head.Binary o) ts (combines forms o ns)
   v_binary o [] ts p = off [] 2 p (binary_long forms names) (λ e. omega (arith, e))
   v_binary o (n ∷ []) ts p = off (n ∷ []) 2 p (binary_long forms names) (λ e. omega (arith, e))
   v_binary o (n ∷ m ∷ []) [] p = absurd p
@@ -224,7 +224,7 @@ module _ (forms : List Form) (names : List (List ℕ)) (known : IsKnown forms na
   int_tells : (n : ℕ) (a : Ty) → IsNumber forms names n a → Tells (nat_eq n 2) (a ≡ ty.Int)
   int_tells n a p = integer_tells forms names known.table n a p
 
-  v_select : (ns : List ℕ) (ts : List Ty) → AreNumbers forms names ns ts → Made head.Select ts (selects forms ns)
+  pub v_select : (ns : List ℕ) (ts : List Ty) → AreNumbers forms names ns ts → Made head.Select ts (selects forms ns)
   v_select [] ts p = off [] 2 p (select_long forms names) (λ e. omega (arith, e))
   v_select (n ∷ []) ts p = off (n ∷ []) 2 p (select_long forms names) (λ e. omega (arith, e))
   v_select (n ∷ i ∷ []) [] p = absurd p
@@ -262,7 +262,7 @@ module _ (forms : List Form) (names : List (List ℕ)) (known : IsKnown forms na
           let s = element_has forms names known.table known.spelled c n b (subst (IsNumber forms names n) e p) in
           ap (λ m. is_part m v) s.1 ∙ (same_tells s.0 v b b s.2 q).back refl
 
-  v_update : (ns : List ℕ) (ts : List Ty) → AreNumbers forms names ns ts → Made head.Update ts (updates forms ns)
+  pub v_update : (ns : List ℕ) (ts : List Ty) → AreNumbers forms names ns ts → Made head.Update ts (updates forms ns)
   v_update [] ts p = off [] 3 p (update_long forms names) (λ e. omega (arith, e))
   v_update (n ∷ []) ts p = off (n ∷ []) 3 p (update_long forms names) (λ e. omega (arith, e))
   v_update (n ∷ i ∷ []) ts p = off (n ∷ i ∷ []) 3 p (update_long forms names) (λ e. omega (arith, e))
@@ -330,7 +330,7 @@ module _ (forms : List Form) (names : List (List ℕ)) (known : IsKnown forms na
   is_container container.Stream k n a p e = is_stream k n a p (slice_get forms k) refl e
 
   -- each number in the table is of some type
-  some_type : (k : ℕ) (o : Option Form) → slice_get forms k ≡ o → is_some o ≡ true → (t : Ty) × IsNumber forms names k t
+  pub some_type : (k : ℕ) (o : Option Form) → slice_get forms k ≡ o → is_some o ≡ true → (t : Ty) × IsNumber forms names k t
   some_type k (Some f) h e = known.stands k f h
   some_type k None h e = absurd cc
 
@@ -361,7 +361,7 @@ module _ (forms : List Form) (names : List (List ℕ)) (known : IsKnown forms na
           let q = element_has forms names known.table known.spelled c k a (wants o t f) in
           both_truths (is_part (element_in forms c k) n) (ap (λ m. is_part m n) q.1 ∙ (same_tells q.0 n a a q.2 p).back refl) g
 
-  v_array : (x : Option ℕ) (ns : List ℕ) (ts : List Ty) → AreNumbers forms names ns ts → Made (head.Array x) ts (arrays forms x ns)
+  pub v_array : (x : Option ℕ) (ns : List ℕ) (ts : List Ty) → AreNumbers forms names ns ts → Made (head.Array x) ts (arrays forms x ns)
   v_array x [] ts p = λ o t f. let k = array_long forms names o t f in let e : zero ≡ suc (suc k.0) = as_many forms names [] ts p ∙ k.1 in omega (arith, e)
   v_array x (l ∷ []) ts p = λ o t f. let k = array_long forms names o t f in let e : suc zero ≡ suc (suc k.0) = as_many forms names (l ∷ []) ts p ∙ k.1 in omega (arith, e)
   v_array x (l ∷ n ∷ ns) [] p = absurd p
@@ -392,14 +392,14 @@ module _ (forms : List Form) (names : List (List ℕ)) (known : IsKnown forms na
           let q = element_has forms names known.table known.spelled c k w.1 (subst (λ j. IsNumber forms names j (made c w.1)) (sym same) w.3) in
           some_none q.0 (element_in forms c k) q.1 e
 
-  v_empty : (x : Option ℕ) (ns : List ℕ) (ts : List Ty) → AreNumbers forms names ns ts → Made (head.EmptyArray x) ts (empties forms x ns)
+  pub v_empty : (x : Option ℕ) (ns : List ℕ) (ts : List Ty) → AreNumbers forms names ns ts → Made (head.EmptyArray x) ts (empties forms x ns)
   v_empty x [] [] p = nothing_named (head.EmptyArray x) [] operation.EmptyArray container.Array x
     (λ n e same q. subst (λ y. IsForm forms names (head.EmptyArray y) [] operation.EmptyArray (ty.Arr e)) (sym same) (typed.empty_array e q))
     (empty_wants forms names)
   v_empty x [] (t ∷ ts) p = absurd p
   v_empty x (n ∷ ns) ts p = off (n ∷ ns) 0 p (empty_long forms names) (λ e. omega (arith, e))
 
-  v_stream : (x : Option ℕ) (ns : List ℕ) (ts : List Ty) → AreNumbers forms names ns ts → Made (head.Stream x) ts (streams forms x ns)
+  pub v_stream : (x : Option ℕ) (ns : List ℕ) (ts : List Ty) → AreNumbers forms names ns ts → Made (head.Stream x) ts (streams forms x ns)
   v_stream x [] [] p = nothing_named (head.Stream x) [] operation.Stream container.Stream x
     (λ n e same q. subst (λ y. IsForm forms names (head.Stream y) [] operation.Stream (ty.Stream e)) (sym same) (typed.empty_stream e q))
     (streams_want_name forms names)
@@ -413,7 +413,7 @@ module _ (forms : List Form) (names : List (List ℕ)) (known : IsKnown forms na
 
   -- ---- calls that are built in
 
-  v_call : (b : BuiltIn) (ns : List ℕ) (ts : List Ty) → AreNumbers forms names ns ts → Made (head.BuiltIn b) ts (called forms b ns)
+  pub v_call : (b : BuiltIn) (ns : List ℕ) (ts : List Ty) → AreNumbers forms names ns ts → Made (head.BuiltIn b) ts (called forms b ns)
   v_call b ns ts p = by (gives_of forms b ns) refl
     where
       by : (s : Option Sort) → gives_of forms b ns ≡ s → Made (head.BuiltIn b) ts (outcome_of (built_in_operation b) s)

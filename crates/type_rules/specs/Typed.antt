@@ -7,20 +7,25 @@ use Rattle.flow_value.specs.declared.operation.Scalar1.TheVariants as unary
 use Rattle.sisal_tree.specs.declared.expr.Scalar.{Scalar}
 use Rattle.sisal_tree.specs.declared.expr.PrefixOperator.{PrefixOperator}
 use Rattle.sisal_tree.specs.declared.expr.BinaryOperator.{BinaryOperator}
+use Rattle.sisal_tree.specs.declared.expr.ClauseKind.{ClauseKind}
 use Rattle.value_ops.specs.declared.operation.Operation.{Operation}
 use Rattle.value_ops.specs.declared.operation.Operation.TheVariants as operation
 use Rattle.type_table.specs.declared.form.Form.{Form}
 use Rattle.type_table.specs.declared.form.Form.TheVariants as form
 use Rattle.type_table.specs.declared.form.Member.{Member as NumberedMember}
-use Rattle.type_table.specs.Tables.{IsTable}
+use Rattle.type_table.specs.Forms.{form_depth}
+use Rattle.type_table.specs.Tables.{depths, IsTable}
 use Rattle.typed_tree.specs.declared.built_in.BuiltIn.{BuiltIn}
 use Rattle.typed_tree.specs.Scopes.{AreDistinct}
-use Rattle.typed_tree.specs.Types.{Member, IsMember, IsNumber, AreNumbers, scalar_type, IsConverted, prefix_type, AreOperands, binary_type, Gives}
-use Rattle.typed_tree.specs.Operations.{prefix_operation, binary_operation, convert_operation, built_in_operation}
+use Rattle.typed_tree.specs.Types.{Member, IsMember, IsNumber, AreNumbers, scalar_type, IsConverted, prefix_type, AreOperands, binary_type, Gives, Makes, depth_of, IsShallow}
+use Rattle.typed_tree.specs.Operations.{prefix_operation, binary_operation, convert_operation, built_in_operation, folding_of}
 use Rattle.type_rules.specs.declared.head.Head.{Head}
 use Rattle.type_rules.specs.declared.head.Head.TheVariants as head
 use Rattle.type_rules.specs.declared.head.Sort.{Sort}
+use Rattle.type_rules.specs.declared.head.Sort.TheVariants as sort
 use Rattle.type_rules.specs.declared.head.Outcome.{Outcome}
+use Rattle.type_rules.specs.declared.folds.Folded.{Folded}
+use Rattle.type_rules.specs.Folds.{makes_of}
 use Rattle.type_rules.specs.Records.{are_distinct}
 use Rattle.type_rules.specs.Applies.{applies, Grows, IsSorted}
 
@@ -45,6 +50,11 @@ pub data AreFields (names : List (List ℕ)) : List ℕ → List Ty → List Mem
   no_field : AreFields names [] [] []
   a_field : {x : ℕ} {spelling : List ℕ} {a : Ty} {xs : List ℕ} {tys : List Ty} {ms : List Member}
       → slice_get names x ≡ Some spelling → AreFields names xs tys ms → AreFields names (x ∷ xs) (a ∷ tys) ((spelling, a) ∷ ms)
+
+-- a type is as deep as what is made
+abbrev pub IsAsDeep : List Form → Sort → Ty → Type 0
+IsAsDeep forms (sort.There n) t = IsShallow t
+IsAsDeep forms (sort.Made f) t = form_depth (depths forms) f ≡ depth_of t
 
 module _ (forms : List Form) (names : List (List ℕ)) where
   -- with or without the name of a type
@@ -98,9 +108,18 @@ module _ (forms : List Form) (names : List (List ℕ)) where
   -- what a form makes by number it makes by type, and where it makes nothing it is not typed
   abbrev pub FitsTypes : Head → List Ty → Option Outcome → Type 0
   FitsTypes h ts None = (o : Operation) (t : Ty) → IsForm h ts o t → ⊥
-  FitsTypes h ts (Some o) = (t : Ty) × IsForm h ts o.operation t × IsSortOf o.sort t
+  FitsTypes h ts (Some o) = (t : Ty) × IsForm h ts o.operation t × IsSortOf o.sort t × IsAsDeep forms o.sort t
 
 -- the numbers of types give what the typing rules say
 abbrev pub FormsByType : Type 0
 FormsByType = (forms : List Form) (names : List (List ℕ)) → IsKnown forms names → (h : Head) → IsKnownHead forms names h
     → (ns : List ℕ) (ts : List Ty) → AreNumbers forms names ns ts → FitsTypes forms names h ts (applies forms h ns)
+
+-- what a clause makes by number it makes by type, and where it makes nothing it is not typed
+abbrev pub FitsClause : List Form → List (List ℕ) → ClauseKind → Ty → Option Folded → Type 0
+FitsClause forms names kind t None = (made : Ty) → Makes kind t made → ⊥
+FitsClause forms names kind t (Some f) = (made : Ty) × Makes kind t made × (f.folding ≡ folding_of kind t) × IsSortOf forms names f.sort made × IsAsDeep forms f.sort made
+
+abbrev pub ClausesByType : Type 0
+ClausesByType = (forms : List Form) (names : List (List ℕ)) → IsTable forms → (kind : ClauseKind) (n : ℕ) (t : Ty) → IsNumber forms names n t
+    → FitsClause forms names kind t (makes_of forms kind n)
