@@ -55,6 +55,9 @@ depth_onto (g ∷ fs) ds (suc k) f e over =
     ap (slice_get (depths_onto more fs)) at
     ∙ depth_onto fs more k f e (λ j g h. let there : length ds + suc j ≡ length more + j = omega (arith, long) in subst (λ n. IsOver n g) there (over (suc j) g h))
 
+one_more : (d e : ℕ) → d ≡ e → 1 + d ≡ suc e
+one_more d e h = omega (arith, h)
+
 module _ (forms : List Form) (names : List (List ℕ)) (table : IsTable forms) where
   depth_there : (n : ℕ) (f : Form) → slice_get forms n ≡ Some f → slice_get (depths forms) n ≡ Some (form_depth (depths forms) f)
   depth_there n f e =
@@ -76,8 +79,8 @@ module _ (forms : List Form) (names : List (List ℕ)) (table : IsTable forms) w
     depth_is n _ (null e) = depth_at n form.Null e ∙ sym depth_basic.3
     depth_is n _ (array {m = m} {t = t} e p) = depth_at n (form.Array m) e ∙ one_deeper m t (depth_is m t p) ∙ sym (depth_array t)
     depth_is n _ (stream {m = m} {t = t} e p) = depth_at n (form.Stream m) e ∙ one_deeper m t (depth_is m t p) ∙ sym (depth_stream t)
-    depth_is n _ (a_record {ms = ms} {fs = fs} e p) = depth_at n (form.Record ms) e ∙ ap suc (deepest_is ms fs p) ∙ sym (depth_record fs)
-    depth_is n _ (a_union {ms = ms} {fs = fs} e p) = depth_at n (form.Union ms) e ∙ ap suc (deepest_is ms fs p) ∙ sym (depth_union fs)
+    depth_is n _ (a_record {ms = ms} {fs = fs} e p) = depth_at n (form.Record ms) e ∙ one_more _ _ (deepest_is ms fs p) ∙ sym (depth_record fs)
+    depth_is n _ (a_union {ms = ms} {fs = fs} e p) = depth_at n (form.Union ms) e ∙ one_more _ _ (deepest_is ms fs p) ∙ sym (depth_union fs)
 
     deepest_is : (ms : List NumberedMember) (fs : List Member) → AreMembers forms names ms fs → deepest (depths forms) (map (λ m. m.ty) ms) ≡ types.deepest (map (λ m. (m.0, depth_of m.1)) fs)
     deepest_is _ _ no_member = refl
@@ -109,5 +112,5 @@ module _ (forms : List Form) (names : List (List ℕ)) (table : IsTable forms) w
   as_deep (sort.Made form.Null) t p = sym depth_basic.3 ∙ ap depth_of (sym p)
   as_deep (sort.Made (form.Array m)) t p = one_deeper m p.part (depth_is m p.part p.stands) ∙ sym (depth_array p.part) ∙ ap depth_of (sym p.is)
   as_deep (sort.Made (form.Stream m)) t p = one_deeper m p.part (depth_is m p.part p.stands) ∙ sym (depth_stream p.part) ∙ ap depth_of (sym p.is)
-  as_deep (sort.Made (form.Record ms)) t p = ap suc (deepest_is ms p.fields p.stand) ∙ sym (depth_record p.fields) ∙ ap depth_of (sym p.is)
-  as_deep (sort.Made (form.Union ms)) t p = ap suc (deepest_is ms p.fields p.stand) ∙ sym (depth_union p.fields) ∙ ap depth_of (sym p.is)
+  as_deep (sort.Made (form.Record ms)) t p = one_more _ _ (deepest_is ms p.fields p.stand) ∙ sym (depth_record p.fields) ∙ ap depth_of (sym p.is)
+  as_deep (sort.Made (form.Union ms)) t p = one_more _ _ (deepest_is ms p.fields p.stand) ∙ sym (depth_union p.fields) ∙ ap depth_of (sym p.is)

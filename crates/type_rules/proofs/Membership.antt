@@ -81,9 +81,11 @@ module _ (forms : List Form) (names : List (List ℕ)) (known : IsKnown forms na
   found ms fs p x r h =
       let q = is_member x 0 ms r h in
       let s = member_stands forms names ms fs p q.i q.member q.is in
-      let place : q.i ≡ r.0 = omega (arith, q.place) in
-      (s.0.1, record { spelling = s.0.0; spelled = subst (λ y. slice_get names y ≡ Some s.0.0) q.named s.2; member = subst (λ k. slice_get fs k ≡ Some s.0) place s.1 },
-      subst (λ k. IsNumber forms names k s.0.1) q.typed s.3)
+      let place : q.i ≡ r.0 = omega (arith, q.place) in (
+        s.0.1,
+        record { spelling = s.0.0; spelled = subst (λ y. slice_get names y ≡ Some s.0.0) q.named s.2; member = subst (λ k. slice_get fs k ≡ Some s.0) place s.1 },
+        subst (λ k. IsNumber forms names k s.0.1) q.typed s.3,
+      )
 
   absent : (ms : List NumberedMember) (fs : List Member) → AreMembers forms names ms fs → (x place : ℕ) (content : Ty) → Has names fs x place content → first_member x 0 ms ≡ None → ⊥
   absent ms fs p x place content has h =

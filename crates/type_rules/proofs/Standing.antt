@@ -125,7 +125,6 @@ module _ (forms : List Form) (names : List (List ℕ)) where
 
 -- ---- each once
 
-
 -- the members that stand for a list of fields that begins so
 pub record HasFirst (forms : List Form) (names : List (List ℕ)) (os : List NumberedMember) (f : Member) (fs : List Member) : Type 0 where
   pub name : ℕ

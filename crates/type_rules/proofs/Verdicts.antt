@@ -394,15 +394,15 @@ module _ (forms : List Form) (names : List (List ℕ)) (known : IsKnown forms na
 
   pub v_empty : (x : Option ℕ) (ns : List ℕ) (ts : List Ty) → AreNumbers forms names ns ts → Made (head.EmptyArray x) ts (empties forms x ns)
   v_empty x [] [] p = nothing_named (head.EmptyArray x) [] operation.EmptyArray container.Array x
-    (λ n e same q. subst (λ y. IsForm forms names (head.EmptyArray y) [] operation.EmptyArray (ty.Arr e)) (sym same) (typed.empty_array e q))
-    (empty_wants forms names)
+      (λ n e same q. subst (λ y. IsForm forms names (head.EmptyArray y) [] operation.EmptyArray (ty.Arr e)) (sym same) (typed.empty_array e q))
+      (empty_wants forms names)
   v_empty x [] (t ∷ ts) p = absurd p
   v_empty x (n ∷ ns) ts p = off (n ∷ ns) 0 p (empty_long forms names) (λ e. omega (arith, e))
 
   pub v_stream : (x : Option ℕ) (ns : List ℕ) (ts : List Ty) → AreNumbers forms names ns ts → Made (head.Stream x) ts (streams forms x ns)
   v_stream x [] [] p = nothing_named (head.Stream x) [] operation.Stream container.Stream x
-    (λ n e same q. subst (λ y. IsForm forms names (head.Stream y) [] operation.Stream (ty.Stream e)) (sym same) (typed.empty_stream e q))
-    (streams_want_name forms names)
+      (λ n e same q. subst (λ y. IsForm forms names (head.Stream y) [] operation.Stream (ty.Stream e)) (sym same) (typed.empty_stream e q))
+      (streams_want_name forms names)
   v_stream x [] (t ∷ ts) p = absurd p
   v_stream x (n ∷ ns) [] p = absurd p
   v_stream x (n ∷ ns) (a ∷ ts) p =

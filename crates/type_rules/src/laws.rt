@@ -5,11 +5,9 @@ ghost use Rattle.type_rules.specs.Typed.{FormsByType, ClausesByType};
 /// makes nothing, they have no type for it.
 pub fn forms_by_type()
     ensures { FormsByType }
-{
-}
+{}
 
 /// The same of a clause of a loop.
 pub fn clauses_by_type()
     ensures { ClausesByType }
-{
-}
+{}
