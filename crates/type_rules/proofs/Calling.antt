@@ -1,5 +1,5 @@
 -- Calls that are built in give by number what they give by type.
-use Rattle.std.proofs.Common.{◌≡◌, ◌⊎◌, inl, inr, ℕ, Bool, true, false, ◌&&◌, nat_eq, List, [], ◌∷◌, Option, Some, None, slice_get, refl, sym, ap, subst, ◌∙◌}
+use Rattle.std.proofs.Common.{◌≡◌, ℕ, Bool, true, false, ◌&&◌, nat_eq, List, [], ◌∷◌, Option, Some, None, refl, sym, ap, subst, ◌∙◌}
 use Rattle.std.specs.Option.{is_some, option_map}
 use Rattle.std.specs.Prelude.{if◌then◌else◌}
 use Rattle.std.proofs.lemmas.Bool.{eqb-true, eq-eqb}
@@ -18,10 +18,10 @@ use Rattle.type_rules.specs.declared.head.Container.TheVariants as container
 use Rattle.type_rules.specs.Parts.{element_in, is_part, sort_if}
 use Rattle.type_rules.specs.Calls.{integer_pair, integer, filled, grown, shrunk, based, adjusted, measured, firsts, gives_of}
 use Rattle.type_rules.specs.Typed.{AreSpelledOnce}
-use Rattle.type_rules.proofs.Standing.{HasPart, Standing, one_number, one_type}
+use Rattle.type_rules.proofs.Standing.{HasPart, one_number, one_type}
 use Rattle.type_rules.proofs.Grown.{integer_is, boolean_is}
 use Rattle.type_rules.proofs.Sorted.{StandsFor}
-use Rattle.type_rules.proofs.Telling.{Tells, tells_and, integer_tells, array_is, stream_is, array_has, stream_has}
+use Rattle.type_rules.proofs.Telling.{integer_tells, array_is, stream_is, array_has, stream_has}
 
 abbrev pub made : Container → Ty → Ty
 made container.Array t = ty.Arr t

@@ -22,7 +22,6 @@ use Rattle.type_rules.specs.Folds.{catenation, catenated, summed, kept, makes_of
 use Rattle.type_rules.specs.Typed as typed
 use Rattle.type_rules.specs.Typed.{FitsClause}
 use Rattle.type_rules.proofs.Standing.{HasPart, standing_at, at_array, at_stream, out_array, out_stream}
-use Rattle.type_rules.proofs.Grown.{integer_is}
 use Rattle.type_rules.proofs.Sorted.{StandsFor, sorted_number}
 use Rattle.type_rules.proofs.Telling.{Tells, integer_tells}
 use Rattle.type_rules.proofs.Deep.{as_deep}

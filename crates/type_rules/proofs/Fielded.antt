@@ -1,6 +1,6 @@
 -- Forms of records and unions: what they make by number they make by type.
-use Rattle.std.proofs.Common.{◌≡◌, ℕ, suc, zero, ◌<◌, Bool, true, false, not, ◌||◌, ◌&&◌, nat_eq, List, [], ◌∷◌, length, map, All, Option, Some, None, slice_get, refl, sym, ap, subst, ◌∙◌, arith, get_or}
-use Rattle.std.specs.Option.{is_some, option_map}
+use Rattle.std.proofs.Common.{◌≡◌, ℕ, suc, zero, ◌<◌, Bool, true, false, not, ◌&&◌, nat_eq, List, [], ◌∷◌, length, All, Option, Some, None, slice_get, refl, sym, ap, subst, ◌∙◌, arith, get_or}
+use Rattle.std.specs.Option.{is_some}
 use Rattle.std.specs.Prelude.{if◌then◌else◌, Contains}
 use Rattle.std.specs.List.{list_any}
 use Rattle.std.proofs.lemmas.Bool.{eqb-true, eq-eqb}
@@ -11,28 +11,22 @@ use Rattle.std.proofs.lemmas.List.Elements.{All-head, All-tail}
 use Rattle.indexmap.proofs.CallerLemmas.{Contains-list_any}
 use Rattle.flow_value.specs.declared.ty.Ty.{Ty}
 use Rattle.flow_value.specs.declared.ty.Ty.TheVariants as ty
-use Rattle.value_ops.specs.declared.operation.Operation.{Operation}
 use Rattle.value_ops.specs.declared.operation.Operation.TheVariants as operation
 use Rattle.type_table.specs.declared.form.Form.{Form}
 use Rattle.type_table.specs.declared.form.Form.TheVariants as form
 use Rattle.type_table.specs.declared.form.Member.{Member as NumberedMember}
 use Rattle.typed_tree.specs.Scopes.{AreDistinct}
 use Rattle.typed_tree.specs.Types.{Member, IsNumber, a_record, AreMembers, no_member, a_member, AreNumbers}
-use Rattle.type_rules.specs.declared.head.Head.{Head}
 use Rattle.type_rules.specs.declared.head.Head.TheVariants as head
-use Rattle.type_rules.specs.declared.head.Sort.{Sort}
-use Rattle.type_rules.specs.declared.head.Sort.TheVariants as sort
-use Rattle.type_rules.specs.declared.head.Outcome.{Outcome}
 use Rattle.type_rules.specs.Parts.{holds_if, part_if, tag_part, field_at, tag_at, is_record, is_record_at, there, outcome_of, sort_if}
 use Rattle.type_rules.specs.Records.{are_distinct, field_outcome, fields, union_outcome, unites, test_outcome, tests, paired, is_member, are_members, are_fields, has_fields, are_fields_at, record_sort, records, place_if, field_place, first_then, all_places, change_outcome, replaces}
 use Rattle.type_rules.specs.Typed as typed
 use Rattle.type_rules.specs.Typed.{Has, AreChanged, no_change, a_change, AreFields, no_field, a_field, IsForm, IsNamedBy, IsKnown}
 use Rattle.type_rules.proofs.Standing.{HasFields, at_record, standing_at, one_list}
 use Rattle.type_rules.proofs.Grown.{boolean_is}
-use Rattle.type_rules.proofs.Sorted.{StandsFor}
 use Rattle.type_rules.proofs.Telling.{Tells}
 use Rattle.type_rules.proofs.Membership.{field_found, field_in, field_absent, field_unique, tag_found, tag_absent, tag_unique}
-use Rattle.type_rules.proofs.Verdicts.{Verdict, Says, some_none, both_truths, as_many, either, unless_told, off, same_tells, some_type}
+use Rattle.type_rules.proofs.Verdicts.{Verdict, Says, both_truths, as_many, either, unless_told, off, same_tells, some_type}
 
 -- ---- what the rules want of each form
 

@@ -1,5 +1,5 @@
 -- The numbers of types give what the typing rules say of each form.
-use Rattle.std.proofs.Common.{◌≡◌, ℕ, List, ◌<◌, All, length, Option, Some, None}
+use Rattle.std.proofs.Common.{ℕ, List, Option, Some, None}
 use Rattle.flow_value.specs.declared.ty.Ty.{Ty}
 use Rattle.type_table.specs.declared.form.Form.{Form}
 use Rattle.typed_tree.specs.Types.{AreNumbers}

@@ -1,5 +1,5 @@
 -- Forms of basic types, arrays and streams, and calls that are built in: what they make by number they make by type.
-use Rattle.std.proofs.Common.{◌≡◌, ◌⊎◌, inl, inr, ℕ, suc, zero, ◌<◌, Bool, true, false, ◌&&◌, nat_eq, List, [], ◌∷◌, length, map, All, Option, Some, None, slice_get, refl, sym, ap, subst, ◌∙◌, arith, get_or}
+use Rattle.std.proofs.Common.{◌≡◌, ℕ, suc, zero, ◌<◌, Bool, true, false, ◌&&◌, nat_eq, List, [], ◌∷◌, length, All, Option, Some, None, slice_get, refl, sym, ap, subst, ◌∙◌, arith, get_or}
 use Rattle.std.specs.Option.{is_some, option_map}
 use Rattle.std.specs.Prelude.{if◌then◌else◌}
 use Rattle.std.proofs.lemmas.Bool.{eqb-true, eq-eqb}
@@ -7,7 +7,6 @@ use Rattle.std.proofs.lemmas.Option.{slice_get-get_or, same_Some}
 use Rattle.std.proofs.lemmas.List.Elements.{All-cons, All-nil, All-head, All-tail}
 use Rattle.flow_value.specs.declared.ty.Ty.{Ty}
 use Rattle.flow_value.specs.declared.ty.Ty.TheVariants as ty
-use Rattle.flow_value.specs.declared.operation.Scalar1.TheVariants as unary
 use Rattle.sisal_tree.specs.declared.expr.Scalar.{Scalar}
 use Rattle.sisal_tree.specs.declared.expr.Scalar.TheVariants as scalar
 use Rattle.sisal_tree.specs.declared.expr.PrefixOperator.{PrefixOperator}
@@ -20,7 +19,7 @@ use Rattle.type_table.specs.declared.form.Form.{Form}
 use Rattle.type_table.specs.declared.form.Form.TheVariants as form
 use Rattle.typed_tree.specs.declared.built_in.BuiltIn.{BuiltIn}
 use Rattle.typed_tree.specs.Types.{IsNumber, array, stream, AreNumbers, scalar_type, IsConverted, prefix_type, AreOperands, binary_type, Gives}
-use Rattle.typed_tree.specs.Operations.{prefix_operation, binary_operation, convert_operation, built_in_operation}
+use Rattle.typed_tree.specs.Operations.{prefix_operation, binary_operation, built_in_operation}
 use Rattle.type_rules.specs.declared.head.Head.{Head}
 use Rattle.type_rules.specs.declared.head.Head.TheVariants as head
 use Rattle.type_rules.specs.declared.head.Sort.{Sort}
@@ -34,7 +33,7 @@ use Rattle.type_rules.specs.Calls.{gives_of, called}
 use Rattle.type_rules.specs.Sequences.{selects, updates, all_are, named_sort, empty_sort, arrays, empties, streams}
 use Rattle.type_rules.specs.Typed as typed
 use Rattle.type_rules.specs.Typed.{IsForm, IsNamedBy, IsKnown}
-use Rattle.type_rules.proofs.Standing.{HasPart, one_number, one_type}
+use Rattle.type_rules.proofs.Standing.{one_number, one_type}
 use Rattle.type_rules.proofs.Grown.{boolean_is, character_is, integer_is}
 use Rattle.type_rules.proofs.Sorted.{StandsFor}
 use Rattle.type_rules.proofs.Telling.{Tells, operands_tell, converted_tells, prefixed_tells, integer_tells, array_is, array_has}

@@ -1,6 +1,6 @@
 -- Which forms over operands of some types are typed: the rules of the SISAL Language Reference Manual 1.2 for one form, by the types
 -- of its operands. Names are numbers of the text's names.
-use Rattle.std.specs.Prelude.{◌≡◌, ℕ, ◌<◌, List, [], ◌∷◌, ◌++◌, map, length, true, Option, Some, None, slice_get, All}
+use Rattle.std.specs.Prelude.{◌≡◌, ℕ, ◌<◌, List, [], ◌∷◌, map, length, true, Option, Some, None, slice_get, All}
 use Rattle.flow_value.specs.declared.ty.Ty.{Ty}
 use Rattle.flow_value.specs.declared.ty.Ty.TheVariants as ty
 use Rattle.flow_value.specs.declared.operation.Scalar1.TheVariants as unary
