@@ -1,5 +1,5 @@
 -- Calls that are built in give by number what they give by type.
-use Rattle.std.proofs.Common.{◌≡◌, ◌⊎◌, inl, inr, ℕ, Bool, true, false, ◌&&◌, nat_eq, List, [], ◌∷◌, Option, Some, None, slice_get, refl, sym, ap, subst, ◌∙◌}
+use Rattle.std.proofs.Common.{◌≡◌, ℕ, Bool, true, false, ◌&&◌, nat_eq, List, [], ◌∷◌, Option, Some, None, refl, sym, ap, subst, ◌∙◌}
 use Rattle.std.specs.Option.{is_some, option_map}
 use Rattle.std.specs.Prelude.{if◌then◌else◌}
 use Rattle.std.proofs.lemmas.Bool.{eqb-true, eq-eqb}
@@ -17,10 +17,11 @@ use Rattle.type_rules.specs.declared.head.Container.{Container}
 use Rattle.type_rules.specs.declared.head.Container.TheVariants as container
 use Rattle.type_rules.specs.Parts.{element_in, is_part, sort_if}
 use Rattle.type_rules.specs.Calls.{integer_pair, integer, filled, grown, shrunk, based, adjusted, measured, firsts, gives_of}
-use Rattle.type_rules.proofs.Standing.{HasPart, Standing, AreSpelledOnce, one_number, one_type}
+use Rattle.type_rules.specs.Typed.{AreSpelledOnce}
+use Rattle.type_rules.proofs.Standing.{HasPart, one_number, one_type}
 use Rattle.type_rules.proofs.Grown.{integer_is, boolean_is}
 use Rattle.type_rules.proofs.Sorted.{StandsFor}
-use Rattle.type_rules.proofs.Telling.{Tells, tells_and, integer_tells, array_is, stream_is, array_has, stream_has}
+use Rattle.type_rules.proofs.Telling.{integer_tells, array_is, stream_is, array_has, stream_has}
 
 abbrev pub made : Container → Ty → Ty
 made container.Array t = ty.Arr t
@@ -110,11 +111,11 @@ module _ (forms : List Form) (names : List (List ℕ)) (table : IsTable forms) (
   two_true true b e = (refl, e)
   two_true false b e = absurd cc
 
-  element_is : (c : Container) (n : ℕ) (t : Ty) → IsNumber forms names n t → (m : ℕ) → element_in forms c n ≡ Some m → HasPart forms names (made c) m t
+  pub element_is : (c : Container) (n : ℕ) (t : Ty) → IsNumber forms names n t → (m : ℕ) → element_in forms c n ≡ Some m → HasPart forms names (made c) m t
   element_is container.Array n t p m e = array_is forms names table n t p m e
   element_is container.Stream n t p m e = stream_is forms names table n t p m e
 
-  element_has : (c : Container) (n : ℕ) (u : Ty) → IsNumber forms names n (made c u) → (m : ℕ) × (element_in forms c n ≡ Some m) × IsNumber forms names m u
+  pub element_has : (c : Container) (n : ℕ) (u : Ty) → IsNumber forms names n (made c u) → (m : ℕ) × (element_in forms c n ≡ Some m) × IsNumber forms names m u
   element_has container.Array n u p = let q = array_has forms names table n u p in (q.0, q.1, q.3)
   element_has container.Stream n u p = let q = stream_has forms names table n u p in (q.0, q.1, q.3)
 

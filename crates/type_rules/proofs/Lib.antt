@@ -5,3 +5,9 @@ pub mod Grown
 pub mod Sorted
 pub mod Telling
 pub mod Calling
+pub mod Verdicts
+pub mod Membership
+pub mod Fielded
+pub mod Forming
+pub mod Clauses
+pub mod Deep

@@ -1,7 +1,6 @@
 -- The type that a form makes, and its number once the table has it.
-use Rattle.std.proofs.Common.{◌≡◌, ℕ, List, ◌++◌, Some, slice_get, sym, subst}
+use Rattle.std.proofs.Common.{ℕ, List, Some, sym, subst}
 use Rattle.flow_value.specs.declared.ty.Ty.{Ty}
-use Rattle.flow_value.specs.declared.ty.Ty.TheVariants as ty
 use Rattle.type_table.specs.declared.form.Form.{Form}
 use Rattle.type_table.specs.declared.form.Form.TheVariants as form
 use Rattle.typed_tree.specs.Types.{IsNumber, boolean, character, integer, null, array, stream, a_record, a_union}

@@ -1,5 +1,5 @@
 -- What a number of a table stands for, by its form and by its type; each type has one number, and each number one type.
-use Rattle.std.proofs.Common.{◌≡◌, ℕ, List, [], ◌∷◌, ◌++◌, Option, Some, None, slice_get, refl, sym, ap, subst, ◌∙◌, rules}
+use Rattle.std.proofs.Common.{◌≡◌, ℕ, List, [], ◌∷◌, Option, Some, None, slice_get, refl, sym, ap, subst, ◌∙◌, rules}
 use Rattle.std.proofs.lemmas.Option.{same_Some}
 use Rattle.flow_value.specs.declared.ty.Ty.{Ty}
 use Rattle.flow_value.specs.declared.ty.Ty.TheVariants as ty
@@ -10,7 +10,8 @@ use Rattle.type_table.specs.declared.form.Form.{Form}
 use Rattle.type_table.specs.declared.form.Form.TheVariants as form
 use Rattle.type_table.specs.declared.form.Member.{Member as NumberedMember}
 use Rattle.type_table.specs.Tables.{IsWell}
-use Rattle.typed_tree.specs.Types.{Member, IsNumber, boolean, character, integer, null, array, stream, a_record, a_union, AreMembers, no_member, a_member, AreNumbers}
+use Rattle.typed_tree.specs.Types.{Member, IsNumber, boolean, character, integer, null, array, stream, a_record, a_union, AreMembers, no_member, a_member}
+use Rattle.type_rules.specs.Typed.{AreSpelledOnce}
 
 -- ---- by its form
 
@@ -75,10 +76,10 @@ out_int = search (rules, types.the_lemmas)
 out_null : out-Ty ty.Null ≡ Ty-F.Null
 out_null = search (rules, types.the_lemmas)
 
-out_array : (t : Ty) → out-Ty (ty.Arr t) ≡ Ty-F.Arr t
+pub out_array : (t : Ty) → out-Ty (ty.Arr t) ≡ Ty-F.Arr t
 out_array t = search (rules, types.the_lemmas)
 
-out_stream : (t : Ty) → out-Ty (ty.Stream t) ≡ Ty-F.Stream t
+pub out_stream : (t : Ty) → out-Ty (ty.Stream t) ≡ Ty-F.Stream t
 out_stream t = search (rules, types.the_lemmas)
 
 out_record : (fs : List Member) → out-Ty (ty.Rec fs) ≡ Ty-F.Rec fs
@@ -123,10 +124,6 @@ module _ (forms : List Form) (names : List (List ℕ)) where
   at_union n fs p = subst (Shape forms names n) (out_union fs) (shape forms names n (ty.Uni fs) p)
 
 -- ---- each once
-
--- each name is spelled in its own way
-abbrev pub AreSpelledOnce : List (List ℕ) → Type 0
-AreSpelledOnce names = (i j : ℕ) (s : List ℕ) → slice_get names i ≡ Some s → slice_get names j ≡ Some s → i ≡ j
 
 -- the members that stand for a list of fields that begins so
 pub record HasFirst (forms : List Form) (names : List (List ℕ)) (os : List NumberedMember) (f : Member) (fs : List Member) : Type 0 where

@@ -2,7 +2,6 @@
 -- nothing of them: 15 of operators, conversions and calls that are built in, 19 of arrays and streams, 20 of records, 21 of
 -- unions, and 4 where the type that is made would be deeper than 64.
 use Rattle.std.specs.Prelude.{◌≡◌, ◌⊎◌, ℕ, ◌<◌, List, ◌++◌, Option, Some, None, slice_get}
-use Rattle.value_ops.specs.declared.operation.Operation.{Operation}
 use Rattle.type_table.specs.declared.form.Form.{Form}
 use Rattle.type_table.specs.Forms.{form_depth}
 use Rattle.type_table.specs.Tables.{depths}

@@ -1,6 +1,6 @@
 -- What calls that are built in make, by the numbers of types (SISAL Language Reference Manual 1.2, operations on numbers, arrays
 -- and streams).
-use Rattle.std.specs.Prelude.{ℕ, Bool, ◌&&◌, List, [], ◌∷◌, Option, Some, None, nat_eq, is_some, option_map, if◌then◌else◌}
+use Rattle.std.specs.Prelude.{ℕ, ◌&&◌, List, [], ◌∷◌, Option, Some, None, nat_eq, is_some, option_map, if◌then◌else◌}
 use Rattle.type_table.specs.declared.form.Form.{Form}
 use Rattle.type_table.specs.declared.form.Form.TheVariants as form
 use Rattle.typed_tree.specs.declared.built_in.BuiltIn.{BuiltIn}

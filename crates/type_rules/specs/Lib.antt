@@ -7,3 +7,4 @@ pub mod Records
 pub mod Applies
 pub mod Folds
 pub mod Arms
+pub mod Typed

@@ -1,5 +1,5 @@
 -- What types by number are made of, and what forms of expression make.
-use Rattle.std.specs.Prelude.{ℕ, Bool, true, false, List, Option, Some, None, nat_eq, slice_get, option_map, is_some, if◌then◌else◌}
+use Rattle.std.specs.Prelude.{ℕ, Bool, true, false, List, Option, Some, None, nat_eq, slice_get, if◌then◌else◌}
 use Rattle.value_ops.specs.declared.operation.Operation.{Operation}
 use Rattle.type_table.specs.declared.form.Form.{Form}
 use Rattle.type_table.specs.declared.form.Form.TheVariants as form

@@ -1,5 +1,5 @@
 -- What forms of records and unions make, by the numbers of types and names (SISAL Language Reference Manual 1.2, records, unions).
-use Rattle.std.specs.Prelude.{ℕ, Bool, true, false, not, ◌&&◌, List, [], ◌∷◌, ◌++◌, length, Option, Some, None, nat_eq, option_map, if◌then◌else◌, slice_get}
+use Rattle.std.specs.Prelude.{ℕ, Bool, true, false, not, ◌&&◌, List, [], ◌∷◌, length, Option, Some, None, nat_eq, option_map, if◌then◌else◌, slice_get}
 use Rattle.std.specs.List.{list_any}
 use Rattle.value_ops.specs.declared.operation.Operation.TheVariants as operation
 use Rattle.type_table.specs.declared.form.Form.{Form}

@@ -1,4 +1,4 @@
-use Rattle.std.proofs.Common.{◌≡◌, ◌<◌, ℕ, length, get_or}
+use Rattle.std.proofs.Common.{◌<◌, ℕ, length, get_or}
 use Rattle.type_table.specs.declared.form.Member.{Member}
 use Rattle.type_rules.proofs.applying.are_over.Given as goal
 
