@@ -1,0 +1,9 @@
+pub mod Faults
+pub mod Parts
+pub mod Scalars
+pub mod Calls
+pub mod Sequences
+pub mod Records
+pub mod Applies
+pub mod Folds
+pub mod Arms

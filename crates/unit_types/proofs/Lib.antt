@@ -1,0 +1,4 @@
+pub mod Finds
+pub mod Numbered
+pub mod Given
+pub mod Lists

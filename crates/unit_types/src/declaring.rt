@@ -1,0 +1,346 @@
+//! Type definitions and headers of a unit.
+ghost use Rattle.std.specs.Prelude.{◌≡◌, ◌++◌, [], ◌∷◌, map, length, All, Some, true, slice_get, IfOk, IfSome, OnOk};
+ghost use Rattle.name_scope.specs.Newest.{newest};
+ghost use Rattle.unit_types.specs.Headings.{heading_of, heading_in, has_body, given_functions, given_by, given_as, numbering};
+
+use crate::written::denoted;
+use crate::header::{Signature, signature_of};
+use crate::type_names::{TypeNames, as_number};
+use flow_value::{Name, NoMemory, Numbers, Seq, item_at};
+use name_scope::Scope;
+use sisal_lex::Token;
+use sisal_tree::{FunDef, FunKind, Item, Named, TypeDef, Unit};
+use std::alloc::Global;
+use type_rules::TypeFault;
+use type_table::Types;
+use typed_tree::built_in_named;
+
+/// What the type definitions and headers of a unit say.
+#[derive(Drop)]
+pub struct Declared {
+    /// The types.
+    pub types: Types,
+    /// The names of types.
+    pub named: TypeNames,
+    /// The functions that are given and not only announced by `forward`, in the order of the text.
+    pub functions: Seq<Signature>,
+    /// Their numbers by their names.
+    pub numbers: Scope<u32>,
+    /// The functions after `define`, by their numbers.
+    pub defines: Numbers,
+}
+
+/// A header behind `forward`.
+#[derive(Drop)]
+struct Announced {
+    /// The line of the function's name.
+    line: u32,
+    /// What it says.
+    signature: Signature,
+}
+
+/// What the items up to some place say.
+#[derive(Drop)]
+struct Declaring {
+    types: Types,
+    named: TypeNames,
+    functions: Seq<Signature>,
+    /// For each function whether its body is here.
+    bodies: Seq<bool>,
+    numbers: Scope<u32>,
+    announced: Seq<Announced>,
+}
+
+/// What the type definitions and headers of a unit say (SISAL Language Reference Manual 1.2,
+/// programs and scope). The first fault is named: for each item in order rules 2 to 5 on its
+/// types, 1 on two types of a name, 8 on two parameters of a name, 6 on a function whose name
+/// another one has; then 7 on the names after `define`, and 6 and 7 on the headers behind
+/// `forward`.
+pub fn declare(alloc: Global, unit: &Unit) -> Result<Declared, TypeFault>
+    // The functions are those that are given, in the order of the text.
+    ensures functions { IfOk result (λ d. map heading_in d.functions ≡ map heading_of (given_functions unit.now.items)) }
+    ensures numbers { IfOk result (λ d. d.numbers ≡ numbering 0 [] (map (λ s. s.name) d.functions)) }
+    // Each name after `define` is that of the function of its number, which has its body here.
+    ensures named { IfOk result (λ d. map (λ k. slice_get (map (λ s. s.name) d.functions) k) d.defines ≡ map (λ n. Some n.name) unit.now.defines) }
+    ensures bodies { IfOk result (λ d. All (λ k. slice_get (map (λ f. has_body f.kind) (given_functions unit.now.items)) k ≡ Some true) d.defines) }
+{
+    let tokens = unit.tokens.list.as_slice();
+    let spellings = unit.tokens.names.as_slice();
+    let declaring = declare_all(alloc, tokens, spellings, unit.items.as_slice())?;
+    let defines = defined(alloc, unit.defines.as_slice(), &declaring)?;
+    are_given(&declaring)?;
+    Ok(finish(declaring, defines))
+}
+
+/// All items in order.
+fn declare_all(
+    alloc: Global,
+    tokens: &[Token],
+    spellings: &[Name],
+    items: &[Item],
+) -> Result<Declaring, TypeFault>
+    ensures functions { IfOk result (λ d. map heading_in d.functions ≡ map heading_of (given_functions items.now)) }
+    ensures bodies { IfOk result (λ d. d.bodies ≡ map (λ f. has_body f.kind) (given_functions items.now)) }
+    ensures numbers { IfOk result (λ d. d.numbers ≡ numbering 0 [] (map (λ s. s.name) d.functions)) }
+{
+    let mut declaring = nothing_declared(alloc)?;
+    for item in items {
+        declare_item(alloc, tokens, spellings, item, &mut declaring)?;
+    }
+    Ok(declaring)
+}
+
+fn nothing_declared(alloc: Global) -> Result<Declaring, NoMemory>
+    ensures functions { IfOk result (λ d. d.functions ≡ []) }
+    ensures bodies { IfOk result (λ d. d.bodies ≡ []) }
+    ensures numbers { IfOk result (λ d. d.numbers ≡ []) }
+{
+    Ok(Declaring {
+        types: Types::new(alloc)?,
+        named: TypeNames::new(alloc),
+        functions: Seq::new(alloc),
+        bodies: Seq::new(alloc),
+        numbers: Scope::new(alloc),
+        announced: Seq::new(alloc),
+    })
+}
+
+fn finish(declaring: Declaring, defines: Numbers) -> Declared
+    ensures functions { result.functions ≡ declaring.functions }
+    ensures numbers { result.numbers ≡ declaring.numbers }
+    ensures defines { result.defines ≡ defines }
+{
+    let Declaring {
+        types,
+        named,
+        functions,
+        bodies: _,
+        numbers,
+        announced: _,
+    } = declaring;
+    Declared {
+        types,
+        named,
+        functions,
+        numbers,
+        defines,
+    }
+}
+
+fn declare_item(
+    alloc: Global,
+    tokens: &[Token],
+    spellings: &[Name],
+    item: &Item,
+    declaring: &mut Declaring,
+) -> Result<(), TypeFault>
+    ensures functions { OnOk result (map heading_in declaring.new.functions ≡ map heading_in declaring.old.functions ++ map heading_of (given_by item.now)) }
+    ensures bodies { OnOk result (declaring.new.bodies ≡ declaring.old.bodies ++ map (λ f. has_body f.kind) (given_by item.now)) }
+    ensures numbers { declaring.old.numbers ≡ numbering 0 [] (map (λ s. s.name) declaring.old.functions) → OnOk result (declaring.new.numbers ≡ numbering 0 [] (map (λ s. s.name) declaring.new.functions)) }
+{
+    match item {
+        Item::Alias(definition) => declare_type(alloc, tokens, definition, declaring),
+        Item::Function(function) => {
+            declare_function(alloc, tokens, spellings, function, declaring)
+        }
+    }
+}
+
+/// A type definition: rule 1 where its name has a type already.
+fn declare_type(
+    alloc: Global,
+    tokens: &[Token],
+    definition: &TypeDef,
+    declaring: &mut Declaring,
+) -> Result<(), TypeFault>
+    ensures functions { declaring.new.functions ≡ declaring.old.functions }
+    ensures bodies { declaring.new.bodies ≡ declaring.old.bodies }
+    ensures numbers { declaring.new.numbers ≡ declaring.old.numbers }
+{
+    let known = declaring.named.count()?;
+    let ty = denoted(
+        alloc,
+        tokens,
+        definition.ty,
+        &declaring.named,
+        known,
+        &mut declaring.types,
+    )?;
+    if declaring.named.define(definition.name, ty)? {
+        Ok(())
+    } else {
+        Err(TypeFault::Rule {
+            rule: 1,
+            line: definition.line,
+        })
+    }
+}
+
+fn declare_function(
+    alloc: Global,
+    tokens: &[Token],
+    spellings: &[Name],
+    function: &FunDef,
+    declaring: &mut Declaring,
+) -> Result<(), TypeFault>
+    ensures functions { OnOk result (map heading_in declaring.new.functions ≡ map heading_in declaring.old.functions ++ map heading_of (given_by (Item.Function function.now))) }
+    ensures bodies { OnOk result (declaring.new.bodies ≡ declaring.old.bodies ++ map (λ f. has_body f.kind) (given_by (Item.Function function.now))) }
+    ensures numbers { declaring.old.numbers ≡ numbering 0 [] (map (λ s. s.name) declaring.old.functions) → OnOk result (declaring.new.numbers ≡ numbering 0 [] (map (λ s. s.name) declaring.new.functions)) }
+{
+    let signature = signature_of(
+        alloc,
+        tokens,
+        function.line,
+        &function.header,
+        &declaring.named,
+        &mut declaring.types,
+    )?;
+    let line = function.header.name.line;
+    declare_signature(spellings, line, &function.kind, signature, declaring)
+}
+
+/// A function, whose name stands on `line`.
+fn declare_signature(
+    spellings: &[Name],
+    line: u32,
+    kind: &FunKind,
+    signature: Signature,
+    declaring: &mut Declaring,
+) -> Result<(), TypeFault>
+    ensures functions { OnOk result (declaring.new.functions ≡ declaring.old.functions ++ given_as kind.now signature) }
+    ensures bodies { OnOk result (declaring.new.bodies ≡ declaring.old.bodies ++ given_as kind.now (has_body kind.now)) }
+    ensures numbers { declaring.old.numbers ≡ numbering 0 [] (map (λ s. s.name) declaring.old.functions) → OnOk result (declaring.new.numbers ≡ numbering 0 [] (map (λ s. s.name) declaring.new.functions)) }
+{
+    match kind {
+        FunKind::Forward => announce(line, signature, declaring),
+        FunKind::Global => give(spellings, line, signature, false, declaring),
+        FunKind::Defined(_) => give(spellings, line, signature, true, declaring),
+    }
+}
+
+/// A function behind `forward`.
+fn announce(line: u32, signature: Signature, declaring: &mut Declaring) -> Result<(), TypeFault>
+    ensures functions { declaring.new.functions ≡ declaring.old.functions }
+    ensures bodies { declaring.new.bodies ≡ declaring.old.bodies }
+    ensures numbers { declaring.new.numbers ≡ declaring.old.numbers }
+{
+    declaring.announced.add(Announced { line, signature })?;
+    Ok(())
+}
+
+/// A function that is given: rule 6 where its name is a call that is built in, or another
+/// function's.
+fn give(
+    spellings: &[Name],
+    line: u32,
+    signature: Signature,
+    has_body: bool,
+    declaring: &mut Declaring,
+) -> Result<(), TypeFault>
+    ensures functions { OnOk result (declaring.new.functions ≡ declaring.old.functions ++ signature ∷ []) }
+    ensures bodies { OnOk result (declaring.new.bodies ≡ declaring.old.bodies ++ has_body ∷ []) }
+    ensures numbers { OnOk result (declaring.new.numbers ≡ (signature.name, length declaring.old.functions) ∷ declaring.old.numbers) }
+{
+    let name = signature.name;
+    if is_built_in(spellings, name) || declaring.numbers.find(name).is_some() {
+        return Err(TypeFault::Rule { rule: 6, line });
+    }
+    let number = as_number(declaring.functions.len())?;
+    declaring.numbers.define(name, number)?;
+    declaring.functions.add(signature)?;
+    declaring.bodies.add(has_body)?;
+    Ok(())
+}
+
+fn is_built_in(spellings: &[Name], name: u32) -> bool {
+    match item_at(spellings, name as usize) {
+        Some(spelling) => built_in_named(spelling.as_slice()).is_some(),
+        None => false,
+    }
+}
+
+/// The numbers of the functions after `define`: rule 7 where one has no body here.
+fn defined(alloc: Global, names: &[Named], declaring: &Declaring) -> Result<Numbers, TypeFault>
+    ensures named { declaring.now.numbers ≡ numbering 0 [] (map (λ s. s.name) declaring.now.functions) → IfOk result (λ ks. map (λ k. slice_get (map (λ s. s.name) declaring.now.functions) k) ks ≡ map (λ n. Some n.name) names.now) }
+    ensures bodies { IfOk result (λ ks. All (λ k. slice_get declaring.now.bodies k ≡ Some true) ks) }
+{
+    let mut defines = Seq::new(alloc);
+    for named in names {
+        let number = definition_of(*named, declaring)?;
+        defines.add(number)?;
+    }
+    Ok(defines)
+}
+
+/// The number of the function of a name: rule 7 where none has its body here.
+fn definition_of(named: Named, declaring: &Declaring) -> Result<u32, TypeFault>
+    ensures named { declaring.now.numbers ≡ numbering 0 [] (map (λ s. s.name) declaring.now.functions) → IfOk result (λ k. slice_get (map (λ s. s.name) declaring.now.functions) k ≡ Some named.name) }
+    ensures body { IfOk result (λ k. slice_get declaring.now.bodies k ≡ Some true) }
+{
+    match number_with_body(named.name, declaring) {
+        Some(number) => Ok(number),
+        None => Err(TypeFault::Rule {
+            rule: 7,
+            line: named.line,
+        }),
+    }
+}
+
+/// The number of the function of a name, where its body is here.
+fn number_with_body(name: u32, declaring: &Declaring) -> Option<u32>
+    ensures number { IfSome result (λ k. newest name declaring.now.numbers ≡ Some k) }
+    ensures body { IfSome result (λ k. slice_get declaring.now.bodies k ≡ Some true) }
+{
+    let number = declaring.numbers.find(name)?;
+    if is_true_at(declaring.bodies.as_slice(), number) {
+        Some(number)
+    } else {
+        None
+    }
+}
+
+fn is_true_at(flags: &[bool], place: u32) -> bool
+    ensures { result ≡ true → slice_get flags.now place ≡ Some true }
+{
+    match item_at(flags, place as usize) {
+        Some(flag) => *flag,
+        None => false,
+    }
+}
+
+/// Whether each header behind `forward` is that of a function that is given: rule 7 where there is
+/// no function of its name, 6 where that one has another header.
+fn are_given(declaring: &Declaring) -> Result<(), TypeFault> {
+    for announced in declaring.announced.as_slice() {
+        is_given(announced, declaring)?;
+    }
+    Ok(())
+}
+
+fn is_given(announced: &Announced, declaring: &Declaring) -> Result<(), TypeFault> {
+    let line = announced.line;
+    match function_named(announced.signature.name, declaring) {
+        Some(function) => {
+            if is_same(&announced.signature, function) {
+                Ok(())
+            } else {
+                Err(TypeFault::Rule { rule: 6, line })
+            }
+        }
+        None => Err(TypeFault::Rule { rule: 7, line }),
+    }
+}
+
+fn function_named(name: u32, declaring: &Declaring) -> Option<&Signature> {
+    match declaring.numbers.find(name) {
+        Some(number) => item_at(declaring.functions.as_slice(), number as usize),
+        None => None,
+    }
+}
+
+/// Whether two headers have the same parameters and the same types.
+fn is_same(one: &Signature, other: &Signature) -> bool {
+    one.parameters.as_slice() == other.parameters.as_slice()
+        && one.params.as_slice() == other.params.as_slice()
+        && one.results.as_slice() == other.results.as_slice()
+}

@@ -1,0 +1,45 @@
+//! Numbers of types.
+ghost use Rattle.std.specs.Prelude.{◌≡◌, ◌↔◌, ◌<◌, length, map, All, true, slice_get, Some, IfSome, IfOk, IsNone};
+ghost use Rattle.type_table.specs.Forms.{form_depth};
+ghost use Rattle.type_table.specs.Tables.{depths, AddsAtMost, IsOver};
+
+use flow_value::NoMemory;
+use type_table::{Form, Member, Types};
+
+/// The number of a form, none where it is deeper than 64. A form with a part that is not in the
+/// table, which no caller has, is refused.
+pub fn number(types: &mut Types, form: Form) -> Result<Option<u32>, NoMemory>
+    ensures number { IfOk result (λ o. IfSome o (λ k. slice_get types.new k ≡ Some form)) }
+    ensures table { AddsAtMost types.old form types.new }
+    ensures too_deep { IfOk result (λ o. IsNone o ↔ (64 < form_depth (depths types.old) form)) }
+    ensures over { IfOk result (λ o. IsOver (length types.old) form) }
+    ensures refused { IfOk result (λ o. IsNone o → types.new ≡ types.old) }
+{
+    if !is_over(types, &form) {
+        return Err(NoMemory);
+    }
+    types.number(form)
+}
+
+/// Whether the parts of a form are in the table.
+fn is_over(types: &Types, form: &Form) -> bool
+    ensures { result ≡ true → IsOver (length types.now) form.now }
+{
+    match form {
+        Form::Array(ty) | Form::Stream(ty) => (*ty as usize) < types.len(),
+        Form::Record(members) | Form::Union(members) => are_below(members.as_slice(), types.len()),
+        _ => true,
+    }
+}
+
+/// Whether the types of the members have numbers below `n`.
+fn are_below(members: &[Member], n: usize) -> bool
+    ensures { result ≡ true → All (λ t. t < n) (map (λ m. m.ty) members.now) }
+{
+    for member in members {
+        if member.ty as usize >= n {
+            return false;
+        }
+    }
+    true
+}
