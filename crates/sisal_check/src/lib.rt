@@ -5,13 +5,16 @@
 mod bodies;
 mod calls;
 mod cases;
+mod clauses;
 mod defs;
+mod generators;
 mod heads;
 mod leaves;
 mod lists;
 mod loops;
 mod making;
 mod state;
+mod turns;
 mod typed;
 mod units;
 
