@@ -1,6 +1,6 @@
 //! The forms over operands.
 use crate::state::{Given, Walk};
-use flow_value::{NoMemory, Numbers, Seq};
+use flow_value::{NoMemory, Numbers, Seq, item_at};
 use sisal_tree::{ExprKind, FieldValue, Written};
 use std::alloc::Global;
 use type_rules::{Head, TypeFault};
@@ -60,7 +60,9 @@ fn record_of(
     given: &Given<'_>,
 ) -> Result<Head, TypeFault> {
     let ty = type_of(name, line, given)?;
-    Ok(Head::Record(ty, names_of(given.alloc, vs)?))
+    let names = names_of(given.alloc, vs)?;
+    all_spelled(names.as_slice(), given)?;
+    Ok(Head::Record(ty, names))
 }
 
 /// The type of a constructor's name, where it has one.
@@ -86,4 +88,14 @@ fn names_of(alloc: Global, vs: &[FieldValue]) -> Result<Numbers, NoMemory> {
         names.add(v.field.name)?;
     }
     Ok(names)
+}
+
+/// Tests that the names have spellings, as all names of a text have.
+fn all_spelled(names: &[u32], given: &Given<'_>) -> Result<(), NoMemory> {
+    for name in names {
+        if item_at(given.spellings, *name as usize).is_none() {
+            return Err(NoMemory);
+        }
+    }
+    Ok(())
 }
