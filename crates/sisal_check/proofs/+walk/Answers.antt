@@ -8,4 +8,4 @@ pub generators::groups-one_group-requires : goal.generators::groups-one_group-re
 generators::groups-one_group-requires t c =
     let below : most the_size c.g-item.result ≤ most (of_group the_size) c.args.gs.now =
     among_groups the_size c.args.gs.now c.loop-g.g-index c.g-item.result c.loop-g-test.true c.g-item.is in
-    (omega arith, tt)
+    (omega (arith, below, c.decreases), tt)
