@@ -105,12 +105,7 @@ fn one_arm(
 
 /// The results of the tags that no arm names.
 #[cycle(walk)]
-fn last(
-    es: &[Expr],
-    done: &mut Arms,
-    given: &Given<'_>,
-    walk: &mut Walk,
-) -> Result<(), TypeFault> {
+fn last(es: &[Expr], done: &mut Arms, given: &Given<'_>, walk: &mut Walk) -> Result<(), TypeFault> {
     let results = all(es, given, walk)?;
     keep(results, done)
 }

@@ -42,11 +42,7 @@ pub(crate) fn groups(
 /// with a name that stands before it in the group. So a fault in a later one waits until the names
 /// before it were looked at.
 #[cycle(walk)]
-fn one_group(
-    gs: &Seq<Generator>,
-    given: &Given<'_>,
-    walk: &mut Walk,
-) -> Result<Group, TypeFault> {
+fn one_group(gs: &Seq<Generator>, given: &Given<'_>, walk: &mut Walk) -> Result<Group, TypeFault> {
     let mut made = no_generators(given.alloc);
     for g in gs.as_slice() {
         let gone = generator(g, &mut made, given, walk);

@@ -14,11 +14,7 @@ use typed_tree::TypedExpr;
 
 /// The typed tree of an expression: SISAL Language Reference Manual 1.2, expressions.
 #[cycle(walk)]
-pub(crate) fn typed(
-    e: &Expr,
-    given: &Given<'_>,
-    walk: &mut Walk,
-) -> Result<TypedExpr, TypeFault> {
+pub(crate) fn typed(e: &Expr, given: &Given<'_>, walk: &mut Walk) -> Result<TypedExpr, TypeFault> {
     let Expr { line, kind } = e;
     match kind {
         ExprKind::Constant(c) => constant(*line, c, given),
