@@ -1,0 +1,123 @@
+//! Functions.
+use crate::lists::all;
+use crate::state::{Given, Parts, Walk};
+use flow_value::{NoMemory, Seq, item_at};
+use sisal_tree::{Expr, FunKind, Item};
+use type_rules::TypeFault;
+use typed_tree::{Function, TypedExpr};
+use unit_types::Signature;
+use value_names::InForce;
+
+/// The functions of a unit that are not `forward`, in order.
+pub(crate) fn functions(
+    items: &[Item],
+    given: &Given<'_>,
+    walk: &mut Walk,
+) -> Result<Seq<Function>, TypeFault> {
+    let mut all = Seq::new(given.alloc);
+    for item in items {
+        add_item(item, &mut all, given, walk)?;
+    }
+    Ok(all)
+}
+
+/// Adds the function of an item, if there is one.
+fn add_item(
+    item: &Item,
+    all: &mut Seq<Function>,
+    given: &Given<'_>,
+    walk: &mut Walk,
+) -> Result<(), TypeFault> {
+    match item {
+        Item::Alias(_) => Ok(()),
+        Item::Function(f) => add_function(&f.kind, all, given, walk),
+    }
+}
+
+/// Adds a function, unless it is `forward`. Its header is the next one.
+fn add_function(
+    kind: &FunKind,
+    all: &mut Seq<Function>,
+    given: &Given<'_>,
+    walk: &mut Walk,
+) -> Result<(), TypeFault> {
+    let Some(header) = item_at(given.functions, all.len()) else {
+        return unless_given(kind);
+    };
+    match kind {
+        FunKind::Forward => Ok(()),
+        FunKind::Global => add(header, None, all, given),
+        FunKind::Defined(es) => {
+            let body = body(es.as_slice(), header, given, walk)?;
+            add(header, Some(body), all, given)
+        }
+    }
+}
+
+/// Only a function that is `forward` has no header among those of the program.
+fn unless_given(kind: &FunKind) -> Result<(), TypeFault> {
+    match kind {
+        FunKind::Forward => Ok(()),
+        _ => Err(TypeFault::NoMemory),
+    }
+}
+
+/// Adds the function of a header.
+fn add(
+    header: &Signature,
+    body: Option<Seq<TypedExpr>>,
+    all: &mut Seq<Function>,
+    given: &Given<'_>,
+) -> Result<(), TypeFault> {
+    all.add(Function {
+        line: header.line,
+        name: header.name,
+        parameters: Seq::from_slice(given.alloc, header.parameters.as_slice())?,
+        params: Seq::from_slice(given.alloc, header.params.as_slice())?,
+        results: Seq::from_slice(given.alloc, header.results.as_slice())?,
+        body,
+    })?;
+    Ok(())
+}
+
+/// The results of a function: rule 13, on the function's line, where they have other types than the
+/// header says.
+fn body(
+    es: &[Expr],
+    header: &Signature,
+    given: &Given<'_>,
+    walk: &mut Walk,
+) -> Result<Seq<TypedExpr>, TypeFault> {
+    let outer = walk.names.mark();
+    parameters(
+        header.parameters.as_slice(),
+        header.params.as_slice(),
+        &mut walk.names,
+    )?;
+    let inside = Given {
+        alloc: given.alloc,
+        tokens: given.tokens,
+        spellings: given.spellings,
+        named: given.named,
+        functions: given.functions,
+        numbers: given.numbers,
+        known: header.known,
+    };
+    let Parts { exprs, types } = all(es, &inside, walk)?;
+    walk.names.leave(outer);
+    if types.as_slice() != header.results.as_slice() {
+        return Err(TypeFault::Rule {
+            rule: 13,
+            line: header.line,
+        });
+    }
+    Ok(exprs)
+}
+
+/// Brings the parameters into force.
+fn parameters(xs: &[u32], types: &[u32], names: &mut InForce) -> Result<(), NoMemory> {
+    for (x, ty) in xs.iter().zip(types) {
+        names.define(*x, *ty)?;
+    }
+    Ok(())
+}

@@ -1,0 +1,54 @@
+//! Calls.
+use crate::making::finish;
+use crate::state::{Given, Parts, Walk};
+use flow_value::{Seq, item_at};
+use type_rules::{Head, TypeFault};
+use typed_tree::{BuiltIn, TypedExpr, TypedKind, built_in_named};
+
+/// A call of a function of the program, or of one that is built in: rule 11 where the name is
+/// neither.
+pub(crate) fn call(
+    line: u32,
+    name: u32,
+    operands: Parts,
+    given: &Given<'_>,
+    walk: &mut Walk,
+) -> Result<TypedExpr, TypeFault> {
+    if let Some(number) = given.numbers.find(name) {
+        return call_of(line, number, operands, given);
+    }
+    match built_in(name, given) {
+        Some(built_in) => finish(line, Head::BuiltIn(built_in), operands, given, walk),
+        None => Err(TypeFault::Rule { rule: 11, line }),
+    }
+}
+
+/// A call of the function of a number: rule 12 where the operands have other types than its
+/// parameters.
+fn call_of(
+    line: u32,
+    number: u32,
+    operands: Parts,
+    given: &Given<'_>,
+) -> Result<TypedExpr, TypeFault> {
+    let Some(function) = item_at(given.functions, number as usize) else {
+        return Err(TypeFault::NoMemory);
+    };
+    let Parts { exprs, types } = operands;
+    if types.as_slice() != function.params.as_slice() {
+        return Err(TypeFault::Rule { rule: 12, line });
+    }
+    Ok(TypedExpr {
+        line,
+        types: Seq::from_slice(given.alloc, function.results.as_slice())?,
+        kind: TypedKind::Call(number, exprs),
+    })
+}
+
+/// The call of a name that is built in.
+fn built_in(name: u32, given: &Given<'_>) -> Option<BuiltIn> {
+    match item_at(given.spellings, name as usize) {
+        Some(spelling) => built_in_named(spelling.as_slice()),
+        None => None,
+    }
+}

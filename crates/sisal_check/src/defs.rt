@@ -1,0 +1,178 @@
+//! Definitions.
+use crate::lists::all;
+use crate::state::{Given, Parts, Walk};
+use flow_value::{NoMemory, Numbers, Seq};
+use sisal_tree::{Def, Named, Target};
+use std::alloc::Global;
+use type_rules::TypeFault;
+use typed_tree::TypedExpr;
+use unit_types::denoted;
+
+/// A list of definitions.
+#[derive(Drop)]
+pub(crate) struct Defined {
+    /// The values of each definition.
+    pub exprs: Seq<Seq<TypedExpr>>,
+    /// What is defined, in order.
+    pub targets: Seq<Named>,
+    /// The types of all that is defined.
+    pub types: Numbers,
+}
+
+/// Types definitions in order, each of which sees the earlier ones, and brings their names into
+/// force. Rule 8, on its line, at a name that stands twice; rule 14, on the line of the
+/// definition's first target, at another number of values than of targets and at a value of
+/// another type than is declared. In a turn of a loop, whose first name has the level `turn`, rule
+/// 23, on that line, at a loop name that gets a value of another type.
+#[cycle(walk)]
+pub(crate) fn defs(
+    ds: &[Def],
+    turn: Option<u32>,
+    given: &Given<'_>,
+    walk: &mut Walk,
+) -> Result<Defined, TypeFault> {
+    let targets = targets_of(given.alloc, ds)?;
+    distinct(targets.as_slice(), walk)?;
+    let mut defined = Defined {
+        exprs: Seq::new(given.alloc),
+        targets,
+        types: Seq::new(given.alloc),
+    };
+    for d in ds {
+        def(d, turn, &mut defined, given, walk)?;
+    }
+    Ok(defined)
+}
+
+#[cycle(walk)]
+fn def(
+    d: &Def,
+    turn: Option<u32>,
+    defined: &mut Defined,
+    given: &Given<'_>,
+    walk: &mut Walk,
+) -> Result<(), TypeFault> {
+    let Def { targets, values } = d;
+    let values = all(values.as_slice(), given, walk)?;
+    enter(targets.as_slice(), values, turn, defined, given, walk)
+}
+
+/// The targets of definitions, in order.
+pub(crate) fn targets_of(alloc: Global, ds: &[Def]) -> Result<Seq<Named>, NoMemory> {
+    let mut names = Seq::new(alloc);
+    for d in ds {
+        add_targets(d.targets.as_slice(), &mut names)?;
+    }
+    Ok(names)
+}
+
+fn add_targets(targets: &[Target], names: &mut Seq<Named>) -> Result<(), NoMemory> {
+    for target in targets {
+        names.add(target.name)?;
+    }
+    Ok(())
+}
+
+/// Rule 8 at the first name that stands before it in the list.
+pub(crate) fn distinct(names: &[Named], walk: &mut Walk) -> Result<(), TypeFault> {
+    match walk.names.first_twice(names)? {
+        Some(line) => Err(TypeFault::Rule { rule: 8, line }),
+        None => Ok(()),
+    }
+}
+
+/// Brings the targets of a definition into force with these values.
+fn enter(
+    targets: &[Target],
+    values: Parts,
+    turn: Option<u32>,
+    defined: &mut Defined,
+    given: &Given<'_>,
+    walk: &mut Walk,
+) -> Result<(), TypeFault> {
+    let Parts { exprs, types } = values;
+    let line = line_of(targets)?;
+    if types.len() != targets.len() {
+        return Err(TypeFault::Rule { rule: 14, line });
+    }
+    suit(targets, types.as_slice(), line, turn, given, walk)?;
+    let mut names = Seq::new(given.alloc);
+    add_targets(targets, &mut names)?;
+    walk.names.define_all(names.as_slice(), types.as_slice())?;
+    defined.types.extend(types.as_slice())?;
+    defined.exprs.add(exprs)?;
+    Ok(())
+}
+
+/// The line of the first target; each definition of a text has one.
+fn line_of(targets: &[Target]) -> Result<u32, NoMemory> {
+    match targets {
+        [first, ..] => Ok(first.name.line),
+        [] => Err(NoMemory),
+    }
+}
+
+/// Tests that each target may have a value of its type.
+fn suit(
+    targets: &[Target],
+    types: &[u32],
+    line: u32,
+    turn: Option<u32>,
+    given: &Given<'_>,
+    walk: &mut Walk,
+) -> Result<(), TypeFault> {
+    for (target, ty) in targets.iter().zip(types) {
+        has_type(*target, *ty, line, given, walk)?;
+        keeps_type(*target, *ty, line, turn, walk)?;
+    }
+    Ok(())
+}
+
+/// Tests that the type that is declared for a target is that of its value.
+fn has_type(
+    target: Target,
+    ty: u32,
+    line: u32,
+    given: &Given<'_>,
+    walk: &mut Walk,
+) -> Result<(), TypeFault> {
+    let Some(written) = target.ty else {
+        return Ok(());
+    };
+    let declared = denoted(
+        given.alloc,
+        given.tokens,
+        written,
+        given.named,
+        given.known,
+        &mut walk.types,
+    )?;
+    if declared != ty {
+        return Err(TypeFault::Rule { rule: 14, line });
+    }
+    Ok(())
+}
+
+/// Tests that a target that is a loop name keeps its type in a turn.
+fn keeps_type(
+    target: Target,
+    ty: u32,
+    line: u32,
+    turn: Option<u32>,
+    walk: &Walk,
+) -> Result<(), TypeFault> {
+    let Some(first) = turn else {
+        return Ok(());
+    };
+    match walk.names.loop_value(target.name.name, first) {
+        Some(before) => is_kept(before.ty, ty, line),
+        None => Ok(()),
+    }
+}
+
+fn is_kept(before: u32, ty: u32, line: u32) -> Result<(), TypeFault> {
+    if before != ty {
+        return Err(TypeFault::Rule { rule: 23, line });
+    }
+    Ok(())
+}

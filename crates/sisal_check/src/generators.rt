@@ -1,0 +1,167 @@
+//! Generators: SISAL Language Reference Manual 1.2, `for`.
+use crate::defs::distinct;
+use crate::lists::one;
+use crate::state::{Given, Parts, Walk};
+use flow_value::{NoMemory, Numbers, Seq};
+use sisal_tree::{Generator, Named};
+use std::alloc::Global;
+use type_rules::{TypeFault, element_of};
+use type_table::{INTEGER, Types};
+use typed_tree::{Source, TypedExpr};
+
+/// A group of generators that go on together.
+#[derive(Drop)]
+pub(crate) struct Group {
+    /// What each of them goes over.
+    pub sources: Seq<Source>,
+    /// Their bounds.
+    pub bounds: Seq<TypedExpr>,
+    /// Their names, an index behind its element.
+    names: Seq<Named>,
+    /// The types of these.
+    types: Numbers,
+}
+
+/// Types groups of generators, each of which sees the names of those before it, and brings their
+/// names into force.
+#[cycle(walk)]
+pub(crate) fn groups(
+    gs: &[Seq<Generator>],
+    given: &Given<'_>,
+    walk: &mut Walk,
+) -> Result<Seq<Group>, TypeFault> {
+    let mut goes = Seq::new(given.alloc);
+    for g in gs {
+        let made = one_group(g, given, walk)?;
+        goes.add(made)?;
+    }
+    Ok(goes)
+}
+
+/// Types a group of generators, which see none of each other: rule 8, on its line, at a generator
+/// with a name that stands before it in the group. So a fault in a later one waits until the names
+/// before it were looked at.
+#[cycle(walk)]
+fn one_group(gs: &Seq<Generator>, given: &Given<'_>, walk: &mut Walk) -> Result<Group, TypeFault> {
+    let mut made = no_generators(given.alloc);
+    for g in gs.as_slice() {
+        let gone = generator(g, &mut made, given, walk);
+        look_back(gone, &made, walk)?;
+    }
+    enter(made, walk)
+}
+
+/// Types a generator: rule 22, on its line, at an index of a range, at bounds that are no integers,
+/// and at what has no elements.
+#[cycle(walk)]
+fn generator(
+    g: &Generator,
+    made: &mut Group,
+    given: &Given<'_>,
+    walk: &mut Walk,
+) -> Result<(), TypeFault> {
+    let Generator { name, from, to, at } = g;
+    let mut bounds = Parts::new(given.alloc);
+    one(from, &mut bounds, given, walk)?;
+    match to {
+        Some(to) => {
+            one(to, &mut bounds, given, walk)?;
+            keep(*name, *at, bounds, made, walk)
+        }
+        None => keep(*name, *at, bounds, made, walk),
+    }
+}
+
+/// Where a generator has a fault: rule 8 at a name of those before it that stands twice, else that
+/// fault.
+fn look_back(gone: Result<(), TypeFault>, made: &Group, walk: &mut Walk) -> Result<(), TypeFault> {
+    let Err(fault) = gone else {
+        return Ok(());
+    };
+    distinct(made.names.as_slice(), walk)?;
+    Err(fault)
+}
+
+/// Brings the names of a group into force: rule 8 at one that stands twice.
+fn enter(made: Group, walk: &mut Walk) -> Result<Group, TypeFault> {
+    distinct(made.names.as_slice(), walk)?;
+    walk.names
+        .define_all(made.names.as_slice(), made.types.as_slice())?;
+    Ok(made)
+}
+
+/// A group without generators; takes no memory.
+fn no_generators(alloc: Global) -> Group {
+    Group {
+        sources: Seq::new(alloc),
+        bounds: Seq::new(alloc),
+        names: Seq::new(alloc),
+        types: Seq::new(alloc),
+    }
+}
+
+/// Adds a generator with its bounds to a group.
+fn keep(
+    name: Named,
+    at: Option<u32>,
+    bounds: Parts,
+    made: &mut Group,
+    walk: &Walk,
+) -> Result<(), TypeFault> {
+    let Parts { exprs, types } = bounds;
+    let (source, ty) = goes_over(types.as_slice(), at.is_some(), name.line, &walk.types)?;
+    made.sources.add(source)?;
+    append(exprs, &mut made.bounds)?;
+    made.names.add(name)?;
+    made.types.add(ty)?;
+    keep_index(at, name.line, made)?;
+    Ok(())
+}
+
+/// Adds the index of a generator on a line, where it has a name.
+fn keep_index(at: Option<u32>, line: u32, made: &mut Group) -> Result<(), NoMemory> {
+    let Some(name) = at else {
+        return Ok(());
+    };
+    made.names.add(Named { name, line })?;
+    made.types.add(INTEGER)
+}
+
+/// What a generator with bounds of these types goes over, and the type of its name.
+fn goes_over(
+    bounds: &[u32],
+    has_index: bool,
+    line: u32,
+    types: &Types,
+) -> Result<(Source, u32), TypeFault> {
+    match bounds {
+        [ty] => elements(*ty, has_index, line, types),
+        [INTEGER, INTEGER] if !has_index => Ok((Source::Range, INTEGER)),
+        _ => Err(TypeFault::Rule { rule: 22, line }),
+    }
+}
+
+/// What a generator over an array or a stream goes over, and the type of its elements.
+fn elements(
+    ty: u32,
+    has_index: bool,
+    line: u32,
+    types: &Types,
+) -> Result<(Source, u32), TypeFault> {
+    let Some(element) = element_of(types, ty) else {
+        return Err(TypeFault::Rule { rule: 22, line });
+    };
+    if has_index {
+        Ok((Source::Indexed, element))
+    } else {
+        Ok((Source::Elements, element))
+    }
+}
+
+/// Moves expressions to the end of a list.
+fn append(more: Seq<TypedExpr>, exprs: &mut Seq<TypedExpr>) -> Result<(), NoMemory> {
+    match exprs.append(more) {
+        Ok(()) => Ok(()),
+        Err(_) => Err(NoMemory),
+    }
+}

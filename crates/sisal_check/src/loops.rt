@@ -1,0 +1,150 @@
+//! Loops: SISAL Language Reference Manual 1.2, `for`.
+use crate::clauses::{clause_values, made_of};
+use crate::defs::{Defined, defs};
+use crate::generators::{Group, groups};
+use crate::state::{Given, Parts, Walk};
+use crate::turns::{Turned, turn_of};
+use flow_value::Seq;
+use sisal_tree::{Clause, Loop};
+use type_rules::TypeFault;
+use typed_tree::{Product, Turns, TypedExpr, TypedKind};
+
+/// The typed tree of a loop, whose names are in force in it alone.
+#[cycle(walk)]
+pub(crate) fn looped(
+    line: u32,
+    l: &Loop,
+    given: &Given<'_>,
+    walk: &mut Walk,
+) -> Result<TypedExpr, TypeFault> {
+    let outer = walk.names.mark();
+    match l {
+        Loop::Product(gs, ds, cs) => {
+            let goes = groups(gs.as_slice(), given, walk)?;
+            let defined = defs(ds.as_slice(), None, given, walk)?;
+            let values = clause_values(cs.as_slice(), given, walk)?;
+            walk.names.leave(outer);
+            product(line, cs.as_slice(), goes, defined, values, given, walk)
+        }
+        Loop::Initial(ds, turn, cs) => {
+            let first = walk.names.height();
+            let started = defs(ds.as_slice(), None, given, walk)?;
+            let turned = turn_of(turn, line, first, &started, given, walk)?;
+            let values = clause_values(cs.as_slice(), given, walk)?;
+            walk.names.leave(outer);
+            initial(line, cs.as_slice(), started, turned, values, given, walk)
+        }
+    }
+}
+
+/// A loop over groups of generators: over the last one stand the definitions and the clauses, and
+/// each one before it is a loop of its own over the results of the loop behind it. A loop without
+/// groups, which no text has, is want of memory.
+fn product(
+    line: u32,
+    cs: &[Clause],
+    goes: Seq<Group>,
+    defined: Defined,
+    values: Parts,
+    given: &Given<'_>,
+    walk: &mut Walk,
+) -> Result<TypedExpr, TypeFault> {
+    let mut goes = goes;
+    let Some(last) = goes.pop() else {
+        return Err(TypeFault::NoMemory);
+    };
+    let inner = over(line, cs, last, defined, values, given, walk)?;
+    crossed(line, cs, goes, inner, given, walk)
+}
+
+/// The loop over the last group of generators.
+fn over(
+    line: u32,
+    cs: &[Clause],
+    group: Group,
+    defined: Defined,
+    values: Parts,
+    given: &Given<'_>,
+    walk: &mut Walk,
+) -> Result<TypedExpr, TypeFault> {
+    let made = made_of(line, cs, values.types.as_slice(), true, given, walk)?;
+    let product = Product {
+        sources: group.sources,
+        clauses: made.forms,
+    };
+    Ok(TypedExpr {
+        line,
+        types: made.types,
+        kind: TypedKind::Product(product, group.bounds, defined.exprs, values.exprs),
+    })
+}
+
+/// The loops over the groups before the last one, from the inside out.
+fn crossed(
+    line: u32,
+    cs: &[Clause],
+    goes: Seq<Group>,
+    inner: TypedExpr,
+    given: &Given<'_>,
+    walk: &mut Walk,
+) -> Result<TypedExpr, TypeFault> {
+    let mut goes = goes;
+    let mut made = inner;
+    while let Some(group) = goes.pop() {
+        made = around(line, cs, group, made, given, walk)?;
+    }
+    Ok(made)
+}
+
+/// The loop over a group of generators whose values are those of the loop inside of it.
+fn around(
+    line: u32,
+    cs: &[Clause],
+    group: Group,
+    inner: TypedExpr,
+    given: &Given<'_>,
+    walk: &mut Walk,
+) -> Result<TypedExpr, TypeFault> {
+    let made = made_of(line, cs, inner.types.as_slice(), false, given, walk)?;
+    let product = Product {
+        sources: group.sources,
+        clauses: made.forms,
+    };
+    let mut results = Seq::new(given.alloc);
+    results.add(inner)?;
+    Ok(TypedExpr {
+        line,
+        types: made.types,
+        kind: TypedKind::Product(product, group.bounds, Seq::new(given.alloc), results),
+    })
+}
+
+/// A `for initial`.
+fn initial(
+    line: u32,
+    cs: &[Clause],
+    started: Defined,
+    turned: Turned,
+    values: Parts,
+    given: &Given<'_>,
+    walk: &mut Walk,
+) -> Result<TypedExpr, TypeFault> {
+    let made = made_of(line, cs, values.types.as_slice(), true, given, walk)?;
+    let turns = Turns {
+        is_first: turned.is_first,
+        is_until: turned.is_until,
+        renewed: turned.renewed,
+        clauses: made.forms,
+    };
+    Ok(TypedExpr {
+        line,
+        types: made.types,
+        kind: TypedKind::Initial(
+            turns,
+            started.exprs,
+            turned.test,
+            turned.exprs,
+            values.exprs,
+        ),
+    })
+}

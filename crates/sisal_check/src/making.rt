@@ -1,0 +1,90 @@
+//! Typed expressions from their typed parts.
+use crate::defs::Defined;
+use crate::leaves::single;
+use crate::state::{Given, Parts, Walk};
+use flow_value::Seq;
+use type_rules::{Head, Refused, TypeFault, apply};
+use type_table::BOOLEAN;
+use typed_tree::{TypedExpr, TypedKind};
+
+/// A form over operands, with the operation that it stands for over operands of their types.
+pub(crate) fn finish(
+    line: u32,
+    head: Head,
+    parts: Parts,
+    given: &Given<'_>,
+    walk: &mut Walk,
+) -> Result<TypedExpr, TypeFault> {
+    let Parts { exprs, types } = parts;
+    let applied = at_line(
+        line,
+        apply(given.alloc, &mut walk.types, head, types.as_slice()),
+    )?;
+    Ok(TypedExpr {
+        line,
+        types: single(given.alloc, applied.ty)?,
+        kind: TypedKind::Apply(applied.operation, exprs),
+    })
+}
+
+/// A refusal as a fault on a line.
+pub(crate) fn at_line<T>(line: u32, made: Result<T, Refused>) -> Result<T, TypeFault> {
+    match made {
+        Ok(value) => Ok(value),
+        Err(refused) => Err(refused.at(line)),
+    }
+}
+
+/// An expression in parentheses, which has the values of the one inside.
+pub(crate) fn group(
+    line: u32,
+    inner: TypedExpr,
+    given: &Given<'_>,
+) -> Result<TypedExpr, TypeFault> {
+    let types = Seq::from_slice(given.alloc, inner.types.as_slice())?;
+    let mut exprs = Seq::new(given.alloc);
+    exprs.add(inner)?;
+    Ok(TypedExpr {
+        line,
+        types,
+        kind: TypedKind::Group(exprs),
+    })
+}
+
+/// Definitions with the results behind them.
+pub(crate) fn let_in(line: u32, defined: Defined, results: Parts) -> TypedExpr {
+    let Parts { exprs, types } = results;
+    TypedExpr {
+        line,
+        types,
+        kind: TypedKind::Let(defined.exprs, exprs),
+    }
+}
+
+/// `if`: rule 17 where the test is no boolean, or the results of its two parts have other types.
+pub(crate) fn if_else(
+    line: u32,
+    test: Parts,
+    then: Parts,
+    otherwise: Parts,
+) -> Result<TypedExpr, TypeFault> {
+    if !is_boolean(&test) || !are_same(&then, &otherwise) {
+        return Err(TypeFault::Rule { rule: 17, line });
+    }
+    let Parts { exprs, types } = then;
+    Ok(TypedExpr {
+        line,
+        types,
+        kind: TypedKind::If(test.exprs, exprs, otherwise.exprs),
+    })
+}
+
+/// Whether these are of one value, a boolean.
+pub(crate) fn is_boolean(parts: &Parts) -> bool {
+    matches!(parts.types.as_slice(), [BOOLEAN])
+}
+
+/// Whether the values have the same types.
+fn are_same(one: &Parts, other: &Parts) -> bool {
+    one.types.as_slice() == other.types.as_slice()
+}

@@ -1,0 +1,70 @@
+//! What the walk over a function's body is given, and what it changes.
+use flow_value::{Name, NoMemory, Numbers, Seq};
+use name_scope::Scope;
+use sisal_lex::Token;
+use std::alloc::Global;
+use type_table::Types;
+use typed_tree::TypedExpr;
+use unit_types::{Signature, TypeNames};
+use value_names::InForce;
+
+/// What doesn't change in one function's body.
+#[derive(Drop)]
+pub(crate) struct Given<'u> {
+    /// Where memory comes from.
+    pub alloc: Global,
+    /// The tokens of the text, among which its written types stand.
+    pub tokens: &'u [Token],
+    /// How the names of the text are spelled.
+    pub spellings: &'u [Name],
+    /// The names of types.
+    pub named: &'u TypeNames,
+    /// The functions of the program by number.
+    pub functions: &'u [Signature],
+    /// The number of the function of a name.
+    pub numbers: &'u Scope<u32>,
+    /// How many type definitions stand before the function.
+    pub known: u32,
+}
+
+/// What the walk changes.
+#[derive(Drop)]
+pub(crate) struct Walk {
+    /// The types of the program.
+    pub types: Types,
+    /// The names of values in force.
+    pub names: InForce,
+}
+
+/// Typed expressions one after another, and the types of all their values.
+#[derive(Drop)]
+pub(crate) struct Parts {
+    /// The expressions.
+    pub exprs: Seq<TypedExpr>,
+    /// The types of their values.
+    pub types: Numbers,
+}
+
+impl Parts {
+    /// No expressions; takes no memory.
+    pub fn new(alloc: Global) -> Parts {
+        Parts {
+            exprs: Seq::new(alloc),
+            types: Seq::new(alloc),
+        }
+    }
+
+    /// Adds an expression with all its values.
+    pub fn add(&mut self, e: TypedExpr) -> Result<(), NoMemory> {
+        self.types.extend(e.types.as_slice())?;
+        self.exprs.add(e)
+    }
+}
+
+/// A count that fits a `u32`; more would want more memory than there is.
+pub(crate) fn number_of(count: usize) -> Result<u32, NoMemory> {
+    match u32::try_from(count) {
+        Ok(number) => Ok(number),
+        Err(_) => Err(NoMemory),
+    }
+}

@@ -1,0 +1,100 @@
+//! Expressions.
+use crate::calls::call;
+use crate::cases::tag_case;
+use crate::defs::defs;
+use crate::heads::head_of;
+use crate::leaves::{constant, old_value, value};
+use crate::lists::{all, fields, many, one, only};
+use crate::loops::looped;
+use crate::making::{finish, group, if_else, let_in};
+use crate::state::{Given, Parts, Walk};
+use sisal_tree::{Expr, ExprKind};
+use type_rules::TypeFault;
+use typed_tree::TypedExpr;
+
+/// The typed tree of an expression: SISAL Language Reference Manual 1.2, expressions.
+#[cycle(walk)]
+pub(crate) fn typed(e: &Expr, given: &Given<'_>, walk: &mut Walk) -> Result<TypedExpr, TypeFault> {
+    let Expr { line, kind } = e;
+    match kind {
+        ExprKind::Constant(c) => constant(*line, c, given),
+        ExprKind::Name(x) => value(*line, *x, given, walk),
+        ExprKind::Old(x) => old_value(*line, *x, given, walk),
+        ExprKind::Group(inner) => {
+            let inner = typed(inner.get(), given, walk)?;
+            group(*line, inner, given)
+        }
+        ExprKind::Call(x, es) => {
+            let operands = all(es.as_slice(), given, walk)?;
+            call(*line, *x, operands, given, walk)
+        }
+        ExprKind::Let(ds, es) => {
+            let outer = walk.names.mark();
+            let defined = defs(ds.as_slice(), None, given, walk)?;
+            let results = all(es.as_slice(), given, walk)?;
+            walk.names.leave(outer);
+            Ok(let_in(*line, defined, results))
+        }
+        ExprKind::If(test, then, otherwise) => {
+            let test = only(test.get(), given, walk)?;
+            let then = all(then.as_slice(), given, walk)?;
+            let otherwise = all(otherwise.as_slice(), given, walk)?;
+            if_else(*line, test, then, otherwise)
+        }
+        ExprKind::TagCase(cases) => tag_case(cases, *line, given, walk),
+        ExprKind::For(l) => looped(*line, l, given, walk),
+        _ => applied(kind, *line, given, walk),
+    }
+}
+
+/// A form over operands that have one value each.
+#[cycle(walk)]
+fn applied(
+    kind: &ExprKind,
+    line: u32,
+    given: &Given<'_>,
+    walk: &mut Walk,
+) -> Result<TypedExpr, TypeFault> {
+    let head = head_of(kind, line, given, walk)?;
+    let mut parts = Parts::new(given.alloc);
+    operands(kind, &mut parts, given, walk)?;
+    finish(line, head, parts, given, walk)
+}
+
+/// Types the operands of a form in order.
+#[cycle(walk)]
+fn operands(
+    kind: &ExprKind,
+    parts: &mut Parts,
+    given: &Given<'_>,
+    walk: &mut Walk,
+) -> Result<(), TypeFault> {
+    match kind {
+        ExprKind::Convert(_, e)
+        | ExprKind::IsError(e)
+        | ExprKind::IsTag(_, e)
+        | ExprKind::Prefix(_, e)
+        | ExprKind::Field(e, _)
+        | ExprKind::Union(_, _, e) => one(e.get(), parts, given, walk),
+        ExprKind::Binary(_, e, f) | ExprKind::Select(e, f) => {
+            one(e.get(), parts, given, walk)?;
+            one(f.get(), parts, given, walk)
+        }
+        ExprKind::Update(e, i, f) => {
+            one(e.get(), parts, given, walk)?;
+            one(i.get(), parts, given, walk)?;
+            one(f.get(), parts, given, walk)
+        }
+        ExprKind::Replace(e, vs) => {
+            one(e.get(), parts, given, walk)?;
+            fields(vs.as_slice(), parts, given, walk)
+        }
+        ExprKind::Array(_, Some(elements)) => {
+            one(elements.lower.get(), parts, given, walk)?;
+            many(elements.values.as_slice(), parts, given, walk)
+        }
+        ExprKind::Stream(_, es) => many(es.as_slice(), parts, given, walk),
+        ExprKind::Record(_, vs) => fields(vs.as_slice(), parts, given, walk),
+        _ => Ok(()),
+    }
+}

@@ -1,0 +1,46 @@
+//! Units.
+ghost use Rattle.std.specs.Prelude.{◌≡◌, IfOk};
+
+use crate::bodies::functions;
+use crate::state::{Given, Walk};
+use sisal_tree::Unit;
+use std::alloc::Global;
+use type_rules::TypeFault;
+use typed_tree::Program;
+use unit_types::{Declared, declare};
+use value_names::InForce;
+
+/// The typed program of a unit, or the first rule that it breaks with the line: SISAL Language
+/// Reference Manual 1.2, types, scope and programs.
+pub fn check(alloc: Global, unit: Unit) -> Result<Program, TypeFault>
+    ensures names { IfOk result (λ p. p.names ≡ unit.tokens.names) }
+{
+    let Declared {
+        types,
+        named,
+        functions: headers,
+        numbers,
+        defines,
+    } = declare(alloc, &unit)?;
+    let Unit { tokens, items, .. } = unit;
+    let mut walk = Walk {
+        types,
+        names: InForce::new(alloc),
+    };
+    let given = Given {
+        alloc,
+        tokens: tokens.list.as_slice(),
+        spellings: tokens.names.as_slice(),
+        named: &named,
+        functions: headers.as_slice(),
+        numbers: &numbers,
+        known: 0,
+    };
+    let functions = functions(items.as_slice(), &given, &mut walk)?;
+    Ok(Program {
+        names: tokens.names,
+        types: walk.types,
+        functions,
+        defines,
+    })
+}
