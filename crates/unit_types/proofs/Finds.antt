@@ -1,7 +1,7 @@
 -- The type of a name among the first definitions.
-use Rattle.std.proofs.Common.{◌≡◌, ℕ, suc, ◌-◌, ◌<◌, ◌≤◌, Bool, true, false, List, [], ◌∷◌, length, map, drop, Option, Some, None, option_map, nat_eq, nat_lt, if◌then◌else◌, refl, sym, ap, is_some, ◌∙◌, subst, arith}
+use Rattle.std.proofs.Common.{◌≡◌, ℕ, suc, ◌-◌, ◌<◌, ◌≤◌, Bool, true, false, List, [], ◌∷◌, length, drop, Option, Some, None, option_map, nat_eq, nat_lt, if◌then◌else◌, refl, sym, ap, is_some, ◌∙◌, arith}
 use Rattle.std.proofs.Math.Seq.{drop-nil}
-use Rattle.std.proofs.lemmas.Bool.Decides.{eqb_tells, nat_tests}
+use Rattle.std.proofs.lemmas.Bool.Decides.{nat_tests}
 use Rattle.name_scope.specs.Newest.{newest}
 use Rattle.unit_types.specs.declared.type_names.Definition.{Definition}
 use Rattle.unit_types.specs.Placing.{plain, IsPlaced, known_type, known_in}
@@ -51,7 +51,7 @@ find_known x known (d ∷ ds) h = by (nat_lt (length (plain ds)) known) refl (fi
         let above : known ≤ length (plain ds) = grind (arith, nat_tests) in
         let some : length (plain (d ∷ ds)) - known ≡ suc (length (plain ds) - known) = omega arith in
         later_unknown (nat_eq x d.0) x d known (newest x ds) (newest x (drop (length (plain ds) - known) (plain ds)))
-            (λ t. grind (arith, nat_tests)) (omega (arith, h.0)) (λ e. ap (λ y. newest y ds) e ∙ h.1) before
+        (λ t. grind (arith, nat_tests)) (omega (arith, h.0)) (λ e. ap (λ y. newest y ds) e ∙ h.1) before
         ∙ ap (λ k. newest x (drop k (plain (d ∷ ds)))) (sym some)
 
 -- whether a name has a type

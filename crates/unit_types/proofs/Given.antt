@@ -1,5 +1,6 @@
 -- The functions that are given by the first items and those of the others.
-use Rattle.std.proofs.Common.{◌≡◌, Bool, true, false, List, [], ◌∷◌, ◌++◌, cond, refl}
+use Rattle.std.proofs.Common.{◌≡◌, Bool, true, false, List, [], ◌∷◌, ◌++◌, map, cond, refl, sym, ap, ◌∙◌, append_assoc}
+use Rattle.std.proofs.lemmas.List.{map-append}
 use Rattle.std.specs.List.{filter}
 use Rattle.sisal_tree.specs.declared.unit.FunDef.{FunDef}
 use Rattle.sisal_tree.specs.declared.unit.Item.{Item}
@@ -15,3 +16,12 @@ given_cons (item.Function f) is = by (is_given f) (filter is_given (functions is
     by : (b : Bool) (fs : List FunDef) → cond b (f ∷ fs) fs ≡ cond b (f ∷ []) [] ++ fs
     by true fs = refl
     by false fs = refl
+
+-- those of one item more
+pub more_given : {B : Type 0} (f : FunDef → B) (old new whole : List B) (x : Item) (here rest : List Item) → here ≡ x ∷ rest → new ≡ old ++ map f (given_by x)
+    → old ++ map f (given_functions here) ≡ whole → new ++ map f (given_functions rest) ≡ whole
+more_given f old new whole x here rest e n w =
+    ap (λ l. l ++ map f (given_functions rest)) n
+    ∙ append_assoc old (map f (given_by x)) (map f (given_functions rest))
+    ∙ ap (λ l. old ++ l) (sym (map-append f (given_by x) (given_functions rest)) ∙ ap (map f) (sym (given_cons x rest) ∙ ap given_functions (sym e)))
+    ∙ w

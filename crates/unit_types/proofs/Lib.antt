@@ -1,4 +1,12 @@
+pub mod Lists
+pub mod Names
 pub mod Finds
 pub mod Numbered
 pub mod Given
-pub mod Lists
+pub mod Standing
+pub mod Depth
+pub mod Steps
+pub mod Reading
+pub mod Naming
+pub mod Headers
+pub mod Declares

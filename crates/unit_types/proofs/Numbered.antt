@@ -1,5 +1,5 @@
 -- Functions by name.
-use Rattle.std.proofs.Common.{◌≡◌, ℕ, zero, suc, ◌+◌, Bool, true, false, List, [], ◌∷◌, ◌++◌, length, map, slice_get, Option, Some, None, nat_eq, if◌then◌else◌, refl, sym, ap, ◌∙◌, subst, arith, append_assoc, Result, Ok, Err, OnOk}
+use Rattle.std.proofs.Common.{◌≡◌, ℕ, ◌+◌, Bool, true, false, List, [], ◌∷◌, ◌++◌, length, map, slice_get, Option, Some, nat_eq, if◌then◌else◌, refl, sym, ap, ◌∙◌, arith, append_assoc, Result, Ok, Err, OnOk}
 use Rattle.std.proofs.lemmas.List.{length-append, length-map, map-append}
 use Rattle.std.proofs.lemmas.Bool.Decides.{nat_tests}
 use Rattle.name_scope.specs.Newest.{newest}
@@ -32,8 +32,8 @@ finds pre [] before h n e x k q = h x k q
 finds pre (y ∷ ys) before h n e x k q =
     let whole : (pre ++ y ∷ []) ++ ys ≡ pre ++ (y ∷ ys) = append_assoc pre (y ∷ []) ys in
     let next : (x k : ℕ) → newest x ((y, n) ∷ before) ≡ Some k → slice_get ((pre ++ y ∷ []) ++ ys) k ≡ Some x =
-        λ x k q. ap (λ l. slice_get l k) whole ∙ here_or_before (nat_eq x y) x y n k (newest x before) (slice_get (pre ++ (y ∷ ys)) k) q (λ t. grind (arith, nat_tests))
-            (λ s t. ap (slice_get (pre ++ (y ∷ ys))) (sym t ∙ e) ∙ seam pre ys y ∙ ap Some (sym s)) (h x k) in
+    λ x k q. ap (λ l. slice_get l k) whole ∙ here_or_before (nat_eq x y) x y n k (newest x before) (slice_get (pre ++ (y ∷ ys)) k) q (λ t. grind (arith, nat_tests))
+    (λ s t. ap (slice_get (pre ++ (y ∷ ys))) (sym t ∙ e) ∙ seam pre ys y ∙ ap Some (sym s)) (h x k) in
     let count : n + 1 ≡ length (pre ++ y ∷ []) = omega (arith, e, length-append pre (y ∷ [])) in
     ap (λ l. slice_get l k) (sym whole) ∙ finds (pre ++ y ∷ []) ys ((y, n) ∷ before) next (n + 1) count x k q
 

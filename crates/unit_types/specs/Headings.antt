@@ -1,5 +1,5 @@
 -- What the headers of a unit say beside types.
-use Rattle.std.specs.Prelude.{◌≡◌, ℕ, ◌+◌, List, [], ◌∷◌, map, flat_map, Bool, true, false}
+use Rattle.std.specs.Prelude.{ℕ, ◌+◌, List, [], ◌∷◌, flat_map, Bool, true, false}
 use Rattle.std.specs.List.{filter}
 use Rattle.sisal_tree.specs.declared.unit.Field.{Field}
 use Rattle.sisal_tree.specs.declared.unit.FunDef.{FunDef}

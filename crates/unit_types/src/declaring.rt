@@ -1,11 +1,20 @@
 //! Type definitions and headers of a unit.
-ghost use Rattle.std.specs.Prelude.{◌≡◌, ◌++◌, [], ◌∷◌, map, length, All, Some, true, slice_get, IfOk, IfSome, OnOk};
+ghost use Rattle.std.specs.Prelude.{◌≡◌, ◌+◌, ℕ, List, drop, ◌++◌, [], ◌∷◌, map, length, All, Some, true, slice_get, IfErr, IfOk, IfSome, OnOk};
 ghost use Rattle.name_scope.specs.Newest.{newest};
+ghost use Rattle.flow_value.specs.declared.ty.Ty.{Ty};
+ghost use Rattle.type_table.specs.Tables.{basic_forms};
+ghost use Rattle.unit_types.specs.Rests.{AreTokensSpelled, HasNames, Names, IsNamed};
+ghost use Rattle.sisal_tree.specs.declared.unit.Item.{Item};
+ghost use Rattle.sisal_tree.specs.declared.unit.Unit as tree;
+ghost use Rattle.typed_tree.specs.Units.{Declared as UnitFunction, Declares, given};
+ghost use Rattle.unit_types.specs.Headers.{AreSaid, IsDeclaring};
+ghost use Rattle.unit_types.specs.Faults.{IsUnitRule};
 ghost use Rattle.unit_types.specs.Headings.{heading_of, heading_in, has_body, given_functions, given_by, given_as, numbering};
 
-use crate::written::denoted;
+use crate::fault::{UnitFault, numbered};
 use crate::header::{Signature, signature_of};
 use crate::type_names::{TypeNames, as_number};
+use crate::written::type_of;
 use flow_value::{Name, NoMemory, Numbers, Seq, item_at};
 use name_scope::Scope;
 use sisal_lex::Token;
@@ -63,6 +72,34 @@ pub fn declare(alloc: Global, unit: &Unit) -> Result<Declared, TypeFault>
     // Each name after `define` is that of the function of its number, which has its body here.
     ensures named { IfOk result (λ d. map (λ k. slice_get (map (λ s. s.name) d.functions) k) d.defines ≡ map (λ n. Some n.name) unit.now.defines) }
     ensures bodies { IfOk result (λ d. All (λ k. slice_get (map (λ f. has_body f.kind) (given_functions unit.now.items)) k ≡ Some true) d.defines) }
+    // The names of types are those of the type definitions, where the names of the text are spelled so.
+    ensures names { IfOk result (λ d. (texts : List (List ℕ)) → AreTokensSpelled texts unit.now.tokens.list
+        → (types : List (ℕ × Ty)) × Names texts unit.now.tokens.list [] unit.now.items types × HasNames texts d.types d.named types) }
+    ensures rule { IfErr result IsUnitRule }
+    // The items are declared, and the functions are those that are given, with the types of their parameters and results.
+    ensures declares { IfOk result (λ d. AreTokensSpelled unit.now.tokens.names unit.now.tokens.list
+        → (ds : List UnitFunction) × Declares unit.now [] unit.now.items ds × AreSaid unit.now d.types d.named d.functions (given ds)) }
+{
+    match declare_unit(alloc, unit) {
+        Ok(declared) => Ok(declared),
+        Err(fault) => Err(numbered(fault)),
+    }
+}
+
+/// The same, by the kind of the fault.
+fn declare_unit(alloc: Global, unit: &Unit) -> Result<Declared, UnitFault>
+    // The functions are those that are given, in the order of the text.
+    ensures functions { IfOk result (λ d. map heading_in d.functions ≡ map heading_of (given_functions unit.now.items)) }
+    ensures numbers { IfOk result (λ d. d.numbers ≡ numbering 0 [] (map (λ s. s.name) d.functions)) }
+    // Each name after `define` is that of the function of its number, which has its body here.
+    ensures named { IfOk result (λ d. map (λ k. slice_get (map (λ s. s.name) d.functions) k) d.defines ≡ map (λ n. Some n.name) unit.now.defines) }
+    ensures bodies { IfOk result (λ d. All (λ k. slice_get (map (λ f. has_body f.kind) (given_functions unit.now.items)) k ≡ Some true) d.defines) }
+    // The names of types are those of the type definitions, where the names of the text are spelled so.
+    ensures names { IfOk result (λ d. (texts : List (List ℕ)) → AreTokensSpelled texts unit.now.tokens.list
+        → (types : List (ℕ × Ty)) × Names texts unit.now.tokens.list [] unit.now.items types × HasNames texts d.types d.named types) }
+    // The items are declared, and the functions are those that are given, with the types of their parameters and results.
+    ensures declares { IfOk result (λ d. AreTokensSpelled unit.now.tokens.names unit.now.tokens.list
+        → (ds : List UnitFunction) × Declares unit.now [] unit.now.items ds × AreSaid unit.now d.types d.named d.functions (given ds)) }
 {
     let tokens = unit.tokens.list.as_slice();
     let spellings = unit.tokens.names.as_slice();
@@ -78,10 +115,13 @@ fn declare_all(
     tokens: &[Token],
     spellings: &[Name],
     items: &[Item],
-) -> Result<Declaring, TypeFault>
+) -> Result<Declaring, UnitFault>
     ensures functions { IfOk result (λ d. map heading_in d.functions ≡ map heading_of (given_functions items.now)) }
     ensures bodies { IfOk result (λ d. d.bodies ≡ map (λ f. has_body f.kind) (given_functions items.now)) }
     ensures numbers { IfOk result (λ d. d.numbers ≡ numbering 0 [] (map (λ s. s.name) d.functions)) }
+    ensures names { IfOk result (λ d. (texts : List (List ℕ)) → AreTokensSpelled texts tokens.now → (types : List (ℕ × Ty)) × Names texts tokens.now [] items.now types × HasNames texts d.types d.named types) }
+    ensures declares { IfOk result (λ d. (u : tree.Unit) → u.tokens.list ≡ tokens.now → AreTokensSpelled u.tokens.names tokens.now
+        → (ds : List UnitFunction) × Declares u [] items.now ds × AreSaid u d.types d.named d.functions (given ds)) }
 {
     let mut declaring = nothing_declared(alloc)?;
     for item in items {
@@ -94,6 +134,8 @@ fn nothing_declared(alloc: Global) -> Result<Declaring, NoMemory>
     ensures functions { IfOk result (λ d. d.functions ≡ []) }
     ensures bodies { IfOk result (λ d. d.bodies ≡ []) }
     ensures numbers { IfOk result (λ d. d.numbers ≡ []) }
+    ensures types { IfOk result (λ d. d.types ≡ basic_forms) }
+    ensures named { IfOk result (λ d. d.named ≡ []) }
 {
     Ok(Declaring {
         types: Types::new(alloc)?,
@@ -109,6 +151,8 @@ fn finish(declaring: Declaring, defines: Numbers) -> Declared
     ensures functions { result.functions ≡ declaring.functions }
     ensures numbers { result.numbers ≡ declaring.numbers }
     ensures defines { result.defines ≡ defines }
+    ensures types { result.types ≡ declaring.types }
+    ensures named { result.named ≡ declaring.named }
 {
     let Declaring {
         types,
@@ -133,10 +177,14 @@ fn declare_item(
     spellings: &[Name],
     item: &Item,
     declaring: &mut Declaring,
-) -> Result<(), TypeFault>
+) -> Result<(), UnitFault>
     ensures functions { OnOk result (map heading_in declaring.new.functions ≡ map heading_in declaring.old.functions ++ map heading_of (given_by item.now)) }
     ensures bodies { OnOk result (declaring.new.bodies ≡ declaring.old.bodies ++ map (λ f. has_body f.kind) (given_by item.now)) }
     ensures numbers { declaring.old.numbers ≡ numbering 0 [] (map (λ s. s.name) declaring.old.functions) → OnOk result (declaring.new.numbers ≡ numbering 0 [] (map (λ s. s.name) declaring.new.functions)) }
+    ensures names { OnOk result ((texts : List (List ℕ)) (types : List (ℕ × Ty)) → AreTokensSpelled texts tokens.now → HasNames texts declaring.old.types declaring.old.named types
+        → IsNamed texts tokens.now types item.now declaring.new.types declaring.new.named) }
+    ensures declares { OnOk result ((u : tree.Unit) (items : List Item) (n : ℕ) → u.tokens.list ≡ tokens.now → AreTokensSpelled u.tokens.names tokens.now → drop n items ≡ item.now ∷ drop (n + 1) items
+        → IsDeclaring u items n declaring.old.types declaring.old.named declaring.old.functions → IsDeclaring u items (n + 1) declaring.new.types declaring.new.named declaring.new.functions) }
 {
     match item {
         Item::Alias(definition) => declare_type(alloc, tokens, definition, declaring),
@@ -152,13 +200,17 @@ fn declare_type(
     tokens: &[Token],
     definition: &TypeDef,
     declaring: &mut Declaring,
-) -> Result<(), TypeFault>
+) -> Result<(), UnitFault>
     ensures functions { declaring.new.functions ≡ declaring.old.functions }
     ensures bodies { declaring.new.bodies ≡ declaring.old.bodies }
     ensures numbers { declaring.new.numbers ≡ declaring.old.numbers }
+    ensures names { OnOk result ((texts : List (List ℕ)) (types : List (ℕ × Ty)) → AreTokensSpelled texts tokens.now → HasNames texts declaring.old.types declaring.old.named types
+        → IsNamed texts tokens.now types (Item.Alias definition.now) declaring.new.types declaring.new.named) }
+    ensures declares { OnOk result ((u : tree.Unit) (items : List Item) (n : ℕ) → u.tokens.list ≡ tokens.now → AreTokensSpelled u.tokens.names tokens.now → drop n items ≡ Item.Alias definition.now ∷ drop (n + 1) items
+        → IsDeclaring u items n declaring.old.types declaring.old.named declaring.old.functions → IsDeclaring u items (n + 1) declaring.new.types declaring.new.named declaring.new.functions) }
 {
     let known = declaring.named.count()?;
-    let ty = denoted(
+    let ty = type_of(
         alloc,
         tokens,
         definition.ty,
@@ -169,10 +221,7 @@ fn declare_type(
     if declaring.named.define(definition.name, ty)? {
         Ok(())
     } else {
-        Err(TypeFault::Rule {
-            rule: 1,
-            line: definition.line,
-        })
+        Err(UnitFault::TwoTypes(definition.line))
     }
 }
 
@@ -182,10 +231,14 @@ fn declare_function(
     spellings: &[Name],
     function: &FunDef,
     declaring: &mut Declaring,
-) -> Result<(), TypeFault>
+) -> Result<(), UnitFault>
     ensures functions { OnOk result (map heading_in declaring.new.functions ≡ map heading_in declaring.old.functions ++ map heading_of (given_by (Item.Function function.now))) }
     ensures bodies { OnOk result (declaring.new.bodies ≡ declaring.old.bodies ++ map (λ f. has_body f.kind) (given_by (Item.Function function.now))) }
     ensures numbers { declaring.old.numbers ≡ numbering 0 [] (map (λ s. s.name) declaring.old.functions) → OnOk result (declaring.new.numbers ≡ numbering 0 [] (map (λ s. s.name) declaring.new.functions)) }
+    ensures names { OnOk result ((texts : List (List ℕ)) (types : List (ℕ × Ty)) → AreTokensSpelled texts tokens.now → HasNames texts declaring.old.types declaring.old.named types
+        → IsNamed texts tokens.now types (Item.Function function.now) declaring.new.types declaring.new.named) }
+    ensures declares { OnOk result ((u : tree.Unit) (items : List Item) (n : ℕ) → u.tokens.list ≡ tokens.now → AreTokensSpelled u.tokens.names tokens.now → drop n items ≡ Item.Function function.now ∷ drop (n + 1) items
+        → IsDeclaring u items n declaring.old.types declaring.old.named declaring.old.functions → IsDeclaring u items (n + 1) declaring.new.types declaring.new.named declaring.new.functions) }
 {
     let signature = signature_of(
         alloc,
@@ -206,10 +259,12 @@ fn declare_signature(
     kind: &FunKind,
     signature: Signature,
     declaring: &mut Declaring,
-) -> Result<(), TypeFault>
+) -> Result<(), UnitFault>
     ensures functions { OnOk result (declaring.new.functions ≡ declaring.old.functions ++ given_as kind.now signature) }
     ensures bodies { OnOk result (declaring.new.bodies ≡ declaring.old.bodies ++ given_as kind.now (has_body kind.now)) }
     ensures numbers { declaring.old.numbers ≡ numbering 0 [] (map (λ s. s.name) declaring.old.functions) → OnOk result (declaring.new.numbers ≡ numbering 0 [] (map (λ s. s.name) declaring.new.functions)) }
+    ensures types { declaring.new.types ≡ declaring.old.types }
+    ensures named { declaring.new.named ≡ declaring.old.named }
 {
     match kind {
         FunKind::Forward => announce(line, signature, declaring),
@@ -219,10 +274,12 @@ fn declare_signature(
 }
 
 /// A function behind `forward`.
-fn announce(line: u32, signature: Signature, declaring: &mut Declaring) -> Result<(), TypeFault>
+fn announce(line: u32, signature: Signature, declaring: &mut Declaring) -> Result<(), UnitFault>
     ensures functions { declaring.new.functions ≡ declaring.old.functions }
     ensures bodies { declaring.new.bodies ≡ declaring.old.bodies }
     ensures numbers { declaring.new.numbers ≡ declaring.old.numbers }
+    ensures types { declaring.new.types ≡ declaring.old.types }
+    ensures named { declaring.new.named ≡ declaring.old.named }
 {
     declaring.announced.add(Announced { line, signature })?;
     Ok(())
@@ -236,14 +293,16 @@ fn give(
     signature: Signature,
     has_body: bool,
     declaring: &mut Declaring,
-) -> Result<(), TypeFault>
+) -> Result<(), UnitFault>
     ensures functions { OnOk result (declaring.new.functions ≡ declaring.old.functions ++ signature ∷ []) }
     ensures bodies { OnOk result (declaring.new.bodies ≡ declaring.old.bodies ++ has_body ∷ []) }
     ensures numbers { OnOk result (declaring.new.numbers ≡ (signature.name, length declaring.old.functions) ∷ declaring.old.numbers) }
+    ensures types { declaring.new.types ≡ declaring.old.types }
+    ensures named { declaring.new.named ≡ declaring.old.named }
 {
     let name = signature.name;
     if is_built_in(spellings, name) || declaring.numbers.find(name).is_some() {
-        return Err(TypeFault::Rule { rule: 6, line });
+        return Err(UnitFault::OtherFunction(line));
     }
     let number = as_number(declaring.functions.len())?;
     declaring.numbers.define(name, number)?;
@@ -260,7 +319,7 @@ fn is_built_in(spellings: &[Name], name: u32) -> bool {
 }
 
 /// The numbers of the functions after `define`: rule 7 where one has no body here.
-fn defined(alloc: Global, names: &[Named], declaring: &Declaring) -> Result<Numbers, TypeFault>
+fn defined(alloc: Global, names: &[Named], declaring: &Declaring) -> Result<Numbers, UnitFault>
     ensures named { declaring.now.numbers ≡ numbering 0 [] (map (λ s. s.name) declaring.now.functions) → IfOk result (λ ks. map (λ k. slice_get (map (λ s. s.name) declaring.now.functions) k) ks ≡ map (λ n. Some n.name) names.now) }
     ensures bodies { IfOk result (λ ks. All (λ k. slice_get declaring.now.bodies k ≡ Some true) ks) }
 {
@@ -273,16 +332,13 @@ fn defined(alloc: Global, names: &[Named], declaring: &Declaring) -> Result<Numb
 }
 
 /// The number of the function of a name: rule 7 where none has its body here.
-fn definition_of(named: Named, declaring: &Declaring) -> Result<u32, TypeFault>
+fn definition_of(named: Named, declaring: &Declaring) -> Result<u32, UnitFault>
     ensures named { declaring.now.numbers ≡ numbering 0 [] (map (λ s. s.name) declaring.now.functions) → IfOk result (λ k. slice_get (map (λ s. s.name) declaring.now.functions) k ≡ Some named.name) }
     ensures body { IfOk result (λ k. slice_get declaring.now.bodies k ≡ Some true) }
 {
     match number_with_body(named.name, declaring) {
         Some(number) => Ok(number),
-        None => Err(TypeFault::Rule {
-            rule: 7,
-            line: named.line,
-        }),
+        None => Err(UnitFault::NoFunction(named.line)),
     }
 }
 
@@ -310,24 +366,24 @@ fn is_true_at(flags: &[bool], place: u32) -> bool
 
 /// Whether each header behind `forward` is that of a function that is given: rule 7 where there is
 /// no function of its name, 6 where that one has another header.
-fn are_given(declaring: &Declaring) -> Result<(), TypeFault> {
+fn are_given(declaring: &Declaring) -> Result<(), UnitFault> {
     for announced in declaring.announced.as_slice() {
         is_given(announced, declaring)?;
     }
     Ok(())
 }
 
-fn is_given(announced: &Announced, declaring: &Declaring) -> Result<(), TypeFault> {
+fn is_given(announced: &Announced, declaring: &Declaring) -> Result<(), UnitFault> {
     let line = announced.line;
     match function_named(announced.signature.name, declaring) {
         Some(function) => {
             if is_same(&announced.signature, function) {
                 Ok(())
             } else {
-                Err(TypeFault::Rule { rule: 6, line })
+                Err(UnitFault::OtherFunction(line))
             }
         }
-        None => Err(TypeFault::Rule { rule: 7, line }),
+        None => Err(UnitFault::NoFunction(line)),
     }
 }
 

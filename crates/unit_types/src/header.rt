@@ -1,16 +1,21 @@
 //! Headers of functions.
-ghost use Rattle.std.specs.Prelude.{◌≡◌, ◌++◌, [], map, length, IfOk, OnOk};
+ghost use Rattle.std.specs.Prelude.{◌≡◌, ◌-◌, ◌++◌, ℕ, List, [], map, drop, length, IfOk, OnOk};
 ghost use Rattle.typed_tree.specs.Typing.{names_of};
+ghost use Rattle.flow_value.specs.declared.ty.Ty.{Ty};
+ghost use Rattle.sisal_tree.specs.declared.unit.Unit as tree;
+ghost use Rattle.typed_tree.specs.Scopes.{AreDistinct};
+ghost use Rattle.unit_types.specs.Headers.{AreParams, AreResults, Says};
+ghost use Rattle.unit_types.specs.Rests.{AreTokensSpelled, HasNames, IsUsed};
 ghost use Rattle.unit_types.specs.Headings.{parameters_of, heading_in};
 
-use crate::written::denoted;
+use crate::fault::UnitFault;
 use crate::name_set::{NameSet, first_twice};
 use crate::type_names::TypeNames;
+use crate::written::type_of;
 use flow_value::{NoMemory, Numbers, Seq};
 use sisal_lex::Token;
 use sisal_tree::{Field, Header, Named, Written};
 use std::alloc::Global;
-use type_rules::TypeFault;
 use type_table::Types;
 
 /// What the header of a function says. Types are numbers of the table.
@@ -39,15 +44,20 @@ pub fn signature_of(
     header: &Header,
     named: &TypeNames,
     types: &mut Types,
-) -> Result<Signature, TypeFault>
+) -> Result<Signature, UnitFault>
     ensures heading { IfOk result (λ s. heading_in s ≡ record { line = line; name = header.now.name.name; parameters = parameters_of header.now.params }) }
     ensures known { IfOk result (λ s. s.known ≡ length named.now) }
+    ensures used { OnOk result (IsUsed tokens.now types.old types.new) }
+    ensures says { IfOk result (λ s. (u : tree.Unit) (known_types : List (ℕ × Ty)) → u.tokens.list ≡ tokens.now → AreTokensSpelled u.tokens.names tokens.now
+        → HasNames u.tokens.names types.old named.now known_types → Says u known_types types.new header.now s) }
 {
     let known = named.count()?;
-    are_distinct(alloc, header.params.as_slice())?;
-    let parameters = names_in(alloc, header.params.as_slice())?;
-    let params = params_in(alloc, tokens, header.params.as_slice(), named, known, types)?;
-    let results = results_in(alloc, tokens, header.results.as_slice(), named, known, types)?;
+    let fields = header.params.as_slice();
+    let written = header.results.as_slice();
+    are_distinct(alloc, fields)?;
+    let parameters = names_in(alloc, fields)?;
+    let params = params_in(alloc, tokens, fields, named, known, types)?;
+    let results = results_in(alloc, tokens, written, named, known, types)?;
     Ok(Signature {
         line,
         name: header.name.name,
@@ -59,13 +69,16 @@ pub fn signature_of(
 }
 
 /// Whether no parameter stands twice: else rule 8.
-fn are_distinct(alloc: Global, fields: &[Field]) -> Result<(), TypeFault> {
+fn are_distinct(alloc: Global, fields: &[Field]) -> Result<(), UnitFault>
+    ensures { OnOk result (AreDistinct (parameters_of fields.now)) }
+{
     let mut seen = NameSet::new(alloc);
     for field in fields {
         if let Some(line) = first_twice(field.names.as_slice(), &mut seen)? {
-            return Err(TypeFault::Rule { rule: 8, line });
+            return Err(UnitFault::ParameterTwice(line));
         }
     }
+    seen.holds();
     Ok(())
 }
 
@@ -97,17 +110,23 @@ fn params_in(
     named: &TypeNames,
     known: u32,
     types: &mut Types,
-) -> Result<Numbers, TypeFault> {
+) -> Result<Numbers, UnitFault>
+    ensures used { OnOk result (IsUsed tokens.now types.old types.new) }
+    ensures params { IfOk result (λ ns. (u : tree.Unit) (known_types : List (ℕ × Ty)) → u.tokens.list ≡ tokens.now → AreTokensSpelled u.tokens.names tokens.now
+        → HasNames u.tokens.names types.old (drop (length named.now - known) named.now) known_types → AreParams u known_types types.new fields.now ns) }
+{
     let mut params = Seq::new(alloc);
     for field in fields {
-        let ty = denoted(alloc, tokens, field.ty, named, known, types)?;
+        let ty = type_of(alloc, tokens, field.ty, named, known, types)?;
         add_types(field.names.as_slice(), ty, &mut params)?;
     }
     Ok(params)
 }
 
-fn add_types(named: &[Named], ty: u32, params: &mut Numbers) -> Result<(), NoMemory> {
-    for _ in named {
+fn add_types(named: &[Named], ty: u32, params: &mut Numbers) -> Result<(), NoMemory>
+    ensures { OnOk result (params.new ≡ params.old ++ map (λ n. ty) named.now) }
+{
+    for _one in named {
         params.add(ty)?;
     }
     Ok(())
@@ -121,10 +140,15 @@ fn results_in(
     named: &TypeNames,
     known: u32,
     types: &mut Types,
-) -> Result<Numbers, TypeFault> {
+) -> Result<Numbers, UnitFault>
+    ensures used { OnOk result (IsUsed tokens.now types.old types.new) }
+    ensures results { IfOk result (λ ns. (u : tree.Unit) (known_types : List (ℕ × Ty)) → u.tokens.list ≡ tokens.now → AreTokensSpelled u.tokens.names tokens.now
+        → HasNames u.tokens.names types.old (drop (length named.now - known) named.now) known_types → AreResults u known_types types.new written.now ns) }
+{
     let mut results = Seq::new(alloc);
     for ty in written {
-        results.add(denoted(alloc, tokens, *ty, named, known, types)?)?;
+        let number = type_of(alloc, tokens, *ty, named, known, types)?;
+        results.add(number)?;
     }
     Ok(results)
 }

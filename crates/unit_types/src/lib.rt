@@ -3,6 +3,7 @@
 #![tactic(auto)]
 
 mod declaring;
+mod fault;
 mod form;
 mod header;
 mod name_set;

@@ -17,6 +17,25 @@ pub enum Opener {
     Union,
 }
 
+/// The word that begins a type.
+#[derive(Clone, Copy)]
+pub enum First {
+    /// `boolean`
+    Boolean,
+    /// `character`
+    Character,
+    /// `integer`
+    Integer,
+    /// `null`
+    Null,
+    /// `real`
+    Real,
+    /// `double_real`
+    DoubleReal,
+    /// A word behind which a bracket stands.
+    Opens(Opener),
+}
+
 /// An array or a stream whose bracket is open.
 #[derive(Clone, Copy)]
 pub struct Sequence {

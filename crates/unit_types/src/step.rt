@@ -1,14 +1,22 @@
 //! A token of a written type.
+ghost use Rattle.std.specs.Prelude.{◌≡◌, ◌-◌, ◌++◌, ℕ, List, [], ◌∷◌, length, drop, Some, IfSome, IfOk, OnOk};
+ghost use Rattle.type_table.specs.declared.form.Form.{Form};
+ghost use Rattle.sisal_lex.specs.declared.token.Token.{Token};
+ghost use Rattle.typed_tree.specs.Scopes.{AreDistinct};
+ghost use Rattle.unit_types.specs.declared.open.Open.{Open};
+ghost use Rattle.unit_types.specs.declared.open.Members.{Members};
+ghost use Rattle.unit_types.specs.Rests.{Leads, IsMade, word_of, begun, opened_by, inside_of, no_members, with_name, with_group, members_with, sequence_form, members_form};
+
+use crate::fault::UnitFault;
 use crate::form::number;
 use crate::name_set::{NameSet, first_twice};
-use crate::open::{Members, Next, Open, Opener, Sequence};
+use crate::open::{First, Members, Next, Open, Opener, Sequence};
 use crate::type_names::TypeNames;
 use flow_value::{NoMemory, Seq};
 use sisal_grammar::Back;
 use sisal_lex::{Kind, Sign, Token, Word};
 use sisal_tree::Named;
 use std::alloc::Global;
-use type_rules::TypeFault;
 use type_table::{BOOLEAN, CHARACTER, Form, INTEGER, Member, NULL, Types};
 
 /// Reads a token. One that is no part of a type, which no text has, is refused as want of memory.
@@ -16,49 +24,82 @@ pub fn step(
     alloc: Global,
     token: &Token,
     next: Next,
-    open: &mut Back<Open>,
+    stack: &mut Back<Open>,
     named: &TypeNames,
     known: u32,
     types: &mut Types,
-) -> Result<Next, TypeFault> {
+) -> Result<Next, UnitFault>
+    ensures { IfOk result (λ later. Leads (drop (length named.now - known) named.now) types.old types.new next stack.old token.now later stack.new) }
+{
     match next {
         Next::Type => begin(token, named, known),
-        Next::Bracket(opener, line) => enter(alloc, token, opener, line, open),
-        Next::Name => add_name(token, open),
-        Next::AfterName => after_name(token, open, types),
-        Next::After(ty) => after_type(token, ty, open, types),
-        Next::AfterSemicolon => after_semicolon(token, open, types),
+        Next::Bracket(opener, line) => enter(alloc, token, opener, line, stack),
+        Next::Name => add_name(token, stack),
+        Next::AfterName => after_name(token, stack, types),
+        Next::After(ty) => after_type(token, ty, stack, types),
+        Next::AfterSemicolon => after_semicolon(token, stack, types),
     }
 }
 
 /// The first token of a type.
-fn begin(token: &Token, named: &TypeNames, known: u32) -> Result<Next, TypeFault> {
+fn begin(token: &Token, named: &TypeNames, known: u32) -> Result<Next, UnitFault>
+    ensures { IfOk result (λ later. (forms : List Form) (os : List Open) → Leads (drop (length named.now - known) named.now) forms forms Next.Type os token.now later os) }
+{
     match &token.kind {
         Kind::Word(word) => begin_by_word(*word, token.line),
         Kind::Id(name) => begin_by_name(*name, token.line, named, known),
-        _ => Err(TypeFault::NoMemory),
+        _ => Err(UnitFault::NoMemory),
     }
 }
 
-fn begin_by_word(word: Word, line: u32) -> Result<Next, TypeFault> {
+fn begin_by_word(word: Word, line: u32) -> Result<Next, UnitFault>
+    ensures { IfOk result (λ later. (known : List (ℕ × ℕ)) (forms : List Form) (os : List Open) (t : Token) → t.kind ≡ Kind.Word word → t.line ≡ line → Leads known forms forms Next.Type os t later os) }
+{
+    match first_of(word) {
+        Some(first) => begin_by(first, line),
+        None => Err(UnitFault::NoMemory),
+    }
+}
+
+/// What a word begins, where it begins a type.
+fn first_of(word: Word) -> Option<First>
+    ensures { IfSome result (λ f. word ≡ word_of f) }
+{
     match word {
-        Word::WInteger => Ok(Next::After(INTEGER)),
-        Word::WBoolean => Ok(Next::After(BOOLEAN)),
-        Word::WCharacter => Ok(Next::After(CHARACTER)),
-        Word::WNull => Ok(Next::After(NULL)),
-        Word::WReal | Word::WDoubleReal => Err(TypeFault::Rule { rule: 3, line }),
-        Word::WArray => Ok(Next::Bracket(Opener::Array, line)),
-        Word::WStream => Ok(Next::Bracket(Opener::Stream, line)),
-        Word::WRecord => Ok(Next::Bracket(Opener::Record, line)),
-        Word::WUnion => Ok(Next::Bracket(Opener::Union, line)),
-        _ => Err(TypeFault::NoMemory),
+        Word::WBoolean => Some(First::Boolean),
+        Word::WCharacter => Some(First::Character),
+        Word::WInteger => Some(First::Integer),
+        Word::WNull => Some(First::Null),
+        Word::WReal => Some(First::Real),
+        Word::WDoubleReal => Some(First::DoubleReal),
+        Word::WArray => Some(First::Opens(Opener::Array)),
+        Word::WStream => Some(First::Opens(Opener::Stream)),
+        Word::WRecord => Some(First::Opens(Opener::Record)),
+        Word::WUnion => Some(First::Opens(Opener::Union)),
+        _ => None,
     }
 }
 
-fn begin_by_name(name: u32, line: u32, named: &TypeNames, known: u32) -> Result<Next, TypeFault> {
+/// What comes behind the first word of a type: rule 3 where it is real.
+fn begin_by(first: First, line: u32) -> Result<Next, UnitFault>
+    ensures { IfOk result (λ later. begun first line ≡ Some later) }
+{
+    match first {
+        First::Boolean => Ok(Next::After(BOOLEAN)),
+        First::Character => Ok(Next::After(CHARACTER)),
+        First::Integer => Ok(Next::After(INTEGER)),
+        First::Null => Ok(Next::After(NULL)),
+        First::Real | First::DoubleReal => Err(UnitFault::RealType(line)),
+        First::Opens(opener) => Ok(Next::Bracket(opener, line)),
+    }
+}
+
+fn begin_by_name(name: u32, line: u32, named: &TypeNames, known: u32) -> Result<Next, UnitFault>
+    ensures { IfOk result (λ later. (forms : List Form) (os : List Open) (t : Token) → t.kind ≡ Kind.Id name → Leads (drop (length named.now - known) named.now) forms forms Next.Type os t later os) }
+{
     match named.find(name, known) {
         Some(ty) => Ok(Next::After(ty)),
-        None => Err(TypeFault::Rule { rule: 2, line }),
+        None => Err(UnitFault::UnknownType(line)),
     }
 }
 
@@ -68,18 +109,22 @@ fn enter(
     token: &Token,
     opener: Opener,
     line: u32,
-    open: &mut Back<Open>,
-) -> Result<Next, TypeFault> {
+    stack: &mut Back<Open>,
+) -> Result<Next, UnitFault>
+    ensures { IfOk result (λ later. (known : List (ℕ × ℕ)) (forms : List Form) → Leads known forms forms (Next.Bracket opener line) stack.old token.now later stack.new) }
+{
     match sign_of(token) {
         Some(Sign::SOpenBracket) => {
-            open.push(opened(alloc, opener, line))?;
+            stack.push(opened(alloc, opener, line))?;
             Ok(inside(opener))
         }
-        _ => Err(TypeFault::NoMemory),
+        _ => Err(UnitFault::NoMemory),
     }
 }
 
-fn opened(alloc: Global, opener: Opener, line: u32) -> Open {
+fn opened(alloc: Global, opener: Opener, line: u32) -> Open
+    ensures { result ≡ opened_by opener line }
+{
     match opener {
         Opener::Array => Open::Sequence(Sequence {
             line,
@@ -94,7 +139,9 @@ fn opened(alloc: Global, opener: Opener, line: u32) -> Open {
     }
 }
 
-fn no_members(alloc: Global, line: u32, is_union: bool) -> Members {
+fn no_members(alloc: Global, line: u32, is_union: bool) -> Members
+    ensures { result ≡ no_members line is_union }
+{
     Members {
         line,
         is_union,
@@ -104,7 +151,9 @@ fn no_members(alloc: Global, line: u32, is_union: bool) -> Members {
     }
 }
 
-fn inside(opener: Opener) -> Next {
+fn inside(opener: Opener) -> Next
+    ensures { result ≡ inside_of opener }
+{
     match opener {
         Opener::Array | Opener::Stream => Next::Type,
         Opener::Record | Opener::Union => Next::Name,
@@ -112,30 +161,35 @@ fn inside(opener: Opener) -> Next {
 }
 
 /// A name of a member.
-fn add_name(token: &Token, open: &mut Back<Open>) -> Result<Next, TypeFault> {
+fn add_name(token: &Token, stack: &mut Back<Open>) -> Result<Next, UnitFault>
+    ensures name { IfOk result (λ later. (known : List (ℕ × ℕ)) (forms : List Form) → Leads known forms forms Next.Name stack.old token.now later stack.new) }
+    ensures behind { IfOk result (λ later. (known : List (ℕ × ℕ)) (forms : List Form) → Leads known forms forms Next.AfterSemicolon stack.old token.now later stack.new) }
+{
     match &token.kind {
         Kind::Id(name) => {
             let named = Named {
                 name: *name,
                 line: token.line,
             };
-            add_to_group(named, open)?;
+            add_to_group(named, stack)?;
             Ok(Next::AfterName)
         }
-        _ => Err(TypeFault::NoMemory),
+        _ => Err(UnitFault::NoMemory),
     }
 }
 
-fn add_to_group(named: Named, open: &mut Back<Open>) -> Result<(), NoMemory> {
+fn add_to_group(named: Named, stack: &mut Back<Open>) -> Result<(), NoMemory>
+    ensures { OnOk result ((m : Members) × (os : List Open) × (stack.old ≡ Open.Members m ∷ os) × (stack.new ≡ Open.Members (with_name m named) ∷ os)) }
+{
     let Members {
         line,
         is_union,
         members,
         names,
         mut group,
-    } = innermost(open)?;
+    } = innermost(stack)?;
     group.add(named)?;
-    open.push(Open::Members(Members {
+    stack.push(Open::Members(Members {
         line,
         is_union,
         members,
@@ -145,38 +199,36 @@ fn add_to_group(named: Named, open: &mut Back<Open>) -> Result<(), NoMemory> {
 }
 
 /// Takes the innermost of what is open, where it is a record or a union, as in each text.
-fn innermost(open: &mut Back<Open>) -> Result<Members, NoMemory> {
-    match open.pop() {
+fn innermost(stack: &mut Back<Open>) -> Result<Members, NoMemory>
+    ensures { IfOk result (λ m. stack.old ≡ Open.Members m ∷ stack.new) }
+{
+    match stack.pop() {
         Some(Open::Members(members)) => Ok(members),
         _ => Err(NoMemory),
     }
 }
 
 /// What stands behind a name of a member.
-fn after_name(
-    token: &Token,
-    open: &mut Back<Open>,
-    types: &mut Types,
-) -> Result<Next, TypeFault> {
+fn after_name(token: &Token, stack: &mut Back<Open>, types: &mut Types) -> Result<Next, UnitFault>
+    ensures { IfOk result (λ later. (known : List (ℕ × ℕ)) → Leads known types.old types.new Next.AfterName stack.old token.now later stack.new) }
+{
     match sign_of(token) {
         Some(Sign::SComma) => Ok(Next::Name),
         Some(Sign::SColon) => Ok(Next::Type),
-        Some(sign) => without_type(sign, open, types),
-        None => Err(TypeFault::NoMemory),
+        Some(sign) => without_type(sign, stack, types),
+        None => Err(UnitFault::NoMemory),
     }
 }
 
 /// Tags without a type have the type `null`.
-fn without_type(
-    sign: Sign,
-    open: &mut Back<Open>,
-    types: &mut Types,
-) -> Result<Next, TypeFault> {
-    let members = innermost(open)?;
+fn without_type(sign: Sign, stack: &mut Back<Open>, types: &mut Types) -> Result<Next, UnitFault>
+    ensures { IfOk result (λ later. (known : List (ℕ × ℕ)) (t : Token) → t.kind ≡ Kind.Sign sign → Leads known types.old types.new Next.AfterName stack.old t later stack.new) }
+{
+    let members = innermost(stack)?;
     if members.is_union {
-        end_group(sign, NULL, members, open, types)
+        end_group(sign, NULL, members, stack, types)
     } else {
-        Err(TypeFault::NoMemory)
+        Err(UnitFault::NoMemory)
     }
 }
 
@@ -184,25 +236,44 @@ fn without_type(
 fn after_type(
     token: &Token,
     ty: u32,
-    open: &mut Back<Open>,
+    stack: &mut Back<Open>,
     types: &mut Types,
-) -> Result<Next, TypeFault> {
+) -> Result<Next, UnitFault>
+    ensures { IfOk result (λ later. (known : List (ℕ × ℕ)) → Leads known types.old types.new (Next.After ty) stack.old token.now later stack.new) }
+{
     match sign_of(token) {
-        Some(sign) => end_type(sign, ty, open, types),
-        None => Err(TypeFault::NoMemory),
+        Some(sign) => end_type(sign, ty, stack, types),
+        None => Err(UnitFault::NoMemory),
     }
 }
 
 fn end_type(
     sign: Sign,
     ty: u32,
-    open: &mut Back<Open>,
+    stack: &mut Back<Open>,
     types: &mut Types,
-) -> Result<Next, TypeFault> {
-    match open.pop() {
-        Some(Open::Sequence(sequence)) => close_sequence(sign, ty, sequence, types),
-        Some(Open::Members(members)) => end_group(sign, ty, members, open, types),
-        None => Err(TypeFault::NoMemory),
+) -> Result<Next, UnitFault>
+    ensures { IfOk result (λ later. (known : List (ℕ × ℕ)) (t : Token) → t.kind ≡ Kind.Sign sign → Leads known types.old types.new (Next.After ty) stack.old t later stack.new) }
+{
+    match stack.pop() {
+        Some(innermost) => end_type_in(sign, ty, innermost, stack, types),
+        None => Err(UnitFault::NoMemory),
+    }
+}
+
+/// What stands behind a type in this bracket.
+fn end_type_in(
+    sign: Sign,
+    ty: u32,
+    innermost: Open,
+    stack: &mut Back<Open>,
+    types: &mut Types,
+) -> Result<Next, UnitFault>
+    ensures { IfOk result (λ later. (known : List (ℕ × ℕ)) (t : Token) → t.kind ≡ Kind.Sign sign → Leads known types.old types.new (Next.After ty) (innermost ∷ stack.old) t later stack.new) }
+{
+    match innermost {
+        Open::Sequence(sequence) => close_sequence(sign, ty, sequence, types),
+        Open::Members(members) => end_group(sign, ty, members, stack, types),
     }
 }
 
@@ -211,16 +282,23 @@ fn close_sequence(
     ty: u32,
     sequence: Sequence,
     types: &mut Types,
-) -> Result<Next, TypeFault> {
-    if sign != Sign::SCloseBracket {
-        return Err(TypeFault::NoMemory);
+) -> Result<Next, UnitFault>
+    ensures { IfOk result (λ later. (known : List (ℕ × ℕ)) (os : List Open) (t : Token) → t.kind ≡ Kind.Sign sign → Leads known types.old types.new (Next.After ty) (Open.Sequence sequence ∷ os) t later os) }
+{
+    match sign {
+        Sign::SCloseBracket => made(sequence_form(sequence.is_stream, ty), sequence.line, types),
+        _ => Err(UnitFault::NoMemory),
     }
-    let form = if sequence.is_stream {
+}
+
+fn sequence_form(is_stream: bool, ty: u32) -> Form
+    ensures { result ≡ sequence_form is_stream ty }
+{
+    if is_stream {
         Form::Stream(ty)
     } else {
         Form::Array(ty)
-    };
-    made(form, sequence.line, types)
+    }
 }
 
 /// Gives the names of a group their type, and reads the sign behind it.
@@ -228,22 +306,31 @@ fn end_group(
     sign: Sign,
     ty: u32,
     members: Members,
-    open: &mut Back<Open>,
+    stack: &mut Back<Open>,
     types: &mut Types,
-) -> Result<Next, TypeFault> {
-    let members = with_group(members, ty)?;
+) -> Result<Next, UnitFault>
+    ensures { IfOk result (λ later. (known : List (ℕ × ℕ)) (t : Token) → t.kind ≡ Kind.Sign sign → Leads known types.old types.new (Next.After ty) (Open.Members members ∷ stack.old) t later stack.new) }
+{
+    let grouped = with_group(members, ty)?;
     match sign {
-        Sign::SSemicolon => {
-            open.push(Open::Members(members))?;
-            Ok(Next::AfterSemicolon)
-        }
-        Sign::SCloseBracket => close_members(members, types),
-        _ => Err(TypeFault::NoMemory),
+        Sign::SSemicolon => keep_open(grouped, stack),
+        Sign::SCloseBracket => close_members(grouped, types),
+        _ => Err(UnitFault::NoMemory),
     }
 }
 
+fn keep_open(members: Members, stack: &mut Back<Open>) -> Result<Next, UnitFault>
+    ensures later { IfOk result (λ later. later ≡ Next.AfterSemicolon) }
+    ensures stack { OnOk result (stack.new ≡ Open.Members members ∷ stack.old) }
+{
+    stack.push(Open::Members(members))?;
+    Ok(Next::AfterSemicolon)
+}
+
 /// The members with those of the group, of this type: rule 5 where a name stands twice.
-fn with_group(members: Members, ty: u32) -> Result<Members, TypeFault> {
+fn with_group(members: Members, ty: u32) -> Result<Members, UnitFault>
+    ensures { IfOk result (λ m. m ≡ with_group members ty) }
+{
     let Members {
         line,
         is_union,
@@ -252,7 +339,7 @@ fn with_group(members: Members, ty: u32) -> Result<Members, TypeFault> {
         group,
     } = members;
     if let Some(line) = first_twice(group.as_slice(), &mut names)? {
-        return Err(TypeFault::Rule { rule: 5, line });
+        return Err(UnitFault::MemberTwice(line));
     }
     add_members(group.as_slice(), ty, &mut members)?;
     Ok(Members {
@@ -264,7 +351,9 @@ fn with_group(members: Members, ty: u32) -> Result<Members, TypeFault> {
     })
 }
 
-fn add_members(names: &[Named], ty: u32, members: &mut Seq<Member>) -> Result<(), NoMemory> {
+fn add_members(names: &[Named], ty: u32, members: &mut Seq<Member>) -> Result<(), NoMemory>
+    ensures { OnOk result (members.new ≡ members.old ++ members_with names.now ty) }
+{
     for named in names {
         members.add(Member {
             name: named.name,
@@ -277,43 +366,59 @@ fn add_members(names: &[Named], ty: u32, members: &mut Seq<Member>) -> Result<()
 /// What stands behind a semicolon: it may be the last.
 fn after_semicolon(
     token: &Token,
-    open: &mut Back<Open>,
+    stack: &mut Back<Open>,
     types: &mut Types,
-) -> Result<Next, TypeFault> {
+) -> Result<Next, UnitFault>
+    ensures { IfOk result (λ later. (known : List (ℕ × ℕ)) → Leads known types.old types.new Next.AfterSemicolon stack.old token.now later stack.new) }
+{
     match sign_of(token) {
         Some(Sign::SCloseBracket) => {
-            let members = innermost(open)?;
+            let members = innermost(stack)?;
             close_members(members, types)
         }
-        _ => add_name(token, open),
+        _ => add_name(token, stack),
     }
 }
 
-fn close_members(members: Members, types: &mut Types) -> Result<Next, TypeFault> {
+/// The type of a record or a union.
+fn close_members(members: Members, types: &mut Types) -> Result<Next, UnitFault>
+    ensures made { IfOk result (λ later. IsMade types.old types.new (members_form members.is_union members.members) later) }
+    ensures distinct { AreDistinct members.names }
+{
     let Members {
         line,
         is_union,
         members,
-        names: _,
+        names,
         group: _,
     } = members;
-    let form = if is_union {
+    names.holds();
+    made(members_form(is_union, members), line, types)
+}
+
+fn members_form(is_union: bool, members: Seq<Member>) -> Form
+    ensures { result ≡ members_form is_union members }
+{
+    if is_union {
         Form::Union(members)
     } else {
         Form::Record(members)
-    };
-    made(form, line, types)
-}
-
-/// The type of a form: rule 4, on the line of its word, where it is deeper than 64.
-fn made(form: Form, line: u32, types: &mut Types) -> Result<Next, TypeFault> {
-    match number(types, form)? {
-        Some(ty) => Ok(Next::After(ty)),
-        None => Err(TypeFault::Rule { rule: 4, line }),
     }
 }
 
-fn sign_of(token: &Token) -> Option<Sign> {
+/// The type of a form: rule 4, on the line of its word, where it is deeper than 64.
+fn made(form: Form, line: u32, types: &mut Types) -> Result<Next, UnitFault>
+    ensures { IfOk result (λ later. IsMade types.old types.new form later) }
+{
+    match number(types, form)? {
+        Some(ty) => Ok(Next::After(ty)),
+        None => Err(UnitFault::DeepType(line)),
+    }
+}
+
+fn sign_of(token: &Token) -> Option<Sign>
+    ensures { IfSome result (λ s. token.now.kind ≡ Kind.Sign s) }
+{
     match &token.kind {
         Kind::Sign(sign) => Some(*sign),
         _ => None,

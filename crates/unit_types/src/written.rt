@@ -1,4 +1,14 @@
 //! Written types.
+ghost use Rattle.std.specs.Prelude.{◌≡◌, ◌-◌, ◌<◌, ◌≤◌, ℕ, List, [], length, drop, slice_range, IfErr, IfOk, OnOk, true};
+ghost use Rattle.flow_value.specs.declared.ty.Ty.{Ty};
+ghost use Rattle.type_table.specs.Tables.{IsTable};
+ghost use Rattle.sisal_grammar.specs.Placed.{placed};
+ghost use Rattle.typed_tree.specs.Types.{IsNumber};
+ghost use Rattle.typed_tree.specs.Written.{Denotes};
+ghost use Rattle.unit_types.specs.Faults.{IsUnitRule};
+ghost use Rattle.unit_types.specs.Rests.{AreKnown, AreTokensSpelled, AreStanding, IsUsed, Reads};
+
+use crate::fault::{UnitFault, numbered};
 use crate::open::{Next, Open};
 use crate::step::step;
 use crate::type_names::TypeNames;
@@ -20,11 +30,43 @@ pub fn denoted(
     named: &TypeNames,
     known: u32,
     types: &mut Types,
-) -> Result<u32, TypeFault> {
+) -> Result<u32, TypeFault>
+    // The table grows, and each of its numbers stands for a type if it did before.
+    ensures used { OnOk result (IsUsed tokens.now types.old types.new) }
+    ensures there { IfOk result (λ k. k < length types.new) }
+    // The type of this number is what the tokens denote, where the names of the text are spelled so, and the names of types are those of these types.
+    ensures denotes { IfOk result (λ k. (spellings : List (List ℕ)) (known_types : List (ℕ × Ty)) → AreTokensSpelled spellings tokens.now → AreStanding spellings types.old
+        → AreKnown types.old spellings (drop (length named.now - known) named.now) known_types
+        → (a : Ty) × Denotes spellings known_types (slice_range (placed 0 tokens.now) written.from written.to) a × IsNumber types.new spellings k a) }
+    ensures rule { IfErr result IsUnitRule }
+{
+    match type_of(alloc, tokens, written, named, known, types) {
+        Ok(number) => Ok(number),
+        Err(fault) => Err(numbered(fault)),
+    }
+}
+
+/// The type that a written type denotes, by number.
+pub fn type_of(
+    alloc: Global,
+    tokens: &[Token],
+    written: Written,
+    named: &TypeNames,
+    known: u32,
+    types: &mut Types,
+) -> Result<u32, UnitFault>
+    // The table grows, and each of its numbers stands for a type if it did before.
+    ensures used { OnOk result (IsUsed tokens.now types.old types.new) }
+    ensures there { IfOk result (λ k. k < length types.new) }
+    // The type of this number is what the tokens denote, where the names of the text are spelled so, and the names of types are those of these types.
+    ensures denotes { IfOk result (λ k. (spellings : List (List ℕ)) (known_types : List (ℕ × Ty)) → AreTokensSpelled spellings tokens.now → AreStanding spellings types.old
+        → AreKnown types.old spellings (drop (length named.now - known) named.now) known_types
+        → (a : Ty) × Denotes spellings known_types (slice_range (placed 0 tokens.now) written.from written.to) a × IsNumber types.new spellings k a) }
+{
     let from = written.from as usize;
     let to = written.to as usize;
     if from > to || to > tokens.len() {
-        return Err(TypeFault::NoMemory);
+        return Err(UnitFault::NoMemory);
     }
     read(alloc, &tokens[from..to], named, known, types)
 }
@@ -36,22 +78,39 @@ fn read(
     named: &TypeNames,
     known: u32,
     types: &mut Types,
-) -> Result<u32, TypeFault> {
-    let mut open = Back::new(alloc);
+) -> Result<u32, UnitFault>
+    ensures reads { IfOk result (λ k. Reads (drop (length named.now - known) named.now) types.old types.new tokens.now k) }
+    ensures table { OnOk result (IsTable types.new) }
+{
+    let mut stack = Back::new(alloc);
     let mut next = Next::Type;
     for token in tokens {
-        next = step(alloc, token, next, &mut open, named, known, types)?;
+        next = step(alloc, token, next, &mut stack, named, known, types)?;
     }
-    whole(next, open)
+    types.holds();
+    whole(next, stack, types)
 }
 
 /// The type that was read, where nothing is open.
-fn whole(next: Next, mut open: Back<Open>) -> Result<u32, TypeFault> {
+fn whole(next: Next, stack: Back<Open>, types: &Types) -> Result<u32, UnitFault>
+    ensures next { IfOk result (λ k. next ≡ Next.After k) }
+    ensures closed { OnOk result (stack ≡ []) }
+    ensures there { IfOk result (λ k. k < length types.now) }
+{
     match next {
-        Next::After(ty) => match open.pop() {
-            None => Ok(ty),
-            Some(_) => Err(TypeFault::NoMemory),
-        },
-        _ => Err(TypeFault::NoMemory),
+        Next::After(ty) if (ty as usize) < types.len() => {
+            if is_empty(stack) {
+                Ok(ty)
+            } else {
+                Err(UnitFault::NoMemory)
+            }
+        }
+        _ => Err(UnitFault::NoMemory),
     }
+}
+
+fn is_empty(mut stack: Back<Open>) -> bool
+    ensures { result ≡ true → stack ≡ [] }
+{
+    stack.pop().is_none()
 }

@@ -1,4 +1,4 @@
-use Rattle.std.proofs.Common.{◌≡◌, ◌<◌, ◌+◌, suc, All, map, drop, get_or, arith, add-one, ap, subst, sym, drop-cons}
+use Rattle.std.proofs.Common.{◌<◌, suc, All, map, drop, get_or, add-one, subst, sym, drop-cons}
 use Rattle.unit_types.proofs.Lists.{all_first}
 use Rattle.unit_types.proofs.form.are_below.Goals as goal
 
@@ -8,4 +8,4 @@ loop-member-preserved c = λ h.
     let i = c.loop-member.member-index in
     let rest = subst (λ k. All (λ t. t < c.args.n) (map (λ m. m.ty) (drop k ms))) (add-one i) h in
     c.loop-member.invariant (subst (λ l. All (λ t. t < c.args.n) (map (λ m. m.ty) l)) (sym (drop-cons ms i (record { name = 0; ty = 0 }) c.loop-member-test.true))
-        (all_first (λ t. t < c.args.n) (get_or ms i (record { name = 0; ty = 0 })).ty (map (λ m. m.ty) (drop (suc i) ms)) c.if-member-n.false rest))
+    (all_first (λ t. t < c.args.n) (get_or ms i (record { name = 0; ty = 0 })).ty (map (λ m. m.ty) (drop (suc i) ms)) c.if-member-n.false rest))

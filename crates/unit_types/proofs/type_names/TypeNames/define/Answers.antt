@@ -10,4 +10,5 @@ returns-then-is_some-clause-old c = λ _. ((λ e. some_plain c.args.name c.self.
 pub returns-clause-new : goal.returns-clause-new
 returns-clause-new c = λ _. (
   ap (newest c.args.name) (sym c.self.view_is) ∙ none_plain c.args.name c.self.inside.scope c.find.result c.find.ensures (cc),
-  ap plain c.in_ok-define.ensures.ok ∙ ap (λ l. (c.args.name, c.args.ty) ∷ l) c.self.view_is)
+  ap plain c.in_ok-define.ensures.ok ∙ ap (λ l. (c.args.name, c.args.ty) ∷ l) c.self.view_is,
+)

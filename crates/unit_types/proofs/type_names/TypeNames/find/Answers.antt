@@ -1,4 +1,4 @@
-use Rattle.std.proofs.Common.{◌≡◌, ◌-◌, ap, ◌∙◌, sym, drop, length, Some, None}
+use Rattle.std.proofs.Common.{◌≡◌, ◌-◌, ap, ◌∙◌, drop, length, Some, None}
 use Rattle.name_scope.specs.Newest.{newest}
 use Rattle.unit_types.specs.Placing.{known_in}
 use Rattle.unit_types.proofs.Finds.{find_known}

@@ -1,0 +1,138 @@
+-- All tokens of a written type.
+use Rattle.std.proofs.Common.{◌≡◌, ◌<◌, ℕ, zero, suc, ◌+◌, ◌-◌, List, [], ◌∷◌, ◌++◌, length, drop, take, refl, sym, ap, subst, ◌∙◌, arith, append_assoc}
+use Rattle.std.specs.Prelude.{slice_range}
+use Rattle.std.proofs.lemmas.List.{append-nil}
+use Rattle.std.proofs.Math.Seq.{drop-nil}
+use Rattle.flow_value.specs.declared.ty.Ty.{Ty}
+use Rattle.type_table.specs.declared.form.Form.{Form}
+use Rattle.type_table.specs.Tables.{IsTable}
+use Rattle.sisal_lex.specs.declared.token.Token.{Token}
+use Rattle.sisal_grammar.specs.Placed.{placed}
+use Rattle.typed_tree.specs.Types.{IsNumber}
+use Rattle.typed_tree.specs.Written.{Denotes}
+use Rattle.unit_types.specs.declared.open.Open.{Open}
+use Rattle.unit_types.specs.declared.open.Next.{Next}
+use Rattle.unit_types.specs.declared.open.Next.TheVariants as next
+use Rattle.unit_types.specs.Rests.{IsLater, IsGrown, AreKnown, IsKindSpelled, AreTokensSpelled, AreStanding, TypeComes, Behind, Follows, Leads, Reads, IsReading, IsUsed, HasNames}
+use Rattle.unit_types.proofs.Standing.{one_type, number_later}
+
+pub begin_reading : (known : List (ℕ × ℕ)) (old : List Form) (tokens : List Token) → IsReading known old old tokens 0 next.Type []
+begin_reading known old tokens = record {
+  grown = record { more = []; is = sym (append-nil old) };
+  spelled = λ sp h. tt;
+  standing = λ sp h s. s;
+  follows = λ sp tys forms l h k n a f.
+      let e : n + 0 ≡ n = omega arith in
+      subst (λ p. TypeComes sp tys (Behind sp tys forms []) (placed p tokens) a) e f;
+}
+
+kind_at : (sp : List (List ℕ)) (tokens : List Token) (i : ℕ) (t : Token) (rest : List Token) → AreTokensSpelled sp tokens → drop i tokens ≡ t ∷ rest → IsKindSpelled sp t.kind
+kind_at sp [] i t rest h e = let k : t ∷ rest ≡ [] = sym e ∙ drop-nil i in cc
+kind_at sp (u ∷ us) zero t rest h e = let k : u ≡ t = cc in subst (λ t. IsKindSpelled sp t.kind) k h.0
+kind_at sp (u ∷ us) (suc i) t rest h e = kind_at sp us i t rest h.1 e
+
+later_before : (old now forms : List Form) → IsGrown old now → IsLater now forms → IsLater old forms
+later_before old now forms g l = record {
+  more = g.more ++ l.more;
+  grown = l.grown ∙ ap (λ x. x ++ l.more) g.is ∙ append_assoc old g.more l.more;
+  table = l.table;
+}
+
+pub go_on_reading : (known : List (ℕ × ℕ)) (old now new : List Form) (tokens : List Token) (i : ℕ) (here later : Next) (os rest : List Open) (t : Token) → drop i tokens ≡ t ∷ drop (i + 1) tokens
+    → IsReading known old now tokens i here os → Leads known now new here os t later rest → IsReading known old new tokens (i + 1) later rest
+go_on_reading known old now new tokens i here later os rest t e r l = record {
+  grown = record { more = r.grown.more ++ l.grown.more; is = l.grown.is ∙ ap (λ x. x ++ l.grown.more) r.grown.is ∙ append_assoc old r.grown.more l.grown.more };
+  spelled = λ sp h. l.spelled sp (kind_at sp tokens i t (drop (i + 1) tokens) h e) (r.spelled sp h);
+  standing = λ sp h s. l.standing sp (r.spelled sp h) (r.standing sp h s);
+  follows = λ sp tys forms lt h k n a f.
+      let p : n + (i + 1) ≡ n + i + 1 = omega arith in
+      let g : Follows sp tys forms later rest (placed (n + i + 1) (drop (i + 1) tokens)) a = subst (λ q. Follows sp tys forms later rest (placed q (drop (i + 1) tokens)) a) p f in
+      let w : Follows sp tys forms here os (placed (n + i) (t ∷ drop (i + 1) tokens)) a = l.follows sp tys forms lt (r.spelled sp h) k (n + i) (placed (n + i + 1) (drop (i + 1) tokens)) a g in
+      r.follows sp tys forms (later_before now new forms l.grown lt) h k n a (subst (λ l. Follows sp tys forms here os (placed (n + i) l) a) (sym e) w);
+}
+
+pub end_reading : (known : List (ℕ × ℕ)) (old now : List Form) (tokens : List Token) (i k : ℕ) (later : Next) (os : List Open) → IsReading known old now tokens i later os → drop i tokens ≡ []
+    → later ≡ next.After k → os ≡ [] → k < length now → Reads known old now tokens k
+end_reading known old now tokens i k later os r e is none there = record {
+  grown = r.grown;
+  there = there;
+  standing = r.standing;
+  denotes = λ sp tys table h known_now n a stands.
+      let l : IsLater now now = record { more = []; grown = sym (append-nil now); table = table } in
+      let f : Follows sp tys now (next.After k) [] (placed (n + i) []) a = λ b q. (refl, one_type now sp stands b q) in
+      let g : Follows sp tys now later os (placed (n + i) (drop i tokens)) a =
+      subst (λ o. Follows sp tys now later o (placed (n + i) (drop i tokens)) a) (sym none)
+      (subst (λ x. Follows sp tys now x [] (placed (n + i) (drop i tokens)) a) (sym is) (subst (λ l. Follows sp tys now (next.After k) [] (placed (n + i) l) a) (sym e) f)) in
+      let c : TypeComes sp tys (Behind sp tys now []) (placed n tokens) a = r.follows sp tys now l h known_now n a g in
+      let whole : placed n tokens ≡ c.inner = c.whole ∙ ap (λ l. c.inner ++ l) c.goes_on.0 ∙ append-nil c.inner in
+      subst (λ l. Denotes sp tys l a) (sym whole) (subst (Denotes sp tys c.inner) c.goes_on.1 c.is);
+}
+
+-- ---- a range of tokens
+
+placed_drop : (i n : ℕ) (ts : List Token) → drop i (placed n ts) ≡ placed (n + i) (drop i ts)
+placed_drop zero n ts = let e : n ≡ n + 0 = omega arith in ap (λ k. placed k ts) e
+placed_drop (suc i) n [] = refl
+placed_drop (suc i) n (t ∷ ts) = let e : n + 1 + i ≡ n + suc i = omega arith in placed_drop i (n + 1) ts ∙ ap (λ k. placed k (drop i ts)) e
+
+placed_take : (i n : ℕ) (ts : List Token) → take i (placed n ts) ≡ placed n (take i ts)
+placed_take zero n ts = refl
+placed_take (suc i) n [] = refl
+placed_take (suc i) n (t ∷ ts) = ap (λ l. record { place = n; kind = t.kind; line = t.line } ∷ l) (placed_take i (n + 1) ts)
+
+pub placed_range : (from to : ℕ) (ts : List Token) → slice_range (placed 0 ts) from to ≡ placed from (slice_range ts from to)
+placed_range from to ts =
+    let e : 0 + from ≡ from = omega arith in
+    ap (take (to - from)) (placed_drop from 0 ts ∙ ap (λ k. placed k (drop from ts)) e) ∙ placed_take (to - from) from (drop from ts)
+
+spelled_drop : (sp : List (List ℕ)) (i : ℕ) (ts : List Token) → AreTokensSpelled sp ts → AreTokensSpelled sp (drop i ts)
+spelled_drop sp zero ts h = h
+spelled_drop sp (suc i) [] h = h
+spelled_drop sp (suc i) (t ∷ ts) h = spelled_drop sp i ts h.1
+
+spelled_take : (sp : List (List ℕ)) (i : ℕ) (ts : List Token) → AreTokensSpelled sp ts → AreTokensSpelled sp (take i ts)
+spelled_take sp zero ts h = tt
+spelled_take sp (suc i) [] h = h
+spelled_take sp (suc i) (t ∷ ts) h = (h.0, spelled_take sp i ts h.1)
+
+spelled_range : (sp : List (List ℕ)) (from to : ℕ) (ts : List Token) → AreTokensSpelled sp ts → AreTokensSpelled sp (slice_range ts from to)
+spelled_range sp from to ts h = spelled_take sp (to - from) (drop from ts) (spelled_drop sp from ts h)
+
+pub known_later : (old more : List Form) (sp : List (List ℕ)) (ns : List (ℕ × ℕ)) (ts : List (ℕ × Ty)) → AreKnown old sp ns ts → AreKnown (old ++ more) sp ns ts
+known_later old more sp [] [] h = tt
+known_later old more sp [] (t ∷ ts) h = absurd h
+known_later old more sp (n ∷ ns) [] h = absurd h
+known_later old more sp (n ∷ ns) (t ∷ ts) h = (h.0, number_later old more sp h.1, known_later old more sp ns ts h.2)
+
+pub known_grown : (old new : List Form) (sp : List (List ℕ)) (ns : List (ℕ × ℕ)) (ts : List (ℕ × Ty)) → IsGrown old new → AreKnown old sp ns ts → AreKnown new sp ns ts
+known_grown old new sp ns ts g h = subst (λ f. AreKnown f sp ns ts) (sym g.is) (known_later old g.more sp ns ts h)
+
+-- what a range of tokens denotes
+pub range_denotes : (known : List (ℕ × ℕ)) (old new : List Form) (tokens : List Token) (from to k : ℕ) → Reads known old new (slice_range tokens from to) k → IsTable new
+    → (sp : List (List ℕ)) (tys : List (ℕ × Ty)) → AreTokensSpelled sp tokens → AreStanding sp old → AreKnown old sp known tys
+    → (a : Ty) × Denotes sp tys (slice_range (placed 0 tokens) from to) a × IsNumber new sp k a
+range_denotes known old new tokens from to k r table sp tys h s kn =
+    let spelled : AreTokensSpelled sp (slice_range tokens from to) = spelled_range sp from to tokens h in
+    let t : (a : Ty) × IsNumber new sp k a = r.standing sp spelled s k r.there in
+    (t.0, subst (λ l. Denotes sp tys l t.0) (sym (placed_range from to tokens)) (r.denotes sp tys table spelled (known_grown old new sp known tys r.grown kn) from t.0 t.1), t.1)
+
+pub range_uses : (known : List (ℕ × ℕ)) (old new : List Form) (tokens : List Token) (from to k : ℕ) → Reads known old new (slice_range tokens from to) k → IsUsed tokens old new
+range_uses known old new tokens from to k r = record {
+  grown = r.grown;
+  standing = λ sp h s. r.standing sp (spelled_range sp from to tokens h) s;
+}
+
+-- ---- a table in use
+
+pub unused : (tokens : List Token) (old : List Form) → IsUsed tokens old old
+unused tokens old = record { grown = record { more = []; is = sym (append-nil old) }; standing = λ sp h s. s }
+
+pub used_again : (tokens : List Token) (old now new : List Form) → IsUsed tokens old now → IsUsed tokens now new → IsUsed tokens old new
+used_again tokens old now new a b = record {
+  grown = record { more = a.grown.more ++ b.grown.more; is = b.grown.is ∙ ap (λ x. x ++ b.grown.more) a.grown.is ∙ append_assoc old a.grown.more b.grown.more };
+  standing = λ sp h s. b.standing sp h (a.standing sp h s);
+}
+
+pub names_later : (tokens : List Token) (old new : List Form) (sp : List (List ℕ)) (ns : List (ℕ × ℕ)) (ts : List (ℕ × Ty)) → IsUsed tokens old new → AreTokensSpelled sp tokens
+    → HasNames sp old ns ts → HasNames sp new ns ts
+names_later tokens old new sp ns ts u h k = record { standing = u.standing sp h k.standing; named = known_grown old new sp ns ts u.grown k.named }

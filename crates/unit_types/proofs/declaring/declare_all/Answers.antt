@@ -1,0 +1,44 @@
+use Rattle.std.proofs.Common.{◌≡◌, ◌++◌, ◌∙◌, ◌+◌, ◌∷◌, [], map, sym, ap, drop, arith}
+use Rattle.unit_types.specs.Headings.{heading_of, heading_in, has_body, given_functions, numbering}
+use Rattle.unit_types.proofs.Lists.{cut_at, drop_all}
+use Rattle.unit_types.proofs.Given.{more_given}
+use Rattle.unit_types.proofs.Declares.{declares_first, declares_all}
+use Rattle.unit_types.proofs.Naming.{named_first, named_more, named_all}
+use Rattle.unit_types.proofs.declaring.declare_all.Goals as goal
+
+pub loop-item-init : goal.loop-item-init
+loop-item-init c =
+    let e = c.in_ok-declaring.ensures in
+    let items = c.args.items.now in
+    record {
+      functions = ap (λ l. map heading_in l ++ map heading_of (given_functions items)) e.functions;
+      bodies = ap (λ l. l ++ map (λ f. has_body f.kind) (given_functions items)) e.bodies;
+      numbers = e.numbers ∙ ap (λ l. numbering 0 [] (map (λ s. s.name) l)) (sym e.functions);
+      declares = λ u is h. declares_first u items c.args.tokens.now is h c.in_ok-declaring.declaring.types c.in_ok-declaring.declaring.named c.in_ok-declaring.declaring.functions e.types e.named e.functions;
+      names = λ sp h. named_first c.args.tokens.now items c.in_ok-declaring.declaring.types c.in_ok-declaring.declaring.named e.types e.named sp;
+    }
+
+pub loop-item-preserved : goal.loop-item-preserved
+loop-item-preserved c =
+    let items = c.args.items.now in
+    let i = c.loop-item.item-index in
+    let x = c.item-item.result in
+    let here : drop i items ≡ x ∷ drop (i + 1) items = cut_at items i x c.loop-item-test.true c.item-item.is in
+    record {
+      functions = more_given heading_of (map heading_in c.loop-item.declaring.functions) (map heading_in c.declare_item.new.declaring.functions) (map heading_of (given_functions items)) x (drop i items) (drop (i + 1) items)
+          here c.in_ok-declare_item.ensures.functions c.loop-item.invariant.functions;
+      bodies = more_given (λ f. has_body f.kind) c.loop-item.declaring.bodies c.declare_item.new.declaring.bodies (map (λ f. has_body f.kind) (given_functions items)) x (drop i items) (drop (i + 1) items)
+          here c.in_ok-declare_item.ensures.bodies c.loop-item.invariant.bodies;
+      numbers = c.in_ok-declare_item.ensures.numbers c.loop-item.invariant.numbers;
+      declares = λ u is h. c.in_ok-declare_item.ensures.declares u items i is h here (c.loop-item.invariant.declares u is h);
+      names = named_more c.args.tokens.now items i x c.loop-item.declaring.types c.declare_item.new.declaring.types c.loop-item.declaring.named c.declare_item.new.declaring.named
+          here c.in_ok-declare_item.ensures.names c.loop-item.invariant.names;
+    }
+
+pub returns-clause-names : goal.returns-clause-names
+returns-clause-names c = named_all c.args.tokens.now c.args.items.now c.loop-item.item-index c.loop-item.declaring.types c.loop-item.declaring.named
+    (drop_all c.args.items.now c.loop-item.item-index (omega arith)) c.loop-item.invariant.names
+
+pub returns-clause-declares : goal.returns-clause-declares
+returns-clause-declares c = λ u is h. declares_all u c.args.items.now c.args.tokens.now is h c.loop-item.item-index c.loop-item.declaring.types c.loop-item.declaring.named c.loop-item.declaring.functions
+    (drop_all c.args.items.now c.loop-item.item-index (omega arith)) (c.loop-item.invariant.declares u is h)

@@ -1,0 +1,30 @@
+use Rattle.std.proofs.Common.{◌-◌, ◌+◌, ◌++◌, ◌∙◌, ap, map, sym, subst, drop, length, arith}
+use Rattle.unit_types.specs.Headers.{AreParamsTo}
+use Rattle.unit_types.proofs.Lists.{cut_at, drop_all}
+use Rattle.unit_types.proofs.Reading.{unused, used_again}
+use Rattle.unit_types.proofs.Headers.{params_first, params_more, params_all}
+use Rattle.unit_types.proofs.header.params_in.Goals as goal
+
+pub loop-field-init : goal.loop-field-init
+loop-field-init c = record {
+  used = unused c.args.tokens.now c.args.types.now;
+  are = λ u types is h n. subst (AreParamsTo u types c.args.types.now c.args.fields.now 0) (sym c.new-params.ensures)
+      (params_first u types c.args.tokens.now is h (drop (length c.args.named.now - c.args.known) c.args.named.now) c.args.fields.now c.args.types.now);
+}
+
+pub loop-field-preserved : goal.loop-field-preserved
+loop-field-preserved c =
+    let i = c.loop-field.field-index in
+    let fields = c.args.fields.now in
+    record {
+      used = used_again c.args.tokens.now c.args.types.now c.loop-field.types c.type_of.new.types c.loop-field.invariant.used c.in_ok-ty.ensures.used;
+      are = λ u types is h n.
+          subst (AreParamsTo u types c.type_of.new.types fields (i + 1)) (sym (c.in_ok-add_types.ensures ∙ ap (λ l. c.loop-field.params ++ map (λ n. c.in_ok-ty.ty) l) c.as_slice.ensures))
+          (params_more u types c.args.tokens.now is h (drop (length c.args.named.now - c.args.known) c.args.named.now) fields i c.field-item.result
+          c.args.types.now c.loop-field.types c.type_of.new.types c.loop-field.params c.in_ok-ty.ty (cut_at fields i c.field-item.result c.loop-field-test.true c.field-item.is)
+          n c.loop-field.invariant.used c.in_ok-ty.ensures.used c.in_ok-ty.ensures.denotes (c.loop-field.invariant.are u types is h n));
+    }
+
+pub returns-clause-params : goal.returns-clause-params
+returns-clause-params c = λ u types is h n. params_all u types c.args.tokens.now is h (drop (length c.args.named.now - c.args.known) c.args.named.now) c.args.fields.now c.loop-field.field-index
+    c.loop-field.types c.loop-field.params (drop_all c.args.fields.now c.loop-field.field-index (omega arith)) (c.loop-field.invariant.are u types is h n)

@@ -1,0 +1,30 @@
+use Rattle.std.proofs.Common.{◌-◌, ◌+◌, sym, subst, drop, length, get_or, arith}
+use Rattle.unit_types.specs.Headers.{AreResultsTo}
+use Rattle.unit_types.proofs.Lists.{cut, drop_all}
+use Rattle.unit_types.proofs.Reading.{unused, used_again}
+use Rattle.unit_types.proofs.Headers.{results_first, results_more, results_all}
+use Rattle.unit_types.proofs.header.results_in.Goals as goal
+
+pub loop-ty-init : goal.loop-ty-init
+loop-ty-init c = record {
+  used = unused c.args.tokens.now c.args.types.now;
+  are = λ u types is h n. subst (AreResultsTo u types c.args.types.now c.args.written.now 0) (sym c.new-results.ensures)
+      (results_first u types c.args.tokens.now is h (drop (length c.args.named.now - c.args.known) c.args.named.now) c.args.written.now c.args.types.now);
+}
+
+pub loop-ty-preserved : goal.loop-ty-preserved
+loop-ty-preserved c =
+    let i = c.loop-ty.ty-index in
+    let written = c.args.written.now in
+    record {
+      used = used_again c.args.tokens.now c.args.types.now c.loop-ty.types c.type_of.new.types c.loop-ty.invariant.used c.in_ok-number.ensures.used;
+      are = λ u types is h n.
+          subst (AreResultsTo u types c.type_of.new.types written (i + 1)) (sym c.in_ok-add.ensures.ok)
+          (results_more u types c.args.tokens.now is h (drop (length c.args.named.now - c.args.known) c.args.named.now) written i (get_or written i (record { from = 0; to = 0 }))
+          c.args.types.now c.loop-ty.types c.type_of.new.types c.loop-ty.results c.in_ok-number.number (cut written i (record { from = 0; to = 0 }) c.loop-ty-test.true)
+          n c.loop-ty.invariant.used c.in_ok-number.ensures.used c.in_ok-number.ensures.denotes (c.loop-ty.invariant.are u types is h n));
+    }
+
+pub returns-clause-results : goal.returns-clause-results
+returns-clause-results c = λ u types is h n. results_all u types c.args.tokens.now is h (drop (length c.args.named.now - c.args.known) c.args.named.now) c.args.written.now c.loop-ty.ty-index
+    c.loop-ty.types c.loop-ty.results (drop_all c.args.written.now c.loop-ty.ty-index (omega arith)) (c.loop-ty.invariant.are u types is h n)

@@ -1,0 +1,19 @@
+use Rattle.std.proofs.Common.{◌-◌, sym, subst, refl, drop, length}
+use Rattle.unit_types.specs.Rests.{HasNames}
+use Rattle.unit_types.proofs.Reading.{used_again, names_later}
+use Rattle.unit_types.proofs.Naming.{all_known}
+use Rattle.unit_types.proofs.Headers.{says}
+use Rattle.unit_types.proofs.header.signature_of.Goals as goal
+
+pub returns-clause-used : goal.returns-clause-used
+returns-clause-used c = used_again c.args.tokens.now c.args.types.now c.params_in.new.types c.results_in.new.types c.in_ok-params.ensures.used c.in_ok-results.ensures.used
+
+pub returns-clause-says : goal.returns-clause-says
+returns-clause-says c = λ u types is h n.
+    let known = drop (length c.args.named.now - c.in_ok-known.known) c.args.named.now in
+    let m : HasNames u.tokens.names c.args.types.now known types
+    = subst (λ l. HasNames u.tokens.names c.args.types.now l types) (sym (all_known c.args.named.now c.in_ok-known.known c.in_ok-known.ensures)) n in
+    says u types c.params_in.new.types c.results_in.new.types c.args.header.now _ c.as_slice-fields.result.now c.as_slice-written.result.now c.as_slice-fields.ensures c.as_slice-written.ensures
+    refl c.in_ok-parameters.ensures c.in_ok-are_distinct.ensures c.in_ok-results.ensures.used.grown
+    (c.in_ok-params.ensures.params u types is h m)
+    (c.in_ok-results.ensures.results u types is h (names_later c.args.tokens.now c.args.types.now c.params_in.new.types u.tokens.names known types c.in_ok-params.ensures.used h m))

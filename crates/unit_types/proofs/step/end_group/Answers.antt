@@ -1,0 +1,26 @@
+use Rattle.std.proofs.Common.{ap, refl, subst, ◌∙◌, ◌∷◌}
+use Rattle.sisal_lex.specs.declared.token.Kind.TheVariants as kind
+use Rattle.typed_tree.specs.Scopes.{AreDistinct}
+use Rattle.unit_types.specs.declared.open.Open.TheVariants as entry
+use Rattle.unit_types.specs.Rests.{IsMade, with_group, members_form}
+use Rattle.unit_types.proofs.Lists.{if_ok_weaker, if_ok_both}
+use Rattle.unit_types.proofs.Steps.{semicolon_leads, closes_group, leads_as}
+use Rattle.unit_types.proofs.step.end_group.Goals as goal
+
+pub returns-in-SSemicolon : goal.returns-in-SSemicolon
+returns-in-SSemicolon c = if_ok_both c.keep_open.result
+    (λ later a b known t w.
+    leads_as a (b ∙ ap (λ m. entry.Members m ∷ c.args.stack.now) c.in_ok-grouped.ensures) refl
+    (semicolon_leads known c.args.types.now c.args.members c.args.stack.now t c.args.ty (w ∙ ap kind.Sign c.in-SSemicolon.is)))
+    c.keep_open.ensures.later c.keep_open.ensures.stack
+
+pub returns-in-SCloseBracket : goal.returns-in-SCloseBracket
+returns-in-SCloseBracket c = if_ok_weaker c.close_members.result
+    (λ later made known t w.
+    let old = c.args.types.now in
+    let new = c.close_members.new.types in
+    let m : IsMade old new (members_form c.args.members.is_union (with_group c.args.members c.args.ty).members) later
+    = subst (λ g. IsMade old new (members_form g.is_union g.members) later) c.in_ok-grouped.ensures made in
+    let d : AreDistinct (with_group c.args.members c.args.ty).names = subst (λ g. AreDistinct g.names) c.in_ok-grouped.ensures c.close_members.ensures.distinct in
+    leads_as m.is refl refl (closes_group known old new c.args.members c.args.stack.now t c.args.ty m.number (w ∙ ap kind.Sign c.in-SCloseBracket.is) d m.there m.adds m.over))
+    c.close_members.ensures.made
