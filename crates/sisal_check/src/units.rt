@@ -1,5 +1,6 @@
 //! Units.
-ghost use Rattle.std.specs.Prelude.{◌≡◌, IfOk};
+ghost use Rattle.std.specs.Prelude.{IfOk};
+ghost use Rattle.sisal_check.specs.Checked.{Checked};
 
 use crate::bodies::functions;
 use crate::state::{Given, Walk};
@@ -13,7 +14,7 @@ use value_names::InForce;
 /// The typed program of a unit, or the first rule that it breaks with the line: SISAL Language
 /// Reference Manual 1.2, types, scope and programs.
 pub fn check(alloc: Global, unit: Unit) -> Result<Program, TypeFault>
-    ensures names { IfOk result (λ p. p.names ≡ unit.tokens.names) }
+    ensures checked { IfOk result (λ p. Checked unit p) }
 {
     let Declared {
         types,
