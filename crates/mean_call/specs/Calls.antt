@@ -1,12 +1,12 @@
 -- What a typed program gives on the words of a command: the values of its entry, or why there are none.
-use Rattle.std.specs.Prelude.{◌≡◌, ◌<◌, ◌≤◌, ℕ, Bool, false, List, [], map, Option, Some, None, option_map, slice_get, unwrap_or, bytes_eq}
-use Rattle.std.specs.Char.{to_ascii_lowercase}
+use Rattle.std.specs.Prelude.{◌≡◌, ◌<◌, ◌≤◌, ℕ, Bool, List, [], Option, Some, None, option_map, slice_get, unwrap_or}
 use Rattle.std.specs.List.{find}
 use Rattle.std.specs.Option.{is_none}
 use Rattle.flow_value.specs.declared.ty.Ty.{Ty}
 use Rattle.flow_value.specs.declared.value.Val.{Val}
 use Rattle.run_words.specs.declared.command.MeanSet.{MeanSet}
 use Rattle.source_meaning.specs.Meaning.{calls}
+use Rattle.typed_tree.specs.Entries.{entry_of}
 use Rattle.typed_tree.specs.Types.{AreNumbers}
 use Rattle.typed_tree.specs.declared.program.Function.{Function}
 use Rattle.typed_tree.specs.declared.program.Program.{Program}
@@ -29,26 +29,6 @@ unlinked p = option_map (λ f. unwrap_or (slice_get p.names f.name) []) (find is
 
 -- ---- the entry
 
--- the name of a number has this spelling
-abbrev pub is_name : List ℕ → Option (List ℕ) → Bool
-is_name name None = false
-is_name name (Some spelling) = bytes_eq spelling name
-
-abbrev pub is_spelled : List (List ℕ) → List ℕ → ℕ → Bool
-is_spelled names name k = is_name name (slice_get names k)
-
--- the function of a number has this name
-abbrev pub has_name : Program → List ℕ → Option Function → Bool
-has_name p name None = false
-has_name p name (Some f) = is_spelled p.names name f.name
-
-abbrev pub is_called : Program → List ℕ → ℕ → Bool
-is_called p name k = has_name p name (slice_get p.functions k)
-
--- the first function after `define` that has this name
-abbrev pub named : Program → List ℕ → Option ℕ
-named p name = find (is_called p name) p.defines
-
 -- the numbers of the types of a function's parameters
 abbrev pub params_if : Option Function → List ℕ
 params_if None = []
@@ -57,10 +37,10 @@ params_if (Some f) = f.params
 abbrev pub params_of : Program → ℕ → List ℕ
 params_of p k = params_if (slice_get p.functions k)
 
--- The entry of a word: the first function after `define` that has the word's name in small letters, where the types of all its
--- parameters are in the table. In a program that typing gives they are.
+-- The entry of a word: the first function after `define` that has the word as its name, in small or capital letters, where the
+-- types of all its parameters are in the table. In a program that typing gives they are.
 pub record IsEntry (p : Program) (word : List ℕ) (function : ℕ) (types : List Ty) : Type 0 where
-  pub called : named p (map to_ascii_lowercase word) ≡ Some function
+  pub called : entry_of p word ≡ Some function
   pub parameters : AreNumbers p.types p.names (params_of p function) types
 
 abbrev pub IsEntryIf : Program → List ℕ → Option Entry → Type 0

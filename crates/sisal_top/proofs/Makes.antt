@@ -1,7 +1,6 @@
 -- How the parts of an expression make the whole.
-use Rattle.std.proofs.Common.{◌≡◌, ℕ, suc, ◌+◌, ◌<◌, nat_eq, true, false, cond, inl, inr, List, [], ◌∷◌, ◌++◌, length, get_or, drop, map, Result, Ok, refl, sym, ap, subst, ◌∙◌, add-one, drop-cons}
+use Rattle.std.proofs.Common.{◌≡◌, ℕ, suc, ◌+◌, ◌<◌, nat_eq, true, false, cond, List, [], ◌∷◌, ◌++◌, length, get_or, drop, map, Result, refl, sym, ap, subst, ◌∙◌, add-one, drop-cons}
 use Rattle.std.specs.Result.{IfOk}
-use Rattle.std.proofs.lemmas.Bool.Decides.{eqb_tells}
 use Rattle.std.proofs.lemmas.Result.{IfOk-weaker}
 use Rattle.flow_value.specs.Scalar.{strict2, row2}
 use Rattle.flow_value.specs.declared.operation.Scalar2.TheVariants as two

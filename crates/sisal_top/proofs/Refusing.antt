@@ -3,7 +3,6 @@ use Rattle.std.proofs.Common.{◌≡◌, ◌≢◌, ◌⊎◌, inl, inr, List, �
 use Rattle.std.specs.Result.{IfErr, IsErrAnd}
 use Rattle.run_words.specs.Words.{IsCommand, HasFault}
 use Rattle.run_words.specs.declared.command.Command.{Command}
-use Rattle.run_words.specs.declared.command.Command.TheVariants as command
 use Rattle.run_words.specs.declared.fault.WordFault.{WordFault}
 use Rattle.run_words.specs.declared.fault.WordFault.TheVariants as word
 use Rattle.run_words.proofs.Answering.{one_command, not_both}
@@ -12,8 +11,7 @@ use Rattle.sisal_lex.specs.declared.token.Tokens.{Tokens}
 use Rattle.sisal_parse.specs.Faults.{DepthFault, SyntaxFault}
 use Rattle.sisal_parse.specs.declared.fault.ParseFault.{ParseFault}
 use Rattle.sisal_parse.specs.declared.fault.ParseFault.TheVariants as parser
-use Rattle.sisal_top.specs.Answer.{RunsPlain}
-use Rattle.sisal_top.specs.Program.{IsRun}
+use Rattle.sisal_top.specs.Program.{AskToRead, ReadsText}
 use Rattle.sisal_top.specs.Refusals.{IsCause, IsReply, IsUnread, Means}
 use Rattle.sisal_top.specs.Status.{of_parser, of_words}
 use Rattle.sisal_top.specs.declared.status.Status.{Status}
@@ -30,22 +28,23 @@ means_reply bytes (Err status.ReadFault) m = tt
 means_reply bytes (Err status.WriteFault) m = m
 means_reply bytes (Err status.NoMemory) m = tt
 means_reply bytes (Err (status.Syntax f)) m = tt
-means_reply bytes (Err status.Typing) m = tt
+means_reply bytes (Err (status.Typing rule line)) m = tt
 means_reply bytes (Err status.If1) m = tt
-means_reply bytes (Err status.Argument) m = tt
+means_reply bytes (Err (status.Argument f)) m = tt
 means_reply bytes (Err status.TurnLimit) m = tt
 means_reply bytes (Err status.TooLong) m = tt
 means_reply bytes (Err status.Later) m = tt
+means_reply bytes (Err (status.Unlinked name)) m = tt
 
--- words that ask for a plain run are no other command, and have no fault
-pub runs_plain : (words : List (List ℕ)) (c : Command) → IsRun words → IsCommand words c → RunsPlain c
-runs_plain words c r is = (r.0, one_command words c (command.Run r.0) is r.1, r.2)
+-- words that ask to read the text are no other command, and have no fault
+pub reads_text : (words : List (List ℕ)) (c : Command) → AskToRead words → IsCommand words c → ReadsText c
+reads_text words c r is = subst ReadsText (sym (one_command words c r.0 is r.1)) r.2
 
-pub has_no_fault : (words : List (List ℕ)) (f : WordFault) → IsRun words → HasFault words f → ⊥
-has_no_fault words f r is = not_both words (command.Run r.0) f r.1 is
+pub has_no_fault : (words : List (List ℕ)) (f : WordFault) → AskToRead words → HasFault words f → ⊥
+has_no_fault words f r is = not_both words r.0 f r.1 is
 
--- a plain run whose words are not read for want of memory
-pub not_read : (X : Type 0) (words : List (List ℕ)) (f : WordFault) (r : Result (List ℕ) Status) → IsRun words
+-- a command that reads the text and whose words are not read for want of memory
+pub not_read : (X : Type 0) (words : List (List ℕ)) (f : WordFault) (r : Result (List ℕ) Status) → AskToRead words
     → (f ≢ word.NoMemory → HasFault words f) → IsErrAnd r (λ s. s ≡ of_words f) → IfErr r (λ s. IsUnread s ⊎ X)
 not_read X words f (Ok printed) run has is = tt
 not_read X words word.NoMemory (Err s) run has is = inl (subst IsUnread (sym is) tt)

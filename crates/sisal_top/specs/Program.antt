@@ -1,6 +1,7 @@
--- Which texts are programs of the first form, and which words ask to run them.
-use Rattle.std.specs.Prelude.{◌≡◌, ◌≤◌, ◌⊎◌, ℕ, false, List, [], ◌∷◌, Ok, Err, codes}
+-- Which texts are programs of the first form, and which words ask to read the text.
+use Rattle.std.specs.Prelude.{◌≡◌, ◌≤◌, ◌⊎◌, ℕ, false, List, [], Ok, Err, codes}
 use Rattle.run_words.specs.Words.{IsCommand}
+use Rattle.run_words.specs.declared.command.Command.{Command}
 use Rattle.run_words.specs.declared.command.Command.TheVariants as command
 use Rattle.run_words.specs.declared.command.RunSet.{RunSet}
 use Rattle.sisal_lex.specs.Tokens.{tokens_of}
@@ -62,5 +63,16 @@ IsRefused bytes refusal = HasNoTokens bytes refusal ⊎ HasNoUnit bytes refusal
 abbrev pub IsPlain : RunSet → Type 0
 IsPlain set = (set.if1 ≡ false) × (set.entry ≡ codes "main") × (set.limit ≡ 10000000) × (set.stats ≡ false) × (set.values ≡ [])
 
-abbrev pub IsRun : List (List ℕ) → Type 0
-IsRun words = (set : RunSet) × IsCommand words (command.Run set) × IsPlain set
+-- the commands that read the text: a plain `run`, and `mean`
+abbrev pub ReadsText : Command → Type 0
+ReadsText (command.Run set) = IsPlain set
+ReadsText (command.Mean set) = Unit {0}
+ReadsText command.Compile = ⊥
+ReadsText command.If1 = ⊥
+ReadsText (command.Gen n) = ⊥
+ReadsText command.Help = ⊥
+ReadsText command.Version = ⊥
+
+-- the words are a command that reads the text
+abbrev pub AskToRead : List (List ℕ) → Type 0
+AskToRead words = (c : Command) × IsCommand words c × ReadsText c

@@ -1,6 +1,6 @@
 -- Results and refusals inside the call.
 use Rattle.std.specs.Prelude.{◌≡◌, ℕ, List, ◌⊎◌, Result, Ok, Err}
-use Rattle.sisal_top.specs.Answer.{Prints}
+use Rattle.sisal_top.specs.Outputs.{Prints, HasTypeFault}
 use Rattle.sisal_top.specs.Program.{IsNotBuilt, IsRefused}
 use Rattle.sisal_top.specs.declared.status.Status.{Status}
 use Rattle.sisal_top.specs.declared.status.Status.TheVariants as status
@@ -36,9 +36,23 @@ abbrev pub Reads : List ℕ → Result (List ℕ) Status → Type 0
 Reads bytes (Err status.ReadFault) = Unit {0}
 Reads bytes r = Means bytes r
 
+-- the unit has a type fault with this status
+abbrev pub IsTypeFault : List ℕ → Status → Type 0
+IsTypeFault bytes (status.Typing rule line) = HasTypeFault bytes
+IsTypeFault bytes _ = ⊥
+
+-- want of memory, a fault of the bytes, or a type fault
+abbrev pub IsNoProgram : List ℕ → Status → Type 0
+IsNoProgram bytes s = IsCause bytes s ⊎ IsTypeFault bytes s
+
 -- the refusals that a command gives
 abbrev pub IsReply : Status → Type 0
 IsReply status.Done = ⊥
 IsReply (status.Usage f) = ⊥
 IsReply status.WriteFault = ⊥
 IsReply _ = Unit {0}
+
+-- the refusals that come of bytes, and not of the words, the source or the sink
+abbrev pub IsOfBytes : Status → Type 0
+IsOfBytes status.ReadFault = ⊥
+IsOfBytes s = IsReply s

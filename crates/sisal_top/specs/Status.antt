@@ -1,11 +1,15 @@
 -- The numbers of the statuses, and the statuses of other crates' faults.
 use Rattle.std.specs.Prelude.{ℕ}
+use Rattle.mean_call.specs.declared.fault.Refusal.{Refusal}
+use Rattle.mean_call.specs.declared.fault.Refusal.TheVariants as refusal
 use Rattle.run_words.specs.declared.fault.WordFault.{WordFault}
 use Rattle.run_words.specs.declared.fault.WordFault.TheVariants as word
 use Rattle.sisal_lex.specs.declared.fault.LexFault.{LexFault}
 use Rattle.sisal_lex.specs.declared.fault.LexFault.TheVariants as lexer
 use Rattle.sisal_parse.specs.declared.fault.ParseFault.{ParseFault}
 use Rattle.sisal_parse.specs.declared.fault.ParseFault.TheVariants as parser
+use Rattle.type_rules.specs.declared.fault.TypeFault.{TypeFault}
+use Rattle.type_rules.specs.declared.fault.TypeFault.TheVariants as checker
 use Rattle.sisal_top.specs.declared.status.Status.{Status}
 use Rattle.sisal_top.specs.declared.status.Status.TheVariants as status
 use Rattle.sisal_top.specs.declared.status.SyntaxFault.TheVariants as syntax
@@ -17,14 +21,15 @@ code_of status.ReadFault = 2
 code_of status.WriteFault = 3
 code_of status.NoMemory = 4
 code_of (status.Syntax f) = 5
-code_of status.Typing = 6
+code_of (status.Typing r l) = 6
 code_of status.If1 = 7
-code_of status.Argument = 8
+code_of (status.Argument f) = 8
 code_of status.TurnLimit = 9
 code_of status.TooLong = 10
 code_of status.Later = 11
+code_of (status.Unlinked name) = 12
 
--- the status of a fault of the words, of one of the lexer and of one of the parser
+-- the status of a fault of the words, of the lexer, of the parser, of the checker and of a call
 abbrev pub of_words : WordFault → Status
 of_words word.NoMemory = status.NoMemory
 of_words word.Missing = status.Usage word.Missing
@@ -44,3 +49,13 @@ abbrev pub of_parser : ParseFault → Status
 of_parser (parser.Syntax t l) = status.Syntax (syntax.Token t l)
 of_parser (parser.TooDeep l) = status.Syntax (syntax.TooDeep l)
 of_parser parser.NoMemory = status.NoMemory
+
+abbrev pub of_checker : TypeFault → Status
+of_checker (checker.Rule r l) = status.Typing r l
+of_checker checker.NoMemory = status.NoMemory
+
+abbrev pub of_refusal : Refusal → Status
+of_refusal (refusal.Unlinked name) = status.Unlinked name
+of_refusal (refusal.Argument f) = status.Argument f
+of_refusal refusal.TurnLimit = status.TurnLimit
+of_refusal refusal.NoMemory = status.NoMemory

@@ -3,20 +3,22 @@ ghost use Rattle.std.specs.Prelude.{◌≡◌, ◌≢◌, ◌⊎◌, ◌↔◌, 
 ghost use Rattle.flow_io.specs.Bytes.{TakesOff, IsAtEnd, AddsOn};
 ghost use Rattle.flow_io.specs.Count.{HasRisen};
 ghost use Rattle.run_words.specs.Commands.{bytes_of};
-ghost use Rattle.sisal_top.specs.Answer.{Answers, Gives, IsUsage, Replies, RunsPlain};
+ghost use Rattle.run_words.specs.declared.command.Command.TheVariants as command;
+ghost use Rattle.sisal_top.specs.Answer.{Answers, Gives, IsUsage, Replies};
 ghost use Rattle.sisal_top.specs.Lines.{line_of};
-ghost use Rattle.sisal_top.specs.Program.{IsPlain, IsRefused, IsRun};
-ghost use Rattle.sisal_top.specs.Refusals.{IsEarly, IsReply, IsUnread, Means, Reads};
+ghost use Rattle.sisal_top.specs.Program.{AskToRead, IsPlain, IsRefused, ReadsText};
+ghost use Rattle.sisal_top.specs.Refusals.{IsEarly, IsOfBytes, IsReply, IsUnread, Means, Reads};
 
-use crate::front::trees;
+use crate::front::{trees, typed};
 use crate::lines::report;
-use crate::printing::answer;
+use crate::printing::{answer, print_all};
 use crate::status::Status;
 use crate::texts::{help, version};
 use flow_gen::make;
 use flow_io::{ReadFail, Sink, Source, read_all, write_all};
 use flow_value::Text;
-use run_words::{Command, RunSet, read_words};
+use mean_call::evaluate;
+use run_words::{Command, MeanSet, RunSet, read_words};
 use std::alloc::Global;
 
 /// The most bytes of a text.
@@ -79,13 +81,37 @@ fn run<S: Source>(alloc: Global, text: &mut S) -> Result<Text, Status>
     output(alloc, bytes.as_slice())
 }
 
+/// What the program that a text is prints by the meaning of its source.
+fn meaning(alloc: Global, set: &MeanSet, bytes: &[u8]) -> Result<Text, Status>
+    ensures replies { Replies (command.Mean set.now) bytes.now result }
+    ensures of_bytes { IfErr result IsOfBytes }
+{
+    let program = typed(alloc, bytes)?;
+    let values = evaluate(alloc, &program, set)?;
+    let printed = print_all(alloc, values.as_slice())?;
+    Ok(printed)
+}
+
+/// Evaluates the program that the text is by the meaning of its source.
+fn mean<S: Source>(alloc: Global, set: &MeanSet, text: &mut S) -> Result<Text, Status>
+    ensures replies { (told : List ℕ) → S.left text.old ≡ Some told → Replies (command.Mean set.now) told result }
+    ensures reply { IfErr result IsReply }
+    ensures to_the_end { OnOk result (IsAtEnd (S.left text.new)) }
+    ensures read { IfErr result (λ s. IsUnread s ⊎ IsAtEnd (S.left text.new)) }
+    ensures fault { result ≡ Err Status.ReadFault → HasRisen (S.faults text.old) (S.faults text.new) }
+    ensures no_fault { result ≢ Err Status.ReadFault → S.faults text.new ≡ S.faults text.old }
+{
+    let bytes = read(alloc, text)?;
+    meaning(alloc, set, bytes.as_slice())
+}
+
 /// What a command prints.
 fn perform<S: Source>(alloc: Global, command: Command, text: &mut S) -> Result<Text, Status>
     ensures replies { (told : List ℕ) → S.left text.old ≡ Some told → Replies command told result }
     ensures reply { IfErr result IsReply }
-    ensures to_the_end { RunsPlain command → OnOk result (IsAtEnd (S.left text.new)) }
-    ensures read { RunsPlain command → IfErr result (λ s. IsUnread s ⊎ IsAtEnd (S.left text.new)) }
-    ensures unread { ¬ RunsPlain command → S.left text.new ≡ S.left text.old }
+    ensures to_the_end { ReadsText command → OnOk result (IsAtEnd (S.left text.new)) }
+    ensures read { ReadsText command → IfErr result (λ s. IsUnread s ⊎ IsAtEnd (S.left text.new)) }
+    ensures unread { ¬ ReadsText command → S.left text.new ≡ S.left text.old }
     ensures fault { result ≡ Err Status.ReadFault → HasRisen (S.faults text.old) (S.faults text.new) }
     ensures no_fault { result ≢ Err Status.ReadFault → S.faults text.new ≡ S.faults text.old }
 {
@@ -100,7 +126,8 @@ fn perform<S: Source>(alloc: Global, command: Command, text: &mut S) -> Result<T
                 Err(Status::Later)
             }
         }
-        Command::Compile | Command::If1 | Command::Mean(_) => Err(Status::Later),
+        Command::Mean(set) => mean(alloc, &set, text),
+        Command::Compile | Command::If1 => Err(Status::Later),
     }
 }
 
@@ -109,9 +136,9 @@ fn prepare<S: Source>(alloc: Global, words: &[String], text: &mut S) -> Result<T
     ensures gives { (told : List ℕ) → S.left text.old ≡ Some told → Gives (bytes_of words.now) told result }
     ensures usage { IfErr result (IsUsage (bytes_of words.now)) }
     ensures early { IfErr result IsEarly }
-    ensures to_the_end { IsRun (bytes_of words.now) → OnOk result (IsAtEnd (S.left text.new)) }
-    ensures read { IsRun (bytes_of words.now) → IfErr result (λ s. IsUnread s ⊎ IsAtEnd (S.left text.new)) }
-    ensures unread { ¬ IsRun (bytes_of words.now) → S.left text.new ≡ S.left text.old }
+    ensures to_the_end { AskToRead (bytes_of words.now) → OnOk result (IsAtEnd (S.left text.new)) }
+    ensures read { AskToRead (bytes_of words.now) → IfErr result (λ s. IsUnread s ⊎ IsAtEnd (S.left text.new)) }
+    ensures unread { ¬ AskToRead (bytes_of words.now) → S.left text.new ≡ S.left text.old }
     ensures fault { result ≡ Err Status.ReadFault → HasRisen (S.faults text.old) (S.faults text.new) }
     ensures no_fault { result ≢ Err Status.ReadFault → S.faults text.new ≡ S.faults text.old }
 {
@@ -119,8 +146,8 @@ fn prepare<S: Source>(alloc: Global, words: &[String], text: &mut S) -> Result<T
     perform(alloc, command, text)
 }
 
-/// Does what the words ask for. For `run` the text is read to its end, and what is printed is
-/// written at once.
+/// Does what the words ask for. For `run` and `mean` the text is read to its end, and what is
+/// printed is written at once.
 pub fn sisal<S: Source, O: Sink, E: Sink>(
     alloc: Global,
     words: &[String],
@@ -141,8 +168,8 @@ pub fn sisal<S: Source, O: Sink, E: Sink>(
         → S.left text.old ≡ Some told
         → ((printed : List ℕ) × Gives (bytes_of words.now) told (Ok printed) × ((n : ℕ) × AddsOn (O.taken out.old) (take n printed) (O.taken out.new))) }
     ensures untouched { IsEarly result → O.taken out.new ≡ O.taken out.old }
-    ensures to_the_end { IsRun (bytes_of words.now) → IsUnread result ⊎ IsAtEnd (S.left text.new) }
-    ensures unread { ¬ IsRun (bytes_of words.now) → S.left text.new ≡ S.left text.old }
+    ensures to_the_end { AskToRead (bytes_of words.now) → IsUnread result ⊎ IsAtEnd (S.left text.new) }
+    ensures unread { ¬ AskToRead (bytes_of words.now) → S.left text.new ≡ S.left text.old }
 
     // The sink of errors takes the line of the status, which is empty after `Done`.
     ensures line { ¬ HasRisen (E.faults err.old) (E.faults err.new) → AddsOn (E.taken err.old) (line_of result) (E.taken err.new) }

@@ -1,14 +1,28 @@
 //! From the bytes of a text to its trees.
 ghost use Rattle.std.specs.Prelude.{◌≡◌, IfOk, IfErr, IfSome, Ok, None};
-ghost use Rattle.sisal_top.specs.Program.{IsNotBuilt, IsText};
-ghost use Rattle.sisal_top.specs.Refusals.{IsCause};
+ghost use Rattle.sisal_top.specs.Outputs.{HasProgram};
+ghost use Rattle.sisal_top.specs.Program.{IsNotBuilt, IsText, IsUnitOf};
+ghost use Rattle.sisal_top.specs.Refusals.{IsCause, IsNoProgram};
 
 use crate::status::Status;
 use first_form::{Expr, first_form};
 use flow_value::Seq;
+use sisal_check::check;
 use sisal_lex::lex;
 use sisal_parse::parse;
+use sisal_tree::Unit;
 use std::alloc::Global;
+use typed_tree::Program;
+
+/// The unit that a text is.
+fn unit_of(alloc: Global, text: &[u8]) -> Result<Unit, Status>
+    ensures unit { IfOk result (IsUnitOf text.now) }
+    ensures refused { IfErr result (IsCause text.now) }
+{
+    let tokens = lex(alloc, text)?;
+    let unit = parse(alloc, tokens)?;
+    Ok(unit)
+}
 
 /// The results of the program that a text is, or none exactly where it is a unit and no program of
 /// the first form.
@@ -17,8 +31,17 @@ pub fn trees(alloc: Global, text: &[u8]) -> Result<Option<Seq<Expr>>, Status>
     ensures none { result ≡ Ok None → IsNotBuilt text.now }
     ensures refused { IfErr result (IsCause text.now) }
 {
-    let tokens = lex(alloc, text)?;
-    let unit = parse(alloc, tokens)?;
+    let unit = unit_of(alloc, text)?;
     let read = first_form(alloc, &unit)?;
     Ok(read)
+}
+
+/// The typed program of the unit that a text is.
+pub fn typed(alloc: Global, text: &[u8]) -> Result<Program, Status>
+    ensures program { IfOk result (HasProgram text.now) }
+    ensures refused { IfErr result (IsNoProgram text.now) }
+{
+    let unit = unit_of(alloc, text)?;
+    let program = check(alloc, unit)?;
+    Ok(program)
 }

@@ -2,12 +2,14 @@
 ghost use Rattle.std.specs.Prelude.{◌≡◌, ◌++◌, ◌∷◌, [], ℕ, take, codes, decimal, OnOk, OnErr};
 ghost use Rattle.flow_io.specs.Bytes.{AddsOn};
 ghost use Rattle.flow_io.specs.Count.{HasRisen};
-ghost use Rattle.sisal_top.specs.Lines.{Takes, line_of, numbered_line, syntax_line, usage_line};
+ghost use Rattle.sisal_top.specs.Lines.{Takes, argument_line, line_of, numbered_line, placed_line, plain_line, syntax_line, usage_line, value_line};
 
 use crate::status::{Status, SyntaxFault};
 use flow_io::{Failed, Sink, write_all};
 use itoa::Buffer;
+use mean_call::ArgumentFault;
 use run_words::WordFault;
+use value_text::ValueFault;
 
 /// Writes words.
 fn write_words<E: Sink>(err: &mut E, words: &[u8]) -> Result<(), Failed>
@@ -48,24 +50,100 @@ fn write_numbered<E: Sink>(err: &mut E, words: &[u8], number: u64) -> Result<(),
     write_number(err, number)
 }
 
-/// Writes the number of a token and its line.
-fn write_place<E: Sink>(err: &mut E, token: u64, line: u64) -> Result<(), Failed>
-    ensures takes { Takes result (E.taken err.old) (decimal token ++ numbered_line (codes " line ") line) (E.taken err.new) }
+/// Writes a number, words, a second number and a line feed.
+fn write_place<E: Sink>(err: &mut E, number: u64, between: &[u8], place: u64) -> Result<(), Failed>
+    ensures takes { Takes result (E.taken err.old) (decimal number ++ numbered_line between.now place) (E.taken err.new) }
     ensures fault { OnErr result (HasRisen (E.faults err.old) (E.faults err.new)) }
     ensures no_fault { OnOk result (E.faults err.new ≡ E.faults err.old) }
 {
-    write_digits(err, token)?;
-    write_numbered(err, b" line ", line)
+    write_digits(err, number)?;
+    write_numbered(err, between, place)
 }
 
-/// Writes the line of a token with which no unit goes on.
-fn write_token<E: Sink>(err: &mut E, token: u64, line: u64) -> Result<(), Failed>
-    ensures takes { Takes result (E.taken err.old) (codes "sisal: syntax token " ++ (decimal token ++ numbered_line (codes " line ") line)) (E.taken err.new) }
+/// Writes words and a number twice, and a line feed.
+fn write_placed<E: Sink>(
+    err: &mut E,
+    words: &[u8],
+    number: u64,
+    between: &[u8],
+    place: u64,
+) -> Result<(), Failed>
+    ensures takes { Takes result (E.taken err.old) (placed_line words.now number between.now place) (E.taken err.new) }
     ensures fault { OnErr result (HasRisen (E.faults err.old) (E.faults err.new)) }
     ensures no_fault { OnOk result (E.faults err.new ≡ E.faults err.old) }
 {
-    write_words(err, b"sisal: syntax token ")?;
-    write_place(err, token, line)
+    write_words(err, words)?;
+    write_place(err, number, between, place)
+}
+
+/// Writes a name and a line feed.
+fn write_name<E: Sink>(err: &mut E, name: &[u8]) -> Result<(), Failed>
+    ensures takes { Takes result (E.taken err.old) (plain_line name.now) (E.taken err.new) }
+    ensures fault { OnErr result (HasRisen (E.faults err.old) (E.faults err.new)) }
+    ensures no_fault { OnOk result (E.faults err.new ≡ E.faults err.old) }
+{
+    write_words(err, name)?;
+    write_words(err, b"\n")
+}
+
+/// Writes the line of a function that stands in another text.
+fn write_unlinked<E: Sink>(err: &mut E, name: &[u8]) -> Result<(), Failed>
+    ensures takes { Takes result (E.taken err.old) (codes "sisal: unlinked " ++ plain_line name.now) (E.taken err.new) }
+    ensures fault { OnErr result (HasRisen (E.faults err.old) (E.faults err.new)) }
+    ensures no_fault { OnOk result (E.faults err.new ≡ E.faults err.old) }
+{
+    write_words(err, b"sisal: unlinked ")?;
+    write_name(err, name)
+}
+
+/// Writes the line of a rule of typing.
+fn write_typing<E: Sink>(err: &mut E, rule: u8, line: u32) -> Result<(), Failed>
+    ensures takes { Takes result (E.taken err.old) (placed_line (codes "sisal: type rule ") rule (codes " line ") line) (E.taken err.new) }
+    ensures fault { OnErr result (HasRisen (E.faults err.old) (E.faults err.new)) }
+    ensures no_fault { OnOk result (E.faults err.new ≡ E.faults err.old) }
+{
+    write_placed(
+        err,
+        b"sisal: type rule ",
+        u64::from(rule),
+        b" line ",
+        u64::from(line),
+    )
+}
+
+/// Writes the line of an argument that is no value of its parameter's type.
+fn write_value<E: Sink>(err: &mut E, argument: usize, fault: ValueFault) -> Result<(), Failed>
+    ensures takes { Takes result (E.taken err.old) (value_line argument fault) (E.taken err.new) }
+    ensures fault { OnErr result (HasRisen (E.faults err.old) (E.faults err.new)) }
+    ensures no_fault { OnOk result (E.faults err.new ≡ E.faults err.old) }
+{
+    let words = b"sisal: argument ";
+    match fault {
+        ValueFault::BadSpelling(byte) => {
+            write_placed(err, words, argument as u64, b" value 1 byte ", byte as u64)
+        }
+        ValueFault::WrongShape(byte) => {
+            write_placed(err, words, argument as u64, b" value 2 byte ", byte as u64)
+        }
+        ValueFault::TooLarge => write_placed(err, words, argument as u64, b" value ", 3),
+        ValueFault::NoMemory => write_words(err, b"sisal: no memory\n"),
+    }
+}
+
+/// Writes the line of a fault of the entry or an argument.
+fn write_argument<E: Sink>(err: &mut E, fault: ArgumentFault) -> Result<(), Failed>
+    ensures takes { Takes result (E.taken err.old) (argument_line fault) (E.taken err.new) }
+    ensures fault { OnErr result (HasRisen (E.faults err.old) (E.faults err.new)) }
+    ensures no_fault { OnOk result (E.faults err.new ≡ E.faults err.old) }
+{
+    match fault {
+        ArgumentFault::Entry => write_words(err, b"sisal: argument entry\n"),
+        ArgumentFault::Count { wanted, given } => {
+            let words = b"sisal: argument count wanted ";
+            write_placed(err, words, wanted as u64, b" given ", given as u64)
+        }
+        ArgumentFault::Value { argument, fault } => write_value(err, argument, fault),
+    }
 }
 
 /// Writes the line of a fault of the words.
@@ -101,7 +179,8 @@ fn write_syntax<E: Sink>(err: &mut E, fault: SyntaxFault) -> Result<(), Failed>
             write_numbered(err, b"sisal: syntax lex 3 line ", u64::from(line))
         }
         SyntaxFault::Token { token, line } => {
-            write_token(err, u64::from(token), u64::from(line))
+            let words = b"sisal: syntax token ";
+            write_placed(err, words, u64::from(token), b" line ", u64::from(line))
         }
         SyntaxFault::TooDeep(line) => {
             write_numbered(err, b"sisal: syntax depth line ", u64::from(line))
@@ -110,17 +189,21 @@ fn write_syntax<E: Sink>(err: &mut E, fault: SyntaxFault) -> Result<(), Failed>
 }
 
 /// Writes the line of a status.
-fn write_line<E: Sink>(err: &mut E, status: Status) -> Result<(), Failed>
-    ensures takes { Takes result (E.taken err.old) (line_of status) (E.taken err.new) }
+fn write_line<E: Sink>(err: &mut E, status: &Status) -> Result<(), Failed>
+    ensures takes { Takes result (E.taken err.old) (line_of status.now) (E.taken err.new) }
     ensures fault { OnErr result (HasRisen (E.faults err.old) (E.faults err.new)) }
     ensures no_fault { OnOk result (E.faults err.new ≡ E.faults err.old) }
 {
     match status {
-        Status::Usage(fault) => write_usage(err, fault),
-        Status::Syntax(fault) => write_syntax(err, fault),
+        Status::Usage(fault) => write_usage(err, *fault),
+        Status::Syntax(fault) => write_syntax(err, *fault),
+        Status::Typing { rule, line } => write_typing(err, *rule, *line),
+        Status::Argument(fault) => write_argument(err, *fault),
+        Status::Unlinked(name) => write_unlinked(err, name.as_slice()),
         Status::ReadFault => write_words(err, b"sisal: read fault\n"),
         Status::WriteFault => write_words(err, b"sisal: write fault\n"),
         Status::NoMemory => write_words(err, b"sisal: no memory\n"),
+        Status::TurnLimit => write_words(err, b"sisal: turn limit\n"),
         Status::TooLong => write_words(err, b"sisal: text too long\n"),
         Status::Later => write_words(err, b"sisal: not built yet\n"),
         _ => write_words(err, b""),
@@ -134,6 +217,6 @@ pub fn report<E: Sink>(status: Status, err: &mut E) -> Status
     ensures line { ¬ HasRisen (E.faults err.old) (E.faults err.new) → AddsOn (E.taken err.old) (line_of status) (E.taken err.new) }
     ensures prefix { (n : ℕ) × AddsOn (E.taken err.old) (take n (line_of status)) (E.taken err.new) }
 {
-    let _ = write_line(err, status);
+    let _ = write_line(err, &status);
     status
 }

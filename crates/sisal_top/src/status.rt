@@ -2,13 +2,15 @@
 ghost use Rattle.std.specs.Prelude.{◌≡◌};
 ghost use Rattle.sisal_top.specs.Status.{code_of};
 
-use flow_value::NoMemory;
+use flow_value::{Name, NoMemory};
+use mean_call::{ArgumentFault, Refusal};
 use run_words::WordFault;
 use sisal_lex::LexFault;
 use sisal_parse::ParseFault;
+use type_rules::TypeFault;
 
 /// How a call ends, with its cause.
-#[derive(Clone, Copy)]
+#[derive(Drop)]
 pub enum Status {
     /// All is done.
     Done,
@@ -23,17 +25,24 @@ pub enum Status {
     /// The text is no unit of the grammar.
     Syntax(SyntaxFault),
     /// The unit breaks a rule of typing.
-    Typing,
+    Typing {
+        /// The number of the rule, from 1.
+        rule: u8,
+        /// The line, from 1.
+        line: u32,
+    },
     /// The text is no valid IF1 unit.
     If1,
     /// The entry or an argument is refused.
-    Argument,
+    Argument(ArgumentFault),
     /// The run is longer than its limit.
     TurnLimit,
     /// The text is longer than its limit.
     TooLong,
     /// What the words or the text ask for is not built yet.
     Later,
+    /// A function stands in another text: the first one's name.
+    Unlinked(Name),
 }
 
 /// Why a text is no unit of the grammar.
@@ -57,9 +66,9 @@ pub enum SyntaxFault {
 }
 
 impl Status {
-    /// The number that the program ends with, from 0 to 11.
-    pub fn code(self) -> u8
-        ensures { result ≡ code_of self }
+    /// The number that the program ends with, from 0 to 12.
+    pub fn code(&self) -> u8
+        ensures { result ≡ code_of self.now }
     {
         match self {
             Status::Done => 0,
@@ -68,12 +77,13 @@ impl Status {
             Status::WriteFault => 3,
             Status::NoMemory => 4,
             Status::Syntax(_) => 5,
-            Status::Typing => 6,
+            Status::Typing { .. } => 6,
             Status::If1 => 7,
-            Status::Argument => 8,
+            Status::Argument(_) => 8,
             Status::TurnLimit => 9,
             Status::TooLong => 10,
             Status::Later => 11,
+            Status::Unlinked(_) => 12,
         }
     }
 }
@@ -130,6 +140,34 @@ impl From<ParseFault> for Status {
             }),
             ParseFault::TooDeep(line) => Status::Syntax(SyntaxFault::TooDeep(line)),
             ParseFault::NoMemory => Status::NoMemory,
+        }
+    }
+}
+
+impl From<TypeFault> for Status {
+    ghost use Rattle.sisal_top.specs.Status.{of_checker};
+
+    ghost from_gives = { λ f s. s ≡ of_checker f };
+
+    fn from(fault: TypeFault) -> Status {
+        match fault {
+            TypeFault::Rule { rule, line } => Status::Typing { rule, line },
+            TypeFault::NoMemory => Status::NoMemory,
+        }
+    }
+}
+
+impl From<Refusal> for Status {
+    ghost use Rattle.sisal_top.specs.Status.{of_refusal};
+
+    ghost from_gives = { λ r s. s ≡ of_refusal r };
+
+    fn from(refusal: Refusal) -> Status {
+        match refusal {
+            Refusal::Unlinked(name) => Status::Unlinked(name),
+            Refusal::Argument(fault) => Status::Argument(fault),
+            Refusal::TurnLimit => Status::TurnLimit,
+            Refusal::NoMemory => Status::NoMemory,
         }
     }
 }

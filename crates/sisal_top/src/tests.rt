@@ -161,7 +161,7 @@ fn the_version_needs_no_text(rt: HostRuntime) -> Result<(), Fail> {
 
 #[test]
 fn other_words_are_not_built_yet(rt: HostRuntime) -> Result<(), Fail> {
-    let ended = call(rt.alloc(), "mean", seven(), [&[], &[], &[]])?;
+    let ended = call(rt.alloc(), "compile", seven(), [&[], &[], &[]])?;
     assert_eq!(rt; ended.status.code(), 11);
     assert_eq!(rt; ended.out.bytes().as_slice(), b"".as_slice());
     Ok(())

@@ -10,3 +10,5 @@ pub mod Reading
 pub mod Naming
 pub mod Headers
 pub mod Declares
+pub mod Owning
+pub mod Whole

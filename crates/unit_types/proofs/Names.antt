@@ -25,15 +25,15 @@ same_number x y h = grind (arith, nat_tests)
 pub any_contains : (x : ℕ) (xs : List ℕ) → list_any (nat_eq x) xs ≡ true → Contains xs x
 any_contains x xs h = Contains-list_any nat_eq same_number xs x h
 
-contains_none : {P : Type 0} (y : ℕ) → Contains [] y → P
+pub contains_none : {P : Type 0} (y : ℕ) → Contains [] y → P
 contains_none y h = absurd (omega (arith, h.1))
 
-contains_cases : {A : Type 0} (x : A) (xs : List A) (y : A) → Contains (x ∷ xs) y → (x ≡ y) ⊎ Contains xs y
+pub contains_cases : {A : Type 0} (x : A) (xs : List A) (y : A) → Contains (x ∷ xs) y → (x ≡ y) ⊎ Contains xs y
 contains_cases x xs y (zero, h, e) = inl e
 contains_cases x xs y (suc k, h, e) = inr (k, omega (arith, h), e)
 
 -- one more name
-distinct_more : (x : ℕ) (xs : List ℕ) → (Contains xs x → ⊥) → AreDistinct xs → AreDistinct (xs ++ x ∷ [])
+pub distinct_more : (x : ℕ) (xs : List ℕ) → (Contains xs x → ⊥) → AreDistinct xs → AreDistinct (xs ++ x ∷ [])
 distinct_more x [] absent h = ((λ c. contains_none x c), tt)
 distinct_more x (y ∷ ys) absent h = (
   (λ c. elim (Contains-push_cases ys x y c) [ inl there ↦ h.0 there | inr same ↦ absent (subst (Contains (y ∷ ys)) (sym same) (0, omega arith, refl)) ]),

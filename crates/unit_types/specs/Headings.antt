@@ -1,5 +1,5 @@
 -- What the headers of a unit say beside types.
-use Rattle.std.specs.Prelude.{ℕ, ◌+◌, List, [], ◌∷◌, flat_map, Bool, true, false}
+use Rattle.std.specs.Prelude.{◌≡◌, ℕ, ◌+◌, List, [], ◌∷◌, flat_map, Bool, true, false, Some, None, slice_get}
 use Rattle.std.specs.List.{filter}
 use Rattle.sisal_tree.specs.declared.unit.Field.{Field}
 use Rattle.sisal_tree.specs.declared.unit.FunDef.{FunDef}
@@ -7,6 +7,10 @@ use Rattle.sisal_tree.specs.declared.unit.FunKind.{FunKind}
 use Rattle.sisal_tree.specs.declared.unit.FunKind.TheVariants as fun
 use Rattle.sisal_tree.specs.declared.unit.Item.{Item}
 use Rattle.sisal_tree.specs.declared.unit.Item.TheVariants as item
+use Rattle.name_scope.specs.Newest.{newest}
+use Rattle.sisal_lex.specs.Words.{beside}
+use Rattle.typed_tree.specs.BuiltIns.{built_ins}
+use Rattle.typed_tree.specs.Scopes.{AreDistinct}
 use Rattle.typed_tree.specs.Typing.{names_of}
 use Rattle.typed_tree.specs.Units.{is_given}
 use Rattle.typed_tree.specs.Faults.{functions}
@@ -51,3 +55,23 @@ abbrev pub given_as : {A : Type 0} → FunKind → A → List A
 given_as fun.Forward a = []
 given_as fun.Global a = a ∷ []
 given_as (fun.Defined es) a = a ∷ []
+
+-- ---- names of functions
+
+-- the name is not that of a call that is built in
+abbrev pub IsOwnName : List (List ℕ) → ℕ → Type 0
+IsOwnName spellings x = (spelling : List ℕ) → slice_get spellings x ≡ Some spelling → beside spelling built_ins ≡ None
+
+-- no function has it, by the numbers of functions, nor is it built in
+pub record IsFree (spellings : List (List ℕ)) (numbers : List (ℕ × ℕ)) (x : ℕ) : Type 0 where
+  pub new : newest x numbers ≡ None
+  pub own : IsOwnName spellings x
+
+abbrev pub AreOwnNames : List (List ℕ) → List ℕ → Type 0
+AreOwnNames spellings [] = Unit {0}
+AreOwnNames spellings (x ∷ xs) = IsOwnName spellings x × AreOwnNames spellings xs
+
+-- no two are the same, and none is built in
+pub record AreOwn (spellings : List (List ℕ)) (names : List ℕ) : Type 0 where
+  pub distinct : AreDistinct names
+  pub own : AreOwnNames spellings names

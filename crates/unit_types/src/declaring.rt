@@ -1,15 +1,15 @@
 //! Type definitions and headers of a unit.
-ghost use Rattle.std.specs.Prelude.{◌≡◌, ◌+◌, ℕ, List, drop, ◌++◌, [], ◌∷◌, map, length, All, Some, true, slice_get, IfErr, IfOk, IfSome, OnOk};
+ghost use Rattle.std.specs.Prelude.{◌≡◌, ◌+◌, ℕ, List, drop, ◌++◌, [], ◌∷◌, map, length, All, Some, true, false, None, slice_get, IfErr, IfOk, IfSome, OnOk};
 ghost use Rattle.name_scope.specs.Newest.{newest};
 ghost use Rattle.flow_value.specs.declared.ty.Ty.{Ty};
 ghost use Rattle.type_table.specs.Tables.{basic_forms};
 ghost use Rattle.unit_types.specs.Rests.{AreTokensSpelled, HasNames, Names, IsNamed};
 ghost use Rattle.sisal_tree.specs.declared.unit.Item.{Item};
 ghost use Rattle.sisal_tree.specs.declared.unit.Unit as tree;
-ghost use Rattle.typed_tree.specs.Units.{Declared as UnitFunction, Declares, given};
+ghost use Rattle.typed_tree.specs.Units.{Declared as UnitFunction, AreDeclared, Declares, given};
 ghost use Rattle.unit_types.specs.Headers.{AreSaid, IsDeclaring};
 ghost use Rattle.unit_types.specs.Faults.{IsUnitRule};
-ghost use Rattle.unit_types.specs.Headings.{heading_of, heading_in, has_body, given_functions, given_by, given_as, numbering};
+ghost use Rattle.unit_types.specs.Headings.{heading_of, heading_in, has_body, given_functions, given_by, given_as, numbering, IsOwnName, IsFree, AreOwn};
 
 use crate::fault::{UnitFault, numbered};
 use crate::header::{Signature, signature_of};
@@ -76,9 +76,11 @@ pub fn declare(alloc: Global, unit: &Unit) -> Result<Declared, TypeFault>
     ensures names { IfOk result (λ d. (texts : List (List ℕ)) → AreTokensSpelled texts unit.now.tokens.list
         → (types : List (ℕ × Ty)) × Names texts unit.now.tokens.list [] unit.now.items types × HasNames texts d.types d.named types) }
     ensures rule { IfErr result IsUnitRule }
-    // The items are declared, and the functions are those that are given, with the types of their parameters and results.
+    // The functions of the unit are declared, each once, and these are the ones that are given, with the types of their parameters and results.
     ensures declares { IfOk result (λ d. AreTokensSpelled unit.now.tokens.names unit.now.tokens.list
-        → (ds : List UnitFunction) × Declares unit.now [] unit.now.items ds × AreSaid unit.now d.types d.named d.functions (given ds)) }
+        → (ds : List UnitFunction) × AreDeclared unit.now ds × AreSaid unit.now d.types d.named d.functions (given ds)) }
+    // No two functions have one name, and none has that of a call that is built in.
+    ensures own { IfOk result (λ d. AreOwn unit.now.tokens.names (map (λ s. s.name) d.functions)) }
 {
     match declare_unit(alloc, unit) {
         Ok(declared) => Ok(declared),
@@ -97,9 +99,11 @@ fn declare_unit(alloc: Global, unit: &Unit) -> Result<Declared, UnitFault>
     // The names of types are those of the type definitions, where the names of the text are spelled so.
     ensures names { IfOk result (λ d. (texts : List (List ℕ)) → AreTokensSpelled texts unit.now.tokens.list
         → (types : List (ℕ × Ty)) × Names texts unit.now.tokens.list [] unit.now.items types × HasNames texts d.types d.named types) }
-    // The items are declared, and the functions are those that are given, with the types of their parameters and results.
+    // The functions of the unit are declared, each once, and these are the ones that are given, with the types of their parameters and results.
     ensures declares { IfOk result (λ d. AreTokensSpelled unit.now.tokens.names unit.now.tokens.list
-        → (ds : List UnitFunction) × Declares unit.now [] unit.now.items ds × AreSaid unit.now d.types d.named d.functions (given ds)) }
+        → (ds : List UnitFunction) × AreDeclared unit.now ds × AreSaid unit.now d.types d.named d.functions (given ds)) }
+    // No two functions have one name, and none has that of a call that is built in.
+    ensures own { IfOk result (λ d. AreOwn unit.now.tokens.names (map (λ s. s.name) d.functions)) }
 {
     let tokens = unit.tokens.list.as_slice();
     let spellings = unit.tokens.names.as_slice();
@@ -122,6 +126,7 @@ fn declare_all(
     ensures names { IfOk result (λ d. (texts : List (List ℕ)) → AreTokensSpelled texts tokens.now → (types : List (ℕ × Ty)) × Names texts tokens.now [] items.now types × HasNames texts d.types d.named types) }
     ensures declares { IfOk result (λ d. (u : tree.Unit) → u.tokens.list ≡ tokens.now → AreTokensSpelled u.tokens.names tokens.now
         → (ds : List UnitFunction) × Declares u [] items.now ds × AreSaid u d.types d.named d.functions (given ds)) }
+    ensures own { IfOk result (λ d. AreOwn spellings.now (map (λ s. s.name) d.functions)) }
 {
     let mut declaring = nothing_declared(alloc)?;
     for item in items {
@@ -185,6 +190,8 @@ fn declare_item(
         → IsNamed texts tokens.now types item.now declaring.new.types declaring.new.named) }
     ensures declares { OnOk result ((u : tree.Unit) (items : List Item) (n : ℕ) → u.tokens.list ≡ tokens.now → AreTokensSpelled u.tokens.names tokens.now → drop n items ≡ item.now ∷ drop (n + 1) items
         → IsDeclaring u items n declaring.old.types declaring.old.named declaring.old.functions → IsDeclaring u items (n + 1) declaring.new.types declaring.new.named declaring.new.functions) }
+    ensures own { declaring.old.numbers ≡ numbering 0 [] (map (λ s. s.name) declaring.old.functions) → AreOwn spellings.now (map (λ s. s.name) declaring.old.functions)
+        → OnOk result (AreOwn spellings.now (map (λ s. s.name) declaring.new.functions)) }
 {
     match item {
         Item::Alias(definition) => declare_type(alloc, tokens, definition, declaring),
@@ -239,6 +246,8 @@ fn declare_function(
         → IsNamed texts tokens.now types (Item.Function function.now) declaring.new.types declaring.new.named) }
     ensures declares { OnOk result ((u : tree.Unit) (items : List Item) (n : ℕ) → u.tokens.list ≡ tokens.now → AreTokensSpelled u.tokens.names tokens.now → drop n items ≡ Item.Function function.now ∷ drop (n + 1) items
         → IsDeclaring u items n declaring.old.types declaring.old.named declaring.old.functions → IsDeclaring u items (n + 1) declaring.new.types declaring.new.named declaring.new.functions) }
+    ensures own { declaring.old.numbers ≡ numbering 0 [] (map (λ s. s.name) declaring.old.functions) → AreOwn spellings.now (map (λ s. s.name) declaring.old.functions)
+        → OnOk result (AreOwn spellings.now (map (λ s. s.name) declaring.new.functions)) }
 {
     let signature = signature_of(
         alloc,
@@ -265,6 +274,8 @@ fn declare_signature(
     ensures numbers { declaring.old.numbers ≡ numbering 0 [] (map (λ s. s.name) declaring.old.functions) → OnOk result (declaring.new.numbers ≡ numbering 0 [] (map (λ s. s.name) declaring.new.functions)) }
     ensures types { declaring.new.types ≡ declaring.old.types }
     ensures named { declaring.new.named ≡ declaring.old.named }
+    ensures own { declaring.old.numbers ≡ numbering 0 [] (map (λ s. s.name) declaring.old.functions) → AreOwn spellings.now (map (λ s. s.name) declaring.old.functions)
+        → OnOk result (AreOwn spellings.now (map (λ s. s.name) declaring.new.functions)) }
 {
     match kind {
         FunKind::Forward => announce(line, signature, declaring),
@@ -299,9 +310,10 @@ fn give(
     ensures numbers { OnOk result (declaring.new.numbers ≡ (signature.name, length declaring.old.functions) ∷ declaring.old.numbers) }
     ensures types { declaring.new.types ≡ declaring.old.types }
     ensures named { declaring.new.named ≡ declaring.old.named }
+    ensures free { OnOk result (IsFree spellings.now declaring.old.numbers signature.name) }
 {
     let name = signature.name;
-    if is_built_in(spellings, name) || declaring.numbers.find(name).is_some() {
+    if !is_free(spellings, name, &declaring.numbers) {
         return Err(UnitFault::OtherFunction(line));
     }
     let number = as_number(declaring.functions.len())?;
@@ -311,7 +323,19 @@ fn give(
     Ok(())
 }
 
-fn is_built_in(spellings: &[Name], name: u32) -> bool {
+/// Whether no function of these numbers has the name, nor is it a call that is built in.
+fn is_free(spellings: &[Name], name: u32, numbers: &Scope<u32>) -> bool
+    ensures { result ≡ true → IsFree spellings.now numbers.now name }
+{
+    if is_built_in(spellings, name) {
+        return false;
+    }
+    numbers.find(name).is_none()
+}
+
+fn is_built_in(spellings: &[Name], name: u32) -> bool
+    ensures { result ≡ false → IsOwnName spellings.now name }
+{
     match item_at(spellings, name as usize) {
         Some(spelling) => built_in_named(spelling.as_slice()).is_some(),
         None => false,

@@ -1,6 +1,6 @@
 use Rattle.flow_io.specs.Bytes.{IsAtEnd}
 use Rattle.run_words.specs.Commands.{bytes_of}
-use Rattle.sisal_top.proofs.Refusing.{not_read, runs_plain}
+use Rattle.sisal_top.proofs.Refusing.{not_read, reads_text}
 use Rattle.sisal_top.proofs.call.prepare.Goals as goal
 
 pub returns-in_err-command-clause-read : goal.returns-in_err-command-clause-read
@@ -9,8 +9,8 @@ returns-in_err-command-clause-read g c = λ run.
 
 pub returns-clause-to_the_end : goal.returns-clause-to_the_end
 returns-clause-to_the_end g c = λ run.
-    c.perform.ensures.to_the_end (runs_plain (bytes_of c.args.words.now) c.in_ok-command.command run c.in_ok-command.ensures.command)
+    c.perform.ensures.to_the_end (reads_text (bytes_of c.args.words.now) c.in_ok-command.command run c.in_ok-command.ensures.command)
 
 pub returns-clause-read : goal.returns-clause-read
 returns-clause-read g c = λ run.
-    c.perform.ensures.read (runs_plain (bytes_of c.args.words.now) c.in_ok-command.command run c.in_ok-command.ensures.command)
+    c.perform.ensures.read (reads_text (bytes_of c.args.words.now) c.in_ok-command.command run c.in_ok-command.ensures.command)

@@ -1,4 +1,3 @@
-use Rattle.std.proofs.Common.{◌≡◌, List, ℕ, Err}
 use Rattle.sisal_top.proofs.Refusing.{means_no_fault, means_reply}
 use Rattle.sisal_top.proofs.call.run.Goals as goal
 

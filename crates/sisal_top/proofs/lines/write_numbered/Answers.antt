@@ -1,5 +1,4 @@
 use Rattle.std.proofs.Common.{◌∷◌, ◌++◌, [], decimal}
-use Rattle.sisal_top.specs.Lines.{numbered_line}
 use Rattle.sisal_top.proofs.Writes.{takes_then}
 use Rattle.sisal_top.proofs.lines.write_numbered.Goals as goal
 

@@ -1,8 +1,8 @@
-use Rattle.std.proofs.Common.{◌≡◌, ℕ, ◌<◌, nat_eq, cond, List, [], ◌∷◌, ◌++◌, length, rules, arith, ap, sym, subst, ◌∙◌}
+use Rattle.std.proofs.Common.{◌≡◌, ℕ, ◌<◌, nat_eq, cond, List, [], ◌∷◌, ◌++◌, length, arith, ap, ◌∙◌}
 use Rattle.flow_value.specs.Scalar.{strict2, row2}
 use Rattle.flow_value.specs.declared.operation.Scalar2.TheVariants as two
 use Rattle.flow_value.specs.declared.value.Val.{Val}
-use Rattle.first_form.specs.Value.{Scope, value_in}
+use Rattle.first_form.specs.Value.{value_in}
 use Rattle.first_form.specs.declared.tree.Expr.{Expr}
 use Rattle.first_form.specs.declared.tree.Expr.TheVariants as expr
 use Rattle.sisal_top.specs.declared.graph.Input.{Input}

@@ -1,4 +1,4 @@
-use Rattle.std.proofs.Common.{◌≡◌, List, [], ◌∷◌, ◌++◌, Some, slice_get, sym, subst}
+use Rattle.std.proofs.Common.{◌≡◌, List, Some, slice_get, sym, subst}
 use Rattle.flow_value.specs.Scalar.{strict2, row2}
 use Rattle.sisal_top.specs.declared.graph.Node.{Node}
 use Rattle.sisal_top.specs.Graph.{fired}

@@ -1,4 +1,4 @@
-use Rattle.std.proofs.Common.{◌≡◌, ℕ, ◌+◌, ◌<◌, List, [], ◌∷◌, ◌++◌, length, drop, arith, append_assoc, ap, sym, subst, ◌∙◌}
+use Rattle.std.proofs.Common.{ℕ, ◌+◌, ◌<◌, List, [], ◌∷◌, ◌++◌, length, drop, arith, append_assoc, ap, sym, subst, ◌∙◌}
 use Rattle.flow_value.specs.declared.value.Val.{Val}
 use Rattle.first_form.specs.Value.{value_in, values_of}
 use Rattle.first_form.specs.declared.tree.Expr.{Expr}

@@ -1,4 +1,4 @@
-use Rattle.std.proofs.Common.{◌≡◌, List, ℕ, ap, sym, ◌∙◌}
+use Rattle.std.proofs.Common.{List, ℕ, ap, sym, ◌∙◌}
 use Rattle.sisal_top.specs.declared.graph.Input.{Input}
 use Rattle.sisal_top.specs.Making.{named, undone}
 use Rattle.sisal_top.proofs.Names.{undone-less}

@@ -1,8 +1,7 @@
-use Rattle.std.proofs.Common.{◌≡◌, List, map, rules, ap}
+use Rattle.std.proofs.Common.{◌≡◌, map, rules, ap}
 use Rattle.std.proofs.lemmas.Result.{IfOk-equal}
-use Rattle.flow_value.specs.declared.value.Val.{Val}
 use Rattle.first_form.specs.Value.{values_of}
-use Rattle.sisal_top.specs.Answer.{lines}
+use Rattle.sisal_top.specs.Outputs.{lines}
 use Rattle.sisal_top.specs.Graph.{fired, input_value}
 use Rattle.sisal_top.proofs.Makes.{give_all_values}
 use Rattle.sisal_top.proofs.printing.answer.Goals as goal

@@ -1,5 +1,5 @@
 use Rattle.std.proofs.Common.{◌≡◌, ◌++◌, map, drop}
-use Rattle.sisal_top.specs.Answer.{lines}
+use Rattle.sisal_top.specs.Outputs.{lines}
 use Rattle.sisal_top.specs.Graph.{input_value}
 use Rattle.sisal_top.proofs.printing.print.Given as goal
 

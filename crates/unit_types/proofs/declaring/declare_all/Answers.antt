@@ -1,5 +1,5 @@
-use Rattle.std.proofs.Common.{◌≡◌, ◌++◌, ◌∙◌, ◌+◌, ◌∷◌, [], map, sym, ap, drop, arith}
-use Rattle.unit_types.specs.Headings.{heading_of, heading_in, has_body, given_functions, numbering}
+use Rattle.std.proofs.Common.{◌≡◌, ◌++◌, ◌∙◌, ◌+◌, ◌∷◌, [], map, sym, ap, subst, drop, arith}
+use Rattle.unit_types.specs.Headings.{heading_of, heading_in, has_body, given_functions, numbering, AreOwn}
 use Rattle.unit_types.proofs.Lists.{cut_at, drop_all}
 use Rattle.unit_types.proofs.Given.{more_given}
 use Rattle.unit_types.proofs.Declares.{declares_first, declares_all}
@@ -15,6 +15,7 @@ loop-item-init c =
       bodies = ap (λ l. l ++ map (λ f. has_body f.kind) (given_functions items)) e.bodies;
       numbers = e.numbers ∙ ap (λ l. numbering 0 [] (map (λ s. s.name) l)) (sym e.functions);
       declares = λ u is h. declares_first u items c.args.tokens.now is h c.in_ok-declaring.declaring.types c.in_ok-declaring.declaring.named c.in_ok-declaring.declaring.functions e.types e.named e.functions;
+      own = subst (λ l. AreOwn c.args.spellings.now (map (λ s. s.name) l)) (sym e.functions) (record { distinct = tt; own = tt });
       names = λ sp h. named_first c.args.tokens.now items c.in_ok-declaring.declaring.types c.in_ok-declaring.declaring.named e.types e.named sp;
     }
 
@@ -31,6 +32,7 @@ loop-item-preserved c =
           here c.in_ok-declare_item.ensures.bodies c.loop-item.invariant.bodies;
       numbers = c.in_ok-declare_item.ensures.numbers c.loop-item.invariant.numbers;
       declares = λ u is h. c.in_ok-declare_item.ensures.declares u items i is h here (c.loop-item.invariant.declares u is h);
+      own = c.in_ok-declare_item.ensures.own c.loop-item.invariant.numbers c.loop-item.invariant.own;
       names = named_more c.args.tokens.now items i x c.loop-item.declaring.types c.declare_item.new.declaring.types c.loop-item.declaring.named c.declare_item.new.declaring.named
           here c.in_ok-declare_item.ensures.names c.loop-item.invariant.names;
     }
