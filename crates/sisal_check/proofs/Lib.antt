@@ -1,2 +1,2 @@
 mod Depths
-mod Heads
+mod Whole

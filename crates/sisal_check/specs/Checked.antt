@@ -3,7 +3,7 @@ use Rattle.std.specs.Prelude.{◌≡◌, map, slice_get, Some, true, All}
 use Rattle.sisal_tree.specs.declared.unit.Unit as tree
 use Rattle.typed_tree.specs.declared.program.Program.{Program}
 use Rattle.unit_types.specs.Headings.{heading_of, has_body, given_functions}
-use Rattle.sisal_check.specs.Heads.{heading_at, is_defined}
+use Rattle.sisal_check.specs.Headed.{heading_at, is_defined}
 
 pub record Checked (u : tree.Unit) (p : Program) : Type 0 where
   pub names : p.names ≡ u.tokens.names

@@ -1,6 +1,6 @@
 //! Functions.
 ghost use Rattle.std.specs.Prelude.{◌≡◌, ◌++◌, [], ◌∷◌, map, length, slice_get, Some, is_some, IfOk, OnOk};
-ghost use Rattle.sisal_check.specs.Heads.{HaveFirst, is_defined};
+ghost use Rattle.sisal_check.specs.Headed.{HaveFirst, is_defined};
 ghost use Rattle.unit_types.specs.Headings.{has_body, given_functions, given_by, given_as};
 
 use crate::lists::all;
@@ -18,7 +18,7 @@ pub(crate) fn functions(
     given: &Given<'_>,
     walk: &mut Walk,
 ) -> Result<Seq<Function>, TypeFault>
-    ensures heads { IfOk result (λ fs. HaveFirst given.now.functions fs) }
+    ensures heads { IfOk result (λ fs. HaveFirst given.now.functions.now fs) }
     ensures bodies { IfOk result (λ fs. map is_defined fs ≡ map (λ f. has_body f.kind) (given_functions items.now)) }
 {
     let mut all = Seq::new(given.alloc);
@@ -35,7 +35,7 @@ fn add_item(
     given: &Given<'_>,
     walk: &mut Walk,
 ) -> Result<(), TypeFault>
-    ensures heads { HaveFirst given.now.functions all.old → OnOk result (HaveFirst given.now.functions all.new) }
+    ensures heads { HaveFirst given.now.functions.now all.old → OnOk result (HaveFirst given.now.functions.now all.new) }
     ensures bodies { OnOk result (map is_defined all.new ≡ map is_defined all.old ++ map (λ f. has_body f.kind) (given_by item.now)) }
 {
     match item {
@@ -51,7 +51,7 @@ fn add_function(
     given: &Given<'_>,
     walk: &mut Walk,
 ) -> Result<(), TypeFault>
-    ensures heads { HaveFirst given.now.functions all.old → OnOk result (HaveFirst given.now.functions all.new) }
+    ensures heads { HaveFirst given.now.functions.now all.old → OnOk result (HaveFirst given.now.functions.now all.new) }
     ensures bodies { OnOk result (map is_defined all.new ≡ map is_defined all.old ++ given_as kind.now (has_body kind.now)) }
 {
     let Some(header) = item_at(given.functions, all.len()) else {
@@ -84,7 +84,7 @@ fn add(
     all: &mut Seq<Function>,
     given: &Given<'_>,
 ) -> Result<(), TypeFault>
-    ensures heads { slice_get given.now.functions (length all.old) ≡ Some header.now → HaveFirst given.now.functions all.old → OnOk result (HaveFirst given.now.functions all.new) }
+    ensures heads { slice_get given.now.functions.now (length all.old) ≡ Some header.now → HaveFirst given.now.functions.now all.old → OnOk result (HaveFirst given.now.functions.now all.new) }
     ensures bodies { OnOk result (map is_defined all.new ≡ map is_defined all.old ++ is_some body ∷ []) }
 {
     all.add(Function {
