@@ -1,4 +1,8 @@
 //! Functions.
+ghost use Rattle.std.specs.Prelude.{◌≡◌, ◌++◌, [], ◌∷◌, map, length, slice_get, Some, is_some, IfOk, OnOk};
+ghost use Rattle.sisal_check.specs.Headed.{HaveFirst, is_defined};
+ghost use Rattle.unit_types.specs.Headings.{has_body, given_functions, given_by, given_as};
+
 use crate::lists::all;
 use crate::state::{Given, Parts, Walk};
 use flow_value::{NoMemory, Seq, item_at};
@@ -13,7 +17,10 @@ pub(crate) fn functions(
     items: &[Item],
     given: &Given<'_>,
     walk: &mut Walk,
-) -> Result<Seq<Function>, TypeFault> {
+) -> Result<Seq<Function>, TypeFault>
+    ensures heads { IfOk result (λ fs. HaveFirst given.now.functions.now fs) }
+    ensures bodies { IfOk result (λ fs. map is_defined fs ≡ map (λ f. has_body f.kind) (given_functions items.now)) }
+{
     let mut all = Seq::new(given.alloc);
     for item in items {
         add_item(item, &mut all, given, walk)?;
@@ -27,7 +34,10 @@ fn add_item(
     all: &mut Seq<Function>,
     given: &Given<'_>,
     walk: &mut Walk,
-) -> Result<(), TypeFault> {
+) -> Result<(), TypeFault>
+    ensures heads { HaveFirst given.now.functions.now all.old → OnOk result (HaveFirst given.now.functions.now all.new) }
+    ensures bodies { OnOk result (map is_defined all.new ≡ map is_defined all.old ++ map (λ f. has_body f.kind) (given_by item.now)) }
+{
     match item {
         Item::Alias(_) => Ok(()),
         Item::Function(f) => add_function(&f.kind, all, given, walk),
@@ -40,7 +50,10 @@ fn add_function(
     all: &mut Seq<Function>,
     given: &Given<'_>,
     walk: &mut Walk,
-) -> Result<(), TypeFault> {
+) -> Result<(), TypeFault>
+    ensures heads { HaveFirst given.now.functions.now all.old → OnOk result (HaveFirst given.now.functions.now all.new) }
+    ensures bodies { OnOk result (map is_defined all.new ≡ map is_defined all.old ++ given_as kind.now (has_body kind.now)) }
+{
     let Some(header) = item_at(given.functions, all.len()) else {
         return unless_given(kind);
     };
@@ -55,7 +68,9 @@ fn add_function(
 }
 
 /// Only a function that is `forward` has no header among those of the program.
-fn unless_given(kind: &FunKind) -> Result<(), TypeFault> {
+fn unless_given(kind: &FunKind) -> Result<(), TypeFault>
+    ensures { OnOk result (given_as kind.now (has_body kind.now) ≡ []) }
+{
     match kind {
         FunKind::Forward => Ok(()),
         _ => Err(TypeFault::NoMemory),
@@ -68,7 +83,10 @@ fn add(
     body: Option<Seq<TypedExpr>>,
     all: &mut Seq<Function>,
     given: &Given<'_>,
-) -> Result<(), TypeFault> {
+) -> Result<(), TypeFault>
+    ensures heads { slice_get given.now.functions.now (length all.old) ≡ Some header.now → HaveFirst given.now.functions.now all.old → OnOk result (HaveFirst given.now.functions.now all.new) }
+    ensures bodies { OnOk result (map is_defined all.new ≡ map is_defined all.old ++ is_some body ∷ []) }
+{
     all.add(Function {
         line: header.line,
         name: header.name,

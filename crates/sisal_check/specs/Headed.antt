@@ -1,0 +1,46 @@
+-- The functions of a program beside the headers of its unit. Types are numbers of a table.
+use Rattle.std.specs.Prelude.{◌≡◌, ℕ, List, [], ◌∷◌, map, take, length, Bool, is_some}
+use Rattle.typed_tree.specs.declared.program.Function.{Function}
+use Rattle.typed_tree.specs.Units.{Declared}
+use Rattle.unit_types.specs.declared.header.Signature.{Signature}
+use Rattle.unit_types.specs.Headings.{Heading}
+
+-- the line, the name and the parameters of a function, with their types and those of its results
+pub record Head : Type 0 where
+  pub line : ℕ
+  pub name : ℕ
+  pub parameters : List ℕ
+  pub params : List ℕ
+  pub results : List ℕ
+
+abbrev pub head_in : Signature → Head
+head_in s = record { line = s.line; name = s.name; parameters = s.parameters; params = s.params; results = s.results }
+
+abbrev pub head_at : Function → Head
+head_at f = record { line = f.line; name = f.name; parameters = f.parameters; params = f.params; results = f.results }
+
+-- the same without types
+abbrev pub heading : Head → Heading
+heading h = record { line = h.line; name = h.name; parameters = h.parameters }
+
+abbrev pub heading_at : Function → Heading
+heading_at f = record { line = f.line; name = f.name; parameters = f.parameters }
+
+-- whether a function has its body in the program
+abbrev pub is_defined : Function → Bool
+is_defined f = is_some f.body
+
+-- the functions have the first of these headers
+abbrev pub HaveFirst : List Signature → List Function → Type 0
+HaveFirst headers fs = map head_at fs ≡ take (length fs) (map head_in headers)
+
+-- the functions are the ones that are declared
+pub record HasHead (d : Declared) (f : Function) : Type 0 where
+  pub line : f.line ≡ d.function.line
+  pub name : f.name ≡ d.signature.name
+  pub parameters : f.parameters ≡ d.signature.parameters
+
+abbrev pub HaveHeads : List Declared → List Function → Type 0
+HaveHeads [] [] = Unit {0}
+HaveHeads (d ∷ ds) (f ∷ fs) = HasHead d f × HaveHeads ds fs
+HaveHeads _ _ = ⊥
