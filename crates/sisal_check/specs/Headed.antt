@@ -1,7 +1,6 @@
 -- The functions of a program beside the headers of its unit. Types are numbers of a table.
-use Rattle.std.specs.Prelude.{◌≡◌, ℕ, List, [], ◌∷◌, map, take, length, Bool, is_some}
+use Rattle.std.specs.Prelude.{◌≡◌, ℕ, List, map, take, length, Bool, is_some}
 use Rattle.typed_tree.specs.declared.program.Function.{Function}
-use Rattle.typed_tree.specs.Units.{Declared}
 use Rattle.unit_types.specs.declared.header.Signature.{Signature}
 use Rattle.unit_types.specs.Headings.{Heading}
 
@@ -33,14 +32,3 @@ is_defined f = is_some f.body
 -- the functions have the first of these headers
 abbrev pub HaveFirst : List Signature → List Function → Type 0
 HaveFirst headers fs = map head_at fs ≡ take (length fs) (map head_in headers)
-
--- the functions are the ones that are declared
-pub record HasHead (d : Declared) (f : Function) : Type 0 where
-  pub line : f.line ≡ d.function.line
-  pub name : f.name ≡ d.signature.name
-  pub parameters : f.parameters ≡ d.signature.parameters
-
-abbrev pub HaveHeads : List Declared → List Function → Type 0
-HaveHeads [] [] = Unit {0}
-HaveHeads (d ∷ ds) (f ∷ fs) = HasHead d f × HaveHeads ds fs
-HaveHeads _ _ = ⊥
