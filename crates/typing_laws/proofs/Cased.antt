@@ -1,0 +1,365 @@
+-- The arms of a `tagcase`, and the whole of it.
+use Rattle.std.proofs.Common.{◌≡◌, inl, inr, ℕ, suc, ◌+◌, true, List, [], ◌∷◌, ◌++◌, map, flat_map, length, All, Option, Some, None, Ok, slice_get, refl, sym, ap, subst, ◌∙◌, arith, rules}
+use Rattle.std.specs.Prelude.{Contains}
+use Rattle.std.proofs.lemmas.List.{append_assoc, append-nil, length-append}
+use Rattle.std.proofs.lemmas.List.Elements.{All-nil, All-cons}
+use Rattle.std.proofs.lemmas.Option.{same_Some}
+use Rattle.flow_value.specs.declared.ty.Ty.{Ty}
+use Rattle.flow_value.specs.declared.ty.Ty.TheVariants as ty
+use Rattle.type_table.specs.declared.form.Form.{Form}
+use Rattle.type_table.specs.declared.form.Form.TheVariants as form
+use Rattle.type_table.specs.declared.form.Member.{Member as NumberedMember}
+use Rattle.type_table.proofs.Members.{is_member}
+use Rattle.sisal_tree.specs.declared.unit.Named.{Named}
+use Rattle.sisal_tree.specs.declared.unit.Written.{Written}
+use Rattle.sisal_tree.specs.declared.expr.Arm.{Arm, out-Arm, roll-Arm}
+use Rattle.sisal_tree.specs.declared.expr.Expr.{Expr}
+use Rattle.sisal_tree.specs.declared.expr.ExprKind.TheVariants as tree
+use Rattle.sisal_tree.specs.declared.expr.ExprKind.TheViews as kinds
+use Rattle.sisal_tree.specs.declared.expr.TagCase.{TagCase, out-TagCase, roll-TagCase}
+use Rattle.typed_tree.specs.declared.expr.TypedExpr.{TypedExpr}
+use Rattle.typed_tree.specs.declared.expr.TypedKind.TheVariants as typed
+use Rattle.typed_tree.specs.Scopes as scopes
+use Rattle.typed_tree.specs.Scopes.{AreDistinct}
+use Rattle.typed_tree.specs.Types.{Member, IsNumber, AreMembers, no_member, a_member}
+use Rattle.typed_tree.specs.Typing as rule
+use Rattle.typed_tree.specs.Typing.{Known, Number, Types, AreTyped, AreArms, IsTag, IsChoice, AreChoices, Chooses, AreAllNamed, with_content, named_arms, names_of, at, with}
+use Rattle.type_rules.specs.Applies.{Grows}
+use Rattle.type_rules.specs.Arms.{are_all_named, number_or, numbered, gives_arm}
+use Rattle.type_rules.specs.Parts.{part_if, tag_part, tags_part, tag_at}
+use Rattle.type_rules.specs.Records.{are_distinct}
+use Rattle.type_rules.proofs.Standing.{HasFields, standing_at, at_union, one_type}
+use Rattle.type_rules.proofs.Membership.{one_place}
+use Rattle.typing_laws.proofs.Tagged.{found}
+use Rattle.value_names.specs.Names.{Names}
+use Rattle.typing_laws.specs.Given.{Given, Parts, Arms}
+use Rattle.typing_laws.specs.Judged.{Agrees, Stands, denotes_in, IsTypedAs, Typed, AllTyped, AllOnes}
+use Rattle.typing_laws.specs.Casing.{tags_in, HasTag, IsChosen, Begins, AreResults, ArmsTypedAs, ArmsTyped, AddsArms, first_types, AreSame, named_content, EntersArm, Keeps, named_by, IsCase, Ends}
+use Rattle.typing_laws.proofs.Later.{agrees_before}
+use Rattle.typing_laws.proofs.Unique.{same_types}
+use Rattle.typing_laws.proofs.Entering.{stands_with}
+use Rattle.typing_laws.proofs.Called.{one_of}
+use Rattle.typing_laws.proofs.Sound.{part_later}
+use Rattle.typing_laws.proofs.Choosing.{none_chosen, arm_begins, arm_chosen, union_at, flat_tag, AreContents, no_tag, a_content, all_contents}
+
+-- ---- unions
+
+form_union : (as_ bs : List NumberedMember) → Some (form.Union as_) ≡ Some (form.Union bs) → as_ ≡ bs
+form_union as_ bs e = cc
+
+-- the tags of the union that a number stands for
+pub union_members : (k : Known) (n : ℕ) (nms : List NumberedMember) (ms : List Member) → slice_get k.forms n ≡ Some (form.Union nms) → IsNumber k.forms k.spellings n (ty.Uni ms) → AreMembers k.forms k.spellings nms ms
+union_members k n nms ms e p =
+    let s = at_union k.forms k.spellings n ms p in
+    subst (λ l. AreMembers k.forms k.spellings l ms) (form_union s.0 nms (sym s.1 ∙ e)) s.2
+
+module _ (k : Known) (union : ℕ) (nms : List NumberedMember) (ms : List Member) (is_union : slice_get k.forms union ≡ Some (form.Union nms)) (members : AreMembers k.forms k.spellings nms ms) where
+  tag_content : (x : ℕ) (r : ℕ × ℕ) → tag_at k.forms union x ≡ Some r → (content : Ty) × rule.Has k ms x r.0 content × IsNumber k.forms k.spellings r.1 content
+  tag_content x r e =
+      let f = found k.forms k.spellings nms ms members x r (sym (ap (part_if (tag_part x)) is_union) ∙ e) in
+      (f.0, record { spelling = f.1.spelling; spelled = f.1.spelled; member = f.1.member }, f.2)
+
+  tags_typed : (old : List Form) → Grows old k.forms → (content : ℕ) (a : Ty) → IsNumber k.forms k.spellings content a → (ts : List Named) → AreContents old union content ts → All (λ tag. IsTag k ms tag a) (names_of ts)
+  tags_typed old grows content a number _ no_tag = All-nil (λ tag. IsTag k ms tag a)
+  tags_typed old grows content a number _ (a_content t {ts = ts} place e r) =
+      let f = tag_content t.name (place, content) (part_later old k.forms grows (tag_part t.name) union (place, content) e) in
+      let same : f.0 ≡ a = one_type k.forms k.spellings content f.0 a f.2 number in
+      All-cons (λ tag. IsTag k ms tag a) t.name (names_of ts) (place, subst (λ u. rule.Has k ms t.name place u) same f.1) (tags_typed old grows content a number ts r)
+
+-- ---- one arm
+
+rolled_arm : (a : Arm) → roll-Arm (record { line = (out-Arm a).line; tags = (out-Arm a).tags; results = (out-Arm a).results }) ≡ a
+rolled_arm a = search (rules, kinds.the_lemmas)
+
+arms_append : (k : Known) (denotes : Written → Ty → Type 0) (s : scopes.Scope) (x : Option ℕ) (ms : List Member) (tys : List Ty) (arms : List Arm) (results : List (List TypedExpr)) (tags : List (List ℕ))
+    (a : Arm) (content : Ty) (ts : List TypedExpr) → AreArms k denotes s x ms tys arms results tags → All (λ tag. IsTag k ms tag content) (names_of (out-Arm a).tags)
+    → AreTyped k denotes (with_content x content s) (out-Arm a).results ts tys
+    → AreArms k denotes s x ms tys (arms ++ (a ∷ [])) (results ++ (ts ∷ [])) (tags ++ (names_of (out-Arm a).tags ∷ []))
+arms_append k denotes s x ms tys _ _ _ a content ts rule.no_arm p q =
+    subst (λ b. AreArms k denotes s x ms tys (b ∷ []) (ts ∷ []) (names_of (out-Arm a).tags ∷ [])) (rolled_arm a) (rule.an_arm (out-Arm a).line content (out-Arm a).tags p q rule.no_arm)
+arms_append k denotes s x ms tys _ _ _ a content ts (rule.an_arm l c names {es = es} {ts = us} {arms = arms} {typed_arms = results} {tags = tags} t u r) p q =
+    rule.an_arm l c names t u (arms_append k denotes s x ms tys arms results tags a content ts r p q)
+
+content_stands : (k : Known) (x : Option ℕ) (n : ℕ) (a : Ty) (names : Names) (s : scopes.Scope) → Stands k names s → IsNumber k.forms k.spellings n a → Stands k (named_content x n names) (with_content x a s)
+content_stands k None n a names s st p = st
+content_stands k (Some x) n a names s st p = stands_with k names s x n a st p
+
+tags_append : (arms : List Arm) (a : Arm) → tags_in (arms ++ (a ∷ [])) ≡ tags_in arms ++ (names_of (out-Arm a).tags ∷ [])
+tags_append [] a = refl
+tags_append (b ∷ arms) a = ap (λ l. names_of (out-Arm b).tags ∷ l) (tags_append arms a)
+
+many_tags : (arms : List Arm) → length (tags_in arms) ≡ length arms
+many_tags [] = refl
+many_tags (a ∷ arms) = ap suc (many_tags arms)
+
+-- the types of the results, once there are some
+numbers_by : (k : Known) (old new : Option (List ℕ)) (ns : List ℕ) (tys : List Ty) → Number k ns tys → new ≡ first_types old ns → ((ms : List ℕ) → old ≡ Some ms → (us : List Ty) × Number k ms us)
+    → (ms : List ℕ) → new ≡ Some ms → (us : List Ty) × Number k ms us
+numbers_by k None new ns tys p e before ms is = (tys, subst (λ l. Number k l tys) (same_Some ns ms (sym e ∙ is)) p)
+numbers_by k (Some first) new ns tys p e before ms is = let r = before first refl in (r.0, subst (λ l. Number k l r.0) (same_Some first ms (sym e ∙ is)) r.1)
+
+-- types of the results so far are those of the new ones
+results_by : (k : Known) (old new : Option (List ℕ)) (ns : List ℕ) (tys us : List Ty) → Number k ns tys → new ≡ first_types old ns → AreSame old ns → AreResults k new us → AreResults k old us × (tys ≡ us)
+results_by k None new ns tys us p e same r = (tt, same_types k ns tys us p (subst (λ o. AreResults k o us) e r))
+results_by k (Some first) new ns tys us p e same r =
+    let q : Number k first us = subst (λ o. AreResults k o us) e r in (q, same_types k ns tys us p (subst (λ l. Number k l us) same q))
+
+pub arms_begin : (g : Given) (f : List Form) (names : Names) (x : Option ℕ) (subject : Parts) (done : Arms) → (b : Begins f x subject done) → ArmsTyped g f names b.union [] done
+arms_begin g f names x subject done b = record {
+  members = b.members;
+  is_union = b.is_union;
+  chosen_union = b.chosen_union;
+  distinct = b.distinct;
+  chosen = subst (λ c. IsChosen b.members c []) (sym b.chosen_arms) (none_chosen b.members);
+  count = ap length b.results;
+  holds = λ even k s ms agrees stands number. record {
+    number = λ ns e. absurd (none_some ns (sym b.types ∙ e));
+    typed = λ tys r. subst (λ l. AreArms k (denotes_in g k) s done.name ms tys [] l []) (sym b.results) rule.no_arm;
+  };
+}
+  where
+    none_some : (ns : List ℕ) → None ≡ Some ns → ⊥
+    none_some ns e = cc
+
+pub arm_typed : (g : Given) (f0 f1 : List Form) (names inner : Names) (union : ℕ) (arms : List Arm) (a : Arm) (ts : List TypedExpr) (ns : List ℕ) (old mid new : Arms) → Grows f0 f1
+    → ArmsTyped g f0 names union arms old → EntersArm f0 (out-Arm a).line (out-Arm a).tags old mid names inner → AllTyped g f1 inner (out-Arm a).results ts ns → Keeps ts ns mid new
+    → ArmsTyped g f1 names union (arms ++ (a ∷ [])) new
+arm_typed g f0 f1 names inner union arms a ts ns old mid new grows p enters results keeps = record {
+  members = p.members;
+  is_union = part_later f0 f1 grows tags_part union p.members p.is_union;
+  chosen_union = keeps.union ∙ enters.union ∙ p.chosen_union;
+  distinct = p.distinct;
+  chosen =
+      subst (λ c. IsChosen p.members c (tags_in (arms ++ (a ∷ [])))) (sym keeps.chosen)
+      (subst (λ l. IsChosen p.members mid.chosen l) (sym (tags_append arms a))
+      (arm_chosen f0 union (out-Arm a).line p.members (union_at f0 union p.members p.is_union) (tags_in arms) [] None old.chosen (out-Arm a).tags (Some enters.content, mid.chosen)
+      (arm_begins p.members old.chosen (tags_in arms) p.chosen) given));
+  count = ap length (keeps.results ∙ ap (λ l. l ++ (ts ∷ [])) enters.results) ∙ length-append old.results (ts ∷ []) ∙ ap (λ n. n + 1) p.count ∙ sym (length-append arms (a ∷ []));
+  holds = λ even k s ms agrees stands number.
+      let was = keeps.even even in
+      let before = agrees_before g f0 f1 k grows agrees in
+      let q = p.holds (sym enters.even ∙ was.0) k s ms before stands number in
+      let here : slice_get k.forms union ≡ Some (form.Union p.members) =
+      union_at k.forms union p.members (part_later f0 k.forms before.grows tags_part union p.members p.is_union) in
+      let members = union_members k union p.members ms here number in
+      let c = all_contents f0 union (length (tags_in arms)) (out-Arm a).line old.chosen (out-Arm a).tags enters.content mid.chosen given in
+      let t = tag_content k union p.members ms here members c.1 (c.0, enters.content) (part_later f0 k.forms before.grows (tag_part c.1) union (c.0, enters.content) c.2) in
+      let content : Ty = t.0 in
+      let tags = tags_typed k union p.members ms here members f0 before.grows enters.content content t.2 (out-Arm a).tags c.3 in
+      let inside : Stands k inner (with_content old.name content s) = subst (λ n. Stands k n (with_content old.name content s)) (sym enters.names) (content_stands k old.name enters.content content names s stands t.2) in
+      let r = results.holds k (with_content old.name content s) agrees inside in
+      let types : new.types ≡ first_types old.types ns = keeps.types ∙ ap (λ o. first_types o ns) enters.types in
+      let same : AreSame old.types ns = subst (λ o. AreSame o ns) enters.types was.1 in
+      record {
+        number = numbers_by k old.types new.types ns r.tys r.number types q.number;
+        typed = λ tys are.
+            let w = results_by k old.types new.types ns r.tys tys r.number types same are in
+            subst (λ n. AreArms k (denotes_in g k) s n ms tys (arms ++ (a ∷ [])) new.results (tags_in (arms ++ (a ∷ [])))) (sym (keeps.name ∙ enters.name))
+            (subst (λ l. AreArms k (denotes_in g k) s old.name ms tys (arms ++ (a ∷ [])) l (tags_in (arms ++ (a ∷ [])))) (sym (keeps.results ∙ ap (λ l. l ++ (ts ∷ [])) enters.results))
+            (subst (λ l. AreArms k (denotes_in g k) s old.name ms tys (arms ++ (a ∷ [])) (old.results ++ (ts ∷ [])) l) (sym (tags_append arms a))
+            (arms_append k (denotes_in g k) s old.name ms tys arms old.results (tags_in arms) a content ts (q.typed tys w.0) tags (subst (λ l. AreTyped k (denotes_in g k) (with_content old.name content s) (out-Arm a).results ts l) w.1 r.typed))));
+      };
+}
+  where
+    given : gives_arm f0 union (length (tags_in arms)) (out-Arm a).line None old.chosen (out-Arm a).tags ≡ Ok (Some enters.content, mid.chosen)
+    given =
+        ap (λ n. gives_arm f0 union n (out-Arm a).line None old.chosen (out-Arm a).tags) (many_tags arms ∙ sym p.count)
+        ∙ ap (λ u. gives_arm f0 u (length old.results) (out-Arm a).line None old.chosen (out-Arm a).tags) (sym p.chosen_union)
+        ∙ enters.chosen
+
+pub adds_no_arms : (g : Given) (f : List Form) (names : Names) (done : Arms) → AddsArms g f f names [] done done
+adds_no_arms g f names done = record { name = refl; holds = λ union others p. subst (λ l. ArmsTyped g f names union l done) (sym (append-nil others)) p }
+
+pub adds_arms_on : (g : Given) (f0 f1 f2 : List Form) (names : Names) (arms others : List Arm) (old mid new : Arms) → AddsArms g f0 f1 names arms old mid → AddsArms g f1 f2 names others mid new
+    → AddsArms g f0 f2 names (arms ++ others) old new
+adds_arms_on g f0 f1 f2 names arms others old mid new p q = record {
+  name = q.name ∙ p.name;
+  holds = λ union before r. subst (λ l. ArmsTyped g f2 names union l new) (append_assoc before arms others) (q.holds union (before ++ arms) (p.holds union before r));
+}
+
+pub an_arm_added : (g : Given) (f0 f1 : List Form) (names inner : Names) (a : Arm) (ts : List TypedExpr) (ns : List ℕ) (old mid new : Arms) → Grows f0 f1
+    → EntersArm f0 (out-Arm a).line (out-Arm a).tags old mid names inner → AllTyped g f1 inner (out-Arm a).results ts ns → Keeps ts ns mid new → AddsArms g f0 f1 names (a ∷ []) old new
+an_arm_added g f0 f1 names inner a ts ns old mid new grows enters results keeps = record {
+  name = keeps.name ∙ enters.name;
+  holds = λ union others p. arm_typed g f0 f1 names inner union others a ts ns old mid new grows p enters results keeps;
+}
+
+-- ---- the arms of all tags
+
+module _ (k : Known) (nms : List NumberedMember) (chosen : List (Option ℕ)) (tags : List (List ℕ)) (once : are_distinct (map (λ m. m.name) nms) ≡ true) (p : IsChosen nms chosen tags) where
+  -- the tag at a place
+  named_at : (j i : ℕ) (m : NumberedMember) → slice_get nms j ≡ Some m → slice_get chosen j ≡ Some (Some i) → HasTag tags i m.name
+  named_at j i m here e =
+      let r = p.back j i e in
+      let q = is_member r.0 0 nms (j, r.1) r.2 in
+      let place : q.i ≡ j = (let h = q.place in omega (arith, h)) in
+      let same : q.member ≡ m = same_Some q.member m (sym q.is ∙ ap (slice_get nms) place ∙ here) in
+      subst (λ x. HasTag tags i x) (sym q.named ∙ ap (λ m. m.name) same) r.3
+
+  not_named : (j : ℕ) (m : NumberedMember) → slice_get nms j ≡ Some m → slice_get chosen j ≡ Some None → (i : ℕ) → HasTag tags i m.name → ⊥
+  not_named j m here free i t =
+      let r = p.named i m.name t in
+      let q = is_member m.name 0 nms r.0 r.1 in
+      let same : q.i ≡ j = one_place nms once q.i j q.member m q.is here q.named in
+      let place : r.0.0 ≡ j = (let h = q.place in omega (arith, h, same)) in
+      clash i (sym r.2 ∙ ap (slice_get chosen) place ∙ free)
+    where
+      clash : (i : ℕ) → Some (Some i) ≡ Some None → ⊥
+      clash i e = cc
+
+  choice_of : (j : ℕ) (m : NumberedMember) → slice_get nms j ≡ Some m → (o : Option ℕ) → slice_get chosen j ≡ Some o → IsChoice tags m.name (number_or (length tags) o)
+  choice_of j m here (Some i) e = let t = named_at j i m here e in inl (t.names, t.there, t.contains)
+  choice_of j m here None e = inr (refl, no_tags tags (λ i names there c. not_named j m here e i (record { names = names; there = there; contains = c })))
+    where
+      no_tags : (tags : List (List ℕ)) → ((i : ℕ) (names : List ℕ) → slice_get tags i ≡ Some names → Contains names m.name → ⊥) → All (λ names. Contains names m.name → ⊥) tags
+      no_tags [] never = All-nil (λ names. Contains names m.name → ⊥)
+      no_tags (t ∷ tags) never = All-cons (λ names. Contains names m.name → ⊥) t tags (never 0 t refl) (no_tags tags (λ i names there c. never (suc i) names there c))
+
+  -- places from one on
+  choices_from : (j : ℕ) (rest : List NumberedMember) (fs : List Member) (os : List (Option ℕ)) → length os ≡ length rest → AreMembers k.forms k.spellings rest fs
+      → ((i : ℕ) (m : NumberedMember) → slice_get rest i ≡ Some m → slice_get nms (j + i) ≡ Some m) → ((i : ℕ) (o : Option ℕ) → slice_get os i ≡ Some o → slice_get chosen (j + i) ≡ Some o)
+      → AreChoices k tags fs (numbered (length tags) os)
+  choices_from j _ _ [] e no_member here there = tt
+  choices_from j _ _ (o ∷ os) e no_member here there = absurd cc
+  choices_from j _ _ [] e (a_member s q r) here there = absurd cc
+  choices_from j _ _ (o ∷ os) e (a_member {x = x} {n = n} {ms = rest} {fs = fs} s q r) here there = (
+    (x, s, (let at : j + 0 ≡ j = omega arith in choice_of j (record { name = x; ty = n }) (ap (slice_get nms) (sym at) ∙ here 0 (record { name = x; ty = n }) refl) o (ap (slice_get chosen) (sym at) ∙ there 0 o refl))),
+    choices_from (j + 1) rest fs os (omega (arith, e)) r
+        (λ i m h. (let next : (j + 1) + i ≡ j + suc i = omega arith in ap (slice_get nms) next ∙ here (suc i) m h))
+        (λ i o h. (let next : (j + 1) + i ≡ j + suc i = omega arith in ap (slice_get chosen) next ∙ there (suc i) o h)),
+  )
+
+  -- each tag is named
+  named_from : (j : ℕ) (rest : List NumberedMember) (fs : List Member) (os : List (Option ℕ)) → length os ≡ length rest → are_all_named os ≡ true → AreMembers k.forms k.spellings rest fs
+      → ((i : ℕ) (m : NumberedMember) → slice_get rest i ≡ Some m → slice_get nms (j + i) ≡ Some m) → ((i : ℕ) (o : Option ℕ) → slice_get os i ≡ Some o → slice_get chosen (j + i) ≡ Some o)
+      → All (λ m. (x : ℕ) × (slice_get k.spellings x ≡ Some m.0) × Contains (flat_map (λ names. names) tags) x) fs
+  named_from j _ _ [] e all no_member here there = All-nil (λ m. (x : ℕ) × (slice_get k.spellings x ≡ Some m.0) × Contains (flat_map (λ names. names) tags) x)
+  named_from j _ _ (o ∷ os) e all no_member here there = absurd cc
+  named_from j _ _ [] e all (a_member s q r) here there = absurd cc
+  named_from j _ _ (None ∷ os) e all (a_member s q r) here there = absurd cc
+  named_from j _ _ (Some i ∷ os) e all (a_member {x = x} {n = n} {name = name} {t = t} {ms = rest} {fs = fs} s q r) here there =
+      let at : j + 0 ≡ j = omega arith in
+      let tag = named_at j i (record { name = x; ty = n }) (ap (slice_get nms) (sym at) ∙ here 0 (record { name = x; ty = n }) refl) (ap (slice_get chosen) (sym at) ∙ there 0 (Some i) refl) in
+      All-cons (λ m. (x : ℕ) × (slice_get k.spellings x ≡ Some m.0) × Contains (flat_map (λ names. names) tags) x) (name, t) fs (x, s, flat_tag tags i x tag)
+      (named_from (j + 1) rest fs os (omega (arith, e)) all r
+      (λ i m h. (let next : (j + 1) + i ≡ j + suc i = omega arith in ap (slice_get nms) next ∙ here (suc i) m h))
+      (λ i o h. (let next : (j + 1) + i ≡ j + suc i = omega arith in ap (slice_get chosen) next ∙ there (suc i) o h)))
+
+  from_none : {A : Type 0} (xs : List A) (i : ℕ) (y : A) → slice_get xs i ≡ Some y → slice_get xs (0 + i) ≡ Some y
+  from_none xs i y h = let at : 0 + i ≡ i = omega arith in ap (slice_get xs) at ∙ h
+
+  pub chooses : (fs : List Member) → AreMembers k.forms k.spellings nms fs → Chooses k tags fs (numbered (length tags) chosen)
+  chooses fs members = record { each = choices_from 0 nms fs chosen p.size members (from_none nms) (from_none chosen) }
+
+  pub all_named : (fs : List Member) → AreMembers k.forms k.spellings nms fs → are_all_named chosen ≡ true → AreAllNamed k tags fs None
+  all_named fs members all = named_from 0 nms fs chosen p.size all members (from_none nms) (from_none chosen)
+
+-- ---- the whole
+
+rolled_case : (c : TagCase) → roll-TagCase (record { name = (out-TagCase c).name; subject = (out-TagCase c).subject; arms = (out-TagCase c).arms; otherwise = (out-TagCase c).otherwise }) ≡ c
+rolled_case c = search (rules, kinds.the_lemmas)
+
+-- the type of the subject
+union_type : (k : Known) (n : ℕ) (a : Ty) (nms : List NumberedMember) → IsNumber k.forms k.spellings n a → slice_get k.forms n ≡ Some (form.Union nms) → (fs : List Member) × (a ≡ ty.Uni fs) × AreMembers k.forms k.spellings nms fs
+union_type k n a nms p e =
+    let s : HasFields k.forms k.spellings ty.Uni nms a = standing_at k.forms k.spellings n (Some (form.Union nms)) e a p in (s.fields, s.is, s.stand)
+
+same_named : (x : Option ℕ) (arms : List Arm) → named_by x (length arms) ≡ named_arms x arms
+same_named None arms = refl
+same_named (Some x) arms = refl
+
+-- all arms have results of these types
+record HasResults (k : Known) (g : Given) (s : scopes.Scope) (ms : List Member) (arms : List Arm) (done : Arms) (other : Option (List Expr)) (final : Arms) (types : List ℕ) : Type 0 where
+  tys : List Ty
+  last : List (List TypedExpr)
+  number : Number k types tys
+  arms_typed : AreArms k (denotes_in g k) s done.name ms tys arms done.results (tags_in arms)
+  otherwise : rule.IsOtherwise k (denotes_in g k) s tys other last
+  results : final.results ≡ done.results ++ last
+
+last_types : (k : Known) (old new : Option (List ℕ)) (ns types : List ℕ) (us : List Ty) → Number k ns us → new ≡ first_types old ns → AreSame old ns → new ≡ Some types
+    → AreResults k old us × Number k types us
+last_types k None new ns types us p e same is = (tt, subst (λ l. Number k l us) (same_Some ns types (sym e ∙ is)) p)
+last_types k (Some first) new ns types us p e same is =
+    let q : Number k first us = subst (λ l. Number k l us) (sym same) p in (q, subst (λ l. Number k l us) (same_Some first types (sym e ∙ is)) q)
+
+results_of : (g : Given) (f : List Form) (names : Names) (k : Known) (s : scopes.Scope) (ms : List Member) (arms : List Arm) (done final : Arms) (other : Option (List Expr)) (types : List ℕ)
+    → Agrees g f k → Stands k names s → (done.is_even ≡ true → ArmsTypedAs k g s ms arms done) → Ends g f names other done final → final.is_even ≡ true → final.types ≡ Some types
+    → HasResults k g s ms arms done other final types
+results_of g f names k s ms arms done final None types agrees stands p ends even is =
+    let q = p (sym (ap (λ d. d.is_even) ends.1) ∙ even) in
+    let e : done.types ≡ Some types = sym (ap (λ d. d.types) ends.1) ∙ is in
+    let n = q.number types e in record {
+      tys = n.0;
+      last = [];
+      number = n.1;
+      arms_typed = q.typed n.0 (subst (λ o. AreResults k o n.0) (sym e) n.1);
+      otherwise = rule.no_otherwise;
+      results = ap (λ d. d.results) ends.1 ∙ sym (append-nil done.results);
+    }
+results_of g f names k s ms arms done final (Some es) types agrees stands p ends even is =
+    let was = ends.keeps.even even in
+    let q = p was.0 in
+    let r = ends.typed.holds k s agrees stands in
+    let n = last_types k done.types final.types ends.types types r.tys r.number ends.keeps.types was.1 is in record {
+      tys = r.tys;
+      last = ends.exprs ∷ [];
+      number = n.1;
+      arms_typed = q.typed r.tys n.0;
+      otherwise = rule.otherwise r.typed;
+      results = ends.keeps.results;
+    }
+
+chosen_at_end : (g : Given) (f : List Form) (names : Names) (other : Option (List Expr)) (done final : Arms) → Ends g f names other done final → (final.chosen ≡ done.chosen) × (final.name ≡ done.name)
+chosen_at_end g f names None done final e = (ap (λ d. d.chosen) e.1, ap (λ d. d.name) e.1)
+chosen_at_end g f names (Some es) done final e = (e.keeps.chosen, e.keeps.name)
+
+named_at_end : (g : Given) (f : List Form) (names : Names) (other : Option (List Expr)) (done final : Arms) (k : Known) (nms : List NumberedMember) (fs : List Member) (tags : List (List ℕ))
+    → are_distinct (map (λ m. m.name) nms) ≡ true → IsChosen nms done.chosen tags → AreMembers k.forms k.spellings nms fs → Ends g f names other done final → AreAllNamed k tags fs other
+named_at_end g f names None done final k nms fs tags once p members e = all_named k nms done.chosen tags once p fs members e.0
+named_at_end g f names (Some es) done final k nms fs tags once p members e = tt
+
+pub case_typed : (g : Given) (f0 f1 f2 : List Form) (names : Names) (line count : ℕ) (c : TagCase) (subject : Parts) (begun done final : Arms) (t : TypedExpr) → Grows f0 f1 → Grows f1 f2
+    → AllOnes g f0 names ((out-TagCase c).subject ∷ []) subject.exprs subject.types → Begins f0 (out-TagCase c).name subject begun → AddsArms g f0 f1 names (out-TagCase c).arms begun done
+    → count ≡ length (out-TagCase c).arms → Ends g f2 names (out-TagCase c).otherwise done final → IsCase line count subject final t → Typed g f2 names (at line (tree.TagCase c)) t
+case_typed g f0 f1 f2 names line count c subject begun done final t first second only begins adds counted ends is = record {
+  holds = λ k s agrees stands.
+      let x : Option ℕ = (out-TagCase c).name in
+      let arms : List Arm = (out-TagCase c).arms in
+      let other : Option (List Expr) = (out-TagCase c).otherwise in
+      let denotes = denotes_in g k in
+      let one = agrees_before g f1 f2 k second agrees in
+      let zero_ = agrees_before g f0 f1 k first one in
+      let p : ArmsTyped g f1 names begins.union arms done = adds.holds begins.union [] (arms_begin g f0 names x subject begun begins) in
+      let u = only.holds k s zero_ stands in
+      let e = one_of k denotes s (out-TagCase c).subject subject.exprs u.tys u.typed in
+      let number : Number k (begins.union ∷ []) (e.1 ∷ []) = subst (λ l. Number k l (e.1 ∷ [])) begins.is_subject (subst (λ l. Number k subject.types l) e.3 u.number) in
+      let here : slice_get k.forms begins.union ≡ Some (form.Union p.members) =
+      union_at k.forms begins.union p.members (part_later f1 k.forms one.grows tags_part begins.union p.members p.is_union) in
+      let m = union_type k begins.union e.1 p.members number.each.0 here in
+      let fs : List Member = m.0 in
+      let is_union : IsNumber k.forms k.spellings begins.union (ty.Uni fs) = subst (λ a. IsNumber k.forms k.spellings begins.union a) m.1 number.each.0 in
+      let w = results_of g f2 names k s fs arms done final other is.types agrees stands (λ even. p.holds even k s fs one stands is_union) ends is.even is.is_types in
+      let named : done.name ≡ x = adds.name ∙ begins.name in
+      let tags : List (List ℕ) = tags_in arms in
+      let end = chosen_at_end g f2 names other done final ends in
+      let many : length tags ≡ count = many_tags arms ∙ sym counted in
+      let choices : Chooses k tags fs (numbered count final.chosen) =
+      subst (λ n. Chooses k tags fs (numbered n final.chosen)) many
+      (subst (λ l. Chooses k tags fs (numbered (length tags) l)) (sym end.0) (chooses k p.members done.chosen tags p.distinct p.chosen fs m.2)) in
+      let arms_typed : AreArms k denotes s x fs w.tys arms done.results tags = subst (λ n. AreArms k denotes s n fs w.tys arms done.results tags) named w.arms_typed in
+      let whole = rule.tag_case {l = line} (subst (λ a. Types k denotes s (out-TagCase c).subject e.0 (a ∷ [])) m.1 e.4) arms_typed p.chosen.distinct
+      (named_at_end g f2 names other done final k p.members fs tags p.distinct p.chosen m.2 ends) w.otherwise choices w.number in
+      let named_count : named_by final.name count ≡ named_arms x arms = ap (λ n. named_by n count) (end.1 ∙ named) ∙ ap (named_by x) counted ∙ same_named x arms in
+      let tree_is : t ≡ with line is.types (typed.Case (record { named = named_arms x arms; choices = numbered count final.chosen }) (e.0 ∷ []) (done.results ++ w.last)) =
+      is.is
+      ∙ ap (λ n. with line is.types (typed.Case (record { named = n; choices = numbered count final.chosen }) subject.exprs final.results)) named_count
+      ∙ ap (λ l. with line is.types (typed.Case (record { named = named_arms x arms; choices = numbered count final.chosen }) l final.results)) e.2
+      ∙ ap (λ l. with line is.types (typed.Case (record { named = named_arms x arms; choices = numbered count final.chosen }) (e.0 ∷ []) l)) w.results in
+      subst (λ r. IsTypedAs k g s (at line (tree.TagCase c)) r) (sym tree_is) (record {
+        tys = w.tys;
+        number = w.number;
+        typed = subst (λ d. Types k denotes s (at line (tree.TagCase d)) (with line is.types (typed.Case (record { named = named_arms x arms; choices = numbered count final.chosen }) (e.0 ∷ []) (done.results ++ w.last))) w.tys)
+            (rolled_case c) whole;
+      });
+}

@@ -1,0 +1,10 @@
+pub mod Turns
+pub mod Given
+pub mod Judged
+pub mod Forming
+pub mod Defining
+pub mod Casing
+pub mod Looping
+pub mod Laws
+pub mod Said
+pub mod Bodies
