@@ -300,4 +300,4 @@ real_unit = record {
 }
 
 real_breaks : BreaksUnit real_unit 3 2
-real_breaks = faults.in_items (faults.in_header (faults.in_result (0, omega arith, refl) (written_as.real (record { is = refl }))))
+real_breaks = faults.in_items (faults.in_header (faults.in_result (0, omega arith, refl) (written_as.real [] (record { is = refl }))))

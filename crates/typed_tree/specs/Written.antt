@@ -71,32 +71,30 @@ module _ (spellings : List (List ℕ)) (types : List (ℕ × Ty)) where
           → IsName t → Spells (many comma_name) ts ns → AreOf ty.Null (named t ∷ ns) ms → HasType true (t ∷ ts) (named t ∷ ns) ms
 
   mutual
-    -- the tokens, which are a type, break a rule on a line
+    -- what is to be a type, at the front of these tokens, breaks a rule on a line
     pub data Misnames : List Placed → ℕ → ℕ → Type 0 where
-      unknown : {t : Placed} → IsName t → newest (name_in t) types ≡ None → Misnames (t ∷ []) 2 t.line
-      real : {t : Placed} → IsWord word.WReal t → Misnames (t ∷ []) 3 t.line
-      double_real : {t : Placed} → IsWord word.WDoubleReal t → Misnames (t ∷ []) 3 t.line
-      in_elements : {t u v : Placed} {make : Ty → Ty} {ts : List Placed} {rule line : ℕ}
-          → IsSequenceWord t make → IsSign sign.SOpenBracket u → Misnames ts rule line → IsSign sign.SCloseBracket v
-          → Misnames (t ∷ u ∷ (ts ++ (v ∷ []))) rule line
-      deep_sequence : {t u v : Placed} {make : Ty → Ty} {ts : List Placed} {a : Ty}
+      unknown : {t : Placed} (rest : List Placed) → IsName t → newest (name_in t) types ≡ None → Misnames (t ∷ rest) 2 t.line
+      real : {t : Placed} (rest : List Placed) → IsWord word.WReal t → Misnames (t ∷ rest) 3 t.line
+      double_real : {t : Placed} (rest : List Placed) → IsWord word.WDoubleReal t → Misnames (t ∷ rest) 3 t.line
+      in_elements : {t u : Placed} {make : Ty → Ty} {ts : List Placed} {rule line : ℕ}
+          → IsSequenceWord t make → IsSign sign.SOpenBracket u → Misnames ts rule line → Misnames (t ∷ u ∷ ts) rule line
+      deep_sequence : {t u v : Placed} {make : Ty → Ty} {ts : List Placed} {a : Ty} (rest : List Placed)
           → IsSequenceWord t make → IsSign sign.SOpenBracket u → Denotes ts a → IsSign sign.SCloseBracket v → (IsShallow (make a) → ⊥)
-          → Misnames (t ∷ u ∷ (ts ++ (v ∷ []))) 4 t.line
-      in_members : {t u v : Placed} {without : Bool} {make : List Member → Ty} {ts : List Placed} {rule line : ℕ}
-          → IsMembersWord t without make → IsSign sign.SOpenBracket u → MisnamesMember without ts rule line → IsSign sign.SCloseBracket v
-          → Misnames (t ∷ u ∷ (ts ++ (v ∷ []))) rule line
-      deep_members : {t u v : Placed} {without : Bool} {make : List Member → Ty} {ts : List Placed} {ns : List Named} {ms : List Member}
+          → Misnames (t ∷ u ∷ (ts ++ (v ∷ rest))) 4 t.line
+      in_members : {t u : Placed} {without : Bool} {make : List Member → Ty} {ts : List Placed} {rule line : ℕ}
+          → IsMembersWord t without make → IsSign sign.SOpenBracket u → MisnamesMember without ts rule line → Misnames (t ∷ u ∷ ts) rule line
+      deep_members : {t u v : Placed} {without : Bool} {make : List Member → Ty} {ts : List Placed} {ns : List Named} {ms : List Member} (rest : List Placed)
           → IsMembersWord t without make → IsSign sign.SOpenBracket u → HasMembers without ts ns ms → IsSign sign.SCloseBracket v → (IsShallow (make ms) → ⊥)
-          → Misnames (t ∷ u ∷ (ts ++ (v ∷ []))) 4 t.line
+          → Misnames (t ∷ u ∷ (ts ++ (v ∷ rest))) 4 t.line
       -- a name stands twice among the members up to some place
       member_twice : {t u : Placed} {without : Bool} {make : List Member → Ty} {ts : List Placed} {ns : List Named} {ms : List Member} {line : ℕ} (rest : List Placed)
           → IsMembersWord t without make → IsSign sign.SOpenBracket u → HasMembers without ts ns ms → IsTwice ns line → Misnames (t ∷ u ∷ (ts ++ rest)) 5 line
 
     -- the type of a member breaks a rule, where those of the members before it denote types
     pub data MisnamesMember : Bool → List Placed → ℕ → ℕ → Type 0 where
-      here : {without : Bool} {t u : Placed} {ts us : List Placed} {ns : List Named} {rule line : ℕ} (rest : List Placed)
+      here : {without : Bool} {t u : Placed} {ts us : List Placed} {ns : List Named} {rule line : ℕ}
           → IsName t → Spells (many comma_name) ts ns → IsSign sign.SColon u → Misnames us rule line
-          → MisnamesMember without (t ∷ (ts ++ (u ∷ (us ++ rest)))) rule line
+          → MisnamesMember without (t ∷ (ts ++ (u ∷ us))) rule line
       later : {without : Bool} {t : Placed} {ts us : List Placed} {ns : List Named} {ms : List Member} {rule line : ℕ}
           → HasType without ts ns ms → IsSign sign.SSemicolon t → MisnamesMember without us rule line
           → MisnamesMember without (ts ++ (t ∷ us)) rule line

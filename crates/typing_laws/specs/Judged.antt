@@ -14,6 +14,7 @@ use Rattle.typed_tree.specs.Written.{Denotes}
 use Rattle.typed_tree.specs.Scopes as tree
 use Rattle.typed_tree.specs.Typing.{Known, Signature, Number, Types, AreTyped}
 use Rattle.type_rules.specs.Applies.{Grows}
+use Rattle.type_rules.specs.Typed.{AreSpelledOnce}
 use Rattle.unit_types.specs.Rests.{AreKnown, AreStanding, AreTokensSpelled}
 use Rattle.value_names.specs.declared.value.Value.{Value}
 use Rattle.value_names.specs.declared.value.Meaning.{Meaning}
@@ -46,6 +47,10 @@ pub record IsNumbered (functions : List Header) (x n : ℕ) : Type 0 where
 pub record AreNumbered (numbers : List (ℕ × ℕ)) (functions : List Header) : Type 0 where
   pub each : (x n : ℕ) → newest x numbers ≡ Some n → IsNumbered functions x n
 
+-- each function has the number of its name
+pub record AreAll (numbers : List (ℕ × ℕ)) (functions : List Header) : Type 0 where
+  pub each : (n : ℕ) (h : Header) → slice_get functions n ≡ Some h → newest h.name numbers ≡ Some n
+
 -- what a written type of the text denotes
 abbrev pub denotes_in : Given → Known → Written → Ty → Type 0
 denotes_in g k w a = Denotes k.spellings k.types (slice_range (placed 0 g.tokens) w.from w.to) a
@@ -56,11 +61,13 @@ pub record Agrees (g : Given) (forms : List Form) (k : Known) : Type 0 where
   pub table : IsTable k.forms
   pub spellings : k.spellings ≡ g.spellings
   pub types : AreKnown k.forms k.spellings g.named k.types
-  -- each number of the table stands for a type, and the names in the text are spelled
+  -- each number of the table stands for a type, and the names in the text are spelled, each in its own way
   pub standing : AreStanding k.spellings k.forms
   pub spelled : AreTokensSpelled k.spellings g.tokens
+  pub once : AreSpelledOnce k.spellings
   pub functions : AreSignatures k g.functions k.functions
   pub numbers : AreNumbered g.numbers g.functions
+  pub all : AreAll g.numbers g.functions
 
 -- ---- names in force
 

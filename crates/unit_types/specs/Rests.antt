@@ -1,6 +1,6 @@
 -- What may still come where the reader of a written type stands, so that the whole is a type: its tokens, and the type that they
 -- make of what is open. Types that were read stand by their numbers in a table.
-use Rattle.std.specs.Prelude.{◌≡◌, ◌<◌, ℕ, ◌+◌, length, drop, List, [], ◌∷◌, ◌++◌, map, Bool, true, false, Option, Some, None, slice_get, slice_range, if◌then◌else◌}
+use Rattle.std.specs.Prelude.{◌≡◌, ◌<◌, ℕ, ◌+◌, length, drop, List, [], ◌∷◌, ◌++◌, All, map, Bool, true, false, Option, Some, None, slice_get, slice_range, if◌then◌else◌}
 use Rattle.name_scope.specs.Newest.{newest}
 use Rattle.flow_value.specs.declared.ty.Ty.{Ty}
 use Rattle.flow_value.specs.declared.ty.Ty.TheVariants as ty
@@ -24,6 +24,7 @@ use Rattle.sisal_grammar.specs.Acts.{named}
 use Rattle.sisal_grammar.specs.Placed.{placed}
 use Rattle.sisal_grammar.specs.Phrases.{many, maybe, comma_name, semicolon}
 use Rattle.sisal_grammar.specs.Spells.{IsSign, IsName, Spells}
+use Rattle.type_rules.specs.Records.{are_distinct}
 use Rattle.typed_tree.specs.Scopes.{AreDistinct}
 use Rattle.typed_tree.specs.Types.{Member, IsShallow, IsNumber, AreMembers}
 use Rattle.typed_tree.specs.Typing.{names_of}
@@ -216,9 +217,16 @@ AreOpenSpelled spellings [] = Unit {0}
 AreOpenSpelled spellings (entry.Sequence s ∷ os) = AreOpenSpelled spellings os
 AreOpenSpelled spellings (entry.Members m ∷ os) = AreSpelled spellings (map (λ m. m.name) m.members) × AreSpelled spellings (names_of m.group) × AreOpenSpelled spellings os
 
--- each number stands for a type
-abbrev pub AreStanding : List (List ℕ) → List Form → Type 0
-AreStanding spellings forms = (n : ℕ) → n < length forms → (t : Ty) × IsNumber forms spellings n t
+-- no field or tag stands twice in a form
+abbrev pub HasEachOnce : Form → Type 0
+HasEachOnce (form.Record ms) = are_distinct (map (λ m. m.name) ms) ≡ true
+HasEachOnce (form.Union ms) = are_distinct (map (λ m. m.name) ms) ≡ true
+HasEachOnce _ = Unit {0}
+
+-- each number stands for a type, in which no field or tag stands twice
+pub record AreStanding (spellings : List (List ℕ)) (forms : List Form) : Type 0 where
+  pub stands : (n : ℕ) → n < length forms → (t : Ty) × IsNumber forms spellings n t
+  pub once : All HasEachOnce forms
 
 -- ---- steps
 
