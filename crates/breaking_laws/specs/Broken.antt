@@ -12,17 +12,10 @@ use Rattle.typed_tree.specs.Written.{Misnames}
 use Rattle.typed_tree.specs.Scopes as tree
 use Rattle.typed_tree.specs.Typing.{Known, at}
 use Rattle.typed_tree.specs.Breaks.{Breaks, BreaksOne, BreaksIn}
-use Rattle.type_rules.specs.declared.fault.TypeFault.{TypeFault}
-use Rattle.type_rules.specs.declared.fault.TypeFault.TheVariants as fault
 use Rattle.unit_types.specs.Rests.{IsUsed}
 use Rattle.value_names.specs.Names.{Names}
 use Rattle.typing_laws.specs.Given.{Given}
 use Rattle.typing_laws.specs.Judged.{Agrees, Stands, denotes_in}
-
--- which rule a fault names, and the line; want of memory says nothing
-abbrev pub IsRule : (ℕ → ℕ → Type 0) → TypeFault → Type 0
-IsRule says (fault.Rule rule line) = says rule line
-IsRule says fault.NoMemory = Unit {0}
 
 -- which rule a written type of the text breaks, and where
 abbrev pub misnames_in : Given → Known → Written → ℕ → ℕ → Type 0
