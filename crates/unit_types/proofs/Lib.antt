@@ -1,5 +1,6 @@
 pub mod Lists
 pub mod Names
+pub mod Places
 pub mod Finds
 pub mod Numbered
 pub mod Given
@@ -11,4 +12,5 @@ pub mod Naming
 pub mod Headers
 pub mod Declares
 pub mod Owning
+pub mod Refused
 pub mod Whole

@@ -31,6 +31,10 @@ pub on_ok_from : {T E P : Type 0} (r : Result T E) → P → OnOk r P
 on_ok_from (Ok x) h = h
 on_ok_from (Err e) h = tt
 
+pub both_ok : {T E P Q R : Type 0} (r : Result T E) → (P → Q → R) → OnOk r P → OnOk r Q → OnOk r R
+both_ok (Ok x) f p q = f p q
+both_ok (Err e) f p q = tt
+
 -- the item that a loop is at
 pub cut_at : {A : Type 0} (xs : List A) (i : ℕ) (x : A) → i < length xs → x ≡ get_or xs i x → drop i xs ≡ x ∷ drop (i + 1) xs
 cut_at xs i x within is = cut xs i x within ∙ ap (λ y. y ∷ drop (i + 1) xs) (sym is)

@@ -113,7 +113,7 @@ pub range_denotes : (known : List (ℕ × ℕ)) (old new : List Form) (tokens : 
     → (a : Ty) × Denotes sp tys (slice_range (placed 0 tokens) from to) a × IsNumber new sp k a
 range_denotes known old new tokens from to k r table sp tys h s kn =
     let spelled : AreTokensSpelled sp (slice_range tokens from to) = spelled_range sp from to tokens h in
-    let t : (a : Ty) × IsNumber new sp k a = r.standing sp spelled s k r.there in
+    let t : (a : Ty) × IsNumber new sp k a = (r.standing sp spelled s).stands k r.there in
     (t.0, subst (λ l. Denotes sp tys l t.0) (sym (placed_range from to tokens)) (r.denotes sp tys table spelled (known_grown old new sp known tys r.grown kn) from t.0 t.1), t.1)
 
 pub range_uses : (known : List (ℕ × ℕ)) (old new : List Form) (tokens : List Token) (from to k : ℕ) → Reads known old new (slice_range tokens from to) k → IsUsed tokens old new

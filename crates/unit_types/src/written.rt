@@ -2,11 +2,12 @@
 ghost use Rattle.std.specs.Prelude.{◌≡◌, ◌-◌, ◌<◌, ◌≤◌, ℕ, List, [], length, drop, slice_range, IfErr, IfOk, OnOk, true};
 ghost use Rattle.flow_value.specs.declared.ty.Ty.{Ty};
 ghost use Rattle.type_table.specs.Tables.{IsTable};
+ghost use Rattle.type_table.specs.declared.form.Form.{Form};
 ghost use Rattle.sisal_grammar.specs.Placed.{placed};
 ghost use Rattle.typed_tree.specs.Types.{IsNumber};
-ghost use Rattle.typed_tree.specs.Written.{Denotes};
-ghost use Rattle.unit_types.specs.Faults.{IsUnitRule};
-ghost use Rattle.unit_types.specs.Rests.{AreKnown, AreTokensSpelled, AreStanding, IsUsed, Reads};
+ghost use Rattle.typed_tree.specs.Written.{Denotes, Misnames};
+ghost use Rattle.unit_types.specs.Faults.{IsUnitRule, IsFault};
+ghost use Rattle.unit_types.specs.Rests.{IsLater, AreKnown, AreTokensSpelled, AreStanding, IsUsed, Reads};
 
 use crate::fault::{UnitFault, numbered};
 use crate::open::{Next, Open};
@@ -58,10 +59,14 @@ pub fn type_of(
     // The table grows, and each of its numbers stands for a type if it did before.
     ensures used { OnOk result (IsUsed tokens.now types.old types.new) }
     ensures there { IfOk result (λ k. k < length types.new) }
-    // The type of this number is what the tokens denote, where the names of the text are spelled so, and the names of types are those of these types.
-    ensures denotes { IfOk result (λ k. (spellings : List (List ℕ)) (known_types : List (ℕ × Ty)) → AreTokensSpelled spellings tokens.now → AreStanding spellings types.old
+    ensures table { OnOk result (IsTable types.new) }
+    // The type of this number in any later table is what the tokens denote, where the names of the text are spelled so, and the names of types are those of these types.
+    ensures denotes { IfOk result (λ k. (spellings : List (List ℕ)) (forms : List Form) (known_types : List (ℕ × Ty)) → IsLater types.new forms → AreTokensSpelled spellings tokens.now
+        → AreKnown forms spellings (drop (length named.now - known) named.now) known_types
+        → (a : Ty) → IsNumber forms spellings k a → Denotes spellings known_types (slice_range (placed 0 tokens.now) written.from written.to) a) }
+    ensures misnames { IfErr result (IsFault (λ rule line. (spellings : List (List ℕ)) (known_types : List (ℕ × Ty)) → AreTokensSpelled spellings tokens.now → AreStanding spellings types.old
         → AreKnown types.old spellings (drop (length named.now - known) named.now) known_types
-        → (a : Ty) × Denotes spellings known_types (slice_range (placed 0 tokens.now) written.from written.to) a × IsNumber types.new spellings k a) }
+        → Misnames spellings known_types (slice_range (placed 0 tokens.now) written.from written.to) rule line)) }
 {
     let from = written.from as usize;
     let to = written.to as usize;
