@@ -48,12 +48,12 @@ Denoting tokens w old new known k = (sp : List (List ℕ)) (types : List (ℕ ×
 
 -- the same, by what it says of every later table
 pub denoting : (tokens : List Token) (w : Written) (old new : List Form) (known : List (ℕ × ℕ)) (k : ℕ) → IsTable new → IsUsed tokens old new → k < length new
-    → ((sp : List (List ℕ)) (forms : List Form) (types : List (ℕ × Ty)) → IsLater new forms → AreTokensSpelled sp tokens → AreKnown forms sp known types
+    → ((sp : List (List ℕ)) (types : List (ℕ × Ty)) (forms : List Form) → IsLater new forms → AreTokensSpelled sp tokens → AreKnown forms sp known types
     → (a : Ty) → IsNumber forms sp k a → Denotes sp types (slice_range (placed 0 tokens) w.from w.to) a)
     → Denoting tokens w old new known k
 denoting tokens w old new known k table used there f = λ sp types h s kn.
     let t : (a : Ty) × IsNumber new sp k a = (used.standing sp h s).stands k there in
-    (t.0, f sp new types (record { more = []; grown = sym (append-nil new); table = table }) h (known_grown old new sp known types used.grown kn) t.0 t.1, t.1)
+    (t.0, f sp types new (record { more = []; grown = sym (append-nil new); table = table }) h (known_grown old new sp known types used.grown kn) t.0 t.1, t.1)
 
 module _ (u : tree.Unit) (types : List (ℕ × Ty)) (tokens : List Token) (is : u.tokens.list ≡ tokens) (h : AreTokensSpelled u.tokens.names tokens) (known : List (ℕ × ℕ)) where
   -- the type of a written type of the unit

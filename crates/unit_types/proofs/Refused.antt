@@ -75,14 +75,14 @@ broken_among numbers functions announced a there _ _ (other b s c found unlike) 
 
 -- what a written type breaks, by the call that reads it
 abbrev pub Misnaming : (tokens : List Token) (w : Written) (old : List Form) (known : List (ℕ × ℕ)) (rule line : ℕ) → Type 0
-Misnaming tokens w old known rule line = (sp : List (List ℕ)) (types : List (ℕ × Ty)) → AreTokensSpelled sp tokens → AreStanding sp old → AreKnown old sp known types
+Misnaming tokens w old known rule line = (sp : List (List ℕ)) (types : List (ℕ × Ty)) → AreTokensSpelled sp tokens → AreKnown old sp known types
     → Misnames sp types (slice_range (placed 0 tokens) w.from w.to) rule line
 
 pub misnamed : (u : tree.Unit) (types : List (ℕ × Ty)) (tokens : List Token) → u.tokens.list ≡ tokens → AreTokensSpelled u.tokens.names tokens → (known : List (ℕ × ℕ)) (w : Written) (first old : List Form) (rule line : ℕ)
     → HasNames u.tokens.names first known types → IsUsed tokens first old → Misnaming tokens w old known rule line → misnames u types w rule line
 misnamed u types tokens is h known w first old rule line names used f =
     let m : HasNames u.tokens.names old known types = names_later tokens first old u.tokens.names known types used h names in
-    subst (λ l. Misnames u.tokens.names types (slice_range (placed 0 l) w.from w.to) rule line) (sym is) (f u.tokens.names types h m.standing m.named)
+    subst (λ l. Misnames u.tokens.names types (slice_range (placed 0 l) w.from w.to) rule line) (sym is) (f u.tokens.names types h m.named)
 
 -- the names that are known to a count of all
 pub names_to : (sp : List (List ℕ)) (forms : List Form) (named : List (ℕ × ℕ)) (types : List (ℕ × Ty)) (known : ℕ) → known ≡ length named → HasNames sp forms named types → HasNames sp forms (drop (length named - known) named) types
