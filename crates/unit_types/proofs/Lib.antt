@@ -1,11 +1,16 @@
 pub mod Lists
+pub mod Faults
 pub mod Names
 pub mod Finds
 pub mod Numbered
 pub mod Given
 pub mod Standing
 pub mod Depth
+pub mod Known
+pub mod Tables
+pub mod Reached
 pub mod Steps
+pub mod Refusals
 pub mod Reading
 pub mod Naming
 pub mod Headers

@@ -1,7 +1,7 @@
 use Rattle.std.proofs.Common.{◌-◌, ◌+◌, ◌++◌, ◌∙◌, ap, map, sym, subst, drop, length, arith}
 use Rattle.unit_types.specs.Headers.{AreParamsTo}
 use Rattle.unit_types.proofs.Lists.{cut_at, drop_all}
-use Rattle.unit_types.proofs.Reading.{unused, used_again}
+use Rattle.unit_types.proofs.Reading.{unused, used_again, denoted_here}
 use Rattle.unit_types.proofs.Headers.{params_first, params_more, params_all}
 use Rattle.unit_types.proofs.header.params_in.Goals as goal
 
@@ -22,7 +22,10 @@ loop-field-preserved c =
           subst (AreParamsTo u types c.type_of.new.types fields (i + 1)) (sym (c.in_ok-add_types.ensures ∙ ap (λ l. c.loop-field.params ++ map (λ n. c.in_ok-ty.ty) l) c.as_slice.ensures))
           (params_more u types c.args.tokens.now is h (drop (length c.args.named.now - c.args.known) c.args.named.now) fields i c.field-item.result
           c.args.types.now c.loop-field.types c.type_of.new.types c.loop-field.params c.in_ok-ty.ty (cut_at fields i c.field-item.result c.loop-field-test.true c.field-item.is)
-          n c.loop-field.invariant.used c.in_ok-ty.ensures.used c.in_ok-ty.ensures.denotes (c.loop-field.invariant.are u types is h n));
+          n c.loop-field.invariant.used c.in_ok-ty.ensures.used
+          (denoted_here (drop (length c.args.named.now - c.args.known) c.args.named.now) c.loop-field.types c.type_of.new.types c.args.tokens.now c.field-item.result.ty.from c.field-item.result.ty.to c.in_ok-ty.ty
+          c.in_ok-ty.ensures.used c.in_ok-ty.ensures.there c.in_ok-ty.ensures.table c.in_ok-ty.ensures.denotes)
+          (c.loop-field.invariant.are u types is h n));
     }
 
 pub returns-clause-params : goal.returns-clause-params

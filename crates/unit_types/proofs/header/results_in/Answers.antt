@@ -1,7 +1,7 @@
 use Rattle.std.proofs.Common.{◌-◌, ◌+◌, sym, subst, drop, length, get_or, arith}
 use Rattle.unit_types.specs.Headers.{AreResultsTo}
 use Rattle.unit_types.proofs.Lists.{cut, drop_all}
-use Rattle.unit_types.proofs.Reading.{unused, used_again}
+use Rattle.unit_types.proofs.Reading.{unused, used_again, denoted_here}
 use Rattle.unit_types.proofs.Headers.{results_first, results_more, results_all}
 use Rattle.unit_types.proofs.header.results_in.Goals as goal
 
@@ -22,7 +22,11 @@ loop-ty-preserved c =
           subst (AreResultsTo u types c.type_of.new.types written (i + 1)) (sym c.in_ok-add.ensures.ok)
           (results_more u types c.args.tokens.now is h (drop (length c.args.named.now - c.args.known) c.args.named.now) written i (get_or written i (record { from = 0; to = 0 }))
           c.args.types.now c.loop-ty.types c.type_of.new.types c.loop-ty.results c.in_ok-number.number (cut written i (record { from = 0; to = 0 }) c.loop-ty-test.true)
-          n c.loop-ty.invariant.used c.in_ok-number.ensures.used c.in_ok-number.ensures.denotes (c.loop-ty.invariant.are u types is h n));
+          n c.loop-ty.invariant.used c.in_ok-number.ensures.used
+          (denoted_here (drop (length c.args.named.now - c.args.known) c.args.named.now) c.loop-ty.types c.type_of.new.types c.args.tokens.now
+          (get_or written i (record { from = 0; to = 0 })).from (get_or written i (record { from = 0; to = 0 })).to c.in_ok-number.number
+          c.in_ok-number.ensures.used c.in_ok-number.ensures.there c.in_ok-number.ensures.table c.in_ok-number.ensures.denotes)
+          (c.loop-ty.invariant.are u types is h n));
     }
 
 pub returns-clause-results : goal.returns-clause-results
