@@ -1,5 +1,5 @@
 -- Faults that name a rule.
-use Rattle.std.proofs.Common.{◌≡◌, ℕ, Result, Ok, Err, IfErr, sym, subst}
+use Rattle.std.proofs.Common.{◌≡◌, ℕ, Result, Ok, Err, IfErr, IsErrAnd, sym, subst}
 use Rattle.type_rules.specs.declared.fault.TypeFault.{TypeFault}
 use Rattle.type_rules.specs.declared.fault.TypeFault.TheVariants as fault
 use Rattle.type_rules.specs.Faults.{IsRule}
@@ -25,3 +25,8 @@ faults_weaker (Err e) f h = fault_weaker e f h
 pub no_faults : {T : Type 0} (P : ℕ → ℕ → Type 0) (r : Result T UnitFault) → IfErr r (λ e. e ≡ unit.NoMemory) → IfErr r (IsFault P)
 no_faults P (Ok x) h = tt
 no_faults P (Err e) h = no_fault P e h
+
+-- a fault that is passed on
+pub passed_on : {T : Type 0} {P Q : ℕ → ℕ → Type 0} (r : Result T UnitFault) (e : UnitFault) → IsErrAnd r (λ f. f ≡ e) → ((rule line : ℕ) → P rule line → Q rule line) → IsFault P e → IfErr r (IsFault Q)
+passed_on (Ok x) e is f h = tt
+passed_on {Q = Q} (Err x) e is f h = subst (IsFault Q) (sym is) (fault_weaker e f h)

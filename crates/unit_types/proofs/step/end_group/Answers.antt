@@ -5,7 +5,7 @@ use Rattle.unit_types.specs.declared.open.Open.TheVariants as entry
 use Rattle.unit_types.specs.Faults.{IsDeep}
 use Rattle.unit_types.specs.Rests.{IsMade, with_group, members_form}
 use Rattle.unit_types.proofs.Lists.{if_ok_weaker, if_ok_both}
-use Rattle.unit_types.proofs.Faults.{faults_weaker, fault_weaker, no_faults}
+use Rattle.unit_types.proofs.Faults.{faults_weaker, no_faults, passed_on}
 use Rattle.unit_types.proofs.Steps.{semicolon_leads, closes_group, leads_as}
 use Rattle.unit_types.proofs.Refusals.{refuses_twice, refuses_group}
 use Rattle.unit_types.proofs.step.end_group.Goals as goal
@@ -38,3 +38,8 @@ returns-in-SCloseBracket-clause-refuses c = faults_weaker c.close_members.result
     = subst (λ g. IsDeep c.args.types.now (members_form g.is_union g.members) g.line rule line) c.in_ok-grouped.ensures.grouped d in
     refuses_group known c.args.types.now c.args.members c.args.stack.now t c.args.ty rule line (w ∙ ap kind.Sign c.in-SCloseBracket.is) deep)
     c.close_members.ensures.deep
+
+pub returns-in_err-grouped-clause-refuses : goal.returns-in_err-grouped-clause-refuses
+returns-in_err-grouped-clause-refuses c = passed_on c.from_residual.result c.in_err-grouped.field-0.0 c.from_residual.ensures.1
+    (λ rule line twice known t w. refuses_twice known c.args.types.now c.args.members c.args.stack.now t c.args.ty rule line twice)
+    c.in_err-grouped.ensures.twice
