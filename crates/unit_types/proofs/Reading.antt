@@ -58,7 +58,7 @@ go_on_reading known old now new tokens i here later os rest t e r l = record {
       let p : n + i + 1 ≡ n + (i + 1) = omega arith in (
         b.0 ++ at_place (n + i) t ∷ [],
         b.1 ∙ ap (λ x. b.0 ++ placed (n + i) x) e ∙ sym (append_assoc b.0 (at_place (n + i) t ∷ []) (placed (n + i + 1) (drop (i + 1) tokens)))
-        ∙ ap (λ q. (b.0 ++ at_place (n + i) t ∷ []) ++ placed q (drop (i + 1) tokens)) p,
+            ∙ ap (λ q. (b.0 ++ at_place (n + i) t ∷ []) ++ placed q (drop (i + 1) tokens)) p,
         l.reaches sp tys forms lt (r.spelled sp h) k (n + i) b.0 b.2,
       );
 }

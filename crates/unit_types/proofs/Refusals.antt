@@ -1,5 +1,5 @@
 -- What the reader of written types refuses at a token breaks a rule, whatever comes behind.
-use Rattle.std.proofs.Common.{◌≡◌, ◌≤◌, ◌<◌, ℕ, Bool, true, false, List, [], ◌∷◌, ◌++◌, map, Some, None, refl, sym, ap, subst, ◌∙◌, arith}
+use Rattle.std.proofs.Common.{◌≡◌, ◌≤◌, ◌<◌, ℕ, Bool, true, false, List, ◌∷◌, ◌++◌, map, None, refl, sym, ap, subst, ◌∙◌, arith}
 use Rattle.name_scope.specs.Newest.{newest}
 use Rattle.flow_value.specs.declared.ty.Ty.{Ty}
 use Rattle.type_table.specs.declared.form.Form.{Form}
@@ -10,19 +10,16 @@ use Rattle.type_table.specs.Tables.{depths, IsWell}
 use Rattle.sisal_lex.specs.declared.token.Kind.TheVariants as kind
 use Rattle.sisal_lex.specs.declared.token.Sign.TheVariants as sign
 use Rattle.sisal_lex.specs.declared.token.Token.{Token}
-use Rattle.sisal_tree.specs.declared.unit.Named.{Named}
 use Rattle.sisal_grammar.specs.declared.value.Placed.{Placed}
 use Rattle.sisal_grammar.specs.Acts.{name_of}
 use Rattle.sisal_grammar.specs.Spells.{IsSign}
-use Rattle.typed_tree.specs.Types.{Member, deepest, depth_of, IsShallow, IsNumber, null, AreMembers}
-use Rattle.typed_tree.specs.Typing.{names_of}
+use Rattle.typed_tree.specs.Types.{Member, deepest, depth_of, IsNumber, null, AreMembers}
 use Rattle.typed_tree.specs.Breaks.{IsTwice}
 use Rattle.typed_tree.specs.Written.{Misnames}
 use Rattle.typed_tree.specs.Written as written
 use Rattle.typed_tree.proofs.Depths.{depth_array, depth_stream, depth_record, depth_union}
 use Rattle.unit_types.specs.declared.open.First.{First}
 use Rattle.unit_types.specs.declared.open.First.TheVariants as first
-use Rattle.unit_types.specs.declared.open.Opener.{Opener}
 use Rattle.unit_types.specs.declared.open.Sequence.{Sequence}
 use Rattle.unit_types.specs.declared.open.Members.{Members}
 use Rattle.unit_types.specs.declared.open.Open.{Open}
@@ -30,8 +27,8 @@ use Rattle.unit_types.specs.declared.open.Open.TheVariants as entry
 use Rattle.unit_types.specs.declared.open.Next.{Next}
 use Rattle.unit_types.specs.declared.open.Next.TheVariants as next
 use Rattle.unit_types.specs.Faults.{IsReal, IsUnknown, IsDeep, IsMemberTwice}
-use Rattle.unit_types.specs.Rests.{at_place, sequence_of, members_of, AreKnown, AreSpelled, word_of, begun, with_group, sequence_form, members_form}
-use Rattle.unit_types.specs.Reached.{AtType, Behind, BehindNumber, Gathers, Stands, Refuses}
+use Rattle.unit_types.specs.Rests.{at_place, sequence_of, members_of, word_of, begun, with_group, sequence_form, members_form}
+use Rattle.unit_types.specs.Reached.{AtType, Gathers, Refuses}
 use Rattle.unit_types.proofs.Known.{none_known}
 use Rattle.unit_types.proofs.Depth.{depth_number, depth_members}
 use Rattle.unit_types.proofs.Tables.{basic}

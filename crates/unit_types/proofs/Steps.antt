@@ -16,7 +16,7 @@ use Rattle.sisal_grammar.specs.declared.value.Placed.{Placed}
 use Rattle.sisal_grammar.specs.Acts.{name_of, named}
 use Rattle.sisal_grammar.specs.Spells.{IsSign, IsName, nothing, more as one_more, comma_name_is}
 use Rattle.typed_tree.specs.Scopes.{AreDistinct}
-use Rattle.typed_tree.specs.Types.{Member, IsNumber, boolean, character, integer, null, AreMembers, no_member}
+use Rattle.typed_tree.specs.Types.{IsNumber, boolean, character, integer, null, no_member}
 use Rattle.typed_tree.specs.Typing.{names_of}
 use Rattle.typed_tree.specs.Written.{AreOf, Denotes, HasType}
 use Rattle.typed_tree.specs.Written as written
@@ -31,7 +31,7 @@ use Rattle.unit_types.specs.declared.open.Open.TheVariants as entry
 use Rattle.unit_types.specs.declared.open.Next.{Next}
 use Rattle.unit_types.specs.declared.open.Next.TheVariants as next
 use Rattle.unit_types.specs.Rests.{at_place, sequence_of, members_of, IsLater, AreKnown, IsSpelled, AreSpelled, IsKindSpelled, AreOpenSpelled, no_members, word_of, begun, opened_by, inside_of, with_name, members_with, with_group, sequence_form, members_form}
-use Rattle.unit_types.specs.Reached.{AreNames, MayGoOn, GoesOn, AreAnnounced, Opens, BehindWord, InSequence, InMembers, Gathers, AtType, HasGroup, Behind, BehindNumber, AreSoFar, Stands, Leads}
+use Rattle.unit_types.specs.Reached.{AreNames, MayGoOn, GoesOn, AreAnnounced, Opens, BehindWord, Gathers, AtType, HasGroup, AreSoFar, Stands, Leads}
 use Rattle.unit_types.proofs.Known.{known_newest}
 use Rattle.unit_types.proofs.Depth.{shallow_number}
 use Rattle.unit_types.proofs.Tables.{stays, grown_by, basic, later_there, sequence_number, members_number, sequence_stands, members_stand}

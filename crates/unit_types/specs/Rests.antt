@@ -1,5 +1,5 @@
 -- Types by number while written types are read: tables that grow, names of types, what is open, and what stands for it.
-use Rattle.std.specs.Prelude.{◌≡◌, ◌<◌, ℕ, ◌+◌, length, drop, List, [], ◌∷◌, ◌++◌, All, map, Bool, true, false, Option, Some, None, slice_get, slice_range, if◌then◌else◌}
+use Rattle.std.specs.Prelude.{◌≡◌, ◌<◌, ℕ, length, drop, List, [], ◌∷◌, ◌++◌, All, map, Bool, true, false, Option, Some, None, slice_get, slice_range, if◌then◌else◌}
 use Rattle.name_scope.specs.Newest.{newest}
 use Rattle.flow_value.specs.declared.ty.Ty.{Ty}
 use Rattle.flow_value.specs.declared.ty.Ty.TheVariants as ty
@@ -11,7 +11,6 @@ use Rattle.sisal_lex.specs.declared.token.Kind.{Kind}
 use Rattle.sisal_lex.specs.declared.token.Kind.TheVariants as kind
 use Rattle.sisal_lex.specs.declared.token.Word.{Word}
 use Rattle.sisal_lex.specs.declared.token.Word.TheVariants as word
-use Rattle.sisal_lex.specs.declared.token.Sign.TheVariants as sign
 use Rattle.sisal_lex.specs.declared.token.Token.{Token}
 use Rattle.sisal_tree.specs.declared.unit.Named.{Named}
 use Rattle.sisal_tree.specs.declared.unit.TypeDef.{TypeDef}
@@ -19,15 +18,11 @@ use Rattle.sisal_tree.specs.declared.unit.FunDef.{FunDef}
 use Rattle.sisal_tree.specs.declared.unit.Item.{Item}
 use Rattle.sisal_tree.specs.declared.unit.Item.TheVariants as item
 use Rattle.sisal_grammar.specs.declared.value.Placed.{Placed}
-use Rattle.sisal_grammar.specs.Acts.{named}
 use Rattle.sisal_grammar.specs.Placed.{placed}
-use Rattle.sisal_grammar.specs.Phrases.{many, maybe, comma_name, semicolon}
-use Rattle.sisal_grammar.specs.Spells.{IsSign, IsName, Spells}
 use Rattle.type_rules.specs.Records.{are_distinct}
-use Rattle.typed_tree.specs.Scopes.{AreDistinct}
-use Rattle.typed_tree.specs.Types.{Member, IsShallow, IsNumber, AreMembers}
+use Rattle.typed_tree.specs.Types.{Member, IsNumber}
 use Rattle.typed_tree.specs.Typing.{names_of}
-use Rattle.typed_tree.specs.Written.{AreOf, Denotes, HasMembers}
+use Rattle.typed_tree.specs.Written.{Denotes}
 use Rattle.unit_types.specs.declared.open.Opener.{Opener}
 use Rattle.unit_types.specs.declared.open.Opener.TheVariants as opener
 use Rattle.unit_types.specs.declared.open.First.{First}
