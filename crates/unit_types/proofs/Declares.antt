@@ -27,7 +27,8 @@ use Rattle.unit_types.specs.Headers.{Says, IsSaid, AreSaid, forwards, AreAnnounc
 use Rattle.unit_types.specs.Rests.{AreKnown, AreTokensSpelled, AreStanding, IsGrown, IsUsed, HasNames}
 use Rattle.unit_types.proofs.Reading.{known_grown, names_later}
 use Rattle.unit_types.proofs.Headers.{numbers_grown}
-use Rattle.unit_types.proofs.Naming.{none_known, all_known, basic_stands}
+use Rattle.unit_types.proofs.Known.{none_known}
+use Rattle.unit_types.proofs.Naming.{all_known, basic_stands}
 
 -- ---- what is said stays said
 

@@ -3,7 +3,6 @@ use Rattle.std.proofs.Common.{◌≡◌, ◌<◌, ℕ, ◌+◌, List, [], ◌∷
 use Rattle.std.proofs.lemmas.List.{append-nil}
 use Rattle.flow_value.specs.declared.ty.Ty.{Ty}
 use Rattle.type_table.specs.declared.form.Form.{Form}
-use Rattle.type_table.specs.Tables.{IsTable}
 use Rattle.sisal_lex.specs.declared.token.Token.{Token}
 use Rattle.sisal_tree.specs.declared.unit.Named.{Named}
 use Rattle.sisal_tree.specs.declared.unit.Written.{Written}
@@ -17,10 +16,10 @@ use Rattle.typed_tree.specs.Written.{Denotes}
 use Rattle.typed_tree.specs.Units.{HasParams, no_field, a_field, HasResults, no_result, a_result}
 use Rattle.unit_types.specs.declared.header.Signature.{Signature}
 use Rattle.unit_types.specs.Headings.{parameters_of}
-use Rattle.unit_types.specs.Rests.{IsLater, IsGrown, AreKnown, AreTokensSpelled, AreStanding, IsUsed, HasNames}
+use Rattle.unit_types.specs.Rests.{IsGrown, AreKnown, AreTokensSpelled, AreStanding, IsUsed, HasNames}
 use Rattle.unit_types.specs.Headers.{AreParams, AreParamsTo, AreResults, AreResultsTo, Says}
 use Rattle.unit_types.proofs.Standing.{number_later}
-use Rattle.unit_types.proofs.Reading.{names_later, known_grown}
+use Rattle.unit_types.proofs.Reading.{names_later}
 
 numbers_later : (old more : List Form) (sp : List (List ℕ)) (ns : List ℕ) (ts : List Ty) → AreNumbers old sp ns ts → AreNumbers (old ++ more) sp ns ts
 numbers_later old more sp [] [] h = tt
@@ -45,15 +44,6 @@ numbers_same forms sp k a h (n ∷ ns) = (h, numbers_same forms sp k a h ns)
 abbrev pub Denoting : (tokens : List Token) (w : Written) (old new : List Form) (known : List (ℕ × ℕ)) (k : ℕ) → Type 0
 Denoting tokens w old new known k = (sp : List (List ℕ)) (types : List (ℕ × Ty)) → AreTokensSpelled sp tokens → AreStanding sp old → AreKnown old sp known types
     → (a : Ty) × Denotes sp types (slice_range (placed 0 tokens) w.from w.to) a × IsNumber new sp k a
-
--- the same, by what it says of every later table
-pub denoting : (tokens : List Token) (w : Written) (old new : List Form) (known : List (ℕ × ℕ)) (k : ℕ) → IsTable new → IsUsed tokens old new → k < length new
-    → ((sp : List (List ℕ)) (types : List (ℕ × Ty)) (forms : List Form) → IsLater new forms → AreTokensSpelled sp tokens → AreKnown forms sp known types
-    → (a : Ty) → IsNumber forms sp k a → Denotes sp types (slice_range (placed 0 tokens) w.from w.to) a)
-    → Denoting tokens w old new known k
-denoting tokens w old new known k table used there f = λ sp types h s kn.
-    let t : (a : Ty) × IsNumber new sp k a = (used.standing sp h s).stands k there in
-    (t.0, f sp types new (record { more = []; grown = sym (append-nil new); table = table }) h (known_grown old new sp known types used.grown kn) t.0 t.1, t.1)
 
 module _ (u : tree.Unit) (types : List (ℕ × Ty)) (tokens : List Token) (is : u.tokens.list ≡ tokens) (h : AreTokensSpelled u.tokens.names tokens) (known : List (ℕ × ℕ)) where
   -- the type of a written type of the unit

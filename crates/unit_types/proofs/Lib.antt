@@ -1,4 +1,5 @@
 pub mod Lists
+pub mod Faults
 pub mod Names
 pub mod Places
 pub mod Finds
@@ -6,11 +7,15 @@ pub mod Numbered
 pub mod Given
 pub mod Standing
 pub mod Depth
+pub mod Known
+pub mod Tables
+pub mod Reached
 pub mod Steps
+pub mod Refusals
 pub mod Reading
 pub mod Naming
 pub mod Headers
 pub mod Declares
 pub mod Owning
-pub mod Refused
+pub mod Breaking
 pub mod Whole

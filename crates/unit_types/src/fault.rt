@@ -39,7 +39,7 @@ impl From<NoMemory> for UnitFault {
 
 /// The fault with the number of its rule.
 pub fn numbered(fault: UnitFault) -> TypeFault
-    ensures unit_rule { IsUnitRule result }
+    ensures rule { IsUnitRule result }
     ensures is { result ≡ fault_of fault }
 {
     match fault {

@@ -4,7 +4,8 @@ use Rattle.unit_types.proofs.Lists.{cut_at, drop_all}
 use Rattle.unit_types.proofs.Given.{more_given, given_none, given_after}
 use Rattle.unit_types.proofs.Declares.{declares_first, declares_all}
 use Rattle.unit_types.proofs.Naming.{named_first, named_more, named_all}
-use Rattle.unit_types.proofs.Refused.{passed_on, broken_at}
+use Rattle.unit_types.proofs.Faults.{passed_on}
+use Rattle.unit_types.proofs.Breaking.{broken_at}
 use Rattle.unit_types.proofs.declaring.declare_all.Goals as goal
 
 pub loop-item-init : goal.loop-item-init
@@ -55,7 +56,7 @@ returns-in_err-declare_item-clause-breaks c =
     let i = c.loop-item.item-index in
     let x = c.item-item.result in
     let d = c.loop-item.declaring in
-    passed_on _ _ c.from_residual-in_err-declare_item.result c.in_err-declare_item.field-0.0 c.from_residual-in_err-declare_item.ensures.1
+    passed_on c.from_residual-in_err-declare_item.result c.in_err-declare_item.field-0.0 c.from_residual-in_err-declare_item.ensures.1
     (λ rule line b. broken_at c.args.tokens.now c.args.spellings.now items i x d.types d.named d.functions d.announced rule line (cut_at items i x c.loop-item-test.true c.item-item.is)
     c.loop-item.invariant.given c.loop-item.invariant.declares b)
     (c.in_err-declare_item.ensures.breaks c.loop-item.invariant.numbers)

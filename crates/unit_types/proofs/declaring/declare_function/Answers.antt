@@ -2,7 +2,8 @@ use Rattle.std.proofs.Common.{refl, ap}
 use Rattle.unit_types.proofs.Lists.{on_ok_from, both_ok}
 use Rattle.unit_types.proofs.Naming.{names_function, named_as}
 use Rattle.unit_types.proofs.Declares.{declares_function, declaring_as}
-use Rattle.unit_types.proofs.Refused.{passed_on, fault_for, header_broken, taken_at}
+use Rattle.unit_types.proofs.Faults.{passed_on, faults_weaker}
+use Rattle.unit_types.proofs.Breaking.{header_broken, taken_at}
 use Rattle.unit_types.proofs.declaring.declare_function.Goals as goal
 
 pub returns-clause-names : goal.returns-clause-names
@@ -21,13 +22,13 @@ returns-clause-declares c = both_ok c.declare_signature.result
 pub returns-in_err-signature-clause-breaks : goal.returns-in_err-signature-clause-breaks
 returns-in_err-signature-clause-breaks c = λ count.
     let d = c.args.declaring.now in
-    passed_on _ _ c.from_residual.result c.in_err-signature.field-0.0 c.from_residual.ensures.1
+    passed_on c.from_residual.result c.in_err-signature.field-0.0 c.from_residual.ensures.1
     (λ rule line f. header_broken c.args.tokens.now c.args.spellings.now d.types d.named d.functions d.announced c.args.function.now rule line f)
     c.in_err-signature.ensures.breaks
 
 pub returns-clause-breaks : goal.returns-clause-breaks
 returns-clause-breaks c = λ count.
     let d = c.args.declaring.now in
-    fault_for c.declare_signature.result _ _
+    faults_weaker c.declare_signature.result
     (λ rule line t. taken_at c.args.tokens.now c.args.spellings.now d.types d.named d.functions d.announced c.args.function.now d.numbers c.in_ok-signature.signature rule line count (ap (λ h. h.name) c.in_ok-signature.ensures.heading) t)
     c.declare_signature.ensures.taken

@@ -4,7 +4,7 @@ use Rattle.unit_types.specs.Headers.{IsOf, AreItems}
 use Rattle.unit_types.specs.Rests.{AreTokensSpelled}
 use Rattle.typed_tree.specs.Faults.{BreaksUnit}
 use Rattle.unit_types.proofs.Naming.{names_moved}
-use Rattle.unit_types.proofs.Refused.{passed_on}
+use Rattle.unit_types.proofs.Faults.{passed_on}
 use Rattle.unit_types.proofs.Whole.{items_moved, declared, declared_as, undefined_name, broken_header}
 use Rattle.unit_types.proofs.declaring.declare_unit.Goals as goal
 
@@ -29,7 +29,7 @@ returns-clause-declares c = λ s.
 pub returns-in_err-declaring-clause-breaks : goal.returns-in_err-declaring-clause-breaks
 returns-in_err-declaring-clause-breaks c =
     let unit = c.args.unit.now in
-    passed_on _ _ c.from_residual.result c.in_err-declaring.field-0.0 c.from_residual.ensures.1
+    passed_on c.from_residual.result c.in_err-declaring.field-0.0 c.from_residual.ensures.1
     (λ rule line b s once. b unit
     (record { list = sym c.as_slice-tokens.ensures; names = sym c.as_slice-spellings.ensures; spelled = subst (AreTokensSpelled unit.tokens.names) (sym c.as_slice-tokens.ensures) s })
     (sym c.as_slice.ensures))
@@ -40,7 +40,7 @@ returns-in_err-defines-clause-breaks c =
     let unit = c.args.unit.now in
     let d = c.in_ok-declaring.declaring in
     let e = c.in_ok-declaring.ensures in
-    passed_on _ _ c.from_residual-in_err-defines.result c.in_err-defines.field-0.0 c.from_residual-in_err-defines.ensures.1
+    passed_on c.from_residual-in_err-defines.result c.in_err-defines.field-0.0 c.from_residual-in_err-defines.ensures.1
     (λ rule line n s once. subst (λ r. BreaksUnit unit r line) (sym n.0)
     (undefined_name unit d.functions d.numbers d.bodies e.numbers e.own.distinct (e.functions ∙ ap (λ l. map heading_of (given_functions l)) c.as_slice.ensures)
     (e.bodies ∙ ap (λ l. map (λ f. has_body f.kind) (given_functions l)) c.as_slice.ensures) line (subst (λ l. IsUndefined d.numbers d.bodies l line) c.as_slice-2.ensures n.1)))
@@ -51,7 +51,7 @@ returns-in_err-are_given-clause-breaks c =
     let unit = c.args.unit.now in
     let d = c.in_ok-declaring.declaring in
     let e = c.in_ok-declaring.ensures in
-    passed_on _ _ c.from_residual-in_err-are_given.result c.in_err-are_given.field-0.0 c.from_residual-in_err-are_given.ensures.1
+    passed_on c.from_residual-in_err-are_given.result c.in_err-are_given.field-0.0 c.from_residual-in_err-are_given.ensures.1
     (λ rule line b s once. broken_header unit d.types d.named d.functions d.announced d.numbers e.numbers
     (items_moved unit c.as_slice-tokens.result.now c.as_slice.result.now d.types d.named d.functions d.announced c.as_slice-tokens.ensures c.as_slice.ensures e.declares s)
     e.own.distinct (e.functions ∙ ap (λ l. map heading_of (given_functions l)) c.as_slice.ensures) e.table once rule line b)

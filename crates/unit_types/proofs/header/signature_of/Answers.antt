@@ -3,7 +3,8 @@ use Rattle.unit_types.specs.Rests.{HasNames}
 use Rattle.unit_types.proofs.Reading.{used_again, names_later}
 use Rattle.unit_types.proofs.Naming.{all_known}
 use Rattle.unit_types.proofs.Headers.{says}
-use Rattle.unit_types.proofs.Refused.{passed_on, names_to, header_twice, header_param, header_result}
+use Rattle.unit_types.proofs.Faults.{passed_on}
+use Rattle.unit_types.proofs.Breaking.{names_to, header_twice, header_param, header_result}
 use Rattle.unit_types.proofs.header.signature_of.Goals as goal
 
 pub returns-clause-used : goal.returns-clause-used
@@ -21,13 +22,13 @@ returns-clause-says c = λ u types is h n.
 
 pub returns-in_err-are_distinct-clause-breaks : goal.returns-in_err-are_distinct-clause-breaks
 returns-in_err-are_distinct-clause-breaks c =
-    passed_on _ _ c.from_residual-in_err-are_distinct.result c.in_err-are_distinct.field-0.0 c.from_residual-in_err-are_distinct.ensures.1
+    passed_on c.from_residual-in_err-are_distinct.result c.in_err-are_distinct.field-0.0 c.from_residual-in_err-are_distinct.ensures.1
     (λ rule at t u types is h n. header_twice u types c.args.header.now c.as_slice-fields.result.now rule at c.as_slice-fields.ensures t)
     c.in_err-are_distinct.ensures.twice
 
 pub returns-in_err-params-clause-breaks : goal.returns-in_err-params-clause-breaks
 returns-in_err-params-clause-breaks c =
-    passed_on _ _ c.from_residual-in_err-params.result c.in_err-params.field-0.0 c.from_residual-in_err-params.ensures.1
+    passed_on c.from_residual-in_err-params.result c.in_err-params.field-0.0 c.from_residual-in_err-params.ensures.1
     (λ rule at f u types is h n. header_param u types c.args.header.now c.as_slice-fields.result.now rule at c.as_slice-fields.ensures
     (f u types is h (names_to u.tokens.names c.args.types.now c.args.named.now types c.in_ok-known.known c.in_ok-known.ensures n)))
     c.in_err-params.ensures.breaks
@@ -35,7 +36,7 @@ returns-in_err-params-clause-breaks c =
 pub returns-in_err-results-clause-breaks : goal.returns-in_err-results-clause-breaks
 returns-in_err-results-clause-breaks c =
     let known = drop (length c.args.named.now - c.in_ok-known.known) c.args.named.now in
-    passed_on _ _ c.from_residual-in_err-results.result c.in_err-results.field-0.0 c.from_residual-in_err-results.ensures.1
+    passed_on c.from_residual-in_err-results.result c.in_err-results.field-0.0 c.from_residual-in_err-results.ensures.1
     (λ rule at f u types is h n. header_result u types c.args.header.now c.as_slice-written.result.now rule at c.as_slice-written.ensures
     (f u types is h (names_later c.args.tokens.now c.args.types.now c.params_in.new.types u.tokens.names known types c.in_ok-params.ensures.used h
     (names_to u.tokens.names c.args.types.now c.args.named.now types c.in_ok-known.known c.in_ok-known.ensures n))))

@@ -1,13 +1,9 @@
 -- What headers and items break, where they are refused.
-use Rattle.std.proofs.Common.{◌≡◌, inl, inr, ℕ, ◌+◌, ◌-◌, true, cond, List, [], ◌∷◌, ◌++◌, map, flat_map, drop, length, slice_get, slice_range, Contains, Some, None, Result, Ok, Err, IfErr, refl, sym, ap, subst, ◌∙◌, arith}
+use Rattle.std.proofs.Common.{◌≡◌, inl, inr, ℕ, ◌+◌, ◌-◌, true, cond, List, [], ◌∷◌, ◌++◌, map, flat_map, drop, length, slice_get, slice_range, Contains, Some, None, refl, sym, ap, subst, ◌∙◌, arith}
 use Rattle.std.specs.List.{filter}
-use Rattle.std.specs.Result.{IsErrAnd}
 use Rattle.std.proofs.lemmas.List.Elements.{Contains-append_right}
 use Rattle.name_scope.specs.Newest.{newest}
 use Rattle.flow_value.specs.declared.ty.Ty.{Ty}
-use Rattle.type_rules.specs.declared.fault.TypeFault.{TypeFault}
-use Rattle.type_rules.specs.declared.fault.TypeFault.TheVariants as fault
-use Rattle.type_rules.specs.Faults.{IsRule}
 use Rattle.type_table.specs.declared.form.Form.{Form}
 use Rattle.sisal_lex.specs.declared.token.Token.{Token}
 use Rattle.sisal_tree.specs.declared.unit.Named.{Named}
@@ -25,10 +21,8 @@ use Rattle.typed_tree.specs.Units.{is_given}
 use Rattle.typed_tree.specs.Breaks.{IsTwice}
 use Rattle.typed_tree.specs.Written.{Misnames}
 use Rattle.typed_tree.specs.Faults.{misnames, functions, given_names, BreaksHeader, in_param, in_result, twice, BreaksItems, BreaksUnit, in_type, two_types, in_header, in_items, two_functions, built_in}
-use Rattle.unit_types.specs.declared.fault.UnitFault.{UnitFault}
 use Rattle.unit_types.specs.declared.header.Signature.{Signature}
 use Rattle.unit_types.specs.declared.declaring.Announced.{Announced}
-use Rattle.unit_types.specs.Faults.{fault_of, IsFault}
 use Rattle.unit_types.specs.Headings.{given_as, numbering, IsTaken, IsBroken, missing, other}
 use Rattle.unit_types.specs.Headers.{IsOf, IsDeclaring, AreGiven, BreaksAt}
 use Rattle.unit_types.specs.Rests.{AreKnown, AreTokensSpelled, AreStanding, IsUsed, HasNames}
@@ -36,29 +30,9 @@ use Rattle.unit_types.proofs.Names.{twice_at, contains_cases}
 use Rattle.unit_types.proofs.Places.{at_place}
 use Rattle.unit_types.proofs.Numbered.{numbering_finds}
 use Rattle.unit_types.proofs.Reading.{unused, names_later}
-use Rattle.unit_types.proofs.Naming.{all_known, some_known}
+use Rattle.unit_types.proofs.Known.{some_known}
+use Rattle.unit_types.proofs.Naming.{all_known}
 use Rattle.unit_types.proofs.Given.{given_kind}
-
--- what follows from what is so of a rule and a line
-pub fault_weaker : (P Q : ℕ → ℕ → Type 0) → ((rule line : ℕ) → P rule line → Q rule line) → (f : UnitFault) → IsFault P f → IsFault Q f
-fault_weaker P Q h f p = by (fault_of f) p
-  where
-    by : (t : TypeFault) → IsRule P t → IsRule Q t
-    by (fault.Rule rule line) p = h rule line p
-    by fault.NoMemory p = tt
-
-pub fault_for : {T : Type 0} (r : Result T UnitFault) (P Q : ℕ → ℕ → Type 0) → ((rule line : ℕ) → P rule line → Q rule line) → IfErr r (IsFault P) → IfErr r (IsFault Q)
-fault_for (Ok x) P Q h p = tt
-fault_for (Err e) P Q h p = fault_weaker P Q h e p
-
--- and of a fault that is passed on
-pub passed_on : {T : Type 0} (P Q : ℕ → ℕ → Type 0) (r : Result T UnitFault) (e : UnitFault) → IsErrAnd r (λ y. y ≡ e) → ((rule line : ℕ) → P rule line → Q rule line) → IsFault P e → IfErr r (IsFault Q)
-passed_on P Q (Ok x) e is h p = tt
-passed_on P Q (Err y) e is h p = subst (IsFault Q) (sym is) (fault_weaker P Q h e p)
-
--- want of memory says nothing
-pub no_fault : (P : ℕ → ℕ → Type 0) (f : UnitFault) → fault_of f ≡ fault.NoMemory → IsFault P f
-no_fault P f e = subst (IsRule P) (sym e) tt
 
 -- ---- headers that are announced
 
