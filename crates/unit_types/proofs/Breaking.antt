@@ -1,12 +1,11 @@
 -- What headers and items break, where they are refused.
-use Rattle.std.proofs.Common.{◌≡◌, inl, inr, ℕ, ◌+◌, ◌-◌, true, cond, List, [], ◌∷◌, ◌++◌, map, flat_map, drop, length, slice_get, slice_range, Contains, Some, None, refl, sym, ap, subst, ◌∙◌, arith}
+use Rattle.std.proofs.Common.{◌≡◌, inl, inr, ℕ, ◌+◌, ◌-◌, cond, List, [], ◌∷◌, ◌++◌, map, flat_map, drop, length, slice_get, slice_range, Contains, Some, None, refl, sym, ap, subst, ◌∙◌, arith}
 use Rattle.std.specs.List.{filter}
 use Rattle.std.proofs.lemmas.List.Elements.{Contains-append_right}
 use Rattle.name_scope.specs.Newest.{newest}
 use Rattle.flow_value.specs.declared.ty.Ty.{Ty}
 use Rattle.type_table.specs.declared.form.Form.{Form}
 use Rattle.sisal_lex.specs.declared.token.Token.{Token}
-use Rattle.sisal_tree.specs.declared.unit.Named.{Named}
 use Rattle.sisal_tree.specs.declared.unit.Written.{Written}
 use Rattle.sisal_tree.specs.declared.unit.Field.{Field}
 use Rattle.sisal_tree.specs.declared.unit.Header.{Header}
@@ -25,7 +24,7 @@ use Rattle.unit_types.specs.declared.header.Signature.{Signature}
 use Rattle.unit_types.specs.declared.declaring.Announced.{Announced}
 use Rattle.unit_types.specs.Headings.{given_as, numbering, IsTaken, IsBroken, missing, other}
 use Rattle.unit_types.specs.Headers.{IsOf, IsDeclaring, AreGiven, BreaksAt}
-use Rattle.unit_types.specs.Rests.{AreKnown, AreTokensSpelled, AreStanding, IsUsed, HasNames}
+use Rattle.unit_types.specs.Rests.{AreKnown, AreTokensSpelled, IsUsed, HasNames}
 use Rattle.unit_types.proofs.Names.{twice_at, contains_cases}
 use Rattle.unit_types.proofs.Places.{at_place}
 use Rattle.unit_types.proofs.Numbered.{numbering_finds}

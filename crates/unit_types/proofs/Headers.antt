@@ -1,5 +1,5 @@
 -- Headers with their types by number.
-use Rattle.std.proofs.Common.{◌≡◌, ◌<◌, ℕ, ◌+◌, List, [], ◌∷◌, ◌++◌, map, drop, length, slice_range, refl, sym, subst, append_assoc}
+use Rattle.std.proofs.Common.{◌≡◌, ℕ, ◌+◌, List, [], ◌∷◌, ◌++◌, map, drop, slice_range, refl, sym, subst, append_assoc}
 use Rattle.std.proofs.lemmas.List.{append-nil}
 use Rattle.flow_value.specs.declared.ty.Ty.{Ty}
 use Rattle.type_table.specs.declared.form.Form.{Form}

@@ -1,5 +1,5 @@
 -- A unit whose items are declared.
-use Rattle.std.proofs.Common.{◌≡◌, ℕ, zero, suc, ◌+◌, Bool, true, false, not, List, [], ◌∷◌, All, map, slice_get, Contains, Option, Some, None, refl, sym, ap, subst, ◌∙◌, arith}
+use Rattle.std.proofs.Common.{◌≡◌, ℕ, zero, suc, Bool, true, false, not, List, [], ◌∷◌, All, map, slice_get, Contains, Option, Some, None, refl, sym, ap, subst, ◌∙◌, arith}
 use Rattle.std.specs.List.{filter}
 use Rattle.std.proofs.lemmas.List.Elements.{All-head, All-tail, All-contains}
 use Rattle.name_scope.specs.Newest.{newest}
@@ -20,15 +20,15 @@ use Rattle.typed_tree.specs.Types.{AreNumbers}
 use Rattle.typed_tree.specs.Typing.{Signature as TypedSignature, Known}
 use Rattle.typed_tree.specs.Breaks.{NoBuiltIn}
 use Rattle.typed_tree.specs.Units.{is_given, Declared, given, signatures, known, Declares, no_item, a_type, a_function, AreDeclared, IsDefined, AreDefined, no_name, a_name}
-use Rattle.typed_tree.specs.Faults.{functions, given_names, BreaksUnit, another_header, no_function, not_defined}
+use Rattle.typed_tree.specs.Faults.{functions, BreaksUnit, another_header, no_function, not_defined}
 use Rattle.unit_types.specs.declared.header.Signature.{Signature}
 use Rattle.unit_types.specs.declared.declaring.Announced.{Announced}
 use Rattle.unit_types.specs.Headings.{heading_of, heading_in, has_body, given_functions, numbering, IsOwnName, AreOwnNames, AreOwn, IsUndefined, function_at, HasSame, IsKept, IsBroken, missing, other}
 use Rattle.unit_types.specs.Headers.{IsSaid, AreSaid, forwards, AreAnnounced, AreItems, IsDeclared}
 use Rattle.unit_types.specs.Rests.{AreTokensSpelled}
-use Rattle.unit_types.proofs.Places.{place_of, at_place, all_from_contains, map_has, map_at, contains_map, contains_filter, filter_has, map_filter, map_twice}
+use Rattle.unit_types.proofs.Places.{place_of, at_place, all_from_contains, map_has, map_at, contains_map, contains_filter, filter_has, map_filter}
 use Rattle.unit_types.proofs.Given.{forward_kind, defined_given, body_of, names_given, names_headed}
-use Rattle.unit_types.proofs.Numbered.{named_by, number_of, numbering_gives}
+use Rattle.unit_types.proofs.Numbered.{named_by, numbering_gives}
 
 names_said : (u : tree.Unit) (forms : List Form) (named : List (ℕ × ℕ)) (ss : List Signature) (ds : List Declared) → AreSaid u forms named ss ds
     → map (λ s. s.name) ss ≡ map (λ s. s.name) (map (λ d. d.signature) ds)

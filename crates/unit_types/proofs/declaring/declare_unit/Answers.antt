@@ -1,6 +1,6 @@
 use Rattle.std.proofs.Common.{◌≡◌, map, sym, subst, ap, ◌∙◌, Some, true, All, slice_get}
-use Rattle.unit_types.specs.Headings.{heading_of, heading_in, has_body, given_functions, AreOwn, IsUndefined}
-use Rattle.unit_types.specs.Headers.{IsOf, AreItems}
+use Rattle.unit_types.specs.Headings.{heading_of, has_body, given_functions, AreOwn, IsUndefined}
+use Rattle.unit_types.specs.Headers.{AreItems}
 use Rattle.unit_types.specs.Rests.{AreTokensSpelled}
 use Rattle.typed_tree.specs.Faults.{BreaksUnit}
 use Rattle.unit_types.proofs.Naming.{names_moved}

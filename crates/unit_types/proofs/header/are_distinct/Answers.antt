@@ -9,7 +9,7 @@ pub returns-in-Some-clause-twice : goal.returns-in-Some-clause-twice
 returns-in-Some-clause-twice c = (
   refl,
   twice_in_fields c.args.fields.now c.loop-field.field-index c.field-item.result c.as_slice.result.now c.loop-field.seen c.in_ok-line.field-0 c.in-Some.line
-  (cut_at c.args.fields.now c.loop-field.field-index c.field-item.result c.loop-field-test.true c.field-item.is) c.as_slice.ensures c.loop-field.invariant.named c.in_ok-line.ensures.twice c.in-Some.is,
+      (cut_at c.args.fields.now c.loop-field.field-index c.field-item.result c.loop-field-test.true c.field-item.is) c.as_slice.ensures c.loop-field.invariant.named c.in_ok-line.ensures.twice c.in-Some.is,
 )
 
 pub loop-field-init : goal.loop-field-init
