@@ -119,9 +119,9 @@ spelled_range sp from to ts h = spelled_take sp (to - from) (drop from ts) (spel
 
 -- what a range of tokens denotes
 pub range_denotes : (known : List (ℕ × ℕ)) (old new : List Form) (tokens : List Token) (from to k : ℕ) → Reads known old new (slice_range tokens from to) k
-    → (sp : List (List ℕ)) (forms : List Form) (tys : List (ℕ × Ty)) → IsLater new forms → AreTokensSpelled sp tokens → AreKnown forms sp known tys
+    → (sp : List (List ℕ)) (tys : List (ℕ × Ty)) (forms : List Form) → IsLater new forms → AreTokensSpelled sp tokens → AreKnown forms sp known tys
     → (a : Ty) → IsNumber forms sp k a → Denotes sp tys (slice_range (placed 0 tokens) from to) a
-range_denotes known old new tokens from to k r sp forms tys l h kn a stands =
+range_denotes known old new tokens from to k r sp tys forms l h kn a stands =
     subst (λ l. Denotes sp tys l a) (sym (placed_range from to tokens)) (r.denotes sp tys forms l (spelled_range sp from to tokens h) kn from a stands)
 
 -- and what it breaks
@@ -153,11 +153,11 @@ names_later tokens old new sp ns ts u h k = record { standing = u.standing sp h 
 
 -- the type that is denoted, at the table that is left
 pub denoted_here : (known : List (ℕ × ℕ)) (old new : List Form) (tokens : List Token) (from to k : ℕ) → IsUsed tokens old new → k < length new → IsTable new
-    → ((sp : List (List ℕ)) (forms : List Form) (tys : List (ℕ × Ty)) → IsLater new forms → AreTokensSpelled sp tokens → AreKnown forms sp known tys
+    → ((sp : List (List ℕ)) (tys : List (ℕ × Ty)) (forms : List Form) → IsLater new forms → AreTokensSpelled sp tokens → AreKnown forms sp known tys
     → (a : Ty) → IsNumber forms sp k a → Denotes sp tys (slice_range (placed 0 tokens) from to) a)
     → (sp : List (List ℕ)) (tys : List (ℕ × Ty)) → AreTokensSpelled sp tokens → AreStanding sp old → AreKnown old sp known tys
     → (a : Ty) × Denotes sp tys (slice_range (placed 0 tokens) from to) a × IsNumber new sp k a
 denoted_here known old new tokens from to k used there table denotes sp tys h s kn =
     let t : (a : Ty) × IsNumber new sp k a = (used.standing sp h s).stands k there in
     let l : IsLater new new = record { more = []; grown = sym (append-nil new); table = table } in
-    (t.0, denotes sp new tys l h (known_grown old new sp known tys used.grown kn) t.0 t.1, t.1)
+    (t.0, denotes sp tys new l h (known_grown old new sp known tys used.grown kn) t.0 t.1, t.1)

@@ -9,7 +9,7 @@ ghost use Rattle.typed_tree.specs.Written.{Denotes, Misnames};
 ghost use Rattle.type_rules.specs.Faults.{IsRule};
 ghost use Rattle.unit_types.specs.Faults.{IsUnitRule, IsFault};
 ghost use Rattle.unit_types.specs.Reached.{Reads, ReadsFault};
-ghost use Rattle.unit_types.specs.Rests.{AreKnown, AreTokensSpelled, AreStanding, IsLater, IsUsed};
+ghost use Rattle.unit_types.specs.Rests.{AreKnown, AreTokensSpelled, IsLater, IsUsed};
 
 use crate::fault::{UnitFault, numbered};
 use crate::open::{Next, Open};
@@ -39,11 +39,11 @@ pub fn denoted(
     ensures there { IfOk result (λ k. k < length types.new) }
     ensures table { OnOk result (IsTable types.new) }
     // In this table and each later one the type of this number is what the tokens denote, where the names of the text are spelled so, and the names of types are those of these types.
-    ensures denotes { IfOk result (λ k. (spellings : List (List ℕ)) (forms : List Form) (known_types : List (ℕ × Ty)) → IsLater types.new forms → AreTokensSpelled spellings tokens.now
+    ensures denotes { IfOk result (λ k. (spellings : List (List ℕ)) (known_types : List (ℕ × Ty)) (forms : List Form) → IsLater types.new forms → AreTokensSpelled spellings tokens.now
         → AreKnown forms spellings (drop (length named.now - known) named.now) known_types
         → (a : Ty) → IsNumber forms spellings k a → Denotes spellings known_types (slice_range (placed 0 tokens.now) written.from written.to) a) }
     // The tokens break the rule that is named, on its line.
-    ensures misnames { IfErr result (IsRule (λ rule line. (spellings : List (List ℕ)) (known_types : List (ℕ × Ty)) → AreTokensSpelled spellings tokens.now → AreStanding spellings types.old
+    ensures misnames { IfErr result (IsRule (λ rule line. (spellings : List (List ℕ)) (known_types : List (ℕ × Ty)) → AreTokensSpelled spellings tokens.now
         → AreKnown types.old spellings (drop (length named.now - known) named.now) known_types
         → Misnames spellings known_types (slice_range (placed 0 tokens.now) written.from written.to) rule line)) }
     ensures rule { IfErr result IsUnitRule }
@@ -68,11 +68,11 @@ pub fn type_of(
     ensures there { IfOk result (λ k. k < length types.new) }
     ensures table { OnOk result (IsTable types.new) }
     // In this table and each later one the type of this number is what the tokens denote, where the names of the text are spelled so, and the names of types are those of these types.
-    ensures denotes { IfOk result (λ k. (spellings : List (List ℕ)) (forms : List Form) (known_types : List (ℕ × Ty)) → IsLater types.new forms → AreTokensSpelled spellings tokens.now
+    ensures denotes { IfOk result (λ k. (spellings : List (List ℕ)) (known_types : List (ℕ × Ty)) (forms : List Form) → IsLater types.new forms → AreTokensSpelled spellings tokens.now
         → AreKnown forms spellings (drop (length named.now - known) named.now) known_types
         → (a : Ty) → IsNumber forms spellings k a → Denotes spellings known_types (slice_range (placed 0 tokens.now) written.from written.to) a) }
     // The tokens break the rule that is named, on its line.
-    ensures misnames { IfErr result (IsFault (λ rule line. (spellings : List (List ℕ)) (known_types : List (ℕ × Ty)) → AreTokensSpelled spellings tokens.now → AreStanding spellings types.old
+    ensures misnames { IfErr result (IsFault (λ rule line. (spellings : List (List ℕ)) (known_types : List (ℕ × Ty)) → AreTokensSpelled spellings tokens.now
         → AreKnown types.old spellings (drop (length named.now - known) named.now) known_types
         → Misnames spellings known_types (slice_range (placed 0 tokens.now) written.from written.to) rule line)) }
 {

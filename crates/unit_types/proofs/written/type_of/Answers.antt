@@ -19,5 +19,5 @@ returns-clause-denotes c = if_ok_weaker c.read.result
 
 pub returns-clause-misnames : goal.returns-clause-misnames
 returns-clause-misnames c = faults_weaker c.read.result
-    (λ rule line r sp tys h s kn. range_misnames (drop (length c.args.named.now - c.args.known) c.args.named.now) c.args.types.now c.args.tokens.now c.args.written.from c.args.written.to rule line r sp tys h kn)
+    (λ rule line r. range_misnames (drop (length c.args.named.now - c.args.known) c.args.named.now) c.args.types.now c.args.tokens.now c.args.written.from c.args.written.to rule line r)
     c.read.ensures.fault
