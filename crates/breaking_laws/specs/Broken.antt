@@ -28,24 +28,29 @@ pub record Reaches (g : Given) (old : List Form) (says : List Form → Type 0) :
   pub is_table : IsTable table
   pub holds : says table
 
+-- what is given stands for what is known, where these are all types of the program
+pub record IsWhole (g : Given) (forms : List Form) (k : Known) : Type 0 where
+  pub agrees : Agrees g forms k
+  pub same : k.forms ≡ forms
+
 -- ---- expressions
 
 pub record BreaksAt (g : Given) (names : Names) (e : Expr) (rule line : ℕ) (forms : List Form) : Type 0 where
-  pub holds : (k : Known) (s : tree.Scope) → Agrees g forms k → Stands k names s → Breaks k (denotes_in g k) (misnames_in g k) s e rule line
+  pub holds : (k : Known) (s : tree.Scope) → IsWhole g forms k → Stands k names s → Breaks k (denotes_in g k) (misnames_in g k) s e rule line
 
 -- an expression breaks the rule
 abbrev pub Broken : Given → List Form → Names → Expr → ℕ → ℕ → Type 0
 Broken g old names e rule line = Reaches g old (BreaksAt g names e rule line)
 
 pub record BreaksOneAt (g : Given) (names : Names) (e : Expr) (rule line : ℕ) (forms : List Form) : Type 0 where
-  pub holds : (k : Known) (s : tree.Scope) → Agrees g forms k → Stands k names s → BreaksOne k (denotes_in g k) (misnames_in g k) s e rule line
+  pub holds : (k : Known) (s : tree.Scope) → IsWhole g forms k → Stands k names s → BreaksOne k (denotes_in g k) (misnames_in g k) s e rule line
 
 -- an expression, where one value is wanted
 abbrev pub BrokenOne : Given → List Form → Names → Expr → ℕ → ℕ → Type 0
 BrokenOne g old names e rule line = Reaches g old (BreaksOneAt g names e rule line)
 
 pub record BreaksInAt (g : Given) (names : Names) (es : List Expr) (rule line : ℕ) (forms : List Form) : Type 0 where
-  pub holds : (k : Known) (s : tree.Scope) → Agrees g forms k → Stands k names s → BreaksIn k (denotes_in g k) (misnames_in g k) s es rule line
+  pub holds : (k : Known) (s : tree.Scope) → IsWhole g forms k → Stands k names s → BreaksIn k (denotes_in g k) (misnames_in g k) s es rule line
 
 -- one of some expressions
 abbrev pub BrokenIn : Given → List Form → Names → List Expr → ℕ → ℕ → Type 0
