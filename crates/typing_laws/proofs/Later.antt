@@ -28,8 +28,10 @@ agrees_before g old new k grows a = record {
   types = a.types;
   standing = a.standing;
   spelled = a.spelled;
+  once = a.once;
   functions = a.functions;
   numbers = a.numbers;
+  all = a.all;
 }
 
 pub typed_later : (g : Given) (old new : List Form) (names : Names) (e : Expr) (t : TypedExpr) → Grows old new → Typed g old names e t → Typed g new names e t
@@ -53,6 +55,6 @@ pub written_type : (g : Given) (f : List Form) (w : Written) (n : ℕ) → n < l
 written_type g f w n within reads = record {
   holds = λ k a.
       let longer : length f ≤ length k.forms = (let e : length k.forms ≡ length f + length a.grows.0 = ap length a.grows.1 ∙ length-append f a.grows.0 in omega (arith, e)) in
-      let t = a.standing n (omega (arith, within, longer)) in
+      let t = a.standing.stands n (omega (arith, within, longer)) in
       (t.0, reads k (record { more = a.grows.0; grown = a.grows.1; table = a.table }) a.spelled a.types t.0 t.1, t.1);
 }
