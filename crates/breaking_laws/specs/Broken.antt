@@ -4,6 +4,7 @@ use Rattle.std.specs.Prelude.{◌≡◌, ℕ, List, [], ◌∷◌, slice_range, 
 use Rattle.type_table.specs.declared.form.Form.{Form}
 use Rattle.type_table.specs.Tables.{IsTable}
 use Rattle.sisal_tree.specs.declared.unit.Written.{Written}
+use Rattle.sisal_tree.specs.declared.expr.Def.{Def}
 use Rattle.sisal_tree.specs.declared.expr.Expr.{Expr}
 use Rattle.sisal_tree.specs.declared.expr.ExprKind.{ExprKind}
 use Rattle.sisal_tree.specs.declared.expr.FieldValue.{FieldValue}
@@ -11,7 +12,7 @@ use Rattle.sisal_grammar.specs.Placed.{placed}
 use Rattle.typed_tree.specs.Written.{Misnames}
 use Rattle.typed_tree.specs.Scopes as tree
 use Rattle.typed_tree.specs.Typing.{Known, at}
-use Rattle.typed_tree.specs.Breaks.{Breaks, BreaksOne, BreaksIn}
+use Rattle.typed_tree.specs.Breaks.{Breaks, BreaksOne, BreaksIn, BreaksDefs}
 use Rattle.unit_types.specs.Rests.{IsUsed}
 use Rattle.value_names.specs.Names.{Names}
 use Rattle.typing_laws.specs.Given.{Given}
@@ -32,6 +33,15 @@ pub record Reaches (g : Given) (old : List Form) (says : List Form → Type 0) :
 pub record IsWhole (g : Given) (forms : List Form) (k : Known) : Type 0 where
   pub agrees : Agrees g forms k
   pub same : k.forms ≡ forms
+
+-- ---- written types
+
+pub record MisnamesAt (g : Given) (w : Written) (rule line : ℕ) (forms : List Form) : Type 0 where
+  pub holds : (k : Known) → IsWhole g forms k → misnames_in g k w rule line
+
+-- a written type breaks the rule
+abbrev pub Misnamed : Given → List Form → Written → ℕ → ℕ → Type 0
+Misnamed g old w rule line = Reaches g old (MisnamesAt g w rule line)
 
 -- ---- expressions
 
@@ -68,3 +78,12 @@ pub record BreaksFieldAt (g : Given) (names : Names) (vs : List FieldValue) (rul
 -- the value of one of some fields
 abbrev pub BrokenField : Given → List Form → Names → List FieldValue → ℕ → ℕ → Type 0
 BrokenField g old names vs rule line = Reaches g old (BreaksFieldAt g names vs rule line)
+
+-- ---- definitions
+
+pub record BreaksDefsAt (g : Given) (names : Names) (ds : List Def) (rule line : ℕ) (forms : List Form) : Type 0 where
+  pub holds : (k : Known) (s : tree.Scope) → IsWhole g forms k → Stands k names s → BreaksDefs k (denotes_in g k) (misnames_in g k) s ds rule line
+
+-- definitions in order
+abbrev pub BrokenDefs : Given → List Form → Names → List Def → ℕ → ℕ → Type 0
+BrokenDefs g old names ds rule line = Reaches g old (BreaksDefsAt g names ds rule line)
