@@ -1,0 +1,7 @@
+pub mod FPassing
+pub mod FParts
+pub mod FTables
+pub mod FVerdicts
+pub mod FForms
+pub mod FCalls
+pub mod FBodies

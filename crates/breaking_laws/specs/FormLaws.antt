@@ -124,8 +124,8 @@ ErrorOfLaw = (g : Given) (f : List Form) (names : Names) (l : ℕ) (w : Written)
 
 -- a form that makes nothing of its operands, or a type that is too deep
 abbrev pub RefusedLaw : Type 0
-RefusedLaw = (g : Given) (f0 f1 : List Form) (names : Names) (kind : ExprKind) (h : Head) (parts : Parts) (at_line rule line : ℕ) → IsUsed g.tokens f0 f1 → IsTable f1 → IsHead g f1 kind h
-    → Operands g f1 names kind parts.exprs parts.types → HasElements (out-ExprKind kind) parts.types → Refuses f1 at_line h parts.types rule line → Broken g f0 names (at at_line kind) rule line
+RefusedLaw = (g : Given) (f0 f1 f2 : List Form) (names : Names) (kind : ExprKind) (h : Head) (parts : Parts) (at_line rule line : ℕ) → IsUsed g.tokens f0 f2 → IsTable f2 → IsHead g f1 kind h → Grows f1 f2
+    → Operands g f2 names kind parts.exprs parts.types → HasElements (out-ExprKind kind) parts.types → Refuses f2 at_line h parts.types rule line → Broken g f0 names (at at_line kind) rule line
 
 -- ---- calls
 
