@@ -5,6 +5,7 @@ use Rattle.name_scope.specs.Newest.{newest}
 use Rattle.flow_value.specs.declared.ty.Ty.{Ty}
 use Rattle.type_table.specs.declared.form.Form.{Form}
 use Rattle.sisal_tree.specs.declared.unit.Written.{Written}
+use Rattle.sisal_tree.specs.declared.expr.Def.{Def}
 use Rattle.sisal_tree.specs.declared.expr.Elements.{Elements, out-Elements, roll-Elements}
 use Rattle.sisal_tree.specs.declared.expr.Expr.{Expr}
 use Rattle.sisal_tree.specs.declared.expr.ExprKind.{ExprKind}
@@ -16,11 +17,12 @@ use Rattle.typed_tree.specs.Scopes as scopes
 use Rattle.typed_tree.specs.Scopes.{Scope}
 use Rattle.typed_tree.specs.Typing.{Known, Number, at}
 use Rattle.typed_tree.specs.Breaks as breaks
-use Rattle.typed_tree.specs.Breaks.{IsUnknown, IsNotOne, Breaks, BreaksOne, BreaksIn}
+use Rattle.typed_tree.specs.Breaks.{IsUnknown, IsNotOne, Breaks, BreaksOne, BreaksIn, BreaksDefs}
 use Rattle.typing_laws.specs.Given.{Given}
 use Rattle.typing_laws.specs.Judged.{denotes_in}
 use Rattle.typing_laws.proofs.Unique.{as_many}
-use Rattle.breaking_laws.specs.Broken.{misnames_in, BreaksAt, BreaksOneAt, BreaksInAt, BreaksFieldAt, BreaksDefsAt, MisnamesAt}
+use Rattle.breaking_laws.specs.Broken.{misnames_in, BreaksAt, BreaksOneAt, BreaksInAt, BreaksFieldAt, MisnamesAt}
+use Rattle.breaking_laws.specs.Parts.{BreaksTurn, in_defs, renamed, BreaksDefsAt}
 use Rattle.breaking_laws.specs.FormLaws.{UnknownLaw, NoLoopNameLaw, NotOneLaw, OneLaw, ListLaw, FieldLaw, GroupLaw, IsOperand, OperandLaw, AreElementsOf, ElementsLaw, AreFieldsOf, FieldsLaw, NamesType, NoTypeLaw, ErrorOfLaw, ArgumentsLaw, DefinitionsLaw, ResultsLaw, TestLaw, ThenLaw, ElseLaw}
 use Rattle.breaking_laws.specs.FormLaws as part
 use Rattle.breaking_laws.proofs.FPassing.{used_grows, reach_later, reach_more, reach_here, agrees_at, unknown_name, unknown_old, unknown_type}
@@ -156,10 +158,16 @@ arguments_break g f names l x es rule line p =
     reach_more g f (BreaksInAt g names es rule line) (BreaksAt g names (at l (tree.Call x es)) rule line)
     (λ forms q. record { holds = λ k s whole stands. breaks.in_arguments x (q.holds k s whole stands) }) p
 
+-- there is no loop whose names a definition could give another type
+outside : (k : Known) (denotes : Written → Ty → Type 0) (misnames : Written → ℕ → ℕ → Type 0) (s : Scope) (ds : List Def) (rule line : ℕ) → BreaksTurn k denotes misnames [] s ds rule line
+    → BreaksDefs k denotes misnames s ds rule line
+outside k denotes misnames s ds _ _ (in_defs p) = p
+outside k denotes misnames s ds _ _ (renamed before xs es after is earlier typed pair (level, type, found, other)) = absurd cc
+
 pub definitions_break : DefinitionsLaw
 definitions_break g f names l ds es rule line p =
-    reach_more g f (BreaksDefsAt g names ds rule line) (BreaksAt g names (at l (tree.Let ds es)) rule line)
-    (λ forms q. record { holds = λ k s whole stands. breaks.in_definitions es (q.holds k s whole stands) }) p
+    reach_more g f (BreaksDefsAt g names None ds rule line) (BreaksAt g names (at l (tree.Let ds es)) rule line)
+    (λ forms q. record { holds = λ k s whole stands. breaks.in_definitions es (outside k (denotes_in g k) (misnames_in g k) s ds rule line (q.holds k s whole stands)) }) p
 
 pub results_break : ResultsLaw
 results_break g f0 f1 names inside l ds es us ns rule line used defined p = record {
