@@ -25,7 +25,7 @@ use Rattle.breaking_laws.specs.Broken.{misnames_in, BreaksAt, BreaksOneAt, Break
 use Rattle.breaking_laws.specs.Parts.{BreaksTurn, in_defs, renamed, BreaksDefsAt}
 use Rattle.breaking_laws.specs.FormLaws.{UnknownLaw, NoLoopNameLaw, NotOneLaw, OneLaw, ListLaw, FieldLaw, GroupLaw, IsOperand, OperandLaw, AreElementsOf, ElementsLaw, AreFieldsOf, FieldsLaw, NamesType, NoTypeLaw, ErrorOfLaw, ArgumentsLaw, DefinitionsLaw, ResultsLaw, TestLaw, ThenLaw, ElseLaw}
 use Rattle.breaking_laws.specs.FormLaws as part
-use Rattle.breaking_laws.proofs.FPassing.{used_grows, reach_later, reach_more, reach_here, agrees_at, unknown_name, unknown_old, unknown_type}
+use Rattle.breaking_laws.proofs.FPassing.{used_on, used_grows, reach_later, reach_more, reach_here, agrees_at, unknown_name, unknown_old, unknown_type}
 
 -- ---- names
 
@@ -42,7 +42,7 @@ old_breaks g f names line x table e =
 -- ---- one value, and lists
 
 not_single : (k : Known) (ns : List ℕ) (tys : List Ty) → Number k ns tys → (length ns ≡ 1 → ⊥) → IsNotOne tys
-not_single k ns tys number no a e = no (as_many k.forms k.spellings ns tys number.each ∙ ap length e)
+not_single k ns tys number never a e = never (as_many k.forms k.spellings ns tys number.each ∙ ap length e)
 
 pub not_one_breaks : NotOneLaw
 not_one_breaks g f0 f1 names e t rule line used table typed same p =
@@ -172,7 +172,7 @@ definitions_break g f names l ds es rule line p =
 pub results_break : ResultsLaw
 results_break g f0 f1 names inside l ds es us ns rule line used defined p = record {
   table = p.table;
-  used = (reach_later g f0 f1 (BreaksInAt g inside es rule line) used p).used;
+  used = used_on g.tokens f0 f1 p.table used p.used;
   is_table = p.is_table;
   holds = record {
     holds = λ k s whole stands.

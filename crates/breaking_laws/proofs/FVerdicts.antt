@@ -148,8 +148,8 @@ module _ (forms : List Form) where
   -- ---- verdicts
 
   not_deep : (rule : ℕ) (p : Option Outcome) → IsThere p → (o : Outcome) → p ≡ Some o → IsTooDeep forms o.sort (refused.Rule rule) → ⊥
-  not_deep rule p there o e deep =
-      let n = subst IsThere e there in subst (λ s. IsTooDeep forms s (refused.Rule rule)) n.1 deep
+  not_deep rule p is o e d =
+      let n = subst IsThere e is in subst (λ s. IsTooDeep forms s (refused.Rule rule)) n.1 d
 
   makes_type : (h : Head) (ns : List ℕ) (o : Outcome) (rule : ℕ) → applies forms h ns ≡ Some o → IsTooDeep forms o.sort (refused.Rule rule) → MakesType h
   makes_type (head.ErrorOf n) ns o rule e d = not_deep rule (error_of n ns) (error_there n ns) o e d
@@ -170,8 +170,8 @@ module _ (forms : List Form) where
   makes_type (head.BuiltIn b) ns o rule e d = tt
 
   too_deep : (s : Sort) (rule : ℕ) (t : Ty) → IsTooDeep forms s (refused.Rule rule) → IsAsDeep forms s t → (rule ≡ 4) × (IsShallow t → ⊥)
-  too_deep (sort.There n) rule t d as = absurd d
-  too_deep (sort.Made f) rule t d as = (d.0, λ shallow. let more = d.1 in omega (arith, more, as, shallow))
+  too_deep (sort.There n) rule t d same = absurd d
+  too_deep (sort.Made f) rule t d same = (d.0, λ shallow. let more = d.1 in omega (arith, more, same, shallow))
 
 pub verdict : (forms : List Form) (names : List (List ℕ)) → IsKnown forms names → (h : Head) → IsKnownHead forms names h → (ns : List ℕ) (ts : List Ty) → AreNumbers forms names ns ts
     → (rule : ℕ) → IsRefused forms h ns (refused.Rule rule) → IsVerdict forms names h ts rule
