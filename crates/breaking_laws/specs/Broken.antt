@@ -4,7 +4,6 @@ use Rattle.std.specs.Prelude.{◌≡◌, ℕ, List, [], ◌∷◌, slice_range, 
 use Rattle.type_table.specs.declared.form.Form.{Form}
 use Rattle.type_table.specs.Tables.{IsTable}
 use Rattle.sisal_tree.specs.declared.unit.Written.{Written}
-use Rattle.sisal_tree.specs.declared.expr.Def.{Def}
 use Rattle.sisal_tree.specs.declared.expr.Expr.{Expr}
 use Rattle.sisal_tree.specs.declared.expr.ExprKind.{ExprKind}
 use Rattle.sisal_tree.specs.declared.expr.FieldValue.{FieldValue}
@@ -12,7 +11,7 @@ use Rattle.sisal_grammar.specs.Placed.{placed}
 use Rattle.typed_tree.specs.Written.{Misnames}
 use Rattle.typed_tree.specs.Scopes as tree
 use Rattle.typed_tree.specs.Typing.{Known, at}
-use Rattle.typed_tree.specs.Breaks.{Breaks, BreaksOne, BreaksIn, BreaksDefs}
+use Rattle.typed_tree.specs.Breaks.{Breaks, BreaksOne, BreaksIn}
 use Rattle.unit_types.specs.Rests.{IsUsed}
 use Rattle.value_names.specs.Names.{Names}
 use Rattle.typing_laws.specs.Given.{Given}
@@ -78,12 +77,3 @@ pub record BreaksFieldAt (g : Given) (names : Names) (vs : List FieldValue) (rul
 -- the value of one of some fields
 abbrev pub BrokenField : Given → List Form → Names → List FieldValue → ℕ → ℕ → Type 0
 BrokenField g old names vs rule line = Reaches g old (BreaksFieldAt g names vs rule line)
-
--- ---- definitions
-
-pub record BreaksDefsAt (g : Given) (names : Names) (ds : List Def) (rule line : ℕ) (forms : List Form) : Type 0 where
-  pub holds : (k : Known) (s : tree.Scope) → IsWhole g forms k → Stands k names s → BreaksDefs k (denotes_in g k) (misnames_in g k) s ds rule line
-
--- definitions in order
-abbrev pub BrokenDefs : Given → List Form → Names → List Def → ℕ → ℕ → Type 0
-BrokenDefs g old names ds rule line = Reaches g old (BreaksDefsAt g names ds rule line)

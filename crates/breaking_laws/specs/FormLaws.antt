@@ -31,7 +31,8 @@ use Rattle.typing_laws.specs.Defining.{AllDefined}
 use Rattle.typing_laws.specs.Forming.{IsHead, Operands}
 use Rattle.typing_laws.specs.Given.{Header, Given, Parts}
 use Rattle.typing_laws.specs.Judged.{IsSignature, Typed, AllTyped, AllOnes}
-use Rattle.breaking_laws.specs.Broken.{Reaches, IsWhole, Misnamed, Broken, BrokenOne, BrokenIn, BrokenForm, BrokenField, BrokenDefs, BreaksInAt}
+use Rattle.breaking_laws.specs.Broken.{Reaches, IsWhole, Misnamed, Broken, BrokenOne, BrokenIn, BrokenForm, BrokenField, BreaksInAt}
+use Rattle.breaking_laws.specs.Parts.{BrokenDefs}
 use Rattle.breaking_laws.specs.Refusals.{NotOne, Refuses, HasElements, Uneven, RefusesCall}
 
 -- ---- names
@@ -124,8 +125,8 @@ ErrorOfLaw = (g : Given) (f : List Form) (names : Names) (l : ℕ) (w : Written)
 
 -- a form that makes nothing of its operands, or a type that is too deep
 abbrev pub RefusedLaw : Type 0
-RefusedLaw = (g : Given) (f0 f1 : List Form) (names : Names) (kind : ExprKind) (h : Head) (parts : Parts) (at_line rule line : ℕ) → IsUsed g.tokens f0 f1 → IsTable f1 → IsHead g f1 kind h
-    → Operands g f1 names kind parts.exprs parts.types → HasElements (out-ExprKind kind) parts.types → Refuses f1 at_line h parts.types rule line → Broken g f0 names (at at_line kind) rule line
+RefusedLaw = (g : Given) (f0 f1 f2 : List Form) (names : Names) (kind : ExprKind) (h : Head) (parts : Parts) (at_line rule line : ℕ) → IsUsed g.tokens f0 f2 → IsTable f2 → IsHead g f1 kind h → Grows f1 f2
+    → Operands g f2 names kind parts.exprs parts.types → HasElements (out-ExprKind kind) parts.types → Refuses f2 at_line h parts.types rule line → Broken g f0 names (at at_line kind) rule line
 
 -- ---- calls
 
@@ -139,7 +140,7 @@ RefusedCallLaw = (g : Given) (f0 f1 : List Form) (names : Names) (l x : ℕ) (es
 -- ---- `let` and `if`
 
 abbrev pub DefinitionsLaw : Type 0
-DefinitionsLaw = (g : Given) (f : List Form) (names : Names) (l : ℕ) (ds : List Def) (es : List Expr) (rule line : ℕ) → BrokenDefs g f names ds rule line → Broken g f names (at l (tree.Let ds es)) rule line
+DefinitionsLaw = (g : Given) (f : List Form) (names : Names) (l : ℕ) (ds : List Def) (es : List Expr) (rule line : ℕ) → BrokenDefs g f names None ds rule line → Broken g f names (at l (tree.Let ds es)) rule line
 
 abbrev pub ResultsLaw : Type 0
 ResultsLaw = (g : Given) (f0 f1 : List Form) (names inside : Names) (l : ℕ) (ds : List Def) (es : List Expr) (us : List (List TypedExpr)) (ns : List ℕ) (rule line : ℕ) → IsUsed g.tokens f0 f1

@@ -1,5 +1,5 @@
 pub mod Broken
-pub mod Parts
-pub mod PartLaws
 pub mod Refusals
 pub mod FormLaws
+pub mod Parts
+pub mod PartLaws
