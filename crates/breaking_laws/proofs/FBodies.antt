@@ -1,14 +1,7 @@
 -- The results of a function that break a rule, or are of other types than its header says.
-use Rattle.std.proofs.Common.{◌≡◌, ℕ, List, [], ◌∷◌, Some, slice_range, refl, sym, ap, subst, ◌∙◌}
-use Rattle.std.specs.Prelude.{Contains}
+use Rattle.std.proofs.Common.{ℕ, List, [], ◌∷◌, slice_range, refl, sym, subst}
 use Rattle.flow_value.specs.declared.ty.Ty.{Ty}
-use Rattle.type_table.specs.declared.form.Form.{Form}
-use Rattle.sisal_lex.specs.declared.token.Token.{Token}
-use Rattle.sisal_tree.specs.declared.unit.Unit as text
-use Rattle.sisal_tree.specs.declared.unit.FunKind.TheVariants as fun
-use Rattle.sisal_tree.specs.declared.expr.Expr.{Expr}
 use Rattle.sisal_grammar.specs.Placed.{placed}
-use Rattle.typed_tree.specs.declared.expr.TypedExpr.{TypedExpr}
 use Rattle.typed_tree.specs.Scopes as scopes
 use Rattle.typed_tree.specs.Types.{AreNumbers}
 use Rattle.typed_tree.specs.Typing.{Known, AreTyped}
@@ -20,12 +13,12 @@ use Rattle.typed_tree.specs.Faults.{BreaksUnit}
 use Rattle.typed_tree.specs.Written.{Denotes, Misnames}
 use Rattle.value_names.specs.Names.{Names}
 use Rattle.value_names.specs.Scopes.{define, no_names}
-use Rattle.typing_laws.specs.Given.{Header, Given}
+use Rattle.typing_laws.specs.Given.{Header}
 use Rattle.typing_laws.specs.Judged.{IsSignature, Stands, denotes_in}
 use Rattle.typing_laws.specs.Bodies.{define_params, parameters_in}
 use Rattle.typing_laws.proofs.Entering.{stands_with}
-use Rattle.breaking_laws.specs.Broken.{IsWhole, misnames_in}
-use Rattle.breaking_laws.specs.FormLaws.{BreaksBodyAt, inside, other, BodyLaw}
+use Rattle.breaking_laws.specs.Broken.{misnames_in}
+use Rattle.breaking_laws.specs.FormLaws.{inside, other, BodyLaw}
 use Rattle.breaking_laws.proofs.FTables.{known_of}
 use Rattle.breaking_laws.proofs.FCalls.{same_numbers}
 

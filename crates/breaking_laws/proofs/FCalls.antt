@@ -1,10 +1,8 @@
 -- Calls and `if` over typed parts that are refused break the rule.
-use Rattle.std.proofs.Common.{◌≡◌, ◌⊎◌, inl, inr, ℕ, suc, zero, List, [], ◌∷◌, length, Option, Some, None, slice_get, refl, sym, ap, subst, ◌∙◌}
-use Rattle.std.specs.Prelude.{◌≢◌}
+use Rattle.std.proofs.Common.{◌≡◌, inl, inr, ℕ, suc, zero, List, [], ◌∷◌, Option, Some, None, slice_get, refl, sym, ap, subst, ◌∙◌}
 use Rattle.std.proofs.lemmas.Option.{same_Some}
 use Rattle.name_scope.specs.Newest.{newest}
 use Rattle.flow_value.specs.declared.ty.Ty.{Ty}
-use Rattle.flow_value.specs.declared.ty.Ty.TheVariants as ty
 use Rattle.value_ops.specs.declared.operation.Operation.{Operation}
 use Rattle.type_table.specs.declared.form.Form.{Form}
 use Rattle.sisal_tree.specs.declared.unit.Written.{Written}
@@ -25,11 +23,10 @@ use Rattle.type_rules.specs.Typed as said
 use Rattle.type_rules.specs.Typed.{IsForm, IsKnown}
 use Rattle.type_rules.proofs.Standing.{one_number}
 use Rattle.type_rules.proofs.Grown.{boolean_is}
-use Rattle.typing_laws.specs.Given.{Header, Given, Parts}
+use Rattle.typing_laws.specs.Given.{Header, Given}
 use Rattle.typing_laws.specs.Judged.{Agrees, IsSignature, AreSignatures, denotes_in, AreOnes, no_one, a_one}
-use Rattle.typing_laws.specs.Forming.{IsBuiltIn}
 use Rattle.breaking_laws.specs.Broken.{IsWhole, misnames_in, BreaksAt}
-use Rattle.breaking_laws.specs.Refusals.{IsNoBuiltIn, HasOthers, RefusesCall, own, built_in, no_function}
+use Rattle.breaking_laws.specs.Refusals.{IsNoBuiltIn, RefusesCall, own, built_in, no_function}
 use Rattle.breaking_laws.specs.FormLaws.{RefusedCallLaw, UnevenLaw}
 use Rattle.breaking_laws.proofs.FPassing.{reach_later, reach_here, agrees_at}
 use Rattle.breaking_laws.proofs.FTables.{known_of}

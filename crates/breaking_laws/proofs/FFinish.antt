@@ -1,13 +1,10 @@
 -- A form over typed operands that is refused by number breaks the rule.
-use Rattle.std.proofs.Common.{◌≡◌, ℕ, suc, zero, ◌<◌, List, [], ◌∷◌, ◌++◌, map, length, Option, Some, None, refl, sym, ap, subst, ◌∙◌, arith, rules}
+use Rattle.std.proofs.Common.{◌≡◌, ℕ, ◌<◌, List, [], ◌∷◌, ◌++◌, length, Option, Some, None, refl, sym, subst, arith, rules}
 use Rattle.flow_value.specs.declared.ty.Ty.{Ty}
 use Rattle.value_ops.specs.declared.operation.Operation.TheVariants as operation
 use Rattle.type_table.specs.declared.form.Form.{Form}
 use Rattle.sisal_tree.specs.declared.unit.Written.{Written}
-use Rattle.sisal_tree.specs.declared.expr.Arm.{Arm}
 use Rattle.sisal_tree.specs.declared.expr.BinaryOperator.{BinaryOperator}
-use Rattle.sisal_tree.specs.declared.expr.Clause.{Clause}
-use Rattle.sisal_tree.specs.declared.expr.Def.{Def}
 use Rattle.sisal_tree.specs.declared.expr.Elements.{Elements, out-Elements, roll-Elements}
 use Rattle.sisal_tree.specs.declared.expr.Expr.{Expr}
 use Rattle.sisal_tree.specs.declared.expr.ExprKind.{ExprKind}
@@ -16,13 +13,8 @@ use Rattle.sisal_tree.specs.declared.expr.ExprKind.TheVariants as tree
 use Rattle.sisal_tree.specs.declared.expr.ExprKind.TheViews as kinds
 use Rattle.sisal_tree.specs.declared.expr.ExprKind.TheViews.{out-ExprKind}
 use Rattle.sisal_tree.specs.declared.expr.FieldValue.{FieldValue}
-use Rattle.sisal_tree.specs.declared.expr.Generator.{Generator}
-use Rattle.sisal_tree.specs.declared.expr.Loop.{Loop}
-use Rattle.sisal_tree.specs.declared.expr.Mask.{Mask}
 use Rattle.sisal_tree.specs.declared.expr.PrefixOperator.{PrefixOperator}
 use Rattle.sisal_tree.specs.declared.expr.Scalar.{Scalar}
-use Rattle.sisal_tree.specs.declared.expr.TagCase.{TagCase}
-use Rattle.sisal_tree.specs.declared.expr.Turn.{Turn}
 use Rattle.typed_tree.specs.declared.expr.TypedExpr.{TypedExpr}
 use Rattle.typed_tree.specs.Scopes.{Scope}
 use Rattle.typed_tree.specs.Typing.{Known, Number, AreTyped, at}
@@ -39,10 +31,10 @@ use Rattle.typing_laws.specs.Judged.{Agrees, Stands, denotes_in, AreOnes, no_one
 use Rattle.typing_laws.specs.Forming.{AreNamedAs, HasHead, OperandsIn}
 use Rattle.typing_laws.specs.Forming as form
 use Rattle.typing_laws.proofs.Unique.{number_append, no_numbers, as_many}
-use Rattle.breaking_laws.specs.Broken.{IsWhole, misnames_in, BreaksAt}
+use Rattle.breaking_laws.specs.Broken.{misnames_in, BreaksAt}
 use Rattle.breaking_laws.specs.Refusals.{HasElements}
 use Rattle.breaking_laws.specs.FormLaws.{RefusedLaw}
-use Rattle.breaking_laws.proofs.FPassing.{used_grows, reach_later, reach_here, agrees_at}
+use Rattle.breaking_laws.proofs.FPassing.{reach_later, reach_here, agrees_at}
 use Rattle.breaking_laws.proofs.FParts.{out_elements}
 use Rattle.breaking_laws.proofs.FTables.{known_of, is_within, have_numbers}
 use Rattle.breaking_laws.proofs.FVerdicts.{IsVerdict, none, deep, verdict}

@@ -1,16 +1,14 @@
 -- A form over typed operands that is refused breaks the rule.
-use Rattle.std.proofs.Common.{◌≡◌, ◌⊎◌, inl, inr, ℕ, suc, zero, ◌+◌, ◌<◌, List, [], ◌∷◌, ◌++◌, map, length, All, Option, Some, None, slice_get, get_or, refl, sym, ap, subst, ◌∙◌, arith, rules}
-use Rattle.std.specs.Prelude.{◌≢◌, Contains}
+use Rattle.std.proofs.Common.{◌≡◌, ◌⊎◌, inl, inr, ℕ, ◌<◌, List, [], ◌∷◌, map, length, All, Option, Some, None, get_or, sym, ap, subst, ◌∙◌}
+use Rattle.std.specs.Prelude.{Contains}
 use Rattle.std.proofs.lemmas.Option.{slice_get-get_or}
-use Rattle.std.proofs.lemmas.List.{length-append}
 use Rattle.std.proofs.lemmas.List.Elements.{All-head, All-tail}
 use Rattle.flow_value.specs.declared.ty.Ty.{Ty}
 use Rattle.flow_value.specs.declared.ty.Ty.TheVariants as ty
 use Rattle.value_ops.specs.declared.operation.Operation.{Operation}
-use Rattle.type_table.specs.declared.form.Form.{Form}
 use Rattle.sisal_tree.specs.declared.unit.Written.{Written}
 use Rattle.sisal_tree.specs.declared.expr.BinaryOperator.{BinaryOperator}
-use Rattle.sisal_tree.specs.declared.expr.Elements.{Elements, out-Elements, roll-Elements}
+use Rattle.sisal_tree.specs.declared.expr.Elements.{roll-Elements}
 use Rattle.sisal_tree.specs.declared.expr.Expr.{Expr}
 use Rattle.sisal_tree.specs.declared.expr.ExprKind.{ExprKind}
 use Rattle.sisal_tree.specs.declared.expr.ExprKind.TheVariants as tree

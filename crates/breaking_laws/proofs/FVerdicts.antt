@@ -1,13 +1,11 @@
 -- A form that is refused by number makes nothing by type, or a type that is too deep.
-use Rattle.std.proofs.Common.{◌≡◌, ◌⊎◌, inl, inr, ℕ, ◌<◌, ◌≤◌, Bool, true, false, nat_eq, List, [], ◌∷◌, length, All, Option, Some, None, refl, sym, ap, subst, ◌∙◌, arith}
+use Rattle.std.proofs.Common.{◌≡◌, inl, inr, ℕ, Bool, true, false, nat_eq, List, [], ◌∷◌, length, Option, Some, None, refl, subst, arith}
 use Rattle.std.specs.Option.{is_some, option_map}
 use Rattle.std.specs.Prelude.{if◌then◌else◌}
 use Rattle.flow_value.specs.declared.ty.Ty.{Ty}
 use Rattle.value_ops.specs.declared.operation.Operation.{Operation}
 use Rattle.value_ops.specs.declared.operation.Operation.TheVariants as operation
 use Rattle.type_table.specs.declared.form.Form.{Form}
-use Rattle.type_table.specs.Forms.{form_depth}
-use Rattle.type_table.specs.Tables.{depths}
 use Rattle.sisal_tree.specs.declared.expr.BinaryOperator.{BinaryOperator}
 use Rattle.sisal_tree.specs.declared.expr.PrefixOperator.{PrefixOperator}
 use Rattle.sisal_tree.specs.declared.expr.Scalar.{Scalar}
@@ -22,7 +20,7 @@ use Rattle.type_rules.specs.declared.head.Sort.TheVariants as sort
 use Rattle.type_rules.specs.declared.head.Container.TheVariants as container
 use Rattle.type_rules.specs.Parts.{array_at, field_at, tag_at, is_record_at, is_part, element_in, there, outcome_of, sort_if}
 use Rattle.type_rules.specs.Scalars.{error_of, errs, is_converted, converts, scalar_number, prefix_number, prefixed, are_operands, binary_number, combines}
-use Rattle.type_rules.specs.Sequences.{selects, updates, empty_sort, empties}
+use Rattle.type_rules.specs.Sequences.{selects, updates, empties}
 use Rattle.type_rules.specs.Records.{are_distinct, field_outcome, fields, union_outcome, unites, test_outcome, tests, all_places, change_outcome, replaces}
 use Rattle.type_rules.specs.Applies.{applies, rule_of, IsTooDeep, IsRefused}
 use Rattle.type_rules.specs.Typed.{IsForm, IsKnown, IsKnownHead, FitsTypes, IsAsDeep}
