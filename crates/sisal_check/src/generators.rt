@@ -2,7 +2,7 @@
 ghost use Rattle.breaking_laws.specs.Parts.{BrokenGenerator, BrokenGroup, BrokenGroups, HasNoSource, StandsTwice};
 ghost use Rattle.sisal_check.specs.Walked.{given_of, group_of, parts_of};
 ghost use Rattle.sisal_tree.specs.declared.expr.Generator.{out-Generator};
-ghost use Rattle.std.specs.Prelude.{Err, IfErr, IfOk, List, None, Ok, OnOk, [], is_some, map, tt, ◌++◌, ◌∷◌, ◌≡◌, ◌⊎◌};
+ghost use Rattle.std.specs.Prelude.{Err, IfErr, IfOk, List, None, Ok, OnOk, [], is_some, map, ◌++◌, ◌∷◌, ◌≡◌, ◌⊎◌};
 ghost use Rattle.type_rules.specs.Faults.{IsRule};
 ghost use Rattle.type_rules.specs.Parts.{sequence_at};
 ghost use Rattle.typing_laws.specs.Judged.{IsUsedIn};
