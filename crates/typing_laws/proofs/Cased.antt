@@ -1,9 +1,9 @@
 -- The arms of a `tagcase`, and the whole of it.
-use Rattle.std.proofs.Common.{◌≡◌, inl, inr, ℕ, suc, ◌+◌, true, List, [], ◌∷◌, ◌++◌, map, flat_map, length, All, Option, Some, None, Ok, slice_get, refl, sym, ap, subst, ◌∙◌, arith, rules}
+use Rattle.std.proofs.Common.{◌≡◌, inl, inr, ℕ, suc, ◌+◌, true, List, [], ◌∷◌, ◌++◌, map, flat_map, length, All, Option, Some, None, Ok, slice_get, get_or, refl, sym, ap, subst, ◌∙◌, arith, rules}
 use Rattle.std.specs.Prelude.{Contains}
 use Rattle.std.proofs.lemmas.List.{append_assoc, append-nil, length-append}
-use Rattle.std.proofs.lemmas.List.Elements.{All-nil, All-cons}
-use Rattle.std.proofs.lemmas.Option.{same_Some}
+use Rattle.std.proofs.lemmas.List.Elements.{All-nil, All-cons, All-get_or}
+use Rattle.std.proofs.lemmas.Option.{same_Some, slice_get_within, slice_get-get_or}
 use Rattle.flow_value.specs.declared.ty.Ty.{Ty}
 use Rattle.flow_value.specs.declared.ty.Ty.TheVariants as ty
 use Rattle.type_table.specs.declared.form.Form.{Form}
@@ -31,6 +31,7 @@ use Rattle.type_rules.specs.Records.{are_distinct}
 use Rattle.type_rules.proofs.Standing.{HasFields, standing_at, at_union, one_type}
 use Rattle.type_rules.proofs.Membership.{one_place}
 use Rattle.typing_laws.proofs.Tagged.{found}
+use Rattle.unit_types.specs.Rests.{HasEachOnce, AreStanding}
 use Rattle.value_names.specs.Names.{Names}
 use Rattle.typing_laws.specs.Given.{Given, Parts, Arms}
 use Rattle.typing_laws.specs.Judged.{Agrees, Stands, denotes_in, IsTypedAs, Typed, AllTyped, AllOnes}
@@ -109,7 +110,6 @@ arms_begin g f names x subject done b = record {
   members = b.members;
   is_union = b.is_union;
   chosen_union = b.chosen_union;
-  distinct = b.distinct;
   chosen = subst (λ c. IsChosen b.members c []) (sym b.chosen_arms) (none_chosen b.members);
   count = ap length b.results;
   holds = λ even k s ms agrees stands number. record {
@@ -128,7 +128,6 @@ arm_typed g f0 f1 names inner union arms a ts ns old mid new grows p enters resu
   members = p.members;
   is_union = part_later f0 f1 grows tags_part union p.members p.is_union;
   chosen_union = keeps.union ∙ enters.union ∙ p.chosen_union;
-  distinct = p.distinct;
   chosen =
       subst (λ c. IsChosen p.members c (tags_in (arms ++ (a ∷ [])))) (sym keeps.chosen)
       (subst (λ l. IsChosen p.members mid.chosen l) (sym (tags_append arms a))
@@ -264,6 +263,12 @@ union_type : (k : Known) (n : ℕ) (a : Ty) (nms : List NumberedMember) → IsNu
 union_type k n a nms p e =
     let s : HasFields k.forms k.spellings ty.Uni nms a = standing_at k.forms k.spellings n (Some (form.Union nms)) e a p in (s.fields, s.is, s.stand)
 
+-- no tag stands twice in it
+pub once_at : (k : Known) → AreStanding k.spellings k.forms → (n : ℕ) (nms : List NumberedMember) → slice_get k.forms n ≡ Some (form.Union nms) → are_distinct (map (λ m. m.name) nms) ≡ true
+once_at k standing n nms e =
+    let within = slice_get_within k.forms n (form.Union nms) e in
+    subst HasEachOnce (same_Some (get_or k.forms n (form.Union nms)) (form.Union nms) (sym (slice_get-get_or k.forms n (form.Union nms) within) ∙ e)) (All-get_or HasEachOnce k.forms n (form.Union nms) within standing.once)
+
 same_named : (x : Option ℕ) (arms : List Arm) → named_by x (length arms) ≡ named_arms x arms
 same_named None arms = refl
 same_named (Some x) arms = refl
@@ -337,6 +342,7 @@ case_typed g f0 f1 f2 names line count c subject begun done final t first second
       let here : slice_get k.forms begins.union ≡ Some (form.Union p.members) =
       union_at k.forms begins.union p.members (part_later f1 k.forms one.grows tags_part begins.union p.members p.is_union) in
       let m = union_type k begins.union e.1 p.members number.each.0 here in
+      let once = once_at k agrees.standing begins.union p.members here in
       let fs : List Member = m.0 in
       let is_union : IsNumber k.forms k.spellings begins.union (ty.Uni fs) = subst (λ a. IsNumber k.forms k.spellings begins.union a) m.1 number.each.0 in
       let w = results_of g f2 names k s fs arms done final other is.types agrees stands (λ even. p.holds even k s fs one stands is_union) ends is.even is.is_types in
@@ -346,10 +352,10 @@ case_typed g f0 f1 f2 names line count c subject begun done final t first second
       let many : length tags ≡ count = many_tags arms ∙ sym counted in
       let choices : Chooses k tags fs (numbered count final.chosen) =
       subst (λ n. Chooses k tags fs (numbered n final.chosen)) many
-      (subst (λ l. Chooses k tags fs (numbered (length tags) l)) (sym end.0) (chooses k p.members done.chosen tags p.distinct p.chosen fs m.2)) in
+      (subst (λ l. Chooses k tags fs (numbered (length tags) l)) (sym end.0) (chooses k p.members done.chosen tags once p.chosen fs m.2)) in
       let arms_typed : AreArms k denotes s x fs w.tys arms done.results tags = subst (λ n. AreArms k denotes s n fs w.tys arms done.results tags) named w.arms_typed in
       let whole = rule.tag_case {l = line} (subst (λ a. Types k denotes s (out-TagCase c).subject e.0 (a ∷ [])) m.1 e.4) arms_typed p.chosen.distinct
-      (named_at_end g f2 names other done final k p.members fs tags p.distinct p.chosen m.2 ends) w.otherwise choices w.number in
+      (named_at_end g f2 names other done final k p.members fs tags once p.chosen m.2 ends) w.otherwise choices w.number in
       let named_count : named_by final.name count ≡ named_arms x arms = ap (λ n. named_by n count) (end.1 ∙ named) ∙ ap (named_by x) counted ∙ same_named x arms in
       let tree_is : t ≡ with line is.types (typed.Case (record { named = named_arms x arms; choices = numbered count final.chosen }) (e.0 ∷ []) (done.results ++ w.last)) =
       is.is

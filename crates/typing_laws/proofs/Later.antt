@@ -9,16 +9,29 @@ use Rattle.typed_tree.specs.Typing.{Known}
 use Rattle.flow_value.specs.declared.ty.Ty.{Ty}
 use Rattle.typed_tree.specs.Types.{IsNumber}
 use Rattle.type_rules.specs.Applies.{Grows}
-use Rattle.unit_types.specs.Rests.{IsLater, AreKnown, AreTokensSpelled}
+use Rattle.unit_types.specs.Rests.{IsLater, AreKnown, AreTokensSpelled, IsUsed}
 use Rattle.value_names.specs.Names.{Names}
 use Rattle.typing_laws.specs.Given.{Given}
-use Rattle.typing_laws.specs.Judged.{Agrees, Typed, AllTyped, AllOnes, IsDenoted, denotes_in}
+use Rattle.typing_laws.specs.Judged.{Agrees, IsUsedIn, Typed, AllTyped, AllOnes, IsDenoted, denotes_in}
 
 pub grows_on : (a b c : List Form) → Grows a b → Grows b c → Grows a c
 grows_on a b c p q = (p.0 ++ q.0, q.1 ∙ ap (λ l. l ++ q.0) p.1 ∙ append_assoc a p.0 q.0)
 
 pub grows_same : (a b : List Form) → b ≡ a → Grows a b
 grows_same a b e = ([], e ∙ sym (append-nil a))
+
+-- ---- a table in use
+
+pub used_same : (g : Given) (a : List Form) → IsUsedIn g a a
+used_same g a = record { grows = ([], sym (append-nil a)); standing = λ t s. s }
+
+pub used_on : (g : Given) (a b c : List Form) → IsUsedIn g a b → IsUsedIn g b c → IsUsedIn g a c
+used_on g a b c p q = record { grows = grows_on a b c p.grows q.grows; standing = λ t s. q.standing t (p.standing t s) }
+
+pub used_text : (g : Given) (a b : List Form) → IsUsed g.tokens a b → IsUsedIn g a b
+used_text g a b p = record { grows = (p.grown.more, p.grown.is); standing = λ t s. p.standing g.spellings t s }
+
+-- ---- what is so of a table
 
 pub agrees_before : (g : Given) (old new : List Form) (k : Known) → Grows old new → Agrees g new k → Agrees g old k
 agrees_before g old new k grows a = record {
@@ -28,8 +41,10 @@ agrees_before g old new k grows a = record {
   types = a.types;
   standing = a.standing;
   spelled = a.spelled;
+  once = a.once;
   functions = a.functions;
   numbers = a.numbers;
+  all = a.all;
 }
 
 pub typed_later : (g : Given) (old new : List Form) (names : Names) (e : Expr) (t : TypedExpr) → Grows old new → Typed g old names e t → Typed g new names e t
@@ -53,6 +68,6 @@ pub written_type : (g : Given) (f : List Form) (w : Written) (n : ℕ) → n < l
 written_type g f w n within reads = record {
   holds = λ k a.
       let longer : length f ≤ length k.forms = (let e : length k.forms ≡ length f + length a.grows.0 = ap length a.grows.1 ∙ length-append f a.grows.0 in omega (arith, e)) in
-      let t = a.standing n (omega (arith, within, longer)) in
+      let t = a.standing.stands n (omega (arith, within, longer)) in
       (t.0, reads k (record { more = a.grows.0; grown = a.grows.1; table = a.table }) a.spelled a.types t.0 t.1, t.1);
 }

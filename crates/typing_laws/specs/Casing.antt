@@ -16,7 +16,6 @@ use Rattle.typed_tree.specs.Types.{Member, IsNumber}
 use Rattle.typed_tree.specs.Typing.{Known, Number, AreArms, names_of, with}
 use Rattle.type_rules.specs.Arms.{no_arms, are_all_named, gives_arm, numbered}
 use Rattle.type_rules.specs.Parts.{tags_at}
-use Rattle.type_rules.specs.Records.{are_distinct}
 use Rattle.value_names.specs.Names.{Names}
 use Rattle.value_names.specs.Scopes.{define}
 use Rattle.typing_laws.specs.Given.{Given}
@@ -34,7 +33,6 @@ pub record Begins (forms : List Form) (x : Option ℕ) (subject : Parts) (done :
   pub members : List NumberedMember
   pub is_subject : subject.types ≡ union ∷ []
   pub is_union : tags_at forms union ≡ Some members
-  pub distinct : are_distinct (map (λ m. m.name) members) ≡ true
   pub name : done.name ≡ x
   pub chosen_union : done.union ≡ union
   pub chosen_arms : done.chosen ≡ no_arms members
@@ -69,7 +67,6 @@ pub record ArmsTyped (g : Given) (forms : List Form) (names : Names) (union : �
   pub members : List NumberedMember
   pub is_union : tags_at forms union ≡ Some members
   pub chosen_union : done.union ≡ union
-  pub distinct : are_distinct (map (λ m. m.name) members) ≡ true
   pub chosen : IsChosen members done.chosen (tags_in arms)
   pub count : length done.results ≡ length arms
   pub holds : done.is_even ≡ true → (k : Known) (s : tree.Scope) (ms : List Member) → Agrees g forms k → Stands k names s
