@@ -30,6 +30,7 @@ pub(crate) fn head_of(
     ensures spelled { IfOk result (λ h. IsHeadSpelled given.now.spellings.now h) }
     ensures breaks { IfErr result (IsRule (λ rule at_line. Broken (given_of given.now) walk.old.types walk.old.names (at line kind.now) rule at_line)) }
 {
+    walk.types.holds();
     match kind {
         ExprKind::ErrorOf(written) => error_of(*written, given, walk),
         ExprKind::Replace(_, vs) => Ok(Head::Replace(names_of(given.alloc, vs.as_slice())?)),
@@ -67,6 +68,7 @@ fn error_of(written: Written, given: &Given<'_>, walk: &mut Walk) -> Result<Head
     ensures head { IfOk result (λ h. IsErrorHead (given_of given.now) walk.new.types written h) }
     ensures breaks { IfErr result (IsRule (λ rule at_line. Misnamed (given_of given.now) walk.old.types written rule at_line)) }
 {
+    walk.types.holds();
     let ty = denoted(
         given.alloc,
         given.tokens,
