@@ -1,0 +1,3 @@
+pub mod PReach
+pub mod PTwice
+pub mod PDefs
