@@ -1,3 +1,10 @@
+pub mod FPassing
+pub mod FParts
+pub mod FTables
+pub mod FVerdicts
+pub mod FForms
+pub mod FCalls
+pub mod FBodies
 pub mod PReach
 pub mod PTwice
 pub mod PDefs

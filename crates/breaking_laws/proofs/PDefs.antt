@@ -17,12 +17,10 @@ use Rattle.sisal_tree.specs.declared.expr.Target.{Target}
 use Rattle.typed_tree.specs.declared.expr.TypedExpr.{TypedExpr}
 use Rattle.typed_tree.specs.Scopes as tree
 use Rattle.typed_tree.specs.Types.{IsNumber, AreNumbers}
-use Rattle.typed_tree.specs.Written.{Misnames}
 use Rattle.typed_tree.specs.Typing.{Known, Number, Defines, no_def, a_def, names_in}
 use Rattle.typed_tree.specs.Breaks as breaks
 use Rattle.typed_tree.specs.Breaks.{IsTwice, IsPair, BreaksDefs, defined_twice, in_values, number_of_values, in_declared, declared, after_one, named_in, line_of}
 use Rattle.type_rules.specs.Applies.{Grows}
-use Rattle.unit_types.specs.Rests.{AreKnown, AreStanding}
 use Rattle.value_names.specs.declared.value.Value.{Value}
 use Rattle.value_names.specs.Names.{Names}
 use Rattle.value_names.specs.Scopes.{loop_value}
@@ -37,7 +35,9 @@ use Rattle.breaking_laws.specs.Broken.{IsWhole, Reaches, misnames_in}
 use Rattle.breaking_laws.specs.Parts as parts
 use Rattle.breaking_laws.specs.Parts.{StandsTwice, BreaksTargets, BreaksTurn, in_defs, renamed, InLoop, BreaksTargetsAt, BreaksDefsAt}
 use Rattle.breaking_laws.specs.PartLaws.{DefinedTwiceLaw, AfterDefsLaw, ValuesLaw, TargetsLaw, CountLaw, OneTargetLaw, MisnamedLaw, DeclaredLaw, RetypedLaw}
-use Rattle.breaking_laws.proofs.PReach.{reaches_before, reaches_here, reaches_so, agrees_at, types_differ}
+use Rattle.breaking_laws.proofs.FPassing.{reach_later, reach_here, agrees_at}
+use Rattle.breaking_laws.proofs.PReach.{reaches_so, types_differ}
+use Rattle.breaking_laws.proofs.FTables.{contains_first}
 use Rattle.breaking_laws.proofs.PTwice.{contains_at, contains_only, twice_more, targets_named, targets_more}
 
 -- ---- names of a loop around
@@ -98,7 +98,7 @@ module _ (k : Known) (denotes : Written → Ty → Type 0) (misnames : Written �
       none e = cc
 
 pub targets_twice : DefinedTwiceLaw
-targets_twice g f names turn ds rule line table p = reaches_here g f (BreaksDefsAt g names turn ds rule line) table (record {
+targets_twice g f names turn ds rule line table p = reach_here g f (BreaksDefsAt g names turn ds rule line) table (record {
   holds = λ k s w stands. in_loop k names turn (λ loop. BreaksTurn k (denotes_in g k) (misnames_in g k) loop s ds rule line) (λ loop.
       subst (λ r. BreaksTurn k (denotes_in g k) (misnames_in g k) loop s ds r line) (sym p.is_rule) (in_defs (defined_twice (subst (λ l. IsTwice l line) (targets_named ds) p.twice))));
 })
@@ -150,7 +150,7 @@ targets_refused g f0 f1 names turn d ts ns rule line used typed p =
 -- ---- targets
 
 pub count_refused : CountLaw
-count_refused g f names turn at xs ns table differ = reaches_here g f (BreaksTargetsAt g names turn at xs ns 14 at) table (record {
+count_refused g f names turn at xs ns table differ = reach_here g f (BreaksTargetsAt g names turn at xs ns 14 at) table (record {
   holds = λ k tys w number. in_loop k names turn (λ loop. BreaksTargets (denotes_in g k) (misnames_in g k) loop at xs tys 14 at) (λ loop.
       parts.number_of_values (λ e. differ (as_many k.forms k.spellings ns tys number.each ∙ e)));
 })
@@ -197,15 +197,19 @@ one_target_refused g f0 f1 names turn at xs ns i x n rule line used here numbere
     })
 
 pub misnamed_target : MisnamedLaw
-misnamed_target g f names turn at x w n rule line table written p = reaches_here g f (BreaksTargetsAt g names turn at (x ∷ []) (n ∷ []) rule line) table (record {
-  holds = λ k tys whole number. in_loop k names turn (λ loop. BreaksTargets (denotes_in g k) (misnames_in g k) loop at (x ∷ []) tys rule line) (λ loop.
-      parts.in_declared x w (contains_at (x ∷ []) 0 x refl) written
-      (p k.spellings k.types whole.agrees.spelled (subst (λ l. AreStanding k.spellings l) whole.same whole.agrees.standing) (subst (λ l. AreKnown l k.spellings g.named k.types) whole.same whole.agrees.types)));
-})
+misnamed_target g f names turn at x w n rule line written p = record {
+  table = p.table;
+  used = p.used;
+  is_table = p.is_table;
+  holds = record {
+    holds = λ k tys whole number. in_loop k names turn (λ loop. BreaksTargets (denotes_in g k) (misnames_in g k) loop at (x ∷ []) tys rule line) (λ loop.
+        parts.in_declared x w (contains_first x []) written (p.holds.holds k whole));
+  };
+}
 
 pub declared_refused : DeclaredLaw
 declared_refused g f0 f1 names turn at x w n m used table written denoted differ =
-    reaches_before g f0 f1 (BreaksTargetsAt g names turn at (x ∷ []) (n ∷ []) 14 at) used (reaches_here g f1 (BreaksTargetsAt g names turn at (x ∷ []) (n ∷ []) 14 at) table (record {
+    reach_later g f0 f1 (BreaksTargetsAt g names turn at (x ∷ []) (n ∷ []) 14 at) used (reach_here g f1 (BreaksTargetsAt g names turn at (x ∷ []) (n ∷ []) 14 at) table (record {
       holds = λ k tys whole number. in_loop k names turn (λ loop. BreaksTargets (denotes_in g k) (misnames_in g k) loop at (x ∷ []) tys 14 at) (λ loop.
           let d = denoted.holds k whole.agrees in
           let t = number_at k.forms k.spellings (n ∷ []) tys 0 n number.each refl in
@@ -272,7 +276,7 @@ meant k v (Some (tree.At level t)) p = record { level = level; type = t; is = re
 meant k v (Some tree.Later) p = absurd p
 
 pub retyped_refused : RetypedLaw
-retyped_refused g f names first at x n v table found differ = reaches_here g f (BreaksTargetsAt g names (Some first) at (x ∷ []) (n ∷ []) 23 at) table (record {
+retyped_refused g f names first at x n v table found differ = reach_here g f (BreaksTargetsAt g names (Some first) at (x ∷ []) (n ∷ []) 23 at) table (record {
   holds = λ k tys whole number. λ loop means turned values.
       let t = number_at k.forms k.spellings (n ∷ []) tys 0 n number.each refl in
       let here : newest x.name.name loop ≡ Some v = loop_found first x.name.name loop names v turned found in

@@ -14,16 +14,10 @@ use Rattle.typed_tree.specs.Breaks as breaks
 use Rattle.typed_tree.specs.Breaks.{IsTwice, twice, later, named_in}
 use Rattle.value_names.specs.Scopes.{twice_if, twice_onto, twice_in}
 use Rattle.typing_laws.specs.Defining.{named_targets, targets_in}
-use Rattle.breaking_laws.specs.Parts.{StandsTwice}
 use Rattle.breaking_laws.specs.PartLaws.{TwiceLaw}
+use Rattle.breaking_laws.proofs.FTables.{contains_first}
 
 -- ---- elements
-
-pub contains_here : {A : Type 0} (x : A) (xs : List A) → Contains (x ∷ xs) x
-contains_here x xs = (0, omega arith, refl)
-
-pub contains_later : {A : Type 0} (x : A) (xs : List A) (y : A) → Contains xs y → Contains (x ∷ xs) y
-contains_later x xs y c = Contains-append_right (x ∷ []) xs y c
 
 pub contains_cases : {A : Type 0} (x : A) (xs : List A) (y : A) → Contains (x ∷ xs) y → (x ≡ y) ⊎ Contains xs y
 contains_cases x xs y (zero, lt, e) = inl e
@@ -51,7 +45,7 @@ twice_behind (m ∷ ms) ns line p = later (twice_behind ms ns line p)
 pub twice_within : (before : List Named) (m n : Named) (ns : List Named) → Contains before m → m.name ≡ n.name → IsTwice (before ++ (n ∷ ns)) n.line
 twice_within [] m n ns c e = absurd (contains_none m c)
 twice_within (b ∷ before) m n ns c e = elim (contains_cases b before m c) [
-  | inl same ↦ twice (Contains-append_right before (n ∷ ns) n (contains_here n ns)) (ap (λ x. x.name) same ∙ e)
+  | inl same ↦ twice (Contains-append_right before (n ∷ ns) n (contains_first n ns)) (ap (λ x. x.name) same ∙ e)
   | inr c ↦ later (twice_within before m n ns c e)
 ]
 
@@ -63,7 +57,7 @@ seen_more : (before : List Named) (seen : List (ℕ × Unit {0})) (n : Named) �
 seen_more before seen n p = λ x u e. by x u (nat_eq x n.name) refl e
   where
     by : (x : ℕ) (u : Unit {0}) (b : Bool) → nat_eq x n.name ≡ b → (if b then Some tt else newest x seen) ≡ Some u → (m : Named) × Contains (before ++ (n ∷ [])) m × (m.name ≡ x)
-    by x u true t e = (n, Contains-append_right before (n ∷ []) n (contains_here n []), sym (eqb-true x n.name t))
+    by x u true t e = (n, Contains-append_right before (n ∷ []) n (contains_first n []), sym (eqb-true x n.name t))
     by x u false t e = let r = p x u e in (r.0, Contains-append_left before (n ∷ []) r.0 r.1, r.2)
 
 twice_sound : (before : List Named) (seen : List (ℕ × Unit {0})) (ns : List Named) (line : ℕ) → AreSeen before seen → twice_onto seen ns ≡ Some line → IsTwice (before ++ ns) line

@@ -33,6 +33,15 @@ pub record IsWhole (g : Given) (forms : List Form) (k : Known) : Type 0 where
   pub agrees : Agrees g forms k
   pub same : k.forms ≡ forms
 
+-- ---- written types
+
+pub record MisnamesAt (g : Given) (w : Written) (rule line : ℕ) (forms : List Form) : Type 0 where
+  pub holds : (k : Known) → IsWhole g forms k → misnames_in g k w rule line
+
+-- a written type breaks the rule
+abbrev pub Misnamed : Given → List Form → Written → ℕ → ℕ → Type 0
+Misnamed g old w rule line = Reaches g old (MisnamesAt g w rule line)
+
 -- ---- expressions
 
 pub record BreaksAt (g : Given) (names : Names) (e : Expr) (rule line : ℕ) (forms : List Form) : Type 0 where

@@ -1,3 +1,5 @@
 pub mod Broken
+pub mod Refusals
+pub mod FormLaws
 pub mod Parts
 pub mod PartLaws
