@@ -17,7 +17,7 @@ use Rattle.sisal_tree.specs.declared.expr.Target.{Target}
 use Rattle.typed_tree.specs.declared.expr.TypedExpr.{TypedExpr}
 use Rattle.typed_tree.specs.Scopes as tree
 use Rattle.typed_tree.specs.Types.{IsNumber, AreNumbers}
-use Rattle.typed_tree.specs.Typing.{Known, Number, Defines, no_def, a_def, names_in}
+use Rattle.typed_tree.specs.Typing.{Known, Number, AreTyped, Defines, no_def, a_def, names_in}
 use Rattle.typed_tree.specs.Breaks as breaks
 use Rattle.typed_tree.specs.Breaks.{IsTwice, IsPair, BreaksDefs, defined_twice, in_values, number_of_values, in_declared, declared, after_one, named_in, line_of}
 use Rattle.type_rules.specs.Applies.{Grows}
@@ -126,7 +126,7 @@ values_refused g f names turn d rule line p = record {
   };
 }
 
-module _ (k : Known) (denotes : Written → Ty → Type 0) (misnames : Written → ℕ → ℕ → Type 0) (s : tree.Scope) (d : Def) (ts : List TypedExpr) (tys : List Ty) (values : breaks.AreTyped k denotes s (out-Def d).values ts tys) where
+module _ (k : Known) (denotes : Written → Ty → Type 0) (misnames : Written → ℕ → ℕ → Type 0) (s : tree.Scope) (d : Def) (ts : List TypedExpr) (tys : List Ty) (values : AreTyped k denotes s (out-Def d).values ts tys) where
   def_refused : (loop : List (ℕ × tree.Meaning)) (rule line : ℕ) → BreaksTargets denotes misnames loop (line_of (out-Def d).targets) (out-Def d).targets tys rule line
       → BreaksTurn k denotes misnames loop s (d ∷ []) rule line
   def_refused loop _ _ (parts.number_of_values e) =
@@ -174,6 +174,7 @@ pair_at (y ∷ xs) (b ∷ tys) (suc i) x a e f = breaks.IsPair.later (pair_at xs
 
 pair_of_one : (x y : Target) (a b : Ty) → IsPair (x ∷ []) (a ∷ []) y b → (x ≡ y) × (a ≡ b)
 pair_of_one x _ a _ breaks.first = (refl, refl)
+pair_of_one x y a b (breaks.IsPair.later p) = elim p [ ]
 
 module _ (denotes : Written → Ty → Type 0) (misnames : Written → ℕ → ℕ → Type 0) (loop : List (ℕ × tree.Meaning)) (at : ℕ) (xs : List Target) (tys : List Ty) (i : ℕ) (x : Target) (a : Ty) (here : slice_get xs i ≡ Some x)
     (typed : slice_get tys i ≡ Some a) where
@@ -221,27 +222,27 @@ declared_refused g f0 f1 names turn at x w n m used table written denoted differ
 
 newest_append : {T : Type 0} (x : ℕ) (loop outer : List (ℕ × T)) (v : T) → newest x loop ≡ Some v → newest x (loop ++ outer) ≡ Some v
 newest_append x [] outer v e = absurd cc
-newest_append x (n ∷ loop) outer v e = by (nat_eq x n.0) refl e
+newest_append x (n ∷ loop) outer v e = by (nat_eq x n.0) (newest_append x loop outer v) e
   where
-    by : (b : Bool) → nat_eq x n.0 ≡ b → (if b then Some n.1 else newest x loop) ≡ Some v → (if nat_eq x n.0 then Some n.1 else newest x (loop ++ outer)) ≡ Some v
-    by true t e = ap (λ c. if c then Some n.1 else newest x (loop ++ outer)) t ∙ e
-    by false t e = ap (λ c. if c then Some n.1 else newest x (loop ++ outer)) t ∙ newest_append x loop outer v e
+    by : (b : Bool) → (newest x loop ≡ Some v → newest x (loop ++ outer) ≡ Some v) → (if b then Some n.1 else newest x loop) ≡ Some v → (if b then Some n.1 else newest x (loop ++ outer)) ≡ Some v
+    by true rest e = e
+    by false rest e = rest e
 
 newest_outside : {T : Type 0} (x : ℕ) (loop outer : List (ℕ × T)) → newest x loop ≡ None → newest x (loop ++ outer) ≡ newest x outer
 newest_outside x [] outer e = refl
-newest_outside x (n ∷ loop) outer e = by (nat_eq x n.0) refl e
+newest_outside x (n ∷ loop) outer e = by (nat_eq x n.0) (newest_outside x loop outer) e
   where
-    by : (b : Bool) → nat_eq x n.0 ≡ b → (if b then Some n.1 else newest x loop) ≡ None → (if nat_eq x n.0 then Some n.1 else newest x (loop ++ outer)) ≡ newest x outer
-    by true t e = absurd cc
-    by false t e = ap (λ c. if c then Some n.1 else newest x (loop ++ outer)) t ∙ newest_outside x loop outer e
+    by : (b : Bool) → (newest x loop ≡ None → newest x (loop ++ outer) ≡ newest x outer) → (if b then Some n.1 else newest x loop) ≡ None → (if b then Some n.1 else newest x (loop ++ outer)) ≡ newest x outer
+    by true rest e = absurd cc
+    by false rest e = rest e
 
 below_newest : (first x : ℕ) (olds : List (ℕ × Value)) (v : Value) → AreBelow first olds → newest x olds ≡ Some v → v.level < first
 below_newest first x [] v p e = absurd cc
-below_newest first x (o ∷ olds) v p e = by (nat_eq x o.0) e
+below_newest first x (o ∷ olds) v p e = by (nat_eq x o.0) (below_newest first x olds v p.1) e
   where
-    by : (b : Bool) → (if b then Some o.1 else newest x olds) ≡ Some v → v.level < first
-    by true e = subst (λ u. u.level < first) (same_Some o.1 v e) p.0
-    by false e = below_newest first x olds v p.1 e
+    by : (b : Bool) → (newest x olds ≡ Some v → v.level < first) → (if b then Some o.1 else newest x olds) ≡ Some v → v.level < first
+    by true rest e = subst (λ u. u.level < first) (same_Some o.1 v e) p.0
+    by false rest e = rest e
 
 -- what is a name of the loop is found in it
 loop_found : (first x : ℕ) (loop : List (ℕ × Value)) (s : Names) (v : Value) → IsInTurn first loop s → loop_value first (newest x s.olds) ≡ Some v → newest x loop ≡ Some v

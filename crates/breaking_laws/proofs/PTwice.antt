@@ -50,7 +50,7 @@ twice_within (b ∷ before) m n ns c e = elim (contains_cases b before m c) [
 ]
 
 -- names that were seen are among those before
-AreSeen : List Named → List (ℕ × Unit {0}) → Type 0
+abbrev AreSeen : List Named → List (ℕ × Unit {0}) → Type 0
 AreSeen before seen = (x : ℕ) (u : Unit {0}) → newest x seen ≡ Some u → (m : Named) × Contains before m × (m.name ≡ x)
 
 seen_more : (before : List Named) (seen : List (ℕ × Unit {0})) (n : Named) → AreSeen before seen → AreSeen (before ++ (n ∷ [])) ((n.name, tt) ∷ seen)
@@ -62,11 +62,13 @@ seen_more before seen n p = λ x u e. by x u (nat_eq x n.name) refl e
 
 twice_sound : (before : List Named) (seen : List (ℕ × Unit {0})) (ns : List Named) (line : ℕ) → AreSeen before seen → twice_onto seen ns ≡ Some line → IsTwice (before ++ ns) line
 twice_sound before seen [] line p e = absurd cc
-twice_sound before seen (n ∷ ns) line p e = by (newest n.name seen) refl e
+twice_sound before seen (n ∷ ns) line p e =
+    by (newest n.name seen) refl (λ later. subst (λ l. IsTwice l line) (append_assoc before (n ∷ []) ns) (twice_sound (before ++ (n ∷ [])) ((n.name, tt) ∷ seen) ns line (seen_more before seen n p) later)) e
   where
-    by : (o : Option (Unit {0})) → newest n.name seen ≡ o → twice_if o n.line (twice_onto ((n.name, tt) ∷ seen) ns) ≡ Some line → IsTwice (before ++ (n ∷ ns)) line
-    by None here e = subst (λ l. IsTwice l line) (append_assoc before (n ∷ []) ns) (twice_sound (before ++ (n ∷ [])) ((n.name, tt) ∷ seen) ns line (seen_more before seen n p) e)
-    by (Some u) here e = let r = p n.name u here in subst (λ l. IsTwice (before ++ (n ∷ ns)) l) (same_Some n.line line e) (twice_within before r.0 n ns r.1 r.2)
+    by : (o : Option (Unit {0})) → newest n.name seen ≡ o → (twice_onto ((n.name, tt) ∷ seen) ns ≡ Some line → IsTwice (before ++ (n ∷ ns)) line)
+        → twice_if o n.line (twice_onto ((n.name, tt) ∷ seen) ns) ≡ Some line → IsTwice (before ++ (n ∷ ns)) line
+    by None here rest e = rest e
+    by (Some u) here rest e = let r = p n.name u here in subst (λ l. IsTwice (before ++ (n ∷ ns)) l) (same_Some n.line line e) (twice_within before r.0 n ns r.1 r.2)
 
 pub stands_twice : TwiceLaw
 stands_twice ns line e = record { is_rule = refl; twice = twice_sound [] [] ns line (λ x u e. absurd cc) e }
