@@ -1,9 +1,8 @@
 -- What a part breaks the whole breaks.
-use Rattle.std.proofs.Common.{◌≡◌, ℕ, suc, zero, List, [], ◌∷◌, length, Option, Some, None, refl, sym, ap, subst, ◌∙◌, rules}
+use Rattle.std.proofs.Common.{◌≡◌, ℕ, List, [], length, Some, None, sym, ap, subst, ◌∙◌, rules}
 use Rattle.std.specs.Prelude.{Contains}
 use Rattle.name_scope.specs.Newest.{newest}
 use Rattle.flow_value.specs.declared.ty.Ty.{Ty}
-use Rattle.type_table.specs.declared.form.Form.{Form}
 use Rattle.sisal_tree.specs.declared.unit.Written.{Written}
 use Rattle.sisal_tree.specs.declared.expr.Def.{Def}
 use Rattle.sisal_tree.specs.declared.expr.Elements.{Elements, out-Elements, roll-Elements}
@@ -12,20 +11,19 @@ use Rattle.sisal_tree.specs.declared.expr.ExprKind.{ExprKind}
 use Rattle.sisal_tree.specs.declared.expr.ExprKind.TheVariants as tree
 use Rattle.sisal_tree.specs.declared.expr.ExprKind.TheViews as kinds
 use Rattle.sisal_tree.specs.declared.expr.FieldValue.{FieldValue}
-use Rattle.typed_tree.specs.declared.expr.TypedExpr.{TypedExpr}
-use Rattle.typed_tree.specs.Scopes as scopes
 use Rattle.typed_tree.specs.Scopes.{Scope}
 use Rattle.typed_tree.specs.Typing.{Known, Number, at}
 use Rattle.typed_tree.specs.Breaks as breaks
 use Rattle.typed_tree.specs.Breaks.{IsUnknown, IsNotOne, Breaks, BreaksOne, BreaksIn, BreaksDefs}
-use Rattle.typing_laws.specs.Given.{Given}
+use Rattle.unit_types.specs.Rests.{AreKnown}
 use Rattle.typing_laws.specs.Judged.{denotes_in}
 use Rattle.typing_laws.proofs.Unique.{as_many}
+use Rattle.typing_laws.proofs.Later.{used_on}
 use Rattle.breaking_laws.specs.Broken.{misnames_in, BreaksAt, BreaksOneAt, BreaksInAt, BreaksFieldAt, MisnamesAt}
 use Rattle.breaking_laws.specs.Parts.{BreaksTurn, in_defs, renamed, BreaksDefsAt}
-use Rattle.breaking_laws.specs.FormLaws.{UnknownLaw, NoLoopNameLaw, NotOneLaw, OneLaw, ListLaw, FieldLaw, GroupLaw, IsOperand, OperandLaw, AreElementsOf, ElementsLaw, AreFieldsOf, FieldsLaw, NamesType, NoTypeLaw, ErrorOfLaw, ArgumentsLaw, DefinitionsLaw, ResultsLaw, TestLaw, ThenLaw, ElseLaw}
+use Rattle.breaking_laws.specs.FormLaws.{UnknownLaw, NoLoopNameLaw, NotOneLaw, OneLaw, ListLaw, FieldLaw, GroupLaw, IsOperand, OperandLaw, AreElementsOf, ElementsLaw, AreFieldsOf, FieldsLaw, NamesType, NoTypeLaw, WrittenLaw, ErrorOfLaw, ArgumentsLaw, DefinitionsLaw, ResultsLaw, TestLaw, ThenLaw, ElseLaw}
 use Rattle.breaking_laws.specs.FormLaws as part
-use Rattle.breaking_laws.proofs.FPassing.{used_grows, reach_later, reach_more, reach_here, agrees_at, unknown_name, unknown_old, unknown_type}
+use Rattle.breaking_laws.proofs.FPassing.{reach_later, reach_more, reach_here, agrees_at, unknown_name, unknown_old, unknown_type}
 
 -- ---- names
 
@@ -42,7 +40,7 @@ old_breaks g f names line x table e =
 -- ---- one value, and lists
 
 not_single : (k : Known) (ns : List ℕ) (tys : List Ty) → Number k ns tys → (length ns ≡ 1 → ⊥) → IsNotOne tys
-not_single k ns tys number no a e = no (as_many k.forms k.spellings ns tys number.each ∙ ap length e)
+not_single k ns tys number never a e = never (as_many k.forms k.spellings ns tys number.each ∙ ap length e)
 
 pub not_one_breaks : NotOneLaw
 not_one_breaks g f0 f1 names e t rule line used table typed same p =
@@ -146,6 +144,12 @@ no_type_breaks g f names line kind x table is e =
       holds = λ k s whole stands. no_type k (denotes_in g k) (misnames_in g k) s line kind x is (unknown_type k.forms k.spellings x g.named k.types whole.agrees.types e);
     })
 
+pub written_misnamed : WrittenLaw
+written_misnamed g f w rule line table tells =
+    reach_here g f (MisnamesAt g w rule line) table (record {
+      holds = λ k whole. tells k.spellings k.types whole.agrees.spelled (subst (λ fs. AreKnown fs k.spellings g.named k.types) whole.same whole.agrees.types);
+    })
+
 pub error_of_breaks : ErrorOfLaw
 error_of_breaks g f names l w rule line p =
     reach_more g f (MisnamesAt g w rule line) (BreaksAt g names (at l (tree.ErrorOf w)) rule line)
@@ -172,11 +176,11 @@ definitions_break g f names l ds es rule line p =
 pub results_break : ResultsLaw
 results_break g f0 f1 names inside l ds es us ns rule line used defined p = record {
   table = p.table;
-  used = (reach_later g f0 f1 (BreaksInAt g inside es rule line) used p).used;
+  used = used_on g f0 f1 p.table used p.used;
   is_table = p.is_table;
   holds = record {
     holds = λ k s whole stands.
-        let d = defined.holds k s (agrees_at g f1 p.table k (used_grows g.tokens f1 p.table p.used) whole) stands in
+        let d = defined.holds k s (agrees_at g f1 p.table k p.used.grows whole) stands in
         breaks.in_results d.defines (p.holds.holds k d.inside whole d.stands);
   };
 }

@@ -1,10 +1,8 @@
 -- What a later table reaches an earlier one reaches; names that stand for nothing by number stand for nothing by type.
-use Rattle.std.proofs.Common.{◌≡◌, ℕ, Bool, true, false, nat_eq, List, [], ◌∷◌, ◌++◌, Option, Some, None, refl, sym, ap, subst, ◌∙◌}
+use Rattle.std.proofs.Common.{◌≡◌, ℕ, Bool, true, false, nat_eq, List, [], ◌∷◌, Some, None, refl, sym, ap, subst, ◌∙◌}
 use Rattle.std.specs.Prelude.{if◌then◌else◌}
-use Rattle.std.proofs.lemmas.List.{append_assoc, append-nil}
 use Rattle.name_scope.specs.Newest.{newest}
 use Rattle.flow_value.specs.declared.ty.Ty.{Ty}
-use Rattle.sisal_lex.specs.declared.token.Token.{Token}
 use Rattle.type_table.specs.declared.form.Form.{Form}
 use Rattle.type_table.specs.Tables.{IsTable}
 use Rattle.typed_tree.specs.Scopes as tree
@@ -14,41 +12,26 @@ use Rattle.type_rules.specs.declared.fault.TypeFault.{TypeFault}
 use Rattle.type_rules.specs.declared.fault.TypeFault.TheVariants as fault
 use Rattle.type_rules.specs.Faults.{IsRule}
 use Rattle.type_rules.specs.Applies.{Grows}
-use Rattle.unit_types.specs.Rests.{AreKnown, IsUsed}
+use Rattle.unit_types.specs.Rests.{AreKnown}
 use Rattle.value_names.specs.declared.value.Value.{Value}
 use Rattle.value_names.specs.declared.value.Meaning.{Meaning}
 use Rattle.value_names.specs.declared.value.Meaning.TheVariants as means
 use Rattle.value_names.specs.Scopes.{seen}
 use Rattle.typing_laws.specs.Given.{Given}
-use Rattle.typing_laws.specs.Judged.{Agrees, IsMeaning, IsValue, AreMeanings, AreValues}
-use Rattle.typing_laws.proofs.Later.{agrees_before}
+use Rattle.typing_laws.specs.Judged.{IsUsedIn, Agrees, IsMeaning, AreMeanings, AreValues}
+use Rattle.typing_laws.proofs.Later.{agrees_before, used_same, used_on}
 use Rattle.breaking_laws.specs.Broken.{Reaches, IsWhole}
 
 -- ---- tables
 
-pub used_same : (tokens : List Token) (f : List Form) → IsUsed tokens f f
-used_same tokens f = record { grown = record { more = []; is = sym (append-nil f) }; standing = λ spellings spelled stands. stands }
-
-pub used_on : (tokens : List Token) (a b c : List Form) → IsUsed tokens a b → IsUsed tokens b c → IsUsed tokens a c
-used_on tokens a b c p q = record {
-  grown = record {
-    more = p.grown.more ++ q.grown.more;
-    is = q.grown.is ∙ ap (λ l. l ++ q.grown.more) p.grown.is ∙ append_assoc a p.grown.more q.grown.more;
-  };
-  standing = λ spellings spelled stands. q.standing spellings spelled (p.standing spellings spelled stands);
-}
-
-pub used_grows : (tokens : List Token) (a b : List Form) → IsUsed tokens a b → Grows a b
-used_grows tokens a b p = (p.grown.more, p.grown.is)
-
-pub reach_later : (g : Given) (f0 f1 : List Form) (says : List Form → Type 0) → IsUsed g.tokens f0 f1 → Reaches g f1 says → Reaches g f0 says
-reach_later g f0 f1 says used r = record { table = r.table; used = used_on g.tokens f0 f1 r.table used r.used; is_table = r.is_table; holds = r.holds }
+pub reach_later : (g : Given) (f0 f1 : List Form) (says : List Form → Type 0) → IsUsedIn g f0 f1 → Reaches g f1 says → Reaches g f0 says
+reach_later g f0 f1 says used r = record { table = r.table; used = used_on g f0 f1 r.table used r.used; is_table = r.is_table; holds = r.holds }
 
 pub reach_more : (g : Given) (f : List Form) (says more : List Form → Type 0) → ((forms : List Form) → says forms → more forms) → Reaches g f says → Reaches g f more
 reach_more g f says more leads r = record { table = r.table; used = r.used; is_table = r.is_table; holds = leads r.table r.holds }
 
 pub reach_here : (g : Given) (f : List Form) (says : List Form → Type 0) → IsTable f → says f → Reaches g f says
-reach_here g f says table p = record { table = f; used = used_same g.tokens f; is_table = table; holds = p }
+reach_here g f says table p = record { table = f; used = used_same g f; is_table = table; holds = p }
 
 pub rule_passes : (says more : ℕ → ℕ → Type 0) → ((rule line : ℕ) → says rule line → more rule line) → (e : TypeFault) → IsRule says e → IsRule more e
 rule_passes says more leads (fault.Rule rule line) p = leads rule line p

@@ -1,5 +1,5 @@
 -- What is known of a whole table of types, and what can be told of a type by its number.
-use Rattle.std.proofs.Common.{◌≡◌, ◌⊎◌, inl, inr, ℕ, suc, zero, ◌<◌, Bool, true, false, nat_eq, List, [], ◌∷◌, ◌++◌, map, length, All, Option, Some, None, slice_get, get_or, refl, sym, ap, subst, ◌∙◌, arith}
+use Rattle.std.proofs.Common.{◌≡◌, ◌⊎◌, inl, inr, ℕ, zero, ◌<◌, Bool, true, false, nat_eq, List, [], ◌∷◌, length, All, Option, Some, None, slice_get, get_or, refl, sym, ap, subst, ◌∙◌, arith}
 use Rattle.std.specs.Prelude.{◌≢◌, Contains}
 use Rattle.std.proofs.lemmas.Option.{same_Some, slice_get_within, slice_get-get_or}
 use Rattle.std.proofs.lemmas.List.Elements.{All-nil, All-cons, All-get_or, Contains-append_right}
@@ -8,15 +8,13 @@ use Rattle.flow_value.specs.declared.ty.Ty.TheVariants as ty
 use Rattle.type_table.specs.declared.form.Form.{Form}
 use Rattle.type_table.specs.declared.form.Form.TheVariants as form
 use Rattle.type_table.specs.declared.form.Member.{Member as NumberedMember}
-use Rattle.typed_tree.specs.Scopes.{AreDistinct}
 use Rattle.typed_tree.specs.Types.{Member, IsNumber, boolean, character, integer, null, array, stream, a_record, a_union, AreNumbers}
 use Rattle.typed_tree.specs.Typing.{Known}
-use Rattle.typed_tree.specs.Breaks.{NoArray, NoStream, NoRecord, NoUnion}
-use Rattle.type_rules.specs.Parts.{array_at, stream_at, holds_if, is_record, is_record_at, tags_part, part_if, field_at}
-use Rattle.type_rules.specs.Records.{are_distinct}
+use Rattle.typed_tree.specs.Breaks.{NoArray, NoRecord, NoUnion}
+use Rattle.type_rules.specs.Parts.{array_at, holds_if, is_record, is_record_at, tags_part, part_if, field_at}
 use Rattle.type_rules.specs.Typed.{IsKnown, Has}
 use Rattle.type_rules.proofs.Standing.{HasFields, standing_at, at_record, at_union}
-use Rattle.type_rules.proofs.Telling.{Tells, array_is, array_has, stream_is, stream_has}
+use Rattle.type_rules.proofs.Telling.{Tells, array_is, array_has}
 use Rattle.type_rules.proofs.Verdicts.{some_none, both_truths, same_tells}
 use Rattle.type_rules.proofs.Grown.{integer_is}
 use Rattle.type_rules.proofs.Membership.{field_in, field_absent, field_unique}

@@ -1,13 +1,11 @@
 -- A form that is refused by number makes nothing by type, or a type that is too deep.
-use Rattle.std.proofs.Common.{◌≡◌, ◌⊎◌, inl, inr, ℕ, ◌<◌, ◌≤◌, Bool, true, false, nat_eq, List, [], ◌∷◌, length, All, Option, Some, None, refl, sym, ap, subst, ◌∙◌, arith}
+use Rattle.std.proofs.Common.{◌≡◌, inl, inr, ℕ, Bool, true, false, nat_eq, List, [], ◌∷◌, length, Option, Some, None, refl, subst, arith}
 use Rattle.std.specs.Option.{is_some, option_map}
 use Rattle.std.specs.Prelude.{if◌then◌else◌}
 use Rattle.flow_value.specs.declared.ty.Ty.{Ty}
 use Rattle.value_ops.specs.declared.operation.Operation.{Operation}
 use Rattle.value_ops.specs.declared.operation.Operation.TheVariants as operation
 use Rattle.type_table.specs.declared.form.Form.{Form}
-use Rattle.type_table.specs.Forms.{form_depth}
-use Rattle.type_table.specs.Tables.{depths}
 use Rattle.sisal_tree.specs.declared.expr.BinaryOperator.{BinaryOperator}
 use Rattle.sisal_tree.specs.declared.expr.PrefixOperator.{PrefixOperator}
 use Rattle.sisal_tree.specs.declared.expr.Scalar.{Scalar}
@@ -22,7 +20,7 @@ use Rattle.type_rules.specs.declared.head.Sort.TheVariants as sort
 use Rattle.type_rules.specs.declared.head.Container.TheVariants as container
 use Rattle.type_rules.specs.Parts.{array_at, field_at, tag_at, is_record_at, is_part, element_in, there, outcome_of, sort_if}
 use Rattle.type_rules.specs.Scalars.{error_of, errs, is_converted, converts, scalar_number, prefix_number, prefixed, are_operands, binary_number, combines}
-use Rattle.type_rules.specs.Sequences.{selects, updates, empty_sort, empties}
+use Rattle.type_rules.specs.Sequences.{selects, updates, empties}
 use Rattle.type_rules.specs.Records.{are_distinct, field_outcome, fields, union_outcome, unites, test_outcome, tests, all_places, change_outcome, replaces}
 use Rattle.type_rules.specs.Applies.{applies, rule_of, IsTooDeep, IsRefused}
 use Rattle.type_rules.specs.Typed.{IsForm, IsKnown, IsKnownHead, FitsTypes, IsAsDeep}
@@ -148,8 +146,8 @@ module _ (forms : List Form) where
   -- ---- verdicts
 
   not_deep : (rule : ℕ) (p : Option Outcome) → IsThere p → (o : Outcome) → p ≡ Some o → IsTooDeep forms o.sort (refused.Rule rule) → ⊥
-  not_deep rule p there o e deep =
-      let n = subst IsThere e there in subst (λ s. IsTooDeep forms s (refused.Rule rule)) n.1 deep
+  not_deep rule p is o e d =
+      let n = subst IsThere e is in subst (λ s. IsTooDeep forms s (refused.Rule rule)) n.1 d
 
   makes_type : (h : Head) (ns : List ℕ) (o : Outcome) (rule : ℕ) → applies forms h ns ≡ Some o → IsTooDeep forms o.sort (refused.Rule rule) → MakesType h
   makes_type (head.ErrorOf n) ns o rule e d = not_deep rule (error_of n ns) (error_there n ns) o e d
@@ -170,8 +168,8 @@ module _ (forms : List Form) where
   makes_type (head.BuiltIn b) ns o rule e d = tt
 
   too_deep : (s : Sort) (rule : ℕ) (t : Ty) → IsTooDeep forms s (refused.Rule rule) → IsAsDeep forms s t → (rule ≡ 4) × (IsShallow t → ⊥)
-  too_deep (sort.There n) rule t d as = absurd d
-  too_deep (sort.Made f) rule t d as = (d.0, λ shallow. let more = d.1 in omega (arith, more, as, shallow))
+  too_deep (sort.There n) rule t d same = absurd d
+  too_deep (sort.Made f) rule t d same = (d.0, λ shallow. let more = d.1 in omega (arith, more, same, shallow))
 
 pub verdict : (forms : List Form) (names : List (List ℕ)) → IsKnown forms names → (h : Head) → IsKnownHead forms names h → (ns : List ℕ) (ts : List Ty) → AreNumbers forms names ns ts
     → (rule : ℕ) → IsRefused forms h ns (refused.Rule rule) → IsVerdict forms names h ts rule

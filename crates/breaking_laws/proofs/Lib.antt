@@ -3,6 +3,7 @@ pub mod FParts
 pub mod FTables
 pub mod FVerdicts
 pub mod FForms
+pub mod FFinish
 pub mod FCalls
 pub mod FBodies
 pub mod PReach

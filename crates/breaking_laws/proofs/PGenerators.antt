@@ -31,13 +31,14 @@ use Rattle.value_names.specs.Scopes.{define_all}
 use Rattle.typing_laws.specs.Given.{Given, Group}
 use Rattle.typing_laws.specs.Judged.{Agrees, Stands, denotes_in, AreOnes, no_one, a_one}
 use Rattle.typing_laws.specs.Looping.{up_to, GroupTyped, GroupsTyped, no_group, a_group}
+use Rattle.typing_laws.proofs.Later.{used_on}
 use Rattle.typing_laws.proofs.Entering.{stands_with_all}
 use Rattle.typing_laws.proofs.Generated.{groups_later}
 use Rattle.breaking_laws.specs.Broken.{IsWhole, misnames_in, BreaksAt, BreaksOneAt}
 use Rattle.breaking_laws.specs.Parts as parts
 use Rattle.breaking_laws.specs.Parts.{BreaksDefsAt, IsNoSource, no_elements, no_range, BreaksGeneratorAt, BreaksGroup, BreaksGroupAt, BreaksGroupsAt, BreaksClauses, BreaksClausesAt}
 use Rattle.breaking_laws.specs.PartLaws.{FromLaw, ToLaw, NoSourceLaw, OneGeneratorLaw, GroupTwiceLaw, AfterGroupsLaw, ProductGroupsLaw, ProductDefsLaw, ProductClausesLaw}
-use Rattle.breaking_laws.proofs.FPassing.{reach_later, reach_here, agrees_at, used_on, used_grows}
+use Rattle.breaking_laws.proofs.FPassing.{reach_later, reach_here, agrees_at}
 use Rattle.breaking_laws.proofs.PReach.{reaches_so}
 use Rattle.breaking_laws.proofs.PTwice.{twice_more}
 use Rattle.breaking_laws.proofs.PDefs.{outside}
@@ -190,10 +191,10 @@ clauses_inside k denotes misnames groups from s inside ds us made cs rule line d
 
 pub product_clauses_refused : ProductClausesLaw
 product_clauses_refused g f0 f1 f2 names now after l gs ms ds us ns cs rule line first second typed defined p =
-    reaches_so g f0 f2 (BreaksClausesAt g after (length gs) l cs rule line) (BreaksAt g names (at l (tree.For (loop.Product gs ds cs))) rule line) (used_on g.tokens f0 f1 f2 first second) p (λ table grows q. record {
+    reaches_so g f0 f2 (BreaksClausesAt g after (length gs) l cs rule line) (BreaksAt g names (at l (tree.For (loop.Product gs ds cs))) rule line) (used_on g f0 f1 f2 first second) p (λ table grows q. record {
       holds = λ k s whole stands.
           let agrees = agrees_at g f2 table k grows whole in
-          let x = groups_pass g f2 k s names now gs ms agrees stands (groups_later g f1 f2 names now gs ms (used_grows g.tokens f1 f2 second) typed) in
+          let x = groups_pass g f2 k s names now gs ms agrees stands (groups_later g f1 f2 names now gs ms second.grows typed) in
           let d = defined.holds k x.inside agrees x.stands in
           inside_all k (denotes_in g k) (misnames_in g k) s l gs now ds cs rule line x
           (clauses_inside k (denotes_in g k) (misnames_in g k) (length gs) l x.inside d.inside ds us d.made cs rule line d.defines (q.holds k d.inside whole d.stands));

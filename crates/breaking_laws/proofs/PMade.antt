@@ -26,19 +26,20 @@ use Rattle.type_rules.specs.declared.folds.Folded.{Folded}
 use Rattle.type_rules.specs.declared.head.Sort.{Sort}
 use Rattle.type_rules.specs.declared.head.Sort.TheVariants as sort
 use Rattle.type_rules.specs.Applies.{Grows, IsTooDeep}
-use Rattle.type_rules.specs.Folds.{makes_of, kept, reduced}
+use Rattle.type_rules.specs.Folds.{IsUnmade, makes_of, kept, reduced}
 use Rattle.type_rules.specs.Typed.{FitsClause, IsSortOf, IsAsDeep}
 use Rattle.type_rules.proofs.Clauses.{clauses_by_type}
 use Rattle.typing_laws.specs.Given.{Given}
 use Rattle.typing_laws.specs.Judged.{denotes_in}
 use Rattle.typing_laws.specs.Looping.{AreMade, AreValuesOf, no_value, a_value}
 use Rattle.typing_laws.specs.Looping as looping
+use Rattle.typing_laws.proofs.Later.{used_on}
 use Rattle.typing_laws.proofs.Unique.{a_number}
 use Rattle.breaking_laws.specs.Broken.{misnames_in}
 use Rattle.breaking_laws.specs.Parts as parts
 use Rattle.breaking_laws.specs.Parts.{IsClausePair, BreaksMade, BreaksMadeIn, BreaksMadeAt, BreaksClauses, BreaksClausesAt}
 use Rattle.breaking_laws.specs.PartLaws.{UnmadeLaw, DeepLaw, OneMadeLaw, ThroughLaw, MadeLaw}
-use Rattle.breaking_laws.proofs.FPassing.{reach_here, agrees_at, used_on, used_grows}
+use Rattle.breaking_laws.proofs.FPassing.{reach_here, agrees_at}
 use Rattle.breaking_laws.proofs.FTables.{contains_first, contains_later}
 use Rattle.breaking_laws.proofs.PReach.{reaches_so}
 use Rattle.breaking_laws.proofs.PDefs.{number_at}
@@ -116,7 +117,7 @@ unmade_refused g f groups from c n rule table not_deep unmade = reach_here g f (
     nothing : (a : Ty) → ((b : Ty) → Makes (out-Clause c).kind a b → ⊥) → (b : Ty) → MakesThrough (out-Clause c).kind (suc groups) a b → ⊥
     nothing a never b (through {inner = inner} p r) = never inner p
 
-    by : ((makes_of f (out-Clause c).kind n ≡ None) × (rule ≡ 23)) ⊎ ((r : Folded) × (makes_of f (out-Clause c).kind n ≡ Some r) × IsTooDeep f r.sort (refused.Rule rule))
+    by : IsUnmade f (out-Clause c).kind n (refused.Rule rule)
         → (k : Known) → k.forms ≡ f → (a : Ty) → FitsClause k.forms k.spellings (out-Clause c).kind a (makes_of k.forms (out-Clause c).kind n) → BreaksMade (suc groups) from c a rule (out-Clause c).line
     by (inl p) k same a fits =
         let never : (b : Ty) → Makes (out-Clause c).kind a b → ⊥ =
@@ -153,7 +154,7 @@ deep_made f names table groups made.Stream n a r e deep number =
     stream_made : (a b : Ty) → Makes made.Stream a b → b ≡ ty.Stream a
     stream_made a _ (stream_of _) = refl
 deep_made f names table groups made.Last n a r e deep number = absurd (not_there f n r.sort (kept_there (Some folding.Last) n r e) deep)
-deep_made f names table groups (made.Reduce d reduction) n a r e deep number = absurd (not_there f n r.sort (kept_there (reduced f reduction n) n r e) deep)
+deep_made f names table groups (made.Reduce d by) n a r e deep number = absurd (not_there f n r.sort (kept_there (reduced f by n) n r e) deep)
 
 pub deep_refused : DeepLaw
 deep_refused g f groups from c n table unmade = reach_here g f (BreaksMadeAt (suc groups) from (c ∷ []) (n ∷ []) 4 from) table (record {
@@ -163,10 +164,10 @@ deep_refused g f groups from c n table unmade = reach_here g f (BreaksMadeAt (su
       record { clause = c; type = t.0; pair = clause_pair_at (c ∷ []) tys 0 c t.0 refl t.1; breaks = parts.deep d.makes d.deep };
 })
   where
-    four : 4 ≡ 23 → ⊥
+    four : ◌≡◌ {A = ℕ} 4 23 → ⊥
     four e = omega (arith, e)
 
-    by : ((makes_of f (out-Clause c).kind n ≡ None) × (4 ≡ 23)) ⊎ ((r : Folded) × (makes_of f (out-Clause c).kind n ≡ Some r) × IsTooDeep f r.sort (refused.Rule 4))
+    by : IsUnmade f (out-Clause c).kind n (refused.Rule 4)
         → (k : Known) → k.forms ≡ f → (a : Ty) → IsNumber f k.spellings n a → TooDeep (out-Clause c).kind (suc groups) a
     by (inl p) k same a number = absurd (four p.1)
     by (inr p) k same a number = deep_made f k.spellings table groups (out-Clause c).kind n a p.0 p.1 p.2 number
@@ -209,11 +210,11 @@ breaks_through groups from c a b _ _ makes (parts.deep t never) = parts.deep (th
 pub through_refused : ThroughLaw
 through_refused g f0 f1 groups from cs is_masked ns folds rule line used all p = record {
   table = p.table;
-  used = used_on g.tokens f0 f1 p.table used p.used;
+  used = used_on g f0 f1 p.table used p.used;
   is_table = p.is_table;
   holds = record {
     holds = λ k tys same number.
-        let grows : Grows f1 k.forms = subst (λ l. Grows f1 l) (sym same) (used_grows g.tokens f1 p.table p.used) in
+        let grows : Grows f1 k.forms = subst (λ l. Grows f1 l) (sym same) p.used.grows in
         let m = all.holds k grows (subst IsTable (sym same) p.is_table) tys number in
         let b = p.holds.holds k m.made same m.number in
         let o = made_of is_masked cs tys folds.forms m.made b.clause b.type m.each b.pair in

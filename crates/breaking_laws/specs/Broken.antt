@@ -1,6 +1,6 @@
 -- What the walk over a function's body says where it refuses: the types so far grow to a table at which, for all that is known in
 -- the whole program, and all names in force, that the walk stands for, a phrase breaks the rule on the line.
-use Rattle.std.specs.Prelude.{◌≡◌, ℕ, List, [], ◌∷◌, slice_range, Contains}
+use Rattle.std.specs.Prelude.{◌≡◌, ℕ, List, slice_range, Contains}
 use Rattle.type_table.specs.declared.form.Form.{Form}
 use Rattle.type_table.specs.Tables.{IsTable}
 use Rattle.sisal_tree.specs.declared.unit.Written.{Written}
@@ -12,10 +12,9 @@ use Rattle.typed_tree.specs.Written.{Misnames}
 use Rattle.typed_tree.specs.Scopes as tree
 use Rattle.typed_tree.specs.Typing.{Known, at}
 use Rattle.typed_tree.specs.Breaks.{Breaks, BreaksOne, BreaksIn}
-use Rattle.unit_types.specs.Rests.{IsUsed}
 use Rattle.value_names.specs.Names.{Names}
 use Rattle.typing_laws.specs.Given.{Given}
-use Rattle.typing_laws.specs.Judged.{Agrees, Stands, denotes_in}
+use Rattle.typing_laws.specs.Judged.{IsUsedIn, Agrees, Stands, denotes_in}
 
 -- which rule a written type of the text breaks, and where
 abbrev pub misnames_in : Given → Known → Written → ℕ → ℕ → Type 0
@@ -24,7 +23,7 @@ misnames_in g k w rule line = Misnames k.spellings k.types (slice_range (placed 
 -- the types so far grow to a table of which this is so
 pub record Reaches (g : Given) (old : List Form) (says : List Form → Type 0) : Type 0 where
   pub table : List Form
-  pub used : IsUsed g.tokens old table
+  pub used : IsUsedIn g old table
   pub is_table : IsTable table
   pub holds : says table
 

@@ -23,7 +23,6 @@ use Rattle.type_rules.specs.Applies.{Grows}
 use Rattle.type_rules.specs.Arms.{are_all_named}
 use Rattle.type_rules.specs.Folds.{IsUnmade}
 use Rattle.type_rules.specs.declared.fault.Refused.TheVariants as refused
-use Rattle.unit_types.specs.Rests.{IsUsed}
 use Rattle.value_names.specs.declared.value.Value.{Value}
 use Rattle.value_names.specs.Names.{Names}
 use Rattle.value_names.specs.Scopes.{loop_value, twice_in}
@@ -31,7 +30,7 @@ use Rattle.typing_laws.specs.Casing.{AddsArms, AddsLast, Begins, EntersArm, Keep
 use Rattle.typing_laws.specs.Defining.{AllDefined, targets_in}
 use Rattle.typing_laws.specs.Given.{Arms, Defined, Given, Group, Parts}
 use Rattle.typing_laws.specs.Given as given
-use Rattle.typing_laws.specs.Judged.{AllOnes, AllTyped, IsDenoted}
+use Rattle.typing_laws.specs.Judged.{IsUsedIn, AllOnes, AllTyped, IsDenoted}
 use Rattle.typing_laws.specs.Looping.{AllMade, AllValues, GroupsTyped, up_to}
 use Rattle.typing_laws.specs.Turns.{AreBelow, in_turn, loop_names}
 use Rattle.breaking_laws.specs.Broken.{Broken, BrokenIn, BrokenOne, Misnamed}
@@ -50,7 +49,7 @@ DefinedTwiceLaw = (g : Given) (f : List Form) (names : Names) (turn : Option ℕ
 -- a definition behind typed ones
 abbrev pub AfterDefsLaw : Type 0
 AfterDefsLaw = (g : Given) (f0 f1 : List Form) (start now : Names) (turn : Option ℕ) (done : List Def) (d : Def) (rest : List Def) (us : List (List TypedExpr)) (ns : List ℕ) (rule line : ℕ)
-    → IsUsed g.tokens f0 f1 → AllDefined g f1 start now turn done us ns → BrokenDefs g f1 now turn (d ∷ []) rule line → BrokenDefs g f0 start turn (done ++ (d ∷ rest)) rule line
+    → IsUsedIn g f0 f1 → AllDefined g f1 start now turn done us ns → BrokenDefs g f1 now turn (d ∷ []) rule line → BrokenDefs g f0 start turn (done ++ (d ∷ rest)) rule line
 
 -- the values of a definition
 abbrev pub ValuesLaw : Type 0
@@ -58,7 +57,7 @@ ValuesLaw = (g : Given) (f : List Form) (names : Names) (turn : Option ℕ) (d :
 
 -- its targets
 abbrev pub TargetsLaw : Type 0
-TargetsLaw = (g : Given) (f0 f1 : List Form) (names : Names) (turn : Option ℕ) (d : Def) (ts : List TypedExpr) (ns : List ℕ) (rule line : ℕ) → IsUsed g.tokens f0 f1
+TargetsLaw = (g : Given) (f0 f1 : List Form) (names : Names) (turn : Option ℕ) (d : Def) (ts : List TypedExpr) (ns : List ℕ) (rule line : ℕ) → IsUsedIn g f0 f1
     → AllTyped g f1 names (out-Def d).values ts ns → BrokenTargets g f1 names turn (line_of (out-Def d).targets) (out-Def d).targets ns rule line → BrokenDefs g f0 names turn (d ∷ []) rule line
 
 -- another number of values than of targets
@@ -67,7 +66,7 @@ CountLaw = (g : Given) (f : List Form) (names : Names) (turn : Option ℕ) (at :
 
 -- one of the targets
 abbrev pub OneTargetLaw : Type 0
-OneTargetLaw = (g : Given) (f0 f1 : List Form) (names : Names) (turn : Option ℕ) (at : ℕ) (xs : List Target) (ns : List ℕ) (i : ℕ) (x : Target) (n rule line : ℕ) → IsUsed g.tokens f0 f1
+OneTargetLaw = (g : Given) (f0 f1 : List Form) (names : Names) (turn : Option ℕ) (at : ℕ) (xs : List Target) (ns : List ℕ) (i : ℕ) (x : Target) (n rule line : ℕ) → IsUsedIn g f0 f1
     → slice_get xs i ≡ Some x → slice_get ns i ≡ Some n → BrokenTargets g f1 names turn at (x ∷ []) (n ∷ []) rule line → BrokenTargets g f0 names turn at xs ns rule line
 
 -- the written type of a target
@@ -77,7 +76,7 @@ MisnamedLaw = (g : Given) (f : List Form) (names : Names) (turn : Option ℕ) (a
 
 -- a value of another type than is declared
 abbrev pub DeclaredLaw : Type 0
-DeclaredLaw = (g : Given) (f0 f1 : List Form) (names : Names) (turn : Option ℕ) (at : ℕ) (x : Target) (w : Written) (n m : ℕ) → IsUsed g.tokens f0 f1 → IsTable f1 → x.ty ≡ Some w → IsDenoted g f1 w m
+DeclaredLaw = (g : Given) (f0 f1 : List Form) (names : Names) (turn : Option ℕ) (at : ℕ) (x : Target) (w : Written) (n m : ℕ) → IsUsedIn g f0 f1 → IsTable f1 → x.ty ≡ Some w → IsDenoted g f1 w m
     → m ≢ n → BrokenTargets g f0 names turn at (x ∷ []) (n ∷ []) 14 at
 
 -- a loop name with a value of another type
@@ -94,16 +93,16 @@ RenewingLaw = (g : Given) (f : List Form) (names inside : Names) (first : ℕ) (
     → BrokenDefs g f inside (Some first) ds rule line → BrokenRenewing g f names first started ds rule line
 
 abbrev pub TurnDefsLaw : Type 0
-TurnDefsLaw = (g : Given) (f0 f1 : List Form) (names : Names) (first : ℕ) (started : Defined) (l : ℕ) (turn : Turn) (rule line : ℕ) → IsUsed g.tokens f0 f1
+TurnDefsLaw = (g : Given) (f0 f1 : List Form) (names : Names) (first : ℕ) (started : Defined) (l : ℕ) (turn : Turn) (rule line : ℕ) → IsUsedIn g f0 f1
     → BrokenRenewing g f1 names first started (out-Turn turn).defs rule line → BrokenTurn g f0 names first started l turn rule line
 
 -- its test
 abbrev pub TurnTestLaw : Type 0
-TurnTestLaw = (g : Given) (f0 f1 : List Form) (names : Names) (first : ℕ) (started : Defined) (l : ℕ) (turn : Turn) (rule line : ℕ) → IsUsed g.tokens f0 f1
+TurnTestLaw = (g : Given) (f0 f1 : List Form) (names : Names) (first : ℕ) (started : Defined) (l : ℕ) (turn : Turn) (rule line : ℕ) → IsUsedIn g f0 f1
     → BrokenOne g f1 names (out-Turn turn).test rule line → BrokenTurn g f0 names first started l turn rule line
 
 abbrev pub TruthLaw : Type 0
-TruthLaw = (g : Given) (f0 f1 : List Form) (names : Names) (first : ℕ) (started : Defined) (l : ℕ) (turn : Turn) (ts : List TypedExpr) (ns : List ℕ) (rule line : ℕ) → IsUsed g.tokens f0 f1 → IsTable f1
+TruthLaw = (g : Given) (f0 f1 : List Form) (names : Names) (first : ℕ) (started : Defined) (l : ℕ) (turn : Turn) (ts : List TypedExpr) (ns : List ℕ) (rule line : ℕ) → IsUsedIn g f0 f1 → IsTable f1
     → AllOnes g f1 names ((out-Turn turn).test ∷ []) ts ns → IsNoTruth ns l rule line → BrokenTurn g f0 names first started l turn rule line
 
 -- `for initial`: the definitions before the turns, the turns, the clauses
@@ -112,13 +111,13 @@ InitialDefsLaw = (g : Given) (f : List Form) (names : Names) (l : ℕ) (ds : Lis
     → Broken g f names (at l (tree.For (loop.Initial ds turn cs))) rule line
 
 abbrev pub InitialTurnLaw : Type 0
-InitialTurnLaw = (g : Given) (f0 f1 : List Form) (names after : Names) (l : ℕ) (ds : List Def) (started : Defined) (turn : Turn) (cs : List Clause) (rule line : ℕ) → IsUsed g.tokens f0 f1
+InitialTurnLaw = (g : Given) (f0 f1 : List Form) (names after : Names) (l : ℕ) (ds : List Def) (started : Defined) (turn : Turn) (cs : List Clause) (rule line : ℕ) → IsUsedIn g f0 f1
     → AllDefined g f1 names after None ds started.exprs started.types → started.targets ≡ targets_in ds → BrokenTurn g f1 after names.height started l turn rule line
     → Broken g f0 names (at l (tree.For (loop.Initial ds turn cs))) rule line
 
 abbrev pub InitialClausesLaw : Type 0
 InitialClausesLaw = (g : Given) (f0 f1 : List Form) (names after : Names) (l : ℕ) (ds : List Def) (us : List (List TypedExpr)) (ns : List ℕ) (turn : Turn) (cs : List Clause) (rule line : ℕ)
-    → IsUsed g.tokens f0 f1 → AllDefined g f1 names after None ds us ns → BrokenClauses g f1 after 1 l cs rule line → Broken g f0 names (at l (tree.For (loop.Initial ds turn cs))) rule line
+    → IsUsedIn g f0 f1 → AllDefined g f1 names after None ds us ns → BrokenClauses g f1 after 1 l cs rule line → Broken g f0 names (at l (tree.For (loop.Initial ds turn cs))) rule line
 
 -- ---- clauses
 
@@ -128,17 +127,17 @@ ClauseValueLaw = (g : Given) (f : List Form) (names : Names) (c : Clause) (rule 
 
 -- its mask
 abbrev pub ClauseMaskLaw : Type 0
-ClauseMaskLaw = (g : Given) (f0 f1 : List Form) (names : Names) (c : Clause) (m : Mask) (rule line : ℕ) → IsUsed g.tokens f0 f1 → (out-Clause c).mask ≡ Some m
+ClauseMaskLaw = (g : Given) (f0 f1 : List Form) (names : Names) (c : Clause) (m : Mask) (rule line : ℕ) → IsUsedIn g f0 f1 → (out-Clause c).mask ≡ Some m
     → BrokenOne g f1 names m.test rule line → BrokenValues g f0 names (c ∷ []) rule line
 
 -- a mask that is no boolean, behind values of these types
 abbrev pub MaskLaw : Type 0
-MaskLaw = (g : Given) (f0 f1 : List Form) (names : Names) (c : Clause) (m : Mask) (ts : List TypedExpr) (before ns : List ℕ) (rule line : ℕ) → IsUsed g.tokens f0 f1 → IsTable f1 → (out-Clause c).mask ≡ Some m
+MaskLaw = (g : Given) (f0 f1 : List Form) (names : Names) (c : Clause) (m : Mask) (ts : List TypedExpr) (before ns : List ℕ) (rule line : ℕ) → IsUsedIn g f0 f1 → IsTable f1 → (out-Clause c).mask ≡ Some m
     → AllOnes g f1 names (m.test ∷ []) ts ns → EndsFalse (before ++ ns) (out-Clause c).line rule line → BrokenValues g f0 names (c ∷ []) rule line
 
 -- one of the clauses
 abbrev pub OneClauseLaw : Type 0
-OneClauseLaw = (g : Given) (f0 f1 : List Form) (names : Names) (cs : List Clause) (c : Clause) (rule line : ℕ) → IsUsed g.tokens f0 f1 → Contains cs c → BrokenValues g f1 names (c ∷ []) rule line
+OneClauseLaw = (g : Given) (f0 f1 : List Form) (names : Names) (cs : List Clause) (c : Clause) (rule line : ℕ) → IsUsedIn g f0 f1 → Contains cs c → BrokenValues g f1 names (c ∷ []) rule line
     → BrokenValues g f0 names cs rule line
 
 -- a clause that makes nothing of the values, and one that makes too deep a type
@@ -151,17 +150,17 @@ DeepLaw = (g : Given) (f : List Form) (groups from : ℕ) (c : Clause) (n : ℕ)
 
 -- one of the clauses with its values
 abbrev pub OneMadeLaw : Type 0
-OneMadeLaw = (g : Given) (f0 f1 : List Form) (groups from : ℕ) (cs : List Clause) (ns : List ℕ) (i : ℕ) (c : Clause) (n rule line : ℕ) → IsUsed g.tokens f0 f1
+OneMadeLaw = (g : Given) (f0 f1 : List Form) (groups from : ℕ) (cs : List Clause) (ns : List ℕ) (i : ℕ) (c : Clause) (n rule line : ℕ) → IsUsedIn g f0 f1
     → slice_get cs i ≡ Some c → slice_get ns i ≡ Some n → BrokenMade g f1 groups from (c ∷ []) (n ∷ []) rule line → BrokenMade g f0 groups from cs ns rule line
 
 -- over what they make for the group inside
 abbrev pub ThroughLaw : Type 0
-ThroughLaw = (g : Given) (f0 f1 : List Form) (groups from : ℕ) (cs : List Clause) (is_masked : Bool) (ns : List ℕ) (folds : given.Folds) (rule line : ℕ) → IsUsed g.tokens f0 f1
+ThroughLaw = (g : Given) (f0 f1 : List Form) (groups from : ℕ) (cs : List Clause) (is_masked : Bool) (ns : List ℕ) (folds : given.Folds) (rule line : ℕ) → IsUsedIn g f0 f1
     → AllMade f1 cs is_masked ns folds → BrokenMade g f1 groups from cs folds.types rule line → BrokenMade g f0 (suc groups) from cs ns rule line
 
 -- over typed values
 abbrev pub MadeLaw : Type 0
-MadeLaw = (g : Given) (f0 f1 : List Form) (names : Names) (groups from : ℕ) (cs : List Clause) (ts : List TypedExpr) (ns : List ℕ) (rule line : ℕ) → IsUsed g.tokens f0 f1
+MadeLaw = (g : Given) (f0 f1 : List Form) (names : Names) (groups from : ℕ) (cs : List Clause) (ts : List TypedExpr) (ns : List ℕ) (rule line : ℕ) → IsUsedIn g f0 f1
     → AllValues g f1 names cs ts ns → BrokenMade g f1 groups from cs ns rule line → BrokenClauses g f0 names groups from cs rule line
 
 -- ---- generators
@@ -171,28 +170,28 @@ abbrev pub FromLaw : Type 0
 FromLaw = (g : Given) (f : List Form) (names : Names) (one : Generator) (rule line : ℕ) → BrokenOne g f names (out-Generator one).from rule line → BrokenGenerator g f names one rule line
 
 abbrev pub ToLaw : Type 0
-ToLaw = (g : Given) (f0 f1 : List Form) (names : Names) (one : Generator) (e : Expr) (rule line : ℕ) → IsUsed g.tokens f0 f1 → (out-Generator one).to ≡ Some e → BrokenOne g f1 names e rule line
+ToLaw = (g : Given) (f0 f1 : List Form) (names : Names) (one : Generator) (e : Expr) (rule line : ℕ) → IsUsedIn g f0 f1 → (out-Generator one).to ≡ Some e → BrokenOne g f1 names e rule line
     → BrokenGenerator g f0 names one rule line
 
 abbrev pub NoSourceLaw : Type 0
-NoSourceLaw = (g : Given) (f0 f1 : List Form) (names : Names) (one : Generator) (ts : List TypedExpr) (ns : List ℕ) (rule line : ℕ) → IsUsed g.tokens f0 f1 → IsTable f1
+NoSourceLaw = (g : Given) (f0 f1 : List Form) (names : Names) (one : Generator) (ts : List TypedExpr) (ns : List ℕ) (rule line : ℕ) → IsUsedIn g f0 f1 → IsTable f1
     → AllOnes g f1 names ((out-Generator one).from ∷ up_to (out-Generator one).to) ts ns → HasNoSource f1 ns (is_some (out-Generator one).at) (out-Generator one).name.line rule line
     → BrokenGenerator g f0 names one rule line
 
 -- one of a group
 abbrev pub OneGeneratorLaw : Type 0
-OneGeneratorLaw = (g : Given) (f0 f1 : List Form) (names : Names) (gs : List Generator) (one : Generator) (rule line : ℕ) → IsUsed g.tokens f0 f1 → Contains gs one
+OneGeneratorLaw = (g : Given) (f0 f1 : List Form) (names : Names) (gs : List Generator) (one : Generator) (rule line : ℕ) → IsUsedIn g f0 f1 → Contains gs one
     → BrokenGenerator g f1 names one rule line → BrokenGroup g f0 names gs rule line
 
 -- a name that stands twice among the first names of a group
 abbrev pub GroupTwiceLaw : Type 0
-GroupTwiceLaw = (g : Given) (f0 f1 : List Form) (names : Names) (gs : List Generator) (ns more : List Named) (rule line : ℕ) → IsUsed g.tokens f0 f1 → IsTable f1 → generators_in gs ≡ ns ++ more
+GroupTwiceLaw = (g : Given) (f0 f1 : List Form) (names : Names) (gs : List Generator) (ns more : List Named) (rule line : ℕ) → IsUsedIn g f0 f1 → IsTable f1 → generators_in gs ≡ ns ++ more
     → StandsTwice ns rule line → BrokenGroup g f0 names gs rule line
 
 -- a group behind typed ones
 abbrev pub AfterGroupsLaw : Type 0
 AfterGroupsLaw = (g : Given) (f0 f1 : List Form) (names now : Names) (done : List (List Generator)) (ms : List Group) (one : List Generator) (rest : List (List Generator)) (rule line : ℕ)
-    → IsUsed g.tokens f0 f1 → GroupsTyped g f1 names done ms now → BrokenGroup g f1 now one rule line → BrokenGroups g f0 names (done ++ (one ∷ rest)) rule line
+    → IsUsedIn g f0 f1 → GroupsTyped g f1 names done ms now → BrokenGroup g f1 now one rule line → BrokenGroups g f0 names (done ++ (one ∷ rest)) rule line
 
 -- ---- loops over groups
 
@@ -201,12 +200,12 @@ ProductGroupsLaw = (g : Given) (f : List Form) (names : Names) (l : ℕ) (gs : L
     → Broken g f names (at l (tree.For (loop.Product gs ds cs))) rule line
 
 abbrev pub ProductDefsLaw : Type 0
-ProductDefsLaw = (g : Given) (f0 f1 : List Form) (names now : Names) (l : ℕ) (gs : List (List Generator)) (ms : List Group) (ds : List Def) (cs : List Clause) (rule line : ℕ) → IsUsed g.tokens f0 f1
+ProductDefsLaw = (g : Given) (f0 f1 : List Form) (names now : Names) (l : ℕ) (gs : List (List Generator)) (ms : List Group) (ds : List Def) (cs : List Clause) (rule line : ℕ) → IsUsedIn g f0 f1
     → GroupsTyped g f1 names gs ms now → BrokenDefs g f1 now None ds rule line → Broken g f0 names (at l (tree.For (loop.Product gs ds cs))) rule line
 
 abbrev pub ProductClausesLaw : Type 0
 ProductClausesLaw = (g : Given) (f0 f1 f2 : List Form) (names now after : Names) (l : ℕ) (gs : List (List Generator)) (ms : List Group) (ds : List Def) (us : List (List TypedExpr)) (ns : List ℕ) (cs : List Clause) (rule line : ℕ)
-    → IsUsed g.tokens f0 f1 → IsUsed g.tokens f1 f2 → GroupsTyped g f1 names gs ms now → AllDefined g f2 now after None ds us ns → BrokenClauses g f2 after (length gs) l cs rule line
+    → IsUsedIn g f0 f1 → IsUsedIn g f1 f2 → GroupsTyped g f1 names gs ms now → AllDefined g f2 now after None ds us ns → BrokenClauses g f2 after (length gs) l cs rule line
     → Broken g f0 names (at l (tree.For (loop.Product gs ds cs))) rule line
 
 -- ---- arms
@@ -216,7 +215,7 @@ abbrev pub CaseSubjectLaw : Type 0
 CaseSubjectLaw = (g : Given) (f : List Form) (names : Names) (l : ℕ) (c : TagCase) (rule line : ℕ) → BrokenOne g f names (out-TagCase c).subject rule line → Broken g f names (at l (tree.TagCase c)) rule line
 
 abbrev pub CaseNoUnionLaw : Type 0
-CaseNoUnionLaw = (g : Given) (f0 f1 : List Form) (names : Names) (l : ℕ) (c : TagCase) (subject : Parts) (rule line : ℕ) → IsUsed g.tokens f0 f1 → IsTable f1
+CaseNoUnionLaw = (g : Given) (f0 f1 : List Form) (names : Names) (l : ℕ) (c : TagCase) (subject : Parts) (rule line : ℕ) → IsUsedIn g f0 f1 → IsTable f1
     → AllOnes g f1 names ((out-TagCase c).subject ∷ []) subject.exprs subject.types → IsNoUnion f1 subject l rule line → Broken g f0 names (at l (tree.TagCase c)) rule line
 
 -- the tags of an arm, and its results
@@ -230,7 +229,7 @@ ArmResultsLaw = (g : Given) (f : List Form) (names inner : Names) (a : Arm) (old
 
 -- an arm behind others
 abbrev pub AfterArmsLaw : Type 0
-AfterArmsLaw = (g : Given) (f0 f1 : List Form) (names : Names) (done : List Arm) (a : Arm) (rest : List Arm) (old mid : Arms) (rule line : ℕ) → IsUsed g.tokens f0 f1
+AfterArmsLaw = (g : Given) (f0 f1 : List Form) (names : Names) (done : List Arm) (a : Arm) (rest : List Arm) (old mid : Arms) (rule line : ℕ) → IsUsedIn g f0 f1
     → AddsArms g f0 f1 names done old mid → BrokenArms g f1 names (a ∷ []) mid rule line → BrokenArms g f0 names (done ++ (a ∷ rest)) old rule line
 
 -- what an arm has as results, behind others
@@ -247,27 +246,27 @@ MoreResultsLaw = (g : Given) (f0 f1 f2 : List Form) (names : Names) (arms more :
 
 -- `tagcase`: an arm, the results of `otherwise`, a tag without an arm, and arms that differ
 abbrev pub CaseArmsLaw : Type 0
-CaseArmsLaw = (g : Given) (f0 f1 : List Form) (names : Names) (l : ℕ) (c : TagCase) (subject : Parts) (begun : Arms) (rule line : ℕ) → IsUsed g.tokens f0 f1
+CaseArmsLaw = (g : Given) (f0 f1 : List Form) (names : Names) (l : ℕ) (c : TagCase) (subject : Parts) (begun : Arms) (rule line : ℕ) → IsUsedIn g f0 f1
     → AllOnes g f1 names ((out-TagCase c).subject ∷ []) subject.exprs subject.types → Begins f1 (out-TagCase c).name subject begun
     → BrokenArms g f1 names (out-TagCase c).arms begun rule line → Broken g f0 names (at l (tree.TagCase c)) rule line
 
 abbrev pub CaseOtherwiseLaw : Type 0
-CaseOtherwiseLaw = (g : Given) (f0 f1 : List Form) (names : Names) (l : ℕ) (c : TagCase) (es : List Expr) (rule line : ℕ) → IsUsed g.tokens f0 f1 → (out-TagCase c).otherwise ≡ Some es
+CaseOtherwiseLaw = (g : Given) (f0 f1 : List Form) (names : Names) (l : ℕ) (c : TagCase) (es : List Expr) (rule line : ℕ) → IsUsedIn g f0 f1 → (out-TagCase c).otherwise ≡ Some es
     → BrokenIn g f1 names es rule line → Broken g f0 names (at l (tree.TagCase c)) rule line
 
 abbrev pub CaseNoArmLaw : Type 0
-CaseNoArmLaw = (g : Given) (f0 f1 f2 : List Form) (names : Names) (l : ℕ) (c : TagCase) (subject : Parts) (begun done : Arms) → IsUsed g.tokens f0 f1 → IsUsed g.tokens f1 f2 → IsTable f2
+CaseNoArmLaw = (g : Given) (f0 f1 f2 : List Form) (names : Names) (l : ℕ) (c : TagCase) (subject : Parts) (begun done : Arms) → IsUsedIn g f0 f1 → IsUsedIn g f1 f2 → IsTable f2
     → AllOnes g f1 names ((out-TagCase c).subject ∷ []) subject.exprs subject.types → Begins f1 (out-TagCase c).name subject begun → AddsArms g f1 f2 names (out-TagCase c).arms begun done
     → (out-TagCase c).otherwise ≡ None → are_all_named done.chosen ≡ false → Broken g f0 names (at l (tree.TagCase c)) 18 l
 
 abbrev pub CaseDifferLaw : Type 0
-CaseDifferLaw = (g : Given) (f0 f1 f2 : List Form) (names : Names) (l : ℕ) (c : TagCase) (subject : Parts) (begun done : Arms) → IsUsed g.tokens f0 f1 → IsUsed g.tokens f1 f2 → IsTable f2
+CaseDifferLaw = (g : Given) (f0 f1 f2 : List Form) (names : Names) (l : ℕ) (c : TagCase) (subject : Parts) (begun done : Arms) → IsUsedIn g f0 f1 → IsUsedIn g f1 f2 → IsTable f2
     → AllOnes g f1 names ((out-TagCase c).subject ∷ []) subject.exprs subject.types → Begins f1 (out-TagCase c).name subject begun → AddsArms g f1 f2 names (out-TagCase c).arms begun done
     → AddsResults g f1 f2 names (out-TagCase c).arms begun done → done.is_even ≡ false → Broken g f0 names (at l (tree.TagCase c)) 18 l
 
 abbrev pub CaseOtherwiseDiffersLaw : Type 0
 CaseOtherwiseDiffersLaw = (g : Given) (f0 f1 f2 f3 : List Form) (names : Names) (l : ℕ) (c : TagCase) (subject : Parts) (es : List Expr) (ts : List TypedExpr) (ns : List ℕ) (begun done final : Arms)
-    → IsUsed g.tokens f0 f1 → IsUsed g.tokens f1 f2 → IsUsed g.tokens f2 f3 → IsTable f3
+    → IsUsedIn g f0 f1 → IsUsedIn g f1 f2 → IsUsedIn g f2 f3 → IsTable f3
     → AllOnes g f1 names ((out-TagCase c).subject ∷ []) subject.exprs subject.types → Begins f1 (out-TagCase c).name subject begun → AddsArms g f1 f2 names (out-TagCase c).arms begun done
     → AddsResults g f1 f2 names (out-TagCase c).arms begun done → (out-TagCase c).otherwise ≡ Some es → AllTyped g f3 names es ts ns → Differs ns done final → final.is_even ≡ false
     → Broken g f0 names (at l (tree.TagCase c)) 18 l

@@ -51,7 +51,7 @@ HasElements _ ns = Unit {0}
 
 -- `if` whose test is no boolean, or whose parts have other types
 abbrev pub Uneven : ℕ → List ℕ → List ℕ → List ℕ → ℕ → ℕ → Type 0
-Uneven at test yes no rule line = (rule ≡ 17) × (line ≡ at) × ((test ≡ 0 ∷ [] → ⊥) ⊎ (yes ≡ no → ⊥))
+Uneven at test one other rule line = (rule ≡ 17) × (line ≡ at) × ((test ≡ 0 ∷ [] → ⊥) ⊎ (one ≡ other → ⊥))
 
 -- ---- calls
 

@@ -1,7 +1,11 @@
 //! Functions.
-ghost use Rattle.std.specs.Prelude.{◌≡◌, ◌++◌, [], ◌∷◌, map, length, slice_get, Some, is_some, IfOk, OnOk};
 ghost use Rattle.sisal_check.specs.Headed.{HaveFirst, is_defined};
-ghost use Rattle.unit_types.specs.Headings.{has_body, given_functions, given_by, given_as};
+ghost use Rattle.sisal_check.specs.Walked.{IsBody, given_behind, header_of};
+ghost use Rattle.std.specs.Prelude.{IfOk, OnOk, Some, [], is_some, length, map, slice_get, ◌++◌, ◌∷◌, ◌≡◌};
+ghost use Rattle.typing_laws.specs.Bodies.{define_params};
+ghost use Rattle.typing_laws.specs.Judged.{IsUsedIn};
+ghost use Rattle.unit_types.specs.Headings.{given_as, given_by, given_functions, has_body};
+ghost use Rattle.value_names.specs.Scopes.{no_names};
 
 use crate::lists::all;
 use crate::state::{Given, Parts, Walk};
@@ -105,7 +109,11 @@ fn body(
     header: &Signature,
     given: &Given<'_>,
     walk: &mut Walk,
-) -> Result<Seq<TypedExpr>, TypeFault> {
+) -> Result<Seq<TypedExpr>, TypeFault>
+    ensures used { OnOk result (IsUsedIn (given_behind header.now.known given.now) walk.old.types walk.new.types) }
+    ensures names { OnOk result (walk.new.names ≡ walk.old.names) }
+    ensures typed { walk.old.names ≡ no_names → IfOk result (λ ts. IsBody (given_behind header.now.known given.now) walk.new.types (header_of header.now) es.now ts) }
+{
     let outer = walk.names.mark();
     parameters(
         header.parameters.as_slice(),
@@ -133,7 +141,9 @@ fn body(
 }
 
 /// Brings the parameters into force.
-fn parameters(xs: &[u32], types: &[u32], names: &mut InForce) -> Result<(), NoMemory> {
+fn parameters(xs: &[u32], types: &[u32], names: &mut InForce) -> Result<(), NoMemory>
+    ensures { OnOk result (names.new ≡ define_params xs.now types.now names.old) }
+{
     for (x, ty) in xs.iter().zip(types) {
         names.define(*x, *ty)?;
     }

@@ -1,4 +1,11 @@
 //! Calls.
+ghost use Rattle.breaking_laws.specs.Refusals.{IsNoBuiltIn, OtherParams, RefusesCall};
+ghost use Rattle.sisal_check.specs.Walked.{given_of, parts_of};
+ghost use Rattle.std.specs.Prelude.{IfErr, IfNone, IfOk, IfSome, OnOk, ◌≡◌};
+ghost use Rattle.type_rules.specs.Faults.{IsRule};
+ghost use Rattle.typing_laws.specs.Forming.{Calls, CallsOf, IsBuiltIn};
+ghost use Rattle.typing_laws.specs.Judged.{IsUsedIn};
+
 use crate::making::finish;
 use crate::state::{Given, Parts, Walk};
 use flow_value::{Seq, item_at};
@@ -13,7 +20,13 @@ pub(crate) fn call(
     operands: Parts,
     given: &Given<'_>,
     walk: &mut Walk,
-) -> Result<TypedExpr, TypeFault> {
+) -> Result<TypedExpr, TypeFault>
+    ensures used { OnOk result (IsUsedIn (given_of given.now) walk.old.types walk.new.types) }
+    ensures names { walk.new.names ≡ walk.old.names }
+    ensures calls { IfOk result (λ t. Calls (given_of given.now) walk.old.types walk.new.types line name (parts_of operands) t) }
+    ensures line { IfOk result (λ t. t.line ≡ line) }
+    ensures breaks { IfErr result (IsRule (λ rule at_line. RefusesCall (given_of given.now) walk.old.types line name operands.types rule at_line)) }
+{
     if let Some(number) = given.numbers.find(name) {
         return call_of(line, number, operands, given);
     }
@@ -30,7 +43,10 @@ fn call_of(
     number: u32,
     operands: Parts,
     given: &Given<'_>,
-) -> Result<TypedExpr, TypeFault> {
+) -> Result<TypedExpr, TypeFault>
+    ensures calls { IfOk result (λ t. CallsOf (given_of given.now) line number (parts_of operands) t) }
+    ensures breaks { IfErr result (IsRule (λ rule at_line. OtherParams (given_of given.now) line number operands.types rule at_line)) }
+{
     let Some(function) = item_at(given.functions, number as usize) else {
         return Err(TypeFault::NoMemory);
     };
@@ -46,7 +62,10 @@ fn call_of(
 }
 
 /// The call of a name that is built in.
-fn built_in(name: u32, given: &Given<'_>) -> Option<BuiltIn> {
+fn built_in(name: u32, given: &Given<'_>) -> Option<BuiltIn>
+    ensures some { IfSome result (λ b. IsBuiltIn (given_of given.now) name b) }
+    ensures none { IfNone result (IsNoBuiltIn (given_of given.now) name) }
+{
     match item_at(given.spellings, name as usize) {
         Some(spelling) => built_in_named(spelling.as_slice()),
         None => None,

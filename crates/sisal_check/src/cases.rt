@@ -1,4 +1,16 @@
 //! `tagcase`.
+ghost use Rattle.breaking_laws.specs.Broken.{Broken, BrokenIn};
+ghost use Rattle.breaking_laws.specs.Parts.{AddsResults, BrokenArms, Differs, IsNoArm, IsNoUnion};
+ghost use Rattle.breaking_laws.specs.Refusals.{Never};
+ghost use Rattle.sisal_check.specs.Walked.{arms_of, given_of, parts_of};
+ghost use Rattle.std.specs.Prelude.{IfErr, IfOk, OnOk, [], false, true, ◌∷◌, ◌≡◌};
+ghost use Rattle.type_rules.specs.Arms.{are_all_named};
+ghost use Rattle.type_rules.specs.Faults.{IsRule};
+ghost use Rattle.typed_tree.specs.Typing.{at};
+ghost use Rattle.typing_laws.specs.Casing.{AddsArms, AddsLast, Begins, EntersArm, IsCase, Keeps, Suits, named_by};
+ghost use Rattle.typing_laws.specs.Judged.{IsUsedIn, Typed};
+ghost use Rattle.sisal_tree.specs.declared.expr.ExprKind.TheVariants as tree;
+
 use crate::lists::{all, only};
 use crate::state::{Given, Parts, Walk, number_of};
 use flow_value::{Numbers, Seq};
@@ -29,7 +41,13 @@ pub(crate) fn tag_case(
     line: u32,
     given: &Given<'_>,
     walk: &mut Walk,
-) -> Result<TypedExpr, TypeFault> {
+) -> Result<TypedExpr, TypeFault>
+    ensures used { OnOk result (IsUsedIn (given_of given.now) walk.old.types walk.new.types) }
+    ensures names { OnOk result (walk.new.names ≡ walk.old.names) }
+    ensures typed { IfOk result (λ t. Typed (given_of given.now) walk.new.types walk.old.names (at line (tree.TagCase cases.now)) t) }
+    ensures line { IfOk result (λ t. t.line ≡ line) }
+    ensures breaks { IfErr result (IsRule (λ rule at_line. Broken (given_of given.now) walk.old.types walk.old.names (at line (tree.TagCase cases.now)) rule at_line)) }
+{
     let TagCase {
         name,
         subject,
@@ -54,7 +72,10 @@ fn begin(
     subject: &Parts,
     given: &Given<'_>,
     walk: &Walk,
-) -> Result<Arms, TypeFault> {
+) -> Result<Arms, TypeFault>
+    ensures begins { IfOk result (λ done. Begins walk.now.types name (parts_of subject.now) (arms_of done)) }
+    ensures breaks { IfErr result (IsRule (λ rule at_line. IsNoUnion walk.now.types (parts_of subject.now) line rule at_line)) }
+{
     let [union] = subject.types.as_slice() else {
         return Err(TypeFault::NoMemory);
     };
@@ -76,7 +97,13 @@ fn each_arm(
     done: &mut Arms,
     given: &Given<'_>,
     walk: &mut Walk,
-) -> Result<(), TypeFault> {
+) -> Result<(), TypeFault>
+    ensures used { OnOk result (IsUsedIn (given_of given.now) walk.old.types walk.new.types) }
+    ensures names { OnOk result (walk.new.names ≡ walk.old.names) }
+    ensures adds { OnOk result (AddsArms (given_of given.now) walk.old.types walk.new.types walk.old.names arms.now (arms_of done.old) (arms_of done.new)) }
+    ensures breaks { IfErr result (IsRule (λ rule at_line. BrokenArms (given_of given.now) walk.old.types walk.old.names arms.now (arms_of done.old) rule at_line)) }
+    ensures results { OnOk result (AddsResults (given_of given.now) walk.old.types walk.new.types walk.old.names arms.now (arms_of done.old) (arms_of done.new)) }
+{
     for arm in arms {
         one_arm(arm, done, given, walk)?;
     }
@@ -90,7 +117,13 @@ fn one_arm(
     done: &mut Arms,
     given: &Given<'_>,
     walk: &mut Walk,
-) -> Result<(), TypeFault> {
+) -> Result<(), TypeFault>
+    ensures used { OnOk result (IsUsedIn (given_of given.now) walk.old.types walk.new.types) }
+    ensures names { OnOk result (walk.new.names ≡ walk.old.names) }
+    ensures adds { OnOk result (AddsArms (given_of given.now) walk.old.types walk.new.types walk.old.names (arm.now ∷ []) (arms_of done.old) (arms_of done.new)) }
+    ensures breaks { IfErr result (IsRule (λ rule at_line. BrokenArms (given_of given.now) walk.old.types walk.old.names (arm.now ∷ []) (arms_of done.old) rule at_line)) }
+    ensures results { OnOk result (AddsResults (given_of given.now) walk.old.types walk.new.types walk.old.names (arm.now ∷ []) (arms_of done.old) (arms_of done.new)) }
+{
     let Arm {
         line,
         tags,
@@ -105,13 +138,22 @@ fn one_arm(
 
 /// The results of the tags that no arm names.
 #[cycle(walk)]
-fn last(es: &[Expr], done: &mut Arms, given: &Given<'_>, walk: &mut Walk) -> Result<(), TypeFault> {
+fn last(es: &[Expr], done: &mut Arms, given: &Given<'_>, walk: &mut Walk) -> Result<(), TypeFault>
+    ensures used { OnOk result (IsUsedIn (given_of given.now) walk.old.types walk.new.types) }
+    ensures names { OnOk result (walk.new.names ≡ walk.old.names) }
+    ensures adds { OnOk result (AddsLast (given_of given.now) walk.new.types walk.old.names es.now (arms_of done.old) (arms_of done.new)) }
+    ensures breaks { IfErr result (IsRule (λ rule at_line. BrokenIn (given_of given.now) walk.old.types walk.old.names es.now rule at_line)) }
+{
     let results = all(es, given, walk)?;
     keep(results, done)
 }
 
 /// Brings the content of these tags into force, where it has a name.
-fn enter(tags: &[Named], line: u32, done: &mut Arms, walk: &mut Walk) -> Result<(), TypeFault> {
+fn enter(tags: &[Named], line: u32, done: &mut Arms, walk: &mut Walk) -> Result<(), TypeFault>
+    ensures types { walk.new.types ≡ walk.old.types }
+    ensures enters { OnOk result (EntersArm walk.old.types line tags.now (arms_of done.old) (arms_of done.new) walk.old.names walk.new.names) }
+    ensures breaks { IfErr result (IsRule (λ rule at_line. IsNoArm walk.old.types line tags.now (arms_of done.old) rule at_line)) }
+{
     let place = number_of(done.results.len())?;
     let content = done.choices.arm(&walk.types, tags, place, line)?;
     if let Some(name) = done.name {
@@ -121,7 +163,11 @@ fn enter(tags: &[Named], line: u32, done: &mut Arms, walk: &mut Walk) -> Result<
 }
 
 /// Adds the results of an arm.
-fn keep(results: Parts, done: &mut Arms) -> Result<(), TypeFault> {
+fn keep(results: Parts, done: &mut Arms) -> Result<(), TypeFault>
+    ensures keeps { OnOk result (Keeps results.exprs results.types (arms_of done.old) (arms_of done.new)) }
+    ensures uneven { OnOk result (Differs results.types (arms_of done.old) (arms_of done.new)) }
+    ensures breaks { IfErr result (IsRule (λ rule at_line. Never rule at_line)) }
+{
     let Parts { exprs, types } = results;
     done.results.add(exprs)?;
     suit(types, done);
@@ -129,7 +175,10 @@ fn keep(results: Parts, done: &mut Arms) -> Result<(), TypeFault> {
 }
 
 /// Whether the types are those of the first arm; those of the first one are kept.
-fn suit(types: Numbers, done: &mut Arms) {
+fn suit(types: Numbers, done: &mut Arms)
+    ensures suits { Suits types (arms_of done.old) (arms_of done.new) }
+    ensures uneven { Differs types (arms_of done.old) (arms_of done.new) }
+{
     match &done.types {
         Some(first) => {
             if first.as_slice() != types.as_slice() {
@@ -143,7 +192,10 @@ fn suit(types: Numbers, done: &mut Arms) {
 }
 
 /// Tests that each tag has an arm.
-fn name_all(line: u32, done: &Arms) -> Result<(), TypeFault> {
+fn name_all(line: u32, done: &Arms) -> Result<(), TypeFault>
+    ensures named { OnOk result (are_all_named done.now.choices.arms ≡ true) }
+    ensures breaks { IfErr result (IsRule (λ rule at_line. (rule ≡ 18) × (at_line ≡ line) × (are_all_named done.now.choices.arms ≡ false))) }
+{
     if done.choices.are_all_named() {
         Ok(())
     } else {
@@ -152,7 +204,10 @@ fn name_all(line: u32, done: &Arms) -> Result<(), TypeFault> {
 }
 
 /// The typed tree of so many arms and `otherwise`.
-fn case(line: u32, count: u32, subject: Parts, done: Arms) -> Result<TypedExpr, TypeFault> {
+fn case(line: u32, count: u32, subject: Parts, done: Arms) -> Result<TypedExpr, TypeFault>
+    ensures is { IfOk result (λ t. IsCase line count (parts_of subject) (arms_of done) t) }
+    ensures breaks { IfErr result (IsRule (λ rule at_line. (rule ≡ 18) × (at_line ≡ line) × (done.is_even ≡ false))) }
+{
     let Arms {
         name,
         choices,
@@ -178,7 +233,9 @@ fn case(line: u32, count: u32, subject: Parts, done: Arms) -> Result<TypedExpr, 
 }
 
 /// In how many of the arms the content is in force.
-fn named_arms(name: Option<u32>, count: u32) -> u32 {
+fn named_arms(name: Option<u32>, count: u32) -> u32
+    ensures { result ≡ named_by name count }
+{
     match name {
         Some(_) => count,
         None => 0,

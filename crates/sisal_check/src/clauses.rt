@@ -1,4 +1,12 @@
 //! Clauses of loops: SISAL Language Reference Manual 1.2, `returns`.
+ghost use Rattle.breaking_laws.specs.Parts.{BrokenMade, BrokenValues, EndsFalse};
+ghost use Rattle.sisal_check.specs.Walked.{folds_of, given_of, parts_of};
+ghost use Rattle.std.specs.Prelude.{IfErr, IfOk, OnOk, [], false, suc, true, ℕ, ◌++◌, ◌∷◌, ◌≡◌, ◌⊎◌};
+ghost use Rattle.type_rules.specs.Faults.{IsRule};
+ghost use Rattle.typing_laws.specs.Judged.{Adds, IsUsedIn};
+ghost use Rattle.typing_laws.specs.Looping.{AllMade, AllValues, FoldAdded, mask_of};
+ghost use Rattle.typing_laws.specs.Given.{Given as LawGiven};
+
 use crate::lists::one;
 use crate::state::{Given, Parts, Walk};
 use flow_value::{NoMemory, Numbers, Seq};
@@ -25,7 +33,12 @@ pub(crate) fn clause_values(
     cs: &[Clause],
     given: &Given<'_>,
     walk: &mut Walk,
-) -> Result<Parts, TypeFault> {
+) -> Result<Parts, TypeFault>
+    ensures used { OnOk result (IsUsedIn (given_of given.now) walk.old.types walk.new.types) }
+    ensures names { OnOk result (walk.new.names ≡ walk.old.names) }
+    ensures typed { IfOk result (λ p. AllValues (given_of given.now) walk.new.types walk.old.names cs.now p.exprs p.types) }
+    ensures breaks { IfErr result (IsRule (λ rule at_line. BrokenValues (given_of given.now) walk.old.types walk.old.names cs.now rule at_line)) }
+{
     let mut values = Parts::new(given.alloc);
     for c in cs {
         clause_value(c, &mut values, given, walk)?;
@@ -41,7 +54,12 @@ fn clause_value(
     values: &mut Parts,
     given: &Given<'_>,
     walk: &mut Walk,
-) -> Result<(), TypeFault> {
+) -> Result<(), TypeFault>
+    ensures used { OnOk result (IsUsedIn (given_of given.now) walk.old.types walk.new.types) }
+    ensures names { OnOk result (walk.new.names ≡ walk.old.names) }
+    ensures adds { OnOk result (Adds (parts_of values.old) (parts_of values.new) (AllValues (given_of given.now) walk.new.types walk.old.names (c.now ∷ []))) }
+    ensures breaks { IfErr result (IsRule (λ rule at_line. BrokenValues (given_of given.now) walk.old.types walk.old.names (c.now ∷ []) rule at_line)) }
+{
     let Clause {
         line,
         value,
@@ -59,7 +77,11 @@ fn clause_value(
 }
 
 /// Tests that the last value is a boolean, and keeps it without its type.
-fn end_mask(values: &mut Parts, line: u32) -> Result<(), TypeFault> {
+fn end_mask(values: &mut Parts, line: u32) -> Result<(), TypeFault>
+    ensures types { OnOk result (values.old.types ≡ values.new.types ++ 0 ∷ []) }
+    ensures exprs { OnOk result (values.new.exprs ≡ values.old.exprs) }
+    ensures breaks { IfErr result (IsRule (λ rule at_line. EndsFalse values.old.types line rule at_line)) }
+{
     match values.types.pop() {
         Some(BOOLEAN) => Ok(()),
         _ => Err(TypeFault::Rule { rule: 23, line }),
@@ -76,7 +98,12 @@ pub(crate) fn made_of(
     is_masked: bool,
     given: &Given<'_>,
     walk: &mut Walk,
-) -> Result<Folds, TypeFault> {
+) -> Result<Folds, TypeFault>
+    ensures used { OnOk result (IsUsedIn (given_of given.now) walk.old.types walk.new.types) }
+    ensures names { OnOk result (walk.new.names ≡ walk.old.names) }
+    ensures made { IfOk result (λ m. AllMade walk.new.types cs.now is_masked values.now (folds_of m)) }
+    ensures breaks { IfErr result (IsRule (λ rule at_line. (groups : ℕ) → BrokenMade (given_of given.now) walk.old.types (suc groups) line cs.now values.now rule at_line)) }
+{
     let mut made = Folds {
         forms: Seq::new(given.alloc),
         types: Seq::new(given.alloc),
@@ -98,7 +125,13 @@ fn fold(
     is_masked: bool,
     made: &mut Folds,
     walk: &mut Walk,
-) -> Result<(), TypeFault> {
+) -> Result<(), TypeFault>
+    ensures used { OnOk result ((g : LawGiven) → IsUsedIn g walk.old.types walk.new.types) }
+    ensures names { walk.new.names ≡ walk.old.names }
+    ensures added { OnOk result (made.new.is_deep ≡ false → (made.old.is_deep ≡ false) × FoldAdded walk.old.types walk.new.types c.now is_masked value (folds_of made.old) (folds_of made.new)) }
+    ensures breaks { IfErr result (IsRule (λ rule at_line. (g : LawGiven) (groups from : ℕ) → BrokenMade g walk.old.types (suc groups) from (c.now ∷ []) (value ∷ []) rule at_line)) }
+    ensures deep { OnOk result (made.new.is_deep ≡ true → (made.old.is_deep ≡ true) ⊎ ((g : LawGiven) (groups from : ℕ) → BrokenMade g walk.old.types (suc groups) from (c.now ∷ []) (value ∷ []) 4 from)) }
+{
     let mask = mask_of(c, is_masked);
     match clause(&mut walk.types, c.kind, mask, value) {
         Ok(kept) => keep(kept, made)?,
@@ -109,7 +142,9 @@ fn fold(
 }
 
 /// The mask of a clause, where it counts: whether it is an `unless`.
-fn mask_of(c: &Clause, is_masked: bool) -> Option<bool> {
+fn mask_of(c: &Clause, is_masked: bool) -> Option<bool>
+    ensures { result ≡ mask_of c.now is_masked }
+{
     if !is_masked {
         return None;
     }
@@ -120,7 +155,11 @@ fn mask_of(c: &Clause, is_masked: bool) -> Option<bool> {
 }
 
 /// Adds a clause.
-fn keep(kept: Made, made: &mut Folds) -> Result<(), NoMemory> {
+fn keep(kept: Made, made: &mut Folds) -> Result<(), NoMemory>
+    ensures forms { OnOk result (made.new.forms ≡ made.old.forms ++ kept.form ∷ []) }
+    ensures types { OnOk result (made.new.types ≡ made.old.types ++ kept.ty ∷ []) }
+    ensures deep { OnOk result (made.new.is_deep ≡ made.old.is_deep) }
+{
     made.forms.add(kept.form)?;
     made.types.add(kept.ty)
 }

@@ -1,4 +1,16 @@
 //! Definitions.
+ghost use Rattle.breaking_laws.specs.Parts.{BrokenDefs, BrokenTargets, StandsTwice};
+ghost use Rattle.sisal_check.specs.Walked.{defined_of, given_of};
+ghost use Rattle.std.specs.Prelude.{IfErr, IfOk, None, OnOk, Option, [], ℕ, ◌++◌, ◌∷◌, ◌≡◌, ◌≢◌};
+ghost use Rattle.type_rules.specs.Faults.{IsRule};
+ghost use Rattle.typed_tree.specs.Scopes.{AreDistinct, targets};
+ghost use Rattle.typed_tree.specs.Typing.{names_in};
+ghost use Rattle.typing_laws.specs.Defining.{AddsDef, AllDefined, AreDeclaredAs, Enters, IsDeclaredAs, KeepsTurn, named_targets, targets_in};
+ghost use Rattle.typing_laws.specs.Judged.{IsUsedIn};
+ghost use Rattle.value_names.specs.Scopes.{twice_in};
+ghost use Rattle.typed_tree.specs.Breaks.{line_of as first_line};
+ghost use Rattle.typing_laws.specs.Given.{Given as LawGiven};
+
 use crate::lists::all;
 use crate::state::{Given, Parts, Walk};
 use flow_value::{NoMemory, Numbers, Seq};
@@ -30,7 +42,13 @@ pub(crate) fn defs(
     turn: Option<u32>,
     given: &Given<'_>,
     walk: &mut Walk,
-) -> Result<Defined, TypeFault> {
+) -> Result<Defined, TypeFault>
+    ensures used { OnOk result (IsUsedIn (given_of given.now) walk.old.types walk.new.types) }
+    ensures typed { IfOk result (λ d. AllDefined (given_of given.now) walk.new.types walk.old.names walk.new.names turn ds.now d.exprs d.types) }
+    ensures targets { IfOk result (λ d. d.targets ≡ targets_in ds.now) }
+    ensures distinct { OnOk result (AreDistinct (targets ds.now)) }
+    ensures breaks { IfErr result (IsRule (λ rule at_line. BrokenDefs (given_of given.now) walk.old.types walk.old.names turn ds.now rule at_line)) }
+{
     let targets = targets_of(given.alloc, ds)?;
     distinct(targets.as_slice(), walk)?;
     let mut defined = Defined {
@@ -51,14 +69,20 @@ fn def(
     defined: &mut Defined,
     given: &Given<'_>,
     walk: &mut Walk,
-) -> Result<(), TypeFault> {
+) -> Result<(), TypeFault>
+    ensures used { OnOk result (IsUsedIn (given_of given.now) walk.old.types walk.new.types) }
+    ensures adds { OnOk result (AddsDef (given_of given.now) walk.new.types walk.old.names walk.new.names turn d.now (defined_of defined.old) (defined_of defined.new)) }
+    ensures breaks { IfErr result (IsRule (λ rule at_line. BrokenDefs (given_of given.now) walk.old.types walk.old.names turn (d.now ∷ []) rule at_line)) }
+{
     let Def { targets, values } = d;
     let values = all(values.as_slice(), given, walk)?;
     enter(targets.as_slice(), values, turn, defined, given, walk)
 }
 
 /// The targets of definitions, in order.
-pub(crate) fn targets_of(alloc: Global, ds: &[Def]) -> Result<Seq<Named>, NoMemory> {
+pub(crate) fn targets_of(alloc: Global, ds: &[Def]) -> Result<Seq<Named>, NoMemory>
+    ensures { IfOk result (λ names. names ≡ targets_in ds.now) }
+{
     let mut names = Seq::new(alloc);
     for d in ds {
         add_targets(d.targets.as_slice(), &mut names)?;
@@ -66,7 +90,9 @@ pub(crate) fn targets_of(alloc: Global, ds: &[Def]) -> Result<Seq<Named>, NoMemo
     Ok(names)
 }
 
-fn add_targets(targets: &[Target], names: &mut Seq<Named>) -> Result<(), NoMemory> {
+fn add_targets(targets: &[Target], names: &mut Seq<Named>) -> Result<(), NoMemory>
+    ensures { OnOk result (names.new ≡ names.old ++ named_targets targets.now) }
+{
     for target in targets {
         names.add(target.name)?;
     }
@@ -74,7 +100,12 @@ fn add_targets(targets: &[Target], names: &mut Seq<Named>) -> Result<(), NoMemor
 }
 
 /// Rule 8 at the first name that stands before it in the list.
-pub(crate) fn distinct(names: &[Named], walk: &mut Walk) -> Result<(), TypeFault> {
+pub(crate) fn distinct(names: &[Named], walk: &mut Walk) -> Result<(), TypeFault>
+    ensures types { walk.new.types ≡ walk.old.types }
+    ensures names { walk.new.names ≡ walk.old.names }
+    ensures once { OnOk result (twice_in names.now ≡ None) }
+    ensures breaks { IfErr result (IsRule (λ rule at_line. StandsTwice names.now rule at_line)) }
+{
     match walk.names.first_twice(names)? {
         Some(line) => Err(TypeFault::Rule { rule: 8, line }),
         None => Ok(()),
@@ -89,7 +120,11 @@ fn enter(
     defined: &mut Defined,
     given: &Given<'_>,
     walk: &mut Walk,
-) -> Result<(), TypeFault> {
+) -> Result<(), TypeFault>
+    ensures used { OnOk result (IsUsedIn (given_of given.now) walk.old.types walk.new.types) }
+    ensures enters { OnOk result (Enters (given_of given.now) walk.new.types walk.old.names walk.new.names turn targets.now values.exprs values.types (defined_of defined.old) (defined_of defined.new)) }
+    ensures breaks { IfErr result (IsRule (λ rule at_line. BrokenTargets (given_of given.now) walk.old.types walk.old.names turn (first_line targets.now) targets.now values.types rule at_line)) }
+{
     let Parts { exprs, types } = values;
     let line = line_of(targets)?;
     if types.len() != targets.len() {
@@ -105,7 +140,9 @@ fn enter(
 }
 
 /// The line of the first target; each definition of a text has one.
-fn line_of(targets: &[Target]) -> Result<u32, NoMemory> {
+fn line_of(targets: &[Target]) -> Result<u32, NoMemory>
+    ensures { IfOk result (λ line. line ≡ first_line targets.now) }
+{
     match targets {
         [first, ..] => Ok(first.name.line),
         [] => Err(NoMemory),
@@ -120,7 +157,13 @@ fn suit(
     turn: Option<u32>,
     given: &Given<'_>,
     walk: &mut Walk,
-) -> Result<(), TypeFault> {
+) -> Result<(), TypeFault>
+    ensures used { OnOk result (IsUsedIn (given_of given.now) walk.old.types walk.new.types) }
+    ensures names { OnOk result (walk.new.names ≡ walk.old.names) }
+    ensures declared { OnOk result (AreDeclaredAs (given_of given.now) walk.new.types targets.now types.now) }
+    ensures kept { OnOk result (KeepsTurn turn walk.old.names (names_in targets.now) types.now) }
+    ensures breaks { IfErr result (IsRule (λ rule at_line. BrokenTargets (given_of given.now) walk.old.types walk.old.names turn line targets.now types.now rule at_line)) }
+{
     for (target, ty) in targets.iter().zip(types) {
         has_type(*target, *ty, line, given, walk)?;
         keeps_type(*target, *ty, line, turn, walk)?;
@@ -135,7 +178,12 @@ fn has_type(
     line: u32,
     given: &Given<'_>,
     walk: &mut Walk,
-) -> Result<(), TypeFault> {
+) -> Result<(), TypeFault>
+    ensures used { OnOk result (IsUsedIn (given_of given.now) walk.old.types walk.new.types) }
+    ensures names { OnOk result (walk.new.names ≡ walk.old.names) }
+    ensures declared { OnOk result (IsDeclaredAs (given_of given.now) walk.new.types target.ty ty) }
+    ensures breaks { IfErr result (IsRule (λ rule at_line. (turn : Option ℕ) → BrokenTargets (given_of given.now) walk.old.types walk.old.names turn line (target ∷ []) (ty ∷ []) rule at_line)) }
+{
     let Some(written) = target.ty else {
         return Ok(());
     };
@@ -160,7 +208,10 @@ fn keeps_type(
     line: u32,
     turn: Option<u32>,
     walk: &Walk,
-) -> Result<(), TypeFault> {
+) -> Result<(), TypeFault>
+    ensures kept { OnOk result (KeepsTurn turn walk.now.names (target.name.name ∷ []) (ty ∷ [])) }
+    ensures breaks { IfErr result (IsRule (λ rule at_line. (g : LawGiven) → BrokenTargets g walk.now.types walk.now.names turn line (target ∷ []) (ty ∷ []) rule at_line)) }
+{
     let Some(first) = turn else {
         return Ok(());
     };
@@ -170,7 +221,10 @@ fn keeps_type(
     }
 }
 
-fn is_kept(before: u32, ty: u32, line: u32) -> Result<(), TypeFault> {
+fn is_kept(before: u32, ty: u32, line: u32) -> Result<(), TypeFault>
+    ensures kept { OnOk result (ty ≡ before) }
+    ensures breaks { IfErr result (IsRule (λ rule at_line. (rule ≡ 23) × (at_line ≡ line) × (before ≢ ty))) }
+{
     if before != ty {
         return Err(TypeFault::Rule { rule: 23, line });
     }

@@ -1,4 +1,14 @@
 //! The forms over operands.
+ghost use Rattle.breaking_laws.specs.Broken.{Broken, Misnamed};
+ghost use Rattle.breaking_laws.specs.Refusals.{IsUnnamed, Never};
+ghost use Rattle.name_scope.specs.Newest.{newest};
+ghost use Rattle.sisal_check.specs.Walked.{IsErrorHead, IsHeadSpelled, given_of};
+ghost use Rattle.std.specs.Prelude.{All, IfErr, IfOk, List, OnOk, Some, length, ℕ, ◌<◌, ◌≡◌};
+ghost use Rattle.type_rules.specs.Faults.{IsRule};
+ghost use Rattle.typed_tree.specs.Typing.{at};
+ghost use Rattle.typing_laws.specs.Forming.{AreFound, IsHead, IsPlain, IsRecordHead, fields_of};
+ghost use Rattle.typing_laws.specs.Judged.{IsUsedIn};
+
 use crate::state::{Given, Walk};
 use flow_value::{NoMemory, Numbers, Seq, item_at};
 use sisal_tree::{ExprKind, FieldValue, Written};
@@ -13,7 +23,13 @@ pub(crate) fn head_of(
     line: u32,
     given: &Given<'_>,
     walk: &mut Walk,
-) -> Result<Head, TypeFault> {
+) -> Result<Head, TypeFault>
+    ensures used { OnOk result (IsUsedIn (given_of given.now) walk.old.types walk.new.types) }
+    ensures names { OnOk result (walk.new.names ≡ walk.old.names) }
+    ensures head { IfOk result (λ h. IsHead (given_of given.now) walk.new.types kind.now h) }
+    ensures spelled { IfOk result (λ h. IsHeadSpelled given.now.spellings.now h) }
+    ensures breaks { IfErr result (IsRule (λ rule at_line. Broken (given_of given.now) walk.old.types walk.old.names (at line kind.now) rule at_line)) }
+{
     match kind {
         ExprKind::ErrorOf(written) => error_of(*written, given, walk),
         ExprKind::Replace(_, vs) => Ok(Head::Replace(names_of(given.alloc, vs.as_slice())?)),
@@ -27,7 +43,11 @@ pub(crate) fn head_of(
 }
 
 /// The forms that name no type.
-fn plain(kind: &ExprKind) -> Result<Head, TypeFault> {
+fn plain(kind: &ExprKind) -> Result<Head, TypeFault>
+    ensures plain { IfOk result (λ h. IsPlain kind.now h) }
+    ensures spelled { IfOk result (λ h. (spellings : List (List ℕ)) → IsHeadSpelled spellings h) }
+    ensures breaks { IfErr result (IsRule (λ rule at_line. Never rule at_line)) }
+{
     match kind {
         ExprKind::Convert(to, _) => Ok(Head::Convert(*to)),
         ExprKind::IsError(_) => Ok(Head::IsError),
@@ -41,7 +61,12 @@ fn plain(kind: &ExprKind) -> Result<Head, TypeFault> {
     }
 }
 
-fn error_of(written: Written, given: &Given<'_>, walk: &mut Walk) -> Result<Head, TypeFault> {
+fn error_of(written: Written, given: &Given<'_>, walk: &mut Walk) -> Result<Head, TypeFault>
+    ensures used { OnOk result (IsUsedIn (given_of given.now) walk.old.types walk.new.types) }
+    ensures names { OnOk result (walk.new.names ≡ walk.old.names) }
+    ensures head { IfOk result (λ h. IsErrorHead (given_of given.now) walk.new.types written h) }
+    ensures breaks { IfErr result (IsRule (λ rule at_line. Misnamed (given_of given.now) walk.old.types written rule at_line)) }
+{
     let ty = denoted(
         given.alloc,
         given.tokens,
@@ -58,7 +83,10 @@ fn record_of(
     vs: &[FieldValue],
     line: u32,
     given: &Given<'_>,
-) -> Result<Head, TypeFault> {
+) -> Result<Head, TypeFault>
+    ensures head { IfOk result (λ h. IsRecordHead (given_of given.now) name vs.now h) }
+    ensures breaks { IfErr result (IsRule (λ rule at_line. IsUnnamed (given_of given.now).named name line rule at_line)) }
+{
     let ty = type_of(name, line, given)?;
     let names = names_of(given.alloc, vs)?;
     all_spelled(names.as_slice(), given)?;
@@ -66,7 +94,10 @@ fn record_of(
 }
 
 /// The type of a constructor's name, where it has one.
-fn type_of(name: Option<u32>, line: u32, given: &Given<'_>) -> Result<Option<u32>, TypeFault> {
+fn type_of(name: Option<u32>, line: u32, given: &Given<'_>) -> Result<Option<u32>, TypeFault>
+    ensures found { IfOk result (λ n. AreFound (given_of given.now).named name n) }
+    ensures breaks { IfErr result (IsRule (λ rule at_line. IsUnnamed (given_of given.now).named name line rule at_line)) }
+{
     match name {
         Some(name) => Ok(Some(type_named(name, line, given)?)),
         None => Ok(None),
@@ -74,7 +105,10 @@ fn type_of(name: Option<u32>, line: u32, given: &Given<'_>) -> Result<Option<u32
 }
 
 /// The type of a name: rule 2 where it is not known.
-fn type_named(name: u32, line: u32, given: &Given<'_>) -> Result<u32, TypeFault> {
+fn type_named(name: u32, line: u32, given: &Given<'_>) -> Result<u32, TypeFault>
+    ensures found { IfOk result (λ n. newest name (given_of given.now).named ≡ Some n) }
+    ensures breaks { IfErr result (IsRule (λ rule at_line. IsUnnamed (given_of given.now).named (Some name) line rule at_line)) }
+{
     match given.named.find(name, given.known) {
         Some(ty) => Ok(ty),
         None => Err(TypeFault::Rule { rule: 2, line }),
@@ -82,7 +116,9 @@ fn type_named(name: u32, line: u32, given: &Given<'_>) -> Result<u32, TypeFault>
 }
 
 /// The names of fields, in order.
-fn names_of(alloc: Global, vs: &[FieldValue]) -> Result<Numbers, NoMemory> {
+fn names_of(alloc: Global, vs: &[FieldValue]) -> Result<Numbers, NoMemory>
+    ensures { IfOk result (λ names. names ≡ fields_of vs.now) }
+{
     let mut names = Seq::new(alloc);
     for v in vs {
         names.add(v.field.name)?;
@@ -91,7 +127,9 @@ fn names_of(alloc: Global, vs: &[FieldValue]) -> Result<Numbers, NoMemory> {
 }
 
 /// Tests that the names have spellings, as all names of a text have.
-fn all_spelled(names: &[u32], given: &Given<'_>) -> Result<(), NoMemory> {
+fn all_spelled(names: &[u32], given: &Given<'_>) -> Result<(), NoMemory>
+    ensures { OnOk result (All (λ y. y < length given.now.spellings.now) names.now) }
+{
     for name in names {
         if item_at(given.spellings, *name as usize).is_none() {
             return Err(NoMemory);

@@ -1,4 +1,14 @@
 //! Expressions without parts: constants and names.
+ghost use Rattle.breaking_laws.specs.Broken.{Broken};
+ghost use Rattle.breaking_laws.specs.Refusals.{Never};
+ghost use Rattle.sisal_check.specs.Walked.{given_of};
+ghost use Rattle.std.specs.Prelude.{IfErr, IfOk, [], ◌∷◌, ◌≡◌};
+ghost use Rattle.type_rules.specs.Faults.{IsRule};
+ghost use Rattle.typed_tree.specs.Typing.{at, with};
+ghost use Rattle.typing_laws.specs.Forming.{constant_number};
+ghost use Rattle.typing_laws.specs.Judged.{Typed};
+ghost use Rattle.sisal_tree.specs.declared.expr.ExprKind.TheVariants as tree;
+
 use crate::state::{Given, Walk};
 use flow_value::{NoMemory, Numbers, Seq};
 use sisal_tree::Constant;
@@ -9,14 +19,19 @@ use typed_tree::{TypedExpr, TypedKind};
 use value_names::Value;
 
 /// The list of one number.
-pub(crate) fn single(alloc: Global, number: u32) -> Result<Numbers, NoMemory> {
+pub(crate) fn single(alloc: Global, number: u32) -> Result<Numbers, NoMemory>
+    ensures { IfOk result (λ numbers. numbers ≡ number ∷ []) }
+{
     let mut numbers = Seq::new(alloc);
     numbers.add(number)?;
     Ok(numbers)
 }
 
 /// A constant.
-pub(crate) fn constant(line: u32, c: &Constant, given: &Given<'_>) -> Result<TypedExpr, TypeFault> {
+pub(crate) fn constant(line: u32, c: &Constant, given: &Given<'_>) -> Result<TypedExpr, TypeFault>
+    ensures is { IfOk result (λ t. t ≡ with line (constant_number c.now ∷ []) (TypedKind.Constant c.now)) }
+    ensures breaks { IfErr result (IsRule (λ rule at_line. Never rule at_line)) }
+{
     let types = single(given.alloc, constant_type(c))?;
     let c = copied(given.alloc, c)?;
     Ok(TypedExpr {
@@ -32,7 +47,11 @@ pub(crate) fn value(
     name: u32,
     given: &Given<'_>,
     walk: &Walk,
-) -> Result<TypedExpr, TypeFault> {
+) -> Result<TypedExpr, TypeFault>
+    ensures typed { IfOk result (λ t. Typed (given_of given.now) walk.now.types walk.now.names (at line (tree.Name name)) t) }
+    ensures line { IfOk result (λ t. t.line ≡ line) }
+    ensures breaks { IfErr result (IsRule (λ rule at_line. Broken (given_of given.now) walk.now.types walk.now.names (at line (tree.Name name)) rule at_line)) }
+{
     match walk.names.find(name) {
         Some(found) => level(line, found, given),
         None => Err(TypeFault::Rule { rule: 9, line }),
@@ -45,14 +64,21 @@ pub(crate) fn old_value(
     name: u32,
     given: &Given<'_>,
     walk: &Walk,
-) -> Result<TypedExpr, TypeFault> {
+) -> Result<TypedExpr, TypeFault>
+    ensures typed { IfOk result (λ t. Typed (given_of given.now) walk.now.types walk.now.names (at line (tree.Old name)) t) }
+    ensures line { IfOk result (λ t. t.line ≡ line) }
+    ensures breaks { IfErr result (IsRule (λ rule at_line. Broken (given_of given.now) walk.now.types walk.now.names (at line (tree.Old name)) rule at_line)) }
+{
     match walk.names.find_old(name) {
         Some(found) => level(line, found, given),
         None => Err(TypeFault::Rule { rule: 10, line }),
     }
 }
 
-fn level(line: u32, found: Value, given: &Given<'_>) -> Result<TypedExpr, TypeFault> {
+fn level(line: u32, found: Value, given: &Given<'_>) -> Result<TypedExpr, TypeFault>
+    ensures is { IfOk result (λ t. t ≡ with line (found.ty ∷ []) (TypedKind.Value found.level)) }
+    ensures breaks { IfErr result (IsRule (λ rule at_line. Never rule at_line)) }
+{
     Ok(TypedExpr {
         line,
         types: single(given.alloc, found.ty)?,
@@ -60,7 +86,9 @@ fn level(line: u32, found: Value, given: &Given<'_>) -> Result<TypedExpr, TypeFa
     })
 }
 
-fn constant_type(c: &Constant) -> u32 {
+fn constant_type(c: &Constant) -> u32
+    ensures { result ≡ constant_number c.now }
+{
     match c {
         Constant::Integer(_) => INTEGER,
         Constant::Letter(_) => CHARACTER,
@@ -70,7 +98,9 @@ fn constant_type(c: &Constant) -> u32 {
     }
 }
 
-fn copied(alloc: Global, c: &Constant) -> Result<Constant, NoMemory> {
+fn copied(alloc: Global, c: &Constant) -> Result<Constant, NoMemory>
+    ensures { IfOk result (λ copy. copy ≡ c.now) }
+{
     match c {
         Constant::Integer(n) => Ok(Constant::Integer(*n)),
         Constant::Letter(code) => Ok(Constant::Letter(*code)),

@@ -1,4 +1,11 @@
 //! Expressions where one value is wanted, and lists of expressions.
+ghost use Rattle.breaking_laws.specs.Broken.{BrokenField, BrokenIn, BrokenOne};
+ghost use Rattle.breaking_laws.specs.Refusals.{NotOne};
+ghost use Rattle.sisal_check.specs.Walked.{given_of, parts_of};
+ghost use Rattle.std.specs.Prelude.{IfErr, IfOk, OnOk, [], length, map, ◌++◌, ◌∷◌, ◌≡◌};
+ghost use Rattle.type_rules.specs.Faults.{IsRule};
+ghost use Rattle.typing_laws.specs.Judged.{Adds, AllOnes, AllTyped, IsUsedIn};
+
 use crate::state::{Given, Parts, Walk};
 use crate::typed::typed;
 use sisal_tree::{Expr, FieldValue};
@@ -12,7 +19,12 @@ pub(crate) fn one(
     parts: &mut Parts,
     given: &Given<'_>,
     walk: &mut Walk,
-) -> Result<(), TypeFault> {
+) -> Result<(), TypeFault>
+    ensures used { OnOk result (IsUsedIn (given_of given.now) walk.old.types walk.new.types) }
+    ensures names { OnOk result (walk.new.names ≡ walk.old.names) }
+    ensures adds { OnOk result (Adds (parts_of parts.old) (parts_of parts.new) (AllOnes (given_of given.now) walk.new.types walk.old.names (e.now ∷ []))) }
+    ensures breaks { IfErr result (IsRule (λ rule at_line. BrokenOne (given_of given.now) walk.old.types walk.old.names e.now rule at_line)) }
+{
     let made = typed(e, given, walk)?;
     keep_one(made, parts)
 }
@@ -24,7 +36,12 @@ pub(crate) fn many(
     parts: &mut Parts,
     given: &Given<'_>,
     walk: &mut Walk,
-) -> Result<(), TypeFault> {
+) -> Result<(), TypeFault>
+    ensures used { OnOk result (IsUsedIn (given_of given.now) walk.old.types walk.new.types) }
+    ensures names { OnOk result (walk.new.names ≡ walk.old.names) }
+    ensures adds { OnOk result (Adds (parts_of parts.old) (parts_of parts.new) (AllTyped (given_of given.now) walk.new.types walk.old.names es.now)) }
+    ensures breaks { IfErr result (IsRule (λ rule at_line. BrokenIn (given_of given.now) walk.old.types walk.old.names es.now rule at_line)) }
+{
     for e in es {
         let made = typed(e, given, walk)?;
         parts.add(made)?;
@@ -34,7 +51,12 @@ pub(crate) fn many(
 
 /// The expressions of a list, typed.
 #[cycle(walk)]
-pub(crate) fn all(es: &[Expr], given: &Given<'_>, walk: &mut Walk) -> Result<Parts, TypeFault> {
+pub(crate) fn all(es: &[Expr], given: &Given<'_>, walk: &mut Walk) -> Result<Parts, TypeFault>
+    ensures used { OnOk result (IsUsedIn (given_of given.now) walk.old.types walk.new.types) }
+    ensures names { OnOk result (walk.new.names ≡ walk.old.names) }
+    ensures typed { IfOk result (λ p. AllTyped (given_of given.now) walk.new.types walk.old.names es.now p.exprs p.types) }
+    ensures breaks { IfErr result (IsRule (λ rule at_line. BrokenIn (given_of given.now) walk.old.types walk.old.names es.now rule at_line)) }
+{
     let mut parts = Parts::new(given.alloc);
     many(es, &mut parts, given, walk)?;
     Ok(parts)
@@ -42,7 +64,12 @@ pub(crate) fn all(es: &[Expr], given: &Given<'_>, walk: &mut Walk) -> Result<Par
 
 /// The expression, which has one value.
 #[cycle(walk)]
-pub(crate) fn only(e: &Expr, given: &Given<'_>, walk: &mut Walk) -> Result<Parts, TypeFault> {
+pub(crate) fn only(e: &Expr, given: &Given<'_>, walk: &mut Walk) -> Result<Parts, TypeFault>
+    ensures used { OnOk result (IsUsedIn (given_of given.now) walk.old.types walk.new.types) }
+    ensures names { OnOk result (walk.new.names ≡ walk.old.names) }
+    ensures typed { IfOk result (λ p. AllOnes (given_of given.now) walk.new.types walk.old.names (e.now ∷ []) p.exprs p.types) }
+    ensures breaks { IfErr result (IsRule (λ rule at_line. BrokenOne (given_of given.now) walk.old.types walk.old.names e.now rule at_line)) }
+{
     let mut parts = Parts::new(given.alloc);
     one(e, &mut parts, given, walk)?;
     Ok(parts)
@@ -55,7 +82,12 @@ pub(crate) fn fields(
     parts: &mut Parts,
     given: &Given<'_>,
     walk: &mut Walk,
-) -> Result<(), TypeFault> {
+) -> Result<(), TypeFault>
+    ensures used { OnOk result (IsUsedIn (given_of given.now) walk.old.types walk.new.types) }
+    ensures names { OnOk result (walk.new.names ≡ walk.old.names) }
+    ensures adds { OnOk result (Adds (parts_of parts.old) (parts_of parts.new) (AllOnes (given_of given.now) walk.new.types walk.old.names (map (λ v. v.value) vs.now))) }
+    ensures breaks { IfErr result (IsRule (λ rule at_line. BrokenField (given_of given.now) walk.old.types walk.old.names vs.now rule at_line)) }
+{
     for v in vs {
         one(&v.value, parts, given, walk)?;
     }
@@ -63,7 +95,12 @@ pub(crate) fn fields(
 }
 
 /// Adds an expression that has one value.
-fn keep_one(made: TypedExpr, parts: &mut Parts) -> Result<(), TypeFault> {
+fn keep_one(made: TypedExpr, parts: &mut Parts) -> Result<(), TypeFault>
+    ensures exprs { OnOk result (parts.new.exprs ≡ parts.old.exprs ++ made ∷ []) }
+    ensures types { OnOk result (parts.new.types ≡ parts.old.types ++ made.types) }
+    ensures one { OnOk result (length made.types ≡ 1) }
+    ensures breaks { IfErr result (IsRule (λ rule at_line. NotOne made rule at_line)) }
+{
     if made.types.len() != 1 {
         return Err(TypeFault::Rule {
             rule: 16,

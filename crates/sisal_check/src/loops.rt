@@ -1,4 +1,13 @@
 //! Loops: SISAL Language Reference Manual 1.2, `for`.
+ghost use Rattle.breaking_laws.specs.Broken.{Broken};
+ghost use Rattle.breaking_laws.specs.Parts.{BrokenMade, MakesTypes};
+ghost use Rattle.sisal_check.specs.Walked.{CrossesAll, IsInitial, IsLoopOver, IsProduct, defined_of, given_of, group_of, parts_of, turned_of};
+ghost use Rattle.std.specs.Prelude.{IfErr, IfOk, OnOk, [], false, length, map, suc, true, ℕ, ◌∷◌, ◌≡◌};
+ghost use Rattle.type_rules.specs.Faults.{IsRule};
+ghost use Rattle.typed_tree.specs.Typing.{at};
+ghost use Rattle.typing_laws.specs.Judged.{IsUsedIn, Typed};
+ghost use Rattle.sisal_tree.specs.declared.expr.ExprKind.TheVariants as tree;
+
 use crate::clauses::{clause_values, made_of};
 use crate::defs::{Defined, defs};
 use crate::generators::{Group, groups};
@@ -16,7 +25,13 @@ pub(crate) fn looped(
     l: &Loop,
     given: &Given<'_>,
     walk: &mut Walk,
-) -> Result<TypedExpr, TypeFault> {
+) -> Result<TypedExpr, TypeFault>
+    ensures used { OnOk result (IsUsedIn (given_of given.now) walk.old.types walk.new.types) }
+    ensures names { OnOk result (walk.new.names ≡ walk.old.names) }
+    ensures typed { IfOk result (λ t. Typed (given_of given.now) walk.new.types walk.old.names (at line (tree.For l.now)) t) }
+    ensures line { IfOk result (λ t. t.line ≡ line) }
+    ensures breaks { IfErr result (IsRule (λ rule at_line. Broken (given_of given.now) walk.old.types walk.old.names (at line (tree.For l.now)) rule at_line)) }
+{
     let outer = walk.names.mark();
     match l {
         Loop::Product(gs, ds, cs) => {
@@ -48,7 +63,13 @@ fn product(
     values: Parts,
     given: &Given<'_>,
     walk: &mut Walk,
-) -> Result<TypedExpr, TypeFault> {
+) -> Result<TypedExpr, TypeFault>
+    ensures used { OnOk result (IsUsedIn (given_of given.now) walk.old.types walk.new.types) }
+    ensures names { OnOk result (walk.new.names ≡ walk.old.names) }
+    ensures crossed { IfOk result (λ t. IsProduct (given_of given.now) walk.old.types walk.new.types line cs.now (map group_of goes) defined.exprs defined.types (parts_of values) t) }
+    ensures line { IfOk result (λ t. t.line ≡ line) }
+    ensures breaks { IfErr result (IsRule (λ rule at_line. BrokenMade (given_of given.now) walk.old.types (length goes) line cs.now values.types rule at_line)) }
+{
     let mut goes = goes;
     let Some(last) = goes.pop() else {
         return Err(TypeFault::NoMemory);
@@ -66,7 +87,13 @@ fn over(
     values: Parts,
     given: &Given<'_>,
     walk: &mut Walk,
-) -> Result<TypedExpr, TypeFault> {
+) -> Result<TypedExpr, TypeFault>
+    ensures used { OnOk result (IsUsedIn (given_of given.now) walk.old.types walk.new.types) }
+    ensures names { OnOk result (walk.new.names ≡ walk.old.names) }
+    ensures over { IfOk result (λ t. IsLoopOver walk.new.types line cs.now true values.types (group_of group) defined.exprs values.exprs t) }
+    ensures breaks { IfErr result (IsRule (λ rule at_line. (groups : ℕ) → BrokenMade (given_of given.now) walk.old.types (suc groups) line cs.now values.types rule at_line)) }
+    ensures makes { IfOk result (λ t. MakesTypes walk.new.types cs.now true values.types t.types) }
+{
     let made = made_of(line, cs, values.types.as_slice(), true, given, walk)?;
     let product = Product {
         sources: group.sources,
@@ -87,7 +114,13 @@ fn crossed(
     inner: TypedExpr,
     given: &Given<'_>,
     walk: &mut Walk,
-) -> Result<TypedExpr, TypeFault> {
+) -> Result<TypedExpr, TypeFault>
+    ensures used { OnOk result (IsUsedIn (given_of given.now) walk.old.types walk.new.types) }
+    ensures names { OnOk result (walk.new.names ≡ walk.old.names) }
+    ensures crossed { IfOk result (λ t. CrossesAll (given_of given.now) walk.old.types walk.new.types line cs.now (map group_of goes) inner t) }
+    ensures line { IfOk result (λ t. inner.line ≡ line → t.line ≡ line) }
+    ensures breaks { IfErr result (IsRule (λ rule at_line. BrokenMade (given_of given.now) walk.old.types (length goes) line cs.now inner.types rule at_line)) }
+{
     let mut goes = goes;
     let mut made = inner;
     while let Some(group) = goes.pop() {
@@ -104,7 +137,13 @@ fn around(
     inner: TypedExpr,
     given: &Given<'_>,
     walk: &mut Walk,
-) -> Result<TypedExpr, TypeFault> {
+) -> Result<TypedExpr, TypeFault>
+    ensures used { OnOk result (IsUsedIn (given_of given.now) walk.old.types walk.new.types) }
+    ensures names { OnOk result (walk.new.names ≡ walk.old.names) }
+    ensures over { IfOk result (λ t. IsLoopOver walk.new.types line cs.now false inner.types (group_of group) [] (inner ∷ []) t) }
+    ensures breaks { IfErr result (IsRule (λ rule at_line. (groups : ℕ) → BrokenMade (given_of given.now) walk.old.types (suc groups) line cs.now inner.types rule at_line)) }
+    ensures makes { IfOk result (λ t. MakesTypes walk.new.types cs.now false inner.types t.types) }
+{
     let made = made_of(line, cs, inner.types.as_slice(), false, given, walk)?;
     let product = Product {
         sources: group.sources,
@@ -128,7 +167,12 @@ fn initial(
     values: Parts,
     given: &Given<'_>,
     walk: &mut Walk,
-) -> Result<TypedExpr, TypeFault> {
+) -> Result<TypedExpr, TypeFault>
+    ensures used { OnOk result (IsUsedIn (given_of given.now) walk.old.types walk.new.types) }
+    ensures names { OnOk result (walk.new.names ≡ walk.old.names) }
+    ensures is { IfOk result (λ t. IsInitial walk.new.types line cs.now (defined_of started) (turned_of turned) (parts_of values) t) }
+    ensures breaks { IfErr result (IsRule (λ rule at_line. BrokenMade (given_of given.now) walk.old.types 1 line cs.now values.types rule at_line)) }
+{
     let made = made_of(line, cs, values.types.as_slice(), true, given, walk)?;
     let turns = Turns {
         is_first: turned.is_first,

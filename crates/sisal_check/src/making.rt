@@ -1,4 +1,12 @@
 //! Typed expressions from their typed parts.
+ghost use Rattle.breaking_laws.specs.Refusals.{Never, Refuses, Uneven};
+ghost use Rattle.sisal_check.specs.Walked.{IsHeadSpelled, given_of, parts_of};
+ghost use Rattle.std.specs.Prelude.{Err, IfErr, IfOk, IsTrue, Ok, OnOk, [], ◌↔◌, ◌∷◌, ◌≡◌};
+ghost use Rattle.type_rules.specs.Faults.{IsRule, fault_at};
+ghost use Rattle.typed_tree.specs.Typing.{with};
+ghost use Rattle.typing_laws.specs.Forming.{Finishes, IfElses};
+ghost use Rattle.typing_laws.specs.Judged.{IsUsedIn};
+
 use crate::defs::Defined;
 use crate::leaves::single;
 use crate::state::{Given, Parts, Walk};
@@ -14,7 +22,12 @@ pub(crate) fn finish(
     parts: Parts,
     given: &Given<'_>,
     walk: &mut Walk,
-) -> Result<TypedExpr, TypeFault> {
+) -> Result<TypedExpr, TypeFault>
+    ensures used { IsHeadSpelled given.now.spellings.now head → OnOk result (IsUsedIn (given_of given.now) walk.old.types walk.new.types) }
+    ensures names { walk.new.names ≡ walk.old.names }
+    ensures finishes { IfOk result (λ t. Finishes walk.old.types walk.new.types line head (parts_of parts) t) }
+    ensures breaks { IfErr result (IsRule (λ rule at_line. Refuses walk.old.types line head parts.types rule at_line)) }
+{
     let Parts { exprs, types } = parts;
     let applied = at_line(
         line,
@@ -28,7 +41,10 @@ pub(crate) fn finish(
 }
 
 /// A refusal as a fault on a line.
-pub(crate) fn at_line<T>(line: u32, made: Result<T, Refused>) -> Result<T, TypeFault> {
+pub(crate) fn at_line<T>(line: u32, made: Result<T, Refused>) -> Result<T, TypeFault>
+    ensures ok { IfOk result (λ v. made ≡ Ok v) }
+    ensures err { IfErr result (λ fault. (refused : Refused) × (made ≡ Err refused) × (fault ≡ fault_at line refused)) }
+{
     match made {
         Ok(value) => Ok(value),
         Err(refused) => Err(refused.at(line)),
@@ -40,7 +56,10 @@ pub(crate) fn group(
     line: u32,
     inner: TypedExpr,
     given: &Given<'_>,
-) -> Result<TypedExpr, TypeFault> {
+) -> Result<TypedExpr, TypeFault>
+    ensures is { IfOk result (λ t. t ≡ with line inner.types (TypedKind.Group (inner ∷ []))) }
+    ensures breaks { IfErr result (IsRule (λ rule at_line. Never rule at_line)) }
+{
     let types = Seq::from_slice(given.alloc, inner.types.as_slice())?;
     let mut exprs = Seq::new(given.alloc);
     exprs.add(inner)?;
@@ -52,7 +71,9 @@ pub(crate) fn group(
 }
 
 /// Definitions with the results behind them.
-pub(crate) fn let_in(line: u32, defined: Defined, results: Parts) -> TypedExpr {
+pub(crate) fn let_in(line: u32, defined: Defined, results: Parts) -> TypedExpr
+    ensures is { result ≡ with line results.types (TypedKind.Let defined.exprs results.exprs) }
+{
     let Parts { exprs, types } = results;
     TypedExpr {
         line,
@@ -67,7 +88,10 @@ pub(crate) fn if_else(
     test: Parts,
     then: Parts,
     otherwise: Parts,
-) -> Result<TypedExpr, TypeFault> {
+) -> Result<TypedExpr, TypeFault>
+    ensures is { IfOk result (λ t. IfElses line (parts_of test) (parts_of then) (parts_of otherwise) t) }
+    ensures breaks { IfErr result (IsRule (λ rule at_line. Uneven line test.types then.types otherwise.types rule at_line)) }
+{
     if !is_boolean(&test) || !are_same(&then, &otherwise) {
         return Err(TypeFault::Rule { rule: 17, line });
     }
@@ -80,11 +104,15 @@ pub(crate) fn if_else(
 }
 
 /// Whether these are of one value, a boolean.
-pub(crate) fn is_boolean(parts: &Parts) -> bool {
+pub(crate) fn is_boolean(parts: &Parts) -> bool
+    ensures { IsTrue result ↔ (parts.now.types ≡ 0 ∷ []) }
+{
     matches!(parts.types.as_slice(), [BOOLEAN])
 }
 
 /// Whether the values have the same types.
-fn are_same(one: &Parts, other: &Parts) -> bool {
+fn are_same(one: &Parts, other: &Parts) -> bool
+    ensures { IsTrue result ↔ (one.now.types ≡ other.now.types) }
+{
     one.types.as_slice() == other.types.as_slice()
 }

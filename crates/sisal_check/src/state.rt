@@ -1,4 +1,6 @@
 //! What the walk over a function's body is given, and what it changes.
+ghost use Rattle.std.specs.Prelude.{IfOk, OnOk, [], ◌++◌, ◌∷◌, ◌≡◌};
+
 use flow_value::{Name, NoMemory, Numbers, Seq};
 use name_scope::Scope;
 use sisal_lex::Token;
@@ -47,7 +49,10 @@ pub(crate) struct Parts {
 
 impl Parts {
     /// No expressions; takes no memory.
-    pub fn new(alloc: Global) -> Parts {
+    pub fn new(alloc: Global) -> Parts
+        ensures exprs { result.exprs ≡ [] }
+        ensures types { result.types ≡ [] }
+    {
         Parts {
             exprs: Seq::new(alloc),
             types: Seq::new(alloc),
@@ -55,14 +60,19 @@ impl Parts {
     }
 
     /// Adds an expression with all its values.
-    pub fn add(&mut self, e: TypedExpr) -> Result<(), NoMemory> {
+    pub fn add(&mut self, e: TypedExpr) -> Result<(), NoMemory>
+        ensures exprs { OnOk result (self.new.exprs ≡ self.old.exprs ++ e ∷ []) }
+        ensures types { OnOk result (self.new.types ≡ self.old.types ++ e.types) }
+    {
         self.types.extend(e.types.as_slice())?;
         self.exprs.add(e)
     }
 }
 
 /// A count that fits a `u32`; more would want more memory than there is.
-pub(crate) fn number_of(count: usize) -> Result<u32, NoMemory> {
+pub(crate) fn number_of(count: usize) -> Result<u32, NoMemory>
+    ensures { IfOk result (λ n. n ≡ count) }
+{
     match u32::try_from(count) {
         Ok(number) => Ok(number),
         Err(_) => Err(NoMemory),

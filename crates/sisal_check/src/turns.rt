@@ -1,4 +1,13 @@
 //! The turns of a `for initial`.
+ghost use Rattle.breaking_laws.specs.Parts.{BrokenRenewing, BrokenTurn, IsNoTruth};
+ghost use Rattle.sisal_check.specs.Walked.{defined_of, given_of, turned_of};
+ghost use Rattle.std.specs.Prelude.{IfErr, IfOk, OnOk, [], ◌∷◌, ◌≡◌};
+ghost use Rattle.type_rules.specs.Faults.{IsRule};
+ghost use Rattle.typing_laws.specs.Defining.{targets_in};
+ghost use Rattle.typing_laws.specs.Judged.{IsUsedIn};
+ghost use Rattle.typing_laws.specs.Looping.{AllRenewed, IsAround, TurnTyped};
+ghost use Rattle.typing_laws.specs.Turns.{AreBelow, in_turn, loop_names, renewals};
+
 use crate::defs::{Defined, defs, targets_of};
 use crate::lists::only;
 use crate::making::is_boolean;
@@ -40,7 +49,12 @@ pub(crate) fn turn_of(
     started: &Defined,
     given: &Given<'_>,
     walk: &mut Walk,
-) -> Result<Turned, TypeFault> {
+) -> Result<Turned, TypeFault>
+    ensures used { OnOk result (IsUsedIn (given_of given.now) walk.old.types walk.new.types) }
+    ensures names { OnOk result (walk.new.names ≡ walk.old.names) }
+    ensures typed { IfOk result (λ t. TurnTyped (given_of given.now) walk.new.types walk.old.names first (defined_of started.now) turn.now (turned_of t)) }
+    ensures breaks { IfErr result (IsRule (λ rule at_line. BrokenTurn (given_of given.now) walk.old.types walk.old.names first (defined_of started.now) line turn.now rule at_line)) }
+{
     let Turn {
         is_first,
         is_until,
@@ -61,7 +75,11 @@ pub(crate) fn turn_of(
 }
 
 /// The test of a loop on a line: rule 23, on that line, where it is no boolean.
-fn truth(line: u32, tests: Parts) -> Result<Seq<TypedExpr>, TypeFault> {
+fn truth(line: u32, tests: Parts) -> Result<Seq<TypedExpr>, TypeFault>
+    ensures exprs { IfOk result (λ exprs. exprs ≡ tests.exprs) }
+    ensures truth { OnOk result (tests.types ≡ 0 ∷ []) }
+    ensures breaks { IfErr result (IsRule (λ rule at_line. IsNoTruth tests.types line rule at_line)) }
+{
     if !is_boolean(&tests) {
         return Err(TypeFault::Rule { rule: 23, line });
     }
@@ -70,7 +88,9 @@ fn truth(line: u32, tests: Parts) -> Result<Seq<TypedExpr>, TypeFault> {
 }
 
 /// The turn with its test.
-fn whole(is_first: bool, is_until: bool, test: Seq<TypedExpr>, renewing: Renewing) -> Turned {
+fn whole(is_first: bool, is_until: bool, test: Seq<TypedExpr>, renewing: Renewing) -> Turned
+    ensures { turned_of result ≡ record { is_first = is_first; is_until = is_until; test = test; renewed = renewing.renewed; exprs = renewing.exprs } }
+{
     let Renewing { renewed, exprs } = renewing;
     Turned {
         is_first,
@@ -89,7 +109,12 @@ fn turn_defs(
     started: &Defined,
     given: &Given<'_>,
     walk: &mut Walk,
-) -> Result<Renewing, TypeFault> {
+) -> Result<Renewing, TypeFault>
+    ensures used { OnOk result (IsUsedIn (given_of given.now) walk.old.types walk.new.types) }
+    ensures names { OnOk result (walk.new.names ≡ walk.old.names) }
+    ensures renewed { IfOk result (λ r. AllRenewed (given_of given.now) walk.new.types walk.old.names first (defined_of started.now) ds.now r.renewed r.exprs) }
+    ensures breaks { IfErr result (IsRule (λ rule at_line. BrokenRenewing (given_of given.now) walk.old.types walk.old.names first (defined_of started.now) ds.now rule at_line)) }
+{
     let outer = walk.names.mark();
     let renewed = begin(ds, first, started, given, walk)?;
     let defined = defs(ds, Some(first), given, walk)?;
@@ -108,7 +133,12 @@ fn begin(
     started: &Defined,
     given: &Given<'_>,
     walk: &mut Walk,
-) -> Result<Seq<Option<u32>>, NoMemory> {
+) -> Result<Seq<Option<u32>>, NoMemory>
+    ensures types { walk.new.types ≡ walk.old.types }
+    ensures around { OnOk result (IsAround walk.old.names walk.new.names) }
+    ensures names { OnOk result (AreBelow first walk.old.names.olds → walk.new.names ≡ in_turn (loop_names first started.now.targets started.now.types) (targets_in ds.now) walk.old.names) }
+    ensures renewed { IfOk result (λ places. AreBelow first walk.old.names.olds → places ≡ renewals first (loop_names first started.now.targets started.now.types) (targets_in ds.now)) }
+{
     let targets = targets_of(given.alloc, ds)?;
     walk.names.begin_turn(
         started.targets.as_slice(),

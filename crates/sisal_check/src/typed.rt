@@ -1,4 +1,14 @@
 //! Expressions.
+ghost use Rattle.breaking_laws.specs.Broken.{Broken, BrokenForm};
+ghost use Rattle.breaking_laws.specs.Refusals.{HasElements};
+ghost use Rattle.sisal_check.specs.Walked.{given_of, parts_of};
+ghost use Rattle.sisal_tree.specs.declared.expr.ExprKind.TheViews.{out-ExprKind};
+ghost use Rattle.std.specs.Prelude.{IfErr, IfOk, OnOk, [], ◌≡◌};
+ghost use Rattle.type_rules.specs.Faults.{IsRule};
+ghost use Rattle.typed_tree.specs.Typing.{at};
+ghost use Rattle.typing_laws.specs.Forming.{Operands};
+ghost use Rattle.typing_laws.specs.Judged.{Adds, IsUsedIn, Typed};
+
 use crate::calls::call;
 use crate::cases::tag_case;
 use crate::defs::defs;
@@ -14,7 +24,13 @@ use typed_tree::TypedExpr;
 
 /// The typed tree of an expression: SISAL Language Reference Manual 1.2, expressions.
 #[cycle(walk)]
-pub(crate) fn typed(e: &Expr, given: &Given<'_>, walk: &mut Walk) -> Result<TypedExpr, TypeFault> {
+pub(crate) fn typed(e: &Expr, given: &Given<'_>, walk: &mut Walk) -> Result<TypedExpr, TypeFault>
+    ensures used { OnOk result (IsUsedIn (given_of given.now) walk.old.types walk.new.types) }
+    ensures names { OnOk result (walk.new.names ≡ walk.old.names) }
+    ensures typed { IfOk result (λ t. Typed (given_of given.now) walk.new.types walk.old.names e.now t) }
+    ensures line { IfOk result (λ t. t.line ≡ e.now.line) }
+    ensures breaks { IfErr result (IsRule (λ rule at_line. Broken (given_of given.now) walk.old.types walk.old.names e.now rule at_line)) }
+{
     let Expr { line, kind } = e;
     match kind {
         ExprKind::Constant(c) => constant(*line, c, given),
@@ -54,7 +70,13 @@ fn applied(
     line: u32,
     given: &Given<'_>,
     walk: &mut Walk,
-) -> Result<TypedExpr, TypeFault> {
+) -> Result<TypedExpr, TypeFault>
+    ensures used { OnOk result (IsUsedIn (given_of given.now) walk.old.types walk.new.types) }
+    ensures names { OnOk result (walk.new.names ≡ walk.old.names) }
+    ensures typed { IfOk result (λ t. Typed (given_of given.now) walk.new.types walk.old.names (at line kind.now) t) }
+    ensures line { IfOk result (λ t. t.line ≡ line) }
+    ensures breaks { IfErr result (IsRule (λ rule at_line. Broken (given_of given.now) walk.old.types walk.old.names (at line kind.now) rule at_line)) }
+{
     let head = head_of(kind, line, given, walk)?;
     let mut parts = Parts::new(given.alloc);
     operands(kind, &mut parts, given, walk)?;
@@ -68,7 +90,13 @@ fn operands(
     parts: &mut Parts,
     given: &Given<'_>,
     walk: &mut Walk,
-) -> Result<(), TypeFault> {
+) -> Result<(), TypeFault>
+    ensures used { OnOk result (IsUsedIn (given_of given.now) walk.old.types walk.new.types) }
+    ensures names { OnOk result (walk.new.names ≡ walk.old.names) }
+    ensures adds { OnOk result (Adds (parts_of parts.old) (parts_of parts.new) (Operands (given_of given.now) walk.new.types walk.old.names kind.now)) }
+    ensures elements { parts.old.types ≡ [] → OnOk result (HasElements (out-ExprKind kind.now) parts.new.types) }
+    ensures breaks { IfErr result (IsRule (λ rule at_line. BrokenForm (given_of given.now) walk.old.types walk.old.names kind.now rule at_line)) }
+{
     match kind {
         ExprKind::Convert(_, e)
         | ExprKind::IsError(e)

@@ -1,6 +1,6 @@
 //! Units.
-ghost use Rattle.std.specs.Prelude.{IfOk};
 ghost use Rattle.sisal_check.specs.Checked.{Checked};
+ghost use Rattle.std.specs.Prelude.{IfOk};
 
 use crate::bodies::functions;
 use crate::state::{Given, Walk};

@@ -1,10 +1,10 @@
 -- What a form of expression makes of operands, each of one type, by the numbers of types, and which rule it breaks where it makes
 -- nothing of them: 15 of operators, conversions and calls that are built in, 19 of arrays and streams, 20 of records, 21 of
 -- unions, and 4 where the type that is made would be deeper than 64.
-use Rattle.std.specs.Prelude.{◌≡◌, ◌⊎◌, ℕ, ◌<◌, List, ◌++◌, Option, Some, None, slice_get}
+use Rattle.std.specs.Prelude.{◌≡◌, ◌⊎◌, ℕ, ◌<◌, List, ◌++◌, Option, Some, None, length, slice_get}
 use Rattle.type_table.specs.declared.form.Form.{Form}
 use Rattle.type_table.specs.Forms.{form_depth}
-use Rattle.type_table.specs.Tables.{depths}
+use Rattle.type_table.specs.Tables.{depths, AddsAtMost, IsOver}
 use Rattle.type_rules.specs.declared.fault.Refused.{Refused}
 use Rattle.type_rules.specs.declared.fault.Refused.TheVariants as refused
 use Rattle.type_rules.specs.declared.head.Head.{Head}
@@ -60,6 +60,11 @@ abbrev pub IsSorted : List Form → Sort → ℕ → Type 0
 IsSorted forms (sort.There n) k = k ≡ n
 IsSorted forms (sort.Made f) k = slice_get forms k ≡ Some f
 
+-- where a type is made the table has its form at the end, if it has one form more; its parts were there
+abbrev pub Adds : List Form → Sort → List Form → Type 0
+Adds old (sort.There n) new = new ≡ old
+Adds old (sort.Made f) new = AddsAtMost old f new × IsOver (length old) f
+
 -- a type that would be deeper than 64 breaks rule 4
 abbrev pub IsTooDeep : List Form → Sort → Refused → Type 0
 IsTooDeep forms s refused.NoMemory = Unit {0}
@@ -73,6 +78,7 @@ pub record IsApplied (forms : List Form) (h : Head) (ns : List ℕ) (a : Applied
   pub made : Sort
   pub outcome : applies forms h ns ≡ Some (record { operation = a.operation; sort = made })
   pub typed : IsSorted after made a.ty
+  pub adds : Adds forms made after
 
 -- the form makes nothing of the operands, or a type that is too deep
 abbrev pub IsRefused : List Form → Head → List ℕ → Refused → Type 0

@@ -19,7 +19,7 @@ use Rattle.type_rules.specs.declared.folds.Made.{Made}
 use Rattle.type_rules.specs.declared.head.Sort.{Sort}
 use Rattle.type_rules.specs.declared.head.Sort.TheVariants as sort
 use Rattle.type_rules.specs.Parts.{integer, part_if}
-use Rattle.type_rules.specs.Applies.{IsSorted, IsTooDeep}
+use Rattle.type_rules.specs.Applies.{IsSorted, Adds, IsTooDeep}
 
 -- no mask, or one that is `unless` or not
 abbrev pub masking_by : Option Bool → Masking
@@ -61,6 +61,7 @@ pub record IsMade (forms : List Form) (kind : ClauseKind) (mask : Option Bool) (
   pub direction : m.form.direction ≡ direction_of kind
   pub masking : m.form.masking ≡ masking_by mask
   pub typed : IsSorted after result m.ty
+  pub adds : Adds forms result after
 
 -- the clause makes nothing of the values, or a type that is too deep
 abbrev pub IsUnmade : List Form → ClauseKind → ℕ → Refused → Type 0

@@ -1,7 +1,7 @@
 //! What a form makes of its operands.
-ghost use Rattle.std.specs.Prelude.{◌≡◌, ◌<◌, IfOk, IfErr, OnErr, IsTrue, length, All, map};
+ghost use Rattle.std.specs.Prelude.{◌≡◌, ◌<◌, IfOk, IfErr, OnOk, OnErr, IsTrue, length, All, map};
 ghost use Rattle.type_table.specs.Tables.{IsOver};
-ghost use Rattle.type_rules.specs.Applies.{applies, rule_of, Grows, IsSorted, IsTooDeep, IsApplied, IsRefused};
+ghost use Rattle.type_rules.specs.Applies.{applies, rule_of, Grows, Adds, IsSorted, IsTooDeep, IsApplied, IsRefused};
 
 use crate::calls::called;
 use crate::fault::Refused;
@@ -85,6 +85,7 @@ fn number_made(types: &mut Types, form: Form) -> Result<u32, Refused>
     ensures typed { IfOk result (λ k. IsSorted types.new (Sort.Made form) k) }
     ensures refused { IfErr result (λ e. IsTooDeep types.old (Sort.Made form) e) }
     ensures table { Grows types.old types.new }
+    ensures adds { OnOk result (Adds types.old (Sort.Made form) types.new) }
     ensures err { OnErr result (types.new ≡ types.old) }
 {
     if !over(types, &form) {
@@ -101,6 +102,7 @@ pub fn number_of(types: &mut Types, sort: Sort) -> Result<u32, Refused>
     ensures typed { IfOk result (λ k. IsSorted types.new sort k) }
     ensures refused { IfErr result (λ e. IsTooDeep types.old sort e) }
     ensures table { Grows types.old types.new }
+    ensures adds { OnOk result (Adds types.old sort types.new) }
     ensures err { OnErr result (types.new ≡ types.old) }
 {
     match sort {

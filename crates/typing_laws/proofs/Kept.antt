@@ -8,7 +8,7 @@ use Rattle.flow_value.specs.declared.ty.Ty.TheVariants as ty
 use Rattle.type_table.specs.declared.form.Form.{Form}
 use Rattle.type_table.specs.declared.form.Form.TheVariants as form
 use Rattle.type_table.specs.declared.form.Member.{Member as NumberedMember}
-use Rattle.type_table.specs.Tables.{IsOver, IsTable, AddsAtMost}
+use Rattle.type_table.specs.Tables.{IsOver, AddsAtMost}
 use Rattle.type_table.proofs.Lists.{seam}
 use Rattle.typed_tree.specs.Types.{Member, IsNumber, boolean, character, integer, null, array, stream, a_record, a_union, AreMembers, no_member, a_member}
 use Rattle.type_rules.specs.Applies.{Grows}
@@ -45,8 +45,8 @@ last_or (suc n) zero e = absurd (omega (arith, e))
 last_or (suc n) (suc m) e = elim (last_or n m (omega (arith, e))) [ inl h ↦ inl (omega (arith, h)) | inr h ↦ inr (ap suc h) ]
 
 pub standing_kept : IsStandingKept
-standing_kept names old new f stands table spelled each (inl same) = subst (AreStanding names) (sym same) stands
-standing_kept names old new f stands table spelled each (inr same) = record {
+standing_kept names old new f stands over spelled each (inl same) = subst (AreStanding names) (sym same) stands
+standing_kept names old new f stands over spelled each (inr same) = record {
   stands = λ n within.
       let long : length new ≡ length old + 1 = ap length same ∙ length-append old (f ∷ []) in
       let grows : Grows old new = (f ∷ [], same) in
@@ -54,7 +54,7 @@ standing_kept names old new f stands table spelled each (inr same) = record {
         | inl before ↦ part_stands names old new grows stands n before
         | inr last ↦
             let here : slice_get new (length old) ≡ Some f = ap (λ l. slice_get l (length old)) same ∙ seam old f in
-            let t = form_stands names old new grows stands (length old) f here (table.well.after_parts (length old) f here) spelled in
+            let t = form_stands names old new grows stands (length old) f here over spelled in
             (t.0, subst (λ i. IsNumber new names i t.0) (sym last) t.1)
       ];
   once = subst (All HasEachOnce) (sym same) (All-append HasEachOnce old (f ∷ []) stands.once (All-cons HasEachOnce f [] each (All-nil HasEachOnce)));

@@ -9,16 +9,29 @@ use Rattle.typed_tree.specs.Typing.{Known}
 use Rattle.flow_value.specs.declared.ty.Ty.{Ty}
 use Rattle.typed_tree.specs.Types.{IsNumber}
 use Rattle.type_rules.specs.Applies.{Grows}
-use Rattle.unit_types.specs.Rests.{IsLater, AreKnown, AreTokensSpelled}
+use Rattle.unit_types.specs.Rests.{IsLater, AreKnown, AreTokensSpelled, IsUsed}
 use Rattle.value_names.specs.Names.{Names}
 use Rattle.typing_laws.specs.Given.{Given}
-use Rattle.typing_laws.specs.Judged.{Agrees, Typed, AllTyped, AllOnes, IsDenoted, denotes_in}
+use Rattle.typing_laws.specs.Judged.{Agrees, IsUsedIn, Typed, AllTyped, AllOnes, IsDenoted, denotes_in}
 
 pub grows_on : (a b c : List Form) → Grows a b → Grows b c → Grows a c
 grows_on a b c p q = (p.0 ++ q.0, q.1 ∙ ap (λ l. l ++ q.0) p.1 ∙ append_assoc a p.0 q.0)
 
 pub grows_same : (a b : List Form) → b ≡ a → Grows a b
 grows_same a b e = ([], e ∙ sym (append-nil a))
+
+-- ---- a table in use
+
+pub used_same : (g : Given) (a : List Form) → IsUsedIn g a a
+used_same g a = record { grows = ([], sym (append-nil a)); standing = λ t s. s }
+
+pub used_on : (g : Given) (a b c : List Form) → IsUsedIn g a b → IsUsedIn g b c → IsUsedIn g a c
+used_on g a b c p q = record { grows = grows_on a b c p.grows q.grows; standing = λ t s. q.standing t (p.standing t s) }
+
+pub used_text : (g : Given) (a b : List Form) → IsUsed g.tokens a b → IsUsedIn g a b
+used_text g a b p = record { grows = (p.grown.more, p.grown.is); standing = λ t s. p.standing g.spellings t s }
+
+-- ---- what is so of a table
 
 pub agrees_before : (g : Given) (old new : List Form) (k : Known) → Grows old new → Agrees g new k → Agrees g old k
 agrees_before g old new k grows a = record {

@@ -69,6 +69,11 @@ pub record Agrees (g : Given) (forms : List Form) (k : Known) : Type 0 where
   pub numbers : AreNumbered g.numbers g.functions
   pub all : AreAll g.numbers g.functions
 
+-- the table goes on to that one, and each of its numbers stands for a type if it did before
+pub record IsUsedIn (g : Given) (old new : List Form) : Type 0 where
+  pub grows : Grows old new
+  pub standing : AreTokensSpelled g.spellings g.tokens → AreStanding g.spellings old → AreStanding g.spellings new
+
 -- ---- names in force
 
 -- what a name stands for, by number and by type

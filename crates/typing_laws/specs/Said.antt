@@ -3,7 +3,7 @@ use Rattle.std.specs.Prelude.{ℕ, ◌<◌, List, length, map, All, Option, Some
 use Rattle.flow_value.specs.declared.ty.Ty.{Ty}
 use Rattle.type_table.specs.declared.form.Form.{Form}
 use Rattle.type_table.specs.declared.form.Form.TheVariants as form
-use Rattle.type_table.specs.Tables.{IsTable, AddsAtMost}
+use Rattle.type_table.specs.Tables.{IsOver, AddsAtMost}
 use Rattle.typed_tree.specs.Types.{IsNumber}
 use Rattle.unit_types.specs.Rests.{HasEachOnce, AreStanding}
 use Rattle.type_rules.specs.declared.head.Head.{Head}
@@ -35,4 +35,4 @@ IsFormSpelled names _ = Unit {0}
 
 -- each number stands for a type, also once a form more is in the table
 abbrev pub IsStandingKept : Type 0
-IsStandingKept = (names : List (List ℕ)) (old new : List Form) (f : Form) → AreStanding names old → IsTable new → IsFormSpelled names f → HasEachOnce f → AddsAtMost old f new → AreStanding names new
+IsStandingKept = (names : List (List ℕ)) (old new : List Form) (f : Form) → AreStanding names old → IsOver (length old) f → IsFormSpelled names f → HasEachOnce f → AddsAtMost old f new → AreStanding names new

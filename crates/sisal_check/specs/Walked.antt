@@ -1,0 +1,108 @@
+-- What the walk over a function's body is given, and what it makes on its way, as the laws of typing have it.
+use Rattle.std.specs.Prelude.{◌≡◌, ℕ, ◌-◌, ◌<◌, List, ◌++◌, drop, length, map, Bool, true, All, None}
+use Rattle.type_table.specs.declared.form.Form.{Form}
+use Rattle.sisal_tree.specs.declared.expr.Clause.{Clause}
+use Rattle.sisal_tree.specs.declared.expr.Def.{Def}
+use Rattle.sisal_tree.specs.declared.expr.Generator.{Generator}
+use Rattle.sisal_tree.specs.declared.expr.Expr.{Expr}
+use Rattle.sisal_tree.specs.declared.unit.Written.{Written}
+use Rattle.typed_tree.specs.declared.expr.Source.{Source}
+use Rattle.typed_tree.specs.declared.expr.TypedExpr.{TypedExpr}
+use Rattle.typed_tree.specs.declared.expr.TypedKind.TheVariants as typed
+use Rattle.typed_tree.specs.Scopes.{AreDistinct, targets}
+use Rattle.typed_tree.specs.Typing.{with}
+use Rattle.type_rules.specs.declared.head.Head.{Head}
+use Rattle.type_rules.specs.declared.head.Head.TheVariants as head
+use Rattle.unit_types.specs.declared.header.Signature.{Signature}
+use Rattle.value_names.specs.Names.{Names}
+use Rattle.typing_laws.specs.Given as by
+use Rattle.typing_laws.specs.Bodies.{parameters_in}
+use Rattle.typing_laws.specs.Defining.{AllDefined}
+use Rattle.typing_laws.specs.Judged.{AllTyped, IsDenoted}
+use Rattle.typing_laws.specs.Looping.{AllValues, AllMade, GroupsTyped, IsCrossed, initial_of}
+use Rattle.sisal_check.specs.declared.state.Given.{Given}
+use Rattle.sisal_check.specs.declared.state.Parts.{Parts}
+use Rattle.sisal_check.specs.declared.defs.Defined.{Defined}
+use Rattle.sisal_check.specs.declared.cases.Arms.{Arms}
+use Rattle.sisal_check.specs.declared.generators.Group.{Group}
+use Rattle.sisal_check.specs.declared.clauses.Folds.{Folds}
+use Rattle.sisal_check.specs.declared.turns.Turned.{Turned}
+
+abbrev pub header_of : Signature → by.Header
+header_of s = record { name = s.name; parameters = s.parameters; params = s.params; results = s.results }
+
+-- the names of types that are known behind so many definitions
+abbrev pub given_behind : ℕ → Given → by.Given
+given_behind known g = record {
+  tokens = g.tokens.now;
+  spellings = g.spellings.now;
+  named = drop (length g.named.now - known) g.named.now;
+  functions = map header_of g.functions.now;
+  numbers = g.numbers.now;
+}
+
+abbrev pub given_of : Given → by.Given
+given_of g = given_behind g.known g
+
+abbrev pub parts_of : Parts → by.Parts
+parts_of p = record { exprs = p.exprs; types = p.types }
+
+abbrev pub defined_of : Defined → by.Defined
+defined_of d = record { exprs = d.exprs; targets = d.targets; types = d.types }
+
+abbrev pub arms_of : Arms → by.Arms
+arms_of a = record { name = a.name; union = a.choices.union; chosen = a.choices.arms; results = a.results; types = a.types; is_even = a.is_even }
+
+abbrev pub group_of : Group → by.Group
+group_of g = record { sources = g.sources; bounds = g.bounds; names = g.names; types = g.types }
+
+abbrev pub folds_of : Folds → by.Folds
+folds_of f = record { forms = f.forms; types = f.types }
+
+abbrev pub turned_of : Turned → by.Turned
+turned_of t = record { is_first = t.is_first; is_until = t.is_until; test = t.test; renewed = t.renewed; exprs = t.exprs }
+
+-- ---- forms
+
+-- the names of the fields of a record are spelled
+abbrev pub IsHeadSpelled : List (List ℕ) → Head → Type 0
+IsHeadSpelled spellings (head.Record named xs) = All (λ x. x < length spellings) xs
+IsHeadSpelled spellings _ = Unit {0}
+
+-- `error` of a written type
+pub record IsErrorHead (g : by.Given) (forms : List Form) (w : Written) (h : Head) : Type 0 where
+  pub type : ℕ
+  pub is : h ≡ head.ErrorOf type
+  pub denoted : IsDenoted g forms w type
+
+-- ---- loops
+
+-- a loop over a group of generators, whose clauses go over values of these types
+pub record IsLoopOver (forms : List Form) (line : ℕ) (cs : List Clause) (is_masked : Bool) (ns : List ℕ) (m : by.Group) (us : List (List TypedExpr)) (ts : List TypedExpr) (t : TypedExpr) : Type 0 where
+  pub folds : by.Folds
+  pub made : AllMade forms cs is_masked ns folds
+  pub is : t ≡ with line folds.types (typed.Product (record { sources = m.sources; clauses = folds.forms }) m.bounds us ts)
+
+-- the loops over groups before others, over the loop over these
+pub record CrossesAll (g : by.Given) (before after : List Form) (line : ℕ) (cs : List Clause) (ms : List by.Group) (inner t : TypedExpr) : Type 0 where
+  pub holds : (names inside : Names) (gs others : List (List Generator)) (ds : List Def) → GroupsTyped g before names gs ms inside → IsCrossed g before inside line others ds cs inner
+      → IsCrossed g after names line (gs ++ others) ds cs t
+
+-- the loops over all groups
+pub record IsProduct (g : by.Given) (before after : List Form) (line : ℕ) (cs : List Clause) (ms : List by.Group) (us : List (List TypedExpr)) (ns : List ℕ) (values : by.Parts) (t : TypedExpr) : Type 0 where
+  pub holds : (names inside within : Names) (gs : List (List Generator)) (ds : List Def) → GroupsTyped g before names gs ms inside → AllDefined g before inside within None ds us ns → AreDistinct (targets ds)
+      → AllValues g before within cs values.exprs values.types → IsCrossed g after names line gs ds cs t
+
+-- a `for initial`
+pub record IsInitial (forms : List Form) (line : ℕ) (cs : List Clause) (started : by.Defined) (turned : by.Turned) (values : by.Parts) (t : TypedExpr) : Type 0 where
+  pub folds : by.Folds
+  pub made : AllMade forms cs true values.types folds
+  pub is : t ≡ initial_of line started turned values.exprs folds
+
+-- ---- functions
+
+-- the results of a function have the types that its header says
+pub record IsBody (g : by.Given) (forms : List Form) (h : by.Header) (es : List Expr) (ts : List TypedExpr) : Type 0 where
+  pub types : List ℕ
+  pub typed : AllTyped g forms (parameters_in h) es ts types
+  pub results : types ≡ h.results
