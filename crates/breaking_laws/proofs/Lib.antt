@@ -9,3 +9,10 @@ pub mod FBodies
 pub mod PReach
 pub mod PTwice
 pub mod PDefs
+pub mod PTurns
+pub mod PClauses
+pub mod PMade
+pub mod PGenerators
+pub mod PTags
+pub mod PArms
+pub mod PCases
