@@ -1,0 +1,2 @@
+pub mod EViews
+pub mod EInverted
