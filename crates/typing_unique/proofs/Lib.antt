@@ -1,2 +1,5 @@
 pub mod EViews
 pub mod EInverted
+pub mod ETypes
+pub mod EScopes
+pub mod EProper

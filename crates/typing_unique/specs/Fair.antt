@@ -13,7 +13,7 @@ pub record AreOnce (ms : List Member) : Type 0 where
   pub place : (i j : ℕ) (name : List ℕ) (a b : Ty) → IsMember ms name i a → IsMember ms name j b → i ≡ j
 
 mutual
-  -- no field or tag stands twice in the type, and in none of its parts; a union has a tag
+  -- no field or tag stands twice in the type, and in none of its parts
   pub data IsProper : Ty → Type 0 where
     integer : IsProper ty.Int
     boolean : IsProper ty.Bool
@@ -22,6 +22,7 @@ mutual
     array : (a : Ty) → IsProper a → IsProper (ty.Arr a)
     stream : (a : Ty) → IsProper a → IsProper (ty.Stream a)
     a_record : (ms : List Member) → AreOnce ms → AreProper ms → IsProper (ty.Rec ms)
+    -- a union has a tag
     a_union : (ms : List Member) → (ms ≡ [] → ⊥) → AreOnce ms → AreProper ms → IsProper (ty.Uni ms)
 
   pub data AreProper : List Member → Type 0 where
