@@ -32,8 +32,17 @@ use Rattle.typed_tree.specs.Scopes.{Scope, define_all}
 use Rattle.typed_tree.specs.Types.{Member, constant_type, scalar_type, prefix_type, binary_type}
 use Rattle.typed_tree.specs.Typing as rule
 use Rattle.typed_tree.specs.Typing.{Signature, Known, IsFunction, IsBuiltIn, IsNamedType, Has, IsTag, names_of, AreAllNamed, at, Types, AreTyped, Replaces, HasFields, Defines, Crosses, Generates, AreClauses, IsMask, AreArms, IsOtherwise, Folds}
-use Rattle.typing_unique.specs.Inverted.{at_table, IsInside, IsGroup, IsOwnCall, IsBuiltInCall, IsCall, IsArray, IsArrayIf, IsStreamIf, IsTagCase, IsInitial, IsProduct, IsLoop, Inverted, IsDefinition, DefinesIn, CrossesIn, IsGenerator, GeneratesIn, IsClause, ClausesIn, IsArm, ArmsIn}
+use Rattle.typing_unique.specs.Inverted.{at_table, IsInside, IsInnerLoop, TypedIn, FieldsIn, ReplacesIn, MaskIn, IsGroup, IsOwnCall, IsBuiltInCall, IsCall, IsArray, IsArrayIf, IsStreamIf, IsTagCase, IsInitial, IsProduct, IsLoop, Inverted, IsDefinition, DefinesIn, CrossesIn, IsGenerator, GeneratesIn, IsClause, ClausesIn, IsArm, ArmsIn}
 use Rattle.typing_unique.proofs.EViews.{out_constant, out_name, out_old, out_group, out_call, out_convert, out_error_of, out_is_error, out_is_tag, out_prefix, out_binary, out_select, out_update, out_field, out_replace, out_empty_array, out_array, out_stream, out_a_record, out_union, out_let, out_if, out_tag_case, out_for, out_product, out_initial, out_elements, out_def, out_case, out_arm, out_generator, out_turn, out_clause}
+
+abbrev IsNotEmpty : List (List Generator) → Type 0
+IsNotEmpty [] = ⊥
+IsNotEmpty (g ∷ gs) = Unit {0}
+
+some_group : (k : Known) (denotes : Written → Ty → Type 0) (s : Scope) (l : ℕ) (gs : List (List Generator)) (ds : List Def) (cs : List Clause) (t : TypedExpr) (tys : List Ty)
+    → Crosses k denotes s l gs ds cs t tys → IsNotEmpty gs
+some_group k denotes s l _ ds cs _ tys (rule.one_group p d q e c n) = tt
+some_group k denotes s l _ ds cs _ tys (rule.a_group p d q f n) = tt
 
 module _ (k : Known) (forms : List Form) where
   -- ---- what does not speak of the table
@@ -197,17 +206,9 @@ module _ (k : Known) (forms : List Form) where
         subst (λ r. IsDefinition k forms denotes s r.targets r.values ds us tys after) (out_def xs es)
         (definitions_of s (roll-Def (record { targets = xs; values = es }) ∷ ds) us tys after p)
 
-    abbrev IsNotEmpty : List (List Generator) → Type 0
-    IsNotEmpty [] = ⊥
-    IsNotEmpty (g ∷ gs) = Unit {0}
-
-    some_group : (s : Scope) (l : ℕ) (gs : List (List Generator)) (ds : List Def) (cs : List Clause) (t : TypedExpr) (tys : List Ty) → Crosses (at_table k forms) denotes s l gs ds cs t tys → IsNotEmpty gs
-    some_group s l _ ds cs _ tys (rule.one_group p d q e c n) = tt
-    some_group s l _ ds cs _ tys (rule.a_group p d q f n) = tt
-
     inside_of : (s : Scope) (l : ℕ) (gs : List (List Generator)) (ds : List Def) (cs : List Clause) (t : TypedExpr) (inner tys : List Ty) (clauses : List ClauseForm)
         → Crosses (at_table k forms) denotes s l gs ds cs t inner → Folds cs inner clauses tys → IsInside k forms denotes s l gs ds cs tys
-    inside_of s l [] ds cs t inner tys clauses p f = absurd (some_group s l [] ds cs t inner p)
+    inside_of s l [] ds cs t inner tys clauses p f = absurd (some_group (at_table k forms) denotes s l [] ds cs t inner p)
     inside_of s l (g ∷ gs) ds cs t inner tys clauses p f = record { tree = t; inner = inner; clauses = clauses; crosses = p; folds = f }
 
     pub crossed_of : (s : Scope) (l : ℕ) (gs : List (List Generator)) (ds : List Def) (cs : List Clause) (t : TypedExpr) (tys : List Ty)
@@ -276,3 +277,27 @@ module _ (k : Known) (forms : List Form) where
     view_arms s x ms tys l names es arms us tags p =
         subst (λ r. IsArm k forms denotes s x ms tys r.tags r.results arms tags) (out_arm l names es)
         (arms_of s x ms tys (roll-Arm (record { line = l; tags = names; results = es }) ∷ arms) us tags p)
+
+    -- the loop behind a group before others
+    pub inner_of : (g : List Form) (s : Scope) (l : ℕ) (gs : List (List Generator)) (ds : List Def) (cs : List Clause) (t : TypedExpr) (inner tys : List Ty)
+        → Crosses (at_table k g) denotes s l gs ds cs t inner → (r : Scope) → IsInside k forms denotes r l gs ds cs tys → IsInnerLoop k forms denotes r l gs ds cs tys
+    inner_of g s l [] ds cs t inner tys p r i = absurd (some_group (at_table k g) denotes s l [] ds cs t inner p)
+    inner_of g s l (h ∷ gs) ds cs t inner tys p r i = i
+
+    pub first_of : (s : Scope) (es : List Expr) (ts : List TypedExpr) (tys : List Ty) → AreTyped (at_table k forms) denotes s es ts tys → TypedIn k forms denotes s es tys
+    first_of s _ _ _ rule.no_more = refl
+    first_of s _ _ _ (rule.more {e = e} {t = t} {tys = tys} {others = others} {es = es} {ts = ts} p q) = record { tree = t; made = tys; trees = ts; others = others; typed = p; later = q; types = refl }
+
+    pub fields_of : (s : Scope) (vs : List FieldValue) (ts : List TypedExpr) (ms : List Member) → HasFields (at_table k forms) denotes s vs ts ms → FieldsIn k forms denotes s vs ms
+    fields_of s _ _ _ rule.no_member = refl
+    fields_of s _ _ _ (rule.a_member {n = n} {spelling = spelling} {a = a} {e = e} {t = t} {vs = vs} {ts = ts} {ms = ms} h p q) =
+        record { spelling = spelling; type = a; tree = t; trees = ts; others = ms; spelled = h; typed = p; later = q; members = refl }
+
+    pub changed_of : (s : Scope) (ms : List Member) (vs : List FieldValue) (places : List ℕ) (us : List TypedExpr) → Replaces (at_table k forms) denotes s ms vs places us → ReplacesIn k forms denotes s ms vs
+    changed_of s ms _ _ _ rule.no_field = tt
+    changed_of s ms _ _ _ (rule.a_field {n = n} {place = place} {a = a} {e = e} {t = t} {vs = vs} {places = places} {us = us} h p q) =
+        record { place = place; type = a; tree = t; places = places; trees = us; has = has_in ms n.name place a h; typed = p; later = q }
+
+    pub mask_of : (s : Scope) (m : Option Mask) (ts : List TypedExpr) → IsMask (at_table k forms) denotes s m ts → MaskIn k forms denotes s m
+    mask_of s _ _ rule.no_mask = tt
+    mask_of s _ _ (rule.a_mask {t = t} p) = record { tree = t; typed = p }

@@ -26,23 +26,23 @@ use Rattle.typing_unique.proofs.EInverted.{has_in, function_in, tags_in}
 use Rattle.typing_unique.proofs.ETypes.{element_proper, stream_proper, record_proper, union_proper, sequence_proper, content_proper, constant_proper, scalar_proper, prefix_proper, binary_proper, gives_proper, makes_proper, distinct_places}
 use Rattle.typing_unique.proofs.EScopes.{name_proper, defined_proper, content_defined, turn_proper}
 
-one : (a : Ty) → IsProper a → All IsProper (a ∷ [])
+pub one : (a : Ty) → IsProper a → All IsProper (a ∷ [])
 one a p = All-cons IsProper a [] p (All-nil IsProper)
 
-the_one : (a : Ty) → All IsProper (a ∷ []) → IsProper a
+pub the_one : (a : Ty) → All IsProper (a ∷ []) → IsProper a
 the_one a p = All-head IsProper a [] p
 
 -- a tag of some name has some content
-first_tag : (k : Known) (ms : List Member) (content : Ty) (names : List ℕ) → (names ≡ [] → ⊥) → All (λ tag. IsTag k ms tag content) names → (x : ℕ) × IsTag k ms x content
+pub first_tag : (k : Known) (ms : List Member) (content : Ty) (names : List ℕ) → (names ≡ [] → ⊥) → All (λ tag. IsTag k ms tag content) names → (x : ℕ) × IsTag k ms x content
 first_tag k ms content [] n p = absurd (n refl)
 first_tag k ms content (x ∷ names) n p = (x, All-head (λ tag. IsTag k ms tag content) x names p)
 
-no_names_of : (names : List _) → (names ≡ [] → ⊥) → names_of names ≡ [] → ⊥
+pub no_names_of : (names : List _) → (names ≡ [] → ⊥) → names_of names ≡ [] → ⊥
 no_names_of [] n e = n refl
 no_names_of (x ∷ names) n e = cc
 
 -- where there is a tag and no `otherwise` there is an arm
-tagged : (k : Known) (tags : List (List ℕ)) (ms : List Member) (other : Option (List Expr)) → (ms ≡ [] → ⊥) → AreAllNamed k tags ms other → tags ≡ [] → other ≡ None → ⊥
+pub tagged : (k : Known) (tags : List (List ℕ)) (ms : List Member) (other : Option (List Expr)) → (ms ≡ [] → ⊥) → AreAllNamed k tags ms other → tags ≡ [] → other ≡ None → ⊥
 tagged k tags [] other n all e f = n refl
 tagged k tags (m ∷ ms) other n all e f =
     let here : AreAllNamed k [] (m ∷ ms) None = subst (λ o. AreAllNamed k [] (m ∷ ms) o) f (subst (λ l. AreAllNamed k l (m ∷ ms) other) e all) in

@@ -149,12 +149,12 @@ one_result b tys x y p q = same_Some x y (sym (gives_is b tys x p) ∙ gives_is 
 
 -- ---- clauses
 
-abbrev made_of : ClauseKind → Ty → Ty
+abbrev pub made_of : ClauseKind → Ty → Ty
 made_of made.Array a = ty.Arr a
 made_of made.Stream a = ty.Stream a
 made_of _ a = a
 
-makes_is : (kind : ClauseKind) (a b : Ty) → Makes kind a b → b ≡ made_of kind a
+pub makes_is : (kind : ClauseKind) (a b : Ty) → Makes kind a b → b ≡ made_of kind a
 makes_is _ _ _ (rule.array_of e) = refl
 makes_is _ _ _ (rule.stream_of e) = refl
 makes_is _ _ _ rule.value_of = refl

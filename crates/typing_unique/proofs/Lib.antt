@@ -3,3 +3,4 @@ pub mod EInverted
 pub mod ETypes
 pub mod EScopes
 pub mod EProper
+pub mod EOne

@@ -36,7 +36,7 @@ use Rattle.typed_tree.specs.declared.expr.Source.TheVariants as source
 use Rattle.typed_tree.specs.declared.expr.ClauseForm.{ClauseForm}
 use Rattle.typed_tree.specs.Scopes.{Meaning, At, Later, Scope, define_all, targets, AreDistinct, in_turn, KeepTypes}
 use Rattle.typed_tree.specs.Types.{Member, IsSequence, IsShallow, constant_type, scalar_type, IsConverted, prefix_type, AreOperands, binary_type, Gives, Makes}
-use Rattle.typed_tree.specs.Typing.{Signature, Known, IsFunction, IsBuiltIn, IsTypeNamed, IsNamedType, Has, IsTag, names_of, AreAllNamed, AreTargets, names_in, loop_of, with_content, Folds, Types, AreTyped, Replaces, HasFields, Defines, Crosses, Generates, AreClauses, IsMask, AreArms, IsOtherwise}
+use Rattle.typed_tree.specs.Typing.{Signature, Known, IsSpelled, IsFunction, IsBuiltIn, IsTypeNamed, IsNamedType, Has, IsTag, names_of, AreAllNamed, AreTargets, names_in, loop_of, with_content, Folds, Types, AreTyped, Replaces, HasFields, Defines, Crosses, Generates, AreClauses, IsMask, AreArms, IsOtherwise}
 use Rattle.typing_unique.specs.Fair.{IsProper}
 
 -- the same with another table of types
@@ -469,3 +469,56 @@ module _ (k : Known) (forms : List Form) (denotes : Written → Ty → Type 0) w
   abbrev pub ArmsIn : Scope → Option ℕ → List Member → List Ty → List Arm → List (List ℕ) → Type 0
   ArmsIn s x ms tys [] tags = tags ≡ []
   ArmsIn s x ms tys (a ∷ arms) tags = IsArm s x ms tys (out-Arm a).tags (out-Arm a).results arms tags
+
+  -- an expression before others
+  pub record IsFirst (s : Scope) (e : Expr) (es : List Expr) (tys : List Ty) : Type 0 where
+    pub tree : TypedExpr
+    pub made : List Ty
+    pub trees : List TypedExpr
+    pub others : List Ty
+    pub typed : TypesAt s e tree made
+    pub later : AreTypedAt s es trees others
+    pub types : tys ≡ made ++ others
+
+  abbrev pub TypedIn : Scope → List Expr → List Ty → Type 0
+  TypedIn s [] tys = tys ≡ []
+  TypedIn s (e ∷ es) tys = IsFirst s e es tys
+
+  -- a field of a new record before others
+  pub record IsNewField (s : Scope) (v : FieldValue) (vs : List FieldValue) (ms : List Member) : Type 0 where
+    pub spelling : List ℕ
+    pub type : Ty
+    pub tree : TypedExpr
+    pub trees : List TypedExpr
+    pub others : List Member
+    pub spelled : IsSpelled k v.field.name spelling
+    pub typed : TypesAt s v.value tree (type ∷ [])
+    pub later : HasFields (at_table k forms) denotes s vs trees others
+    pub members : ms ≡ (spelling, type) ∷ others
+
+  abbrev pub FieldsIn : Scope → List FieldValue → List Member → Type 0
+  FieldsIn s [] ms = ms ≡ []
+  FieldsIn s (v ∷ vs) ms = IsNewField s v vs ms
+
+  -- a field that is changed, before others
+  pub record IsChanged (s : Scope) (ms : List Member) (v : FieldValue) (vs : List FieldValue) : Type 0 where
+    pub place : ℕ
+    pub type : Ty
+    pub tree : TypedExpr
+    pub places : List ℕ
+    pub trees : List TypedExpr
+    pub has : Has k ms v.field.name place type
+    pub typed : TypesAt s v.value tree (type ∷ [])
+    pub later : Replaces (at_table k forms) denotes s ms vs places trees
+
+  abbrev pub ReplacesIn : Scope → List Member → List FieldValue → Type 0
+  ReplacesIn s ms [] = Unit {0}
+  ReplacesIn s ms (v ∷ vs) = IsChanged s ms v vs
+
+  pub record IsTested (s : Scope) (m : Mask) : Type 0 where
+    pub tree : TypedExpr
+    pub typed : TypesAt s m.test tree (ty.Bool ∷ [])
+
+  abbrev pub MaskIn : Scope → Option Mask → Type 0
+  MaskIn s None = Unit {0}
+  MaskIn s (Some m) = IsTested s m
