@@ -1,0 +1,6 @@
+pub mod EViews
+pub mod EInverted
+pub mod ETypes
+pub mod EScopes
+pub mod EProper
+pub mod EOne
