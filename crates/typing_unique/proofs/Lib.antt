@@ -1,0 +1,9 @@
+pub mod UReader
+pub mod UOnce
+pub mod UNames
+pub mod URead
+pub mod UMisread
+pub mod UOne
+pub mod UProper
+pub mod UDeclared
+pub mod UHeaders
