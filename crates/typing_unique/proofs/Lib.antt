@@ -7,3 +7,5 @@ pub mod UOne
 pub mod UProper
 pub mod UDeclared
 pub mod UHeaders
+pub mod UFair
+pub mod UPrograms

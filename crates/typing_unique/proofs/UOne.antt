@@ -10,7 +10,7 @@ use Rattle.typing_unique.proofs.UMisread.{misread_type}
 
 same_parts : (o : Option (Ty × List Placed)) (a b : Ty) (rest others : List Placed) → o ≡ Some (a, rest) → o ≡ Some (b, others) → (a ≡ b) × (rest ≡ others)
 same_parts o a b rest others p q =
-    let same : (a, rest) ≡ (b, others) = cc in
+    let same : ◌≡◌ {A = Ty × List Placed} (a, rest) (b, others) = cc in
     (ap (λ r. r.0) same, ap (λ r. r.1) same)
 
 some_none : (o : Option (Ty × List Placed)) (a : Ty) (rest : List Placed) → o ≡ Some (a, rest) → o ≡ None → ⊥
