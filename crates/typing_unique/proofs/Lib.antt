@@ -9,3 +9,9 @@ pub mod UDeclared
 pub mod UHeaders
 pub mod UFair
 pub mod UPrograms
+pub mod EViews
+pub mod EInverted
+pub mod ETypes
+pub mod EScopes
+pub mod EProper
+pub mod EOne
