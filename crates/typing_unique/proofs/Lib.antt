@@ -15,3 +15,4 @@ pub mod ETypes
 pub mod EScopes
 pub mod EProper
 pub mod EOne
+pub mod UBodies
