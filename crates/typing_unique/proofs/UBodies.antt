@@ -1,5 +1,5 @@
 -- The results of the functions of a unit have one list of types.
-use Rattle.std.proofs.Common.{◌≡◌, ℕ, List, Contains}
+use Rattle.std.proofs.Common.{◌≡◌, List, Contains}
 use Rattle.flow_value.specs.declared.ty.Ty.{Ty}
 use Rattle.type_table.specs.declared.form.Form.{Form}
 use Rattle.sisal_tree.specs.declared.unit.Unit as tree

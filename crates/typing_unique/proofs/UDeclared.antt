@@ -1,16 +1,11 @@
 -- The functions of a unit are those of its items, one after another.
-use Rattle.std.proofs.Common.{◌≡◌, ◌<◌, ℕ, zero, suc, Bool, true, false, cond, List, [], ◌∷◌, ◌++◌, length, map, flat_map, filter, Contains, refl, sym, ap, subst, ◌∙◌, arith, ◌⊎◌, inl, inr, Option, Some, None, slice_get, slice_index_or, append-nil}
-use Rattle.std.proofs.lemmas.List.{map-append}
-use Rattle.name_scope.specs.Newest.{newest}
+use Rattle.std.proofs.Common.{◌≡◌, ℕ, zero, suc, Bool, true, false, cond, List, [], ◌∷◌, ◌++◌, map, filter, Contains, refl, sym, ap, subst, ◌∙◌, arith, ◌⊎◌, inl, inr, Some, slice_get}
 use Rattle.flow_value.specs.declared.ty.Ty.{Ty}
-use Rattle.sisal_tree.specs.declared.unit.Named.{Named}
 use Rattle.sisal_tree.specs.declared.unit.Written.{Written}
 use Rattle.sisal_tree.specs.declared.unit.Field.{Field}
-use Rattle.sisal_tree.specs.declared.unit.TypeDef.{TypeDef}
 use Rattle.sisal_tree.specs.declared.unit.Header.{Header}
 use Rattle.sisal_tree.specs.declared.unit.FunDef.{FunDef}
 use Rattle.sisal_tree.specs.declared.unit.Item.{Item}
-use Rattle.sisal_tree.specs.declared.unit.Item.TheVariants as item
 use Rattle.sisal_tree.specs.declared.unit.Unit as tree
 use Rattle.typed_tree.specs.Scopes.{AreDistinct}
 use Rattle.typed_tree.specs.Typing.{Signature, names_of}

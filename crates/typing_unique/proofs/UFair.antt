@@ -1,5 +1,5 @@
 -- The types and functions of a unit are fair.
-use Rattle.std.proofs.Common.{◌≡◌, ◌<◌, ℕ, zero, suc, Bool, true, false, List, [], ◌∷◌, ◌++◌, map, Contains, All, refl, sym, ap, subst, ◌∙◌, ◌⊎◌, inl, inr, Option, Some, None, slice_get, if◌then◌else◌, nat_eq, arith}
+use Rattle.std.proofs.Common.{◌≡◌, ℕ, suc, Bool, true, false, List, [], ◌∷◌, map, Contains, All, refl, sym, subst, ◌∙◌, ◌⊎◌, inl, inr, Option, Some, slice_get, if◌then◌else◌, nat_eq, arith}
 use Rattle.std.proofs.lemmas.List.Elements.{All-nil, All-cons, All-append, All-contains}
 use Rattle.name_scope.specs.Newest.{newest}
 use Rattle.flow_value.specs.declared.ty.Ty.{Ty}
@@ -10,9 +10,9 @@ use Rattle.sisal_tree.specs.declared.unit.Field.{Field}
 use Rattle.sisal_tree.specs.declared.unit.Item.{Item}
 use Rattle.sisal_tree.specs.declared.unit.Unit as tree
 use Rattle.typed_tree.specs.declared.built_in.BuiltIn.{BuiltIn}
-use Rattle.typed_tree.specs.Typing.{Signature, Known, IsFunction, IsBuiltIn}
+use Rattle.typed_tree.specs.Typing.{Signature, IsFunction, IsBuiltIn}
 use Rattle.typed_tree.specs.Breaks.{NoBuiltIn}
-use Rattle.typed_tree.specs.Units.{is_given, Declared, given, signatures, written, denotes, known, HasParams, no_field, a_field, HasResults, no_result, a_result, IsHeader, Declares, no_item, a_type, a_function, AreDeclared}
+use Rattle.typed_tree.specs.Units.{is_given, Declared, given, signatures, written, denotes, known, HasParams, no_field, a_field, HasResults, no_result, a_result, Declares, no_item, a_type, a_function, AreDeclared}
 use Rattle.typed_tree.specs.Faults.{misnames}
 use Rattle.typing_unique.specs.Fair.{IsProper, IsFair}
 use Rattle.typing_unique.specs.UnitLaws.{AreSpelledOnce}

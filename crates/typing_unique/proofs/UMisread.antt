@@ -1,11 +1,10 @@
 -- What breaks a rule on types is read to nothing.
-use Rattle.std.proofs.Common.{◌≡◌, ◌≤◌, ℕ, zero, suc, Bool, true, false, List, [], ◌∷◌, ◌++◌, length, refl, sym, ap, subst, ◌∙◌, arith, append_assoc, append-nil, length-append, inl, inr, Option, Some, None, leb, leb-true}
+use Rattle.std.proofs.Common.{◌≡◌, ◌≤◌, ℕ, zero, suc, Bool, true, false, List, [], ◌∷◌, ◌++◌, length, refl, sym, ap, subst, ◌∙◌, arith, append_assoc, append-nil, inl, Option, Some, None, leb, leb-true}
 use Rattle.flow_value.specs.declared.ty.Ty.{Ty}
 use Rattle.flow_value.specs.declared.ty.Ty.TheVariants as ty
-use Rattle.sisal_lex.specs.declared.token.Sign.TheVariants as sign
 use Rattle.sisal_tree.specs.declared.unit.Named.{Named}
 use Rattle.sisal_grammar.specs.declared.value.Placed.{Placed}
-use Rattle.sisal_grammar.specs.Acts.{named, name_in}
+use Rattle.sisal_grammar.specs.Acts.{named}
 use Rattle.typed_tree.specs.Types.{Member, IsShallow, depth_of}
 use Rattle.typed_tree.specs.Typing.{names_of}
 use Rattle.typed_tree.specs.Breaks.{IsTwice}
@@ -15,7 +14,7 @@ use Rattle.typing_unique.proofs.UReader.{Class, class, and_then, is_called, is_n
 use Rattle.typing_unique.proofs.UReader as reader
 use Rattle.typing_unique.proofs.UNames.{class_name, names_in_front}
 use Rattle.typing_unique.proofs.UOnce.{twice_once}
-use Rattle.typing_unique.proofs.URead.{within_part, within_less, moved, read_at, opens_sequence, closes_sequence, opens_group, closes_group, colon_behind, type_first, members_first, further, typed_exact, read_type, read_members, read_group}
+use Rattle.typing_unique.proofs.URead.{within_part, read_at, opens_sequence, closes_sequence, opens_group, closes_group, colon_behind, type_first, members_first, further, typed_exact, read_type, read_members, read_group}
 
 -- ---- names that were read so far
 

@@ -1,12 +1,12 @@
 -- Names with commas between them, and the classes of tokens, are read as they are spelled.
-use Rattle.std.proofs.Common.{◌≡◌, ℕ, Bool, true, false, List, [], ◌∷◌, ◌++◌, refl, sym, ap, subst, ◌∙◌, ◌⊎◌, inl, inr, if◌then◌else◌, Option, Some, slice_get}
+use Rattle.std.proofs.Common.{◌≡◌, ℕ, Bool, false, List, [], ◌∷◌, ◌++◌, refl, sym, ap, subst, ◌∙◌, if◌then◌else◌, Some}
 use Rattle.flow_value.specs.declared.ty.Ty.{Ty}
 use Rattle.sisal_lex.specs.declared.token.Sign.TheVariants as sign
 use Rattle.sisal_tree.specs.declared.unit.Named.{Named}
 use Rattle.sisal_grammar.specs.declared.value.Placed.{Placed}
 use Rattle.sisal_grammar.specs.Acts.{named, name_of, name_in}
-use Rattle.sisal_grammar.specs.Phrases.{many, maybe, comma_name, semicolon}
-use Rattle.sisal_grammar.specs.Spells.{IsWord, IsSign, IsName, Spells, nothing, more, comma_name_is}
+use Rattle.sisal_grammar.specs.Phrases.{many, comma_name}
+use Rattle.sisal_grammar.specs.Spells.{IsSign, IsName, Spells, nothing, more, comma_name_is}
 use Rattle.typed_tree.specs.Types.{Member}
 use Rattle.typed_tree.specs.Written.{IsSequenceWord, array, stream, IsMembersWord, a_record, a_union, AreOf}
 use Rattle.typed_tree.specs.Written as written

@@ -1,5 +1,5 @@
 -- Names stand once, as the reader tests it.
-use Rattle.std.proofs.Common.{◌≡◌, ◌<◌, ℕ, zero, suc, Bool, true, false, List, [], ◌∷◌, ◌++◌, length, map, Contains, slice_index_or, refl, sym, ap, subst, ◌∙◌, arith, if◌then◌else◌, nat_eq, eqb-true, eq-eqb}
+use Rattle.std.proofs.Common.{◌≡◌, ℕ, zero, suc, Bool, true, false, List, [], ◌∷◌, ◌++◌, Contains, refl, sym, ap, subst, ◌∙◌, arith, if◌then◌else◌, nat_eq, eqb-true, eq-eqb}
 use Rattle.std.proofs.lemmas.List.Elements.{Contains-append_left, Contains-append_right}
 use Rattle.sisal_tree.specs.declared.unit.Named.{Named}
 use Rattle.typed_tree.specs.Scopes.{AreDistinct}

@@ -1,5 +1,5 @@
 -- Tokens denote one type, and none where they break a rule.
-use Rattle.std.proofs.Common.{◌≡◌, ◌≤◌, ℕ, List, [], ◌∷◌, ◌++◌, length, refl, sym, ap, subst, ◌∙◌, append-nil, Option, Some, None, le_refl, le_of_eq}
+use Rattle.std.proofs.Common.{◌≡◌, ℕ, List, [], ◌++◌, length, refl, sym, ap, ◌∙◌, append-nil, Option, Some, None, le_refl, le_of_eq}
 use mathlib.Core.List.{append_cancel_right}
 use Rattle.flow_value.specs.declared.ty.Ty.{Ty}
 use Rattle.sisal_grammar.specs.declared.value.Placed.{Placed}

@@ -1,10 +1,9 @@
 -- A unit that breaks a rule is no program, where its functions' bodies have one list of types and none where they break a rule.
-use Rattle.std.proofs.Common.{◌≡◌, ◌≢◌, ℕ, zero, suc, Bool, true, false, List, [], ◌∷◌, map, Contains, All, refl, sym, ap, subst, ◌∙◌, ◌⊎◌, inl, inr, Option, Some, None, slice_get}
+use Rattle.std.proofs.Common.{◌≡◌, ◌≢◌, ℕ, zero, suc, true, List, [], ◌∷◌, map, Contains, All, refl, sym, ap, subst, ◌∙◌, ◌⊎◌, inl, inr, Option, Some, slice_get}
 use Rattle.std.proofs.lemmas.List.Elements.{All-map, All-contains}
 use Rattle.flow_value.specs.declared.ty.Ty.{Ty}
 use Rattle.type_table.specs.declared.form.Form.{Form}
 use Rattle.sisal_tree.specs.declared.unit.Named.{Named}
-use Rattle.sisal_tree.specs.declared.unit.Written.{Written}
 use Rattle.sisal_tree.specs.declared.unit.FunKind.{FunKind}
 use Rattle.sisal_tree.specs.declared.unit.FunKind.TheVariants as fun
 use Rattle.sisal_tree.specs.declared.unit.FunDef.{FunDef}
@@ -16,9 +15,8 @@ use Rattle.typed_tree.specs.declared.program.Function.{Function}
 use Rattle.typed_tree.specs.declared.program.Program.{Program}
 use Rattle.typed_tree.specs.Scopes.{AreDistinct}
 use Rattle.typed_tree.specs.Typing.{Signature, Known, IsBuiltIn, names_of, AreTyped}
-use Rattle.typed_tree.specs.Breaks.{NoBuiltIn, IsTwice, BreaksIn}
-use Rattle.typed_tree.specs.Units.{is_given, Declared, given, signatures, parameters, denotes, known, Declares, AreDeclared, HasBody, global, defined, IsFunctionOf, AreFunctionsOf, no_function, a_function, IsDefined, AreDefined, no_name, a_name, IsTyped}
-use Rattle.typed_tree.specs.Units as units
+use Rattle.typed_tree.specs.Breaks.{NoBuiltIn, BreaksIn}
+use Rattle.typed_tree.specs.Units.{is_given, Declared, given, signatures, parameters, denotes, known, AreDeclared, HasBody, global, defined, IsFunctionOf, AreFunctionsOf, no_function, a_function, IsDefined, AreDefined, no_name, a_name, IsTyped}
 use Rattle.typed_tree.specs.Faults.{functions, given_names, misnames, BreaksUnit}
 use Rattle.typed_tree.specs.Faults as faults
 use Rattle.typing_unique.specs.UnitLaws.{AreAlike, SameProgram}
@@ -110,7 +108,7 @@ module _ (u : tree.Unit) (ds : List Declared) (are : AreDeclared u ds) where
     is_defined n c none =
         let d = defined_of u ds u.defines p.defines n t.defines c in
         let i = is_function u [] u.items ds d.is.function are.declares
-            (filter_there (λ d. is_given d.function) d.is.function ds (got_there d.is.function (given ds) d.number d.is.there)) in
+        (filter_there (λ d. is_given d.function) d.is.function ds (got_there d.is.function (given ds) d.number d.is.there)) in
         none d.is.function.function d.is.body i.0 (sym i.1 ∙ d.is.named) d.is.defined
 
     body_there : (d : Declared) (es : List Expr) → Contains ds d → d.function.kind ≡ fun.Defined es → IsBody u (known u p.types ds d.types) d.signature es

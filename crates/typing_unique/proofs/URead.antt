@@ -1,15 +1,13 @@
 -- What denotes a type is read to it.
-use Rattle.std.proofs.Common.{◌≡◌, ◌≤◌, ℕ, zero, suc, Bool, true, false, List, [], ◌∷◌, ◌++◌, length, refl, sym, ap, subst, ◌∙◌, arith, append_assoc, append-nil, length-append, ◌⊎◌, inl, inr, Option, Some, None, leb, le-leb}
-use Rattle.name_scope.specs.Newest.{newest}
+use Rattle.std.proofs.Common.{◌≡◌, ◌≤◌, ℕ, zero, suc, Bool, true, false, List, [], ◌∷◌, ◌++◌, length, sym, ap, subst, ◌∙◌, arith, append_assoc, append-nil, length-append, ◌⊎◌, inl, inr, Option, Some, le-leb}
 use Rattle.flow_value.specs.declared.ty.Ty.{Ty}
 use Rattle.flow_value.specs.declared.ty.Ty.TheVariants as ty
 use Rattle.sisal_lex.specs.declared.token.Sign.TheVariants as sign
 use Rattle.sisal_tree.specs.declared.unit.Named.{Named}
 use Rattle.sisal_grammar.specs.declared.value.Placed.{Placed}
-use Rattle.sisal_grammar.specs.Acts.{named, name_in}
-use Rattle.sisal_grammar.specs.Phrases.{many, maybe, comma_name, semicolon}
-use Rattle.sisal_grammar.specs.Spells.{IsWord, IsSign, IsName, Spells, absent, present, semicolon_is}
-use Rattle.typed_tree.specs.Scopes.{AreDistinct}
+use Rattle.sisal_grammar.specs.Acts.{named}
+use Rattle.sisal_grammar.specs.Phrases.{many, comma_name}
+use Rattle.sisal_grammar.specs.Spells.{IsSign, IsName, Spells, absent, present, semicolon_is}
 use Rattle.typed_tree.specs.Types.{Member, IsShallow, depth_of}
 use Rattle.typed_tree.specs.Typing.{names_of}
 use Rattle.typed_tree.specs.Written.{IsSequenceWord, IsMembersWord, AreOf, Denotes, HasMembers, HasType}

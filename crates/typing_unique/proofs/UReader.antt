@@ -1,5 +1,5 @@
 -- A reader of written types: it tells the type at the front of tokens, and the tokens behind it.
-use Rattle.std.proofs.Common.{◌≡◌, ◌≤◌, ℕ, zero, suc, Bool, true, false, List, [], ◌∷◌, ◌++◌, length, Option, Some, None, slice_get, refl, sym, ap, subst, ◌∙◌, arith, if◌then◌else◌, nat_eq, leb}
+use Rattle.std.proofs.Common.{ℕ, zero, suc, Bool, true, false, List, [], ◌∷◌, ◌++◌, Option, Some, None, slice_get, if◌then◌else◌, nat_eq, leb}
 use Rattle.name_scope.specs.Newest.{newest}
 use Rattle.flow_value.specs.declared.ty.Ty.{Ty}
 use Rattle.flow_value.specs.declared.ty.Ty.TheVariants as ty
@@ -9,7 +9,7 @@ use Rattle.sisal_lex.specs.declared.token.Word.TheVariants as word
 use Rattle.sisal_lex.specs.declared.token.Sign.TheVariants as sign
 use Rattle.sisal_tree.specs.declared.unit.Named.{Named}
 use Rattle.sisal_grammar.specs.declared.value.Placed.{Placed}
-use Rattle.sisal_grammar.specs.Acts.{named, name_of}
+use Rattle.sisal_grammar.specs.Acts.{named}
 use Rattle.typed_tree.specs.Types.{Member, depth_of}
 use Rattle.typed_tree.specs.Typing.{names_of}
 
