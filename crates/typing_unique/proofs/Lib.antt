@@ -4,3 +4,5 @@ pub mod ETypes
 pub mod EScopes
 pub mod EProper
 pub mod EOne
+pub mod EParts
+pub mod ENone
