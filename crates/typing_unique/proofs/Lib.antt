@@ -1,3 +1,14 @@
+pub mod UReader
+pub mod UOnce
+pub mod UNames
+pub mod URead
+pub mod UMisread
+pub mod UOne
+pub mod UProper
+pub mod UDeclared
+pub mod UHeaders
+pub mod UFair
+pub mod UPrograms
 pub mod EViews
 pub mod EInverted
 pub mod ETypes
@@ -6,3 +17,5 @@ pub mod EProper
 pub mod EOne
 pub mod EParts
 pub mod ENone
+pub mod ELaws
+pub mod UBodies
