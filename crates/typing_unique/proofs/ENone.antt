@@ -131,20 +131,20 @@ module _ (k : Known) (f : List Form) (denotes : Written → Ty → Type 0) (misn
     no_type s _ _ _ (breaks.arguments {l = l} {x = x} {n = n} {f = g} {es = es} {ts = ts} {tys = us} h p d) sc t tys q =
         let v : IsCall k f denotes s x es tys = view k f denotes s l (tree.Call x es) (ExprKind-F.Call x es) t tys (out_call x es) q in
         elim v [
-        | inl c ↦ d (same_all s es ts us p sc c.exprs c.function.params c.typed ∙ ap (λ h. h.params) (sym (fair.functions x n c.number g c.function h c.there)))
-        | inr c ↦ fair.own x n g c.call h c.there
+          | inl c ↦ d (same_all s es ts us p sc c.exprs c.function.params c.typed ∙ ap (λ h. h.params) (sym (fair.functions x n c.number g c.function h c.there)))
+          | inr c ↦ fair.own x n g c.call h c.there
         ]
     no_type s _ _ _ (breaks.operands {l = l} {x = x} {b = b} {es = es} {ts = ts} {tys = us} h p d) sc t tys q =
         let v : IsCall k f denotes s x es tys = view k f denotes s l (tree.Call x es) (ExprKind-F.Call x es) t tys (out_call x es) q in
         elim v [
-        | inl c ↦ fair.own x c.number c.function b c.there h
-        | inr c ↦ d c.type (given b c.call us c.operands c.type (one_call k x b c.call h c.there) (same_all s es ts us p sc c.exprs c.operands c.typed) c.gives)
+          | inl c ↦ fair.own x c.number c.function b c.there h
+          | inr c ↦ d c.type (given b c.call us c.operands c.type (one_call k x b c.call h c.there) (same_all s es ts us p sc c.exprs c.operands c.typed) c.gives)
         ]
     no_type s _ _ _ (breaks.deep_call {l = l} {x = x} {a = a} {b = b} {es = es} {ts = ts} {tys = us} h p g d) sc t tys q =
         let v : IsCall k f denotes s x es tys = view k f denotes s l (tree.Call x es) (ExprKind-F.Call x es) t tys (out_call x es) q in
         elim v [
-        | inl c ↦ fair.own x c.number c.function b c.there h
-        | inr c ↦ d (subst IsShallow (sym (one_result b us a c.type g (given b c.call us c.operands c.type (one_call k x b c.call h c.there) (same_all s es ts us p sc c.exprs c.operands c.typed) c.gives))) c.shallow)
+          | inl c ↦ fair.own x c.number c.function b c.there h
+          | inr c ↦ d (subst IsShallow (sym (one_result b us a c.type g (given b c.call us c.operands c.type (one_call k x b c.call h c.there) (same_all s es ts us p sc c.exprs c.operands c.typed) c.gives))) c.shallow)
         ]
     no_type s _ _ _ (breaks.in_convert {l = l} {rule = rule} {line = line} c {e = e} p) sc t tys q =
         let v : IsConvert k f denotes s c e tys = view k f denotes s l (tree.Convert c e) (ExprKind-F.Convert c e) t tys (out_convert c e) q in
@@ -196,8 +196,8 @@ module _ (k : Known) (f : List Form) (denotes : Written → Ty → Type 0) (misn
     no_type s _ _ _ (breaks.updated {l = l} {a = a} {b = b} {c = c} {e = e} {i = i} {f = g} {t = u} {u = w} {v = y} p r m d) sc t tys q =
         let v : IsUpdate k f denotes s e i g tys = view k f denotes s l (tree.Update e i g) (ExprKind-F.Update e i g) t tys (out_update e i g) q in
         elim d [
-        | inl n ↦ n (same_one s e u a p sc v.array (ty.Arr v.element) v.typed_array ∙ ap ty.Arr (sym (same_one s g y c m sc v.value v.element v.typed_value)))
-        | inr n ↦ n (same_one s i w b r sc v.index ty.Int v.typed_index)
+          | inl n ↦ n (same_one s e u a p sc v.array (ty.Arr v.element) v.typed_array ∙ ap ty.Arr (sym (same_one s g y c m sc v.value v.element v.typed_value)))
+          | inr n ↦ n (same_one s i w b r sc v.index ty.Int v.typed_index)
         ]
     no_type s _ _ _ (breaks.in_record {l = l} {rule = rule} {line = line} x {e = e} p) sc t tys q =
         let v : IsField k f denotes s e x tys = view k f denotes s l (tree.Field e x) (ExprKind-F.Field e x) t tys (out_field e x) q in
@@ -266,26 +266,26 @@ module _ (k : Known) (f : List Form) (denotes : Written → Ty → Type 0) (misn
     no_type s _ _ _ (breaks.in_stream {l = l} {rule = rule} {line = line} x {es = es} p) sc t tys q =
         let v : IsStreamIf k f denotes s x es tys = view k f denotes s l (tree.Stream x es) (ExprKind-F.Stream x es) t tys (out_stream x es) q in
         elim v [
-        | inl c ↦ none_in s es rule line p sc [] [] (subst (λ l. AreTyped (at_table k f) denotes s l [] []) (sym c.is_empty) typing.no_more)
-        | inr c ↦ none_in s es rule line p sc c.exprs (c.element ∷ c.others) c.typed
+          | inl c ↦ none_in s es rule line p sc [] [] (subst (λ l. AreTyped (at_table k f) denotes s l [] []) (sym c.is_empty) typing.no_more)
+          | inr c ↦ none_in s es rule line p sc c.exprs (c.element ∷ c.others) c.typed
         ]
     no_type s _ _ _ (breaks.stream_elements {l = l} {a = a} b {tys = us} x {es = es} {ts = ts} p h n) sc t tys q =
         let v : IsStreamIf k f denotes s x es tys = view k f denotes s l (tree.Stream x es) (ExprKind-F.Stream x es) t tys (out_stream x es) q in
         elim v [
-        | inl c ↦ no_value k denotes s es ts a us p c.is_empty
-        | inr c ↦ n (another a c.element b us c.others (same_all s es ts (a ∷ us) p sc c.exprs (c.element ∷ c.others) c.typed) c.same h)
+          | inl c ↦ no_value k denotes s es ts a us p c.is_empty
+          | inr c ↦ n (another a c.element b us c.others (same_all s es ts (a ∷ us) p sc c.exprs (c.element ∷ c.others) c.typed) c.same h)
         ]
     no_type s _ _ _ (breaks.another_stream {l = l} x {a = a} b {tys = us} {es = es} {ts = ts} p h n) sc t tys q =
         let v : IsStreamIf k f denotes s (Some x) es tys = view k f denotes s l (tree.Stream (Some x) es) (ExprKind-F.Stream (Some x) es) t tys (out_stream (Some x) es) q in
         elim v [
-        | inl c ↦ no_value k denotes s es ts a us p c.is_empty
-        | inr c ↦ n (same_Some b (ty.Stream c.element) (sym h ∙ c.named) ∙ ap ty.Stream (sym (same_first a c.element us c.others (same_all s es ts (a ∷ us) p sc c.exprs (c.element ∷ c.others) c.typed))))
+          | inl c ↦ no_value k denotes s es ts a us p c.is_empty
+          | inr c ↦ n (same_Some b (ty.Stream c.element) (sym h ∙ c.named) ∙ ap ty.Stream (sym (same_first a c.element us c.others (same_all s es ts (a ∷ us) p sc c.exprs (c.element ∷ c.others) c.typed))))
         ]
     no_type s _ _ _ (breaks.deep_stream {l = l} {a = a} {tys = us} x {es = es} {ts = ts} p d) sc t tys q =
         let v : IsStreamIf k f denotes s x es tys = view k f denotes s l (tree.Stream x es) (ExprKind-F.Stream x es) t tys (out_stream x es) q in
         elim v [
-        | inl c ↦ no_value k denotes s es ts a us p c.is_empty
-        | inr c ↦ d (subst (λ z. IsShallow (ty.Stream z)) (sym (same_first a c.element us c.others (same_all s es ts (a ∷ us) p sc c.exprs (c.element ∷ c.others) c.typed))) c.shallow)
+          | inl c ↦ no_value k denotes s es ts a us p c.is_empty
+          | inr c ↦ d (subst (λ z. IsShallow (ty.Stream z)) (sym (same_first a c.element us c.others (same_all s es ts (a ∷ us) p sc c.exprs (c.element ∷ c.others) c.typed))) c.shallow)
         ]
     no_type s _ _ _ (breaks.record_name {l = l} x vs h) sc t tys q =
         let v : IsRecord k f denotes s (Some x) vs tys = view k f denotes s l (tree.Record (Some x) vs) (ExprKind-F.Record (Some x) vs) t tys (out_a_record (Some x) vs) q in
@@ -423,7 +423,7 @@ module _ (k : Known) (f : List Form) (denotes : Written → Ty → Type 0) (misn
         let start = definitions_one k k.forms f denotes misnames fair inside before vs earlier turned r fine parts.values parts.made parts.middle parts.first in
         let here = view_definitions k f denotes parts.middle xs es after parts.trees parts.others v.turned parts.second in
         let made_same : made ≡ here.made = same_all turned es ts made w (definitions_proper k k.forms denotes misnames fair inside before vs earlier turned r fine).1 here.exprs here.made
-            (subst (λ z. AreTyped (at_table k f) denotes z es here.exprs here.made) (sym start.1) here.typed) in
+        (subst (λ z. AreTyped (at_table k f) denotes z es here.exprs here.made) (sym start.1) here.typed) in
         let keeps : KeepTypes (loop_of s ds first) (targets all) v.later = subst (λ z. KeepTypes (loop_of s ds z) (targets all) v.later) (sym same.0) v.keeps in
         kept k f denotes (loop_of s ds first) inside before xs es after parts.values parts.made here.made here.others v.later parts.middle x a parts.first
         (parts.types ∙ ap (λ l. parts.made ++ l) here.types) keeps (subst (λ l. IsPair xs l x a) made_same pair) h
@@ -479,7 +479,7 @@ module _ (k : Known) (f : List Form) (denotes : Written → Ty → Type 0) (misn
         let v : IsCrossed k f denotes s l group gs ds cs st.1.0 = crossed_of k f denotes s l (group ∷ gs) ds cs st.1.1 st.1.0 st.1.2 in
         let same = generated_one k k.forms f denotes misnames fair s group sources bounds names made p sc v.sources v.bounds v.names v.made v.generates in
         let inside : IsInside k f denotes (define_all names made s) l gs ds cs st.1.0 =
-            subst (λ z. IsInside k f denotes (define_all names z s) l gs ds cs st.1.0) (sym same.1) (subst (λ x. IsInside k f denotes (define_all x v.made s) l gs ds cs st.1.0) (sym same.0) v.inside) in
+        subst (λ z. IsInside k f denotes (define_all names z s) l gs ds cs st.1.0) (sym same.1) (subst (λ x. IsInside k f denotes (define_all x v.made s) l gs ds cs st.1.0) (sym same.0) v.inside) in
         let next = state_next n m (define_all names made s) l group gs ds cs st.1.0 st.0 inside st.1.3 in
         none_crossed n from (define_all names made s) gs ds cs rule line r (defined_proper names made s (generated_proper k k.forms denotes misnames fair s group sources bounds names made p sc) sc) l next.0 next.1
     none_crossed n from s _ ds cs _ _ (breaks.in_body {rule = rule} {line = line} p) sc l m st =

@@ -374,9 +374,9 @@ module _ (k : Known) (forms : List Form) (denotes : Written → Ty → Type 0) w
   kept loop s before xs es after us made tys others whole end x a p e keeps pair r =
       let d = roll-Def (record { targets = xs; values = es }) in
       let names : targets (before ++ d ∷ after) ≡ targets before ++ (names_in xs ++ targets after) =
-          targets_append before (d ∷ after) ∙ ap (λ r. targets before ++ (names_in r.targets ++ targets after)) (out_def xs es) in
+      targets_append before (d ∷ after) ∙ ap (λ r. targets before ++ (names_in r.targets ++ targets after)) (out_def xs es) in
       let here : KeepTypes loop (targets before ++ (names_in xs ++ targets after)) (made ++ (tys ++ others)) =
-          subst (λ l. KeepTypes loop (targets before ++ (names_in xs ++ targets after)) l) e (subst (λ l. KeepTypes loop l whole) names keeps) in
+      subst (λ l. KeepTypes loop (targets before ++ (names_in xs ++ targets after)) l) e (subst (λ l. KeepTypes loop l whole) names keeps) in
       kept_at loop xs tys (targets after) others x a pair
       (keeps_after loop (targets before) made (names_in xs ++ targets after) (tys ++ others) (as_many_defined s before us made end p) here) r
 
