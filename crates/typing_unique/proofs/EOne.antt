@@ -99,18 +99,18 @@ module _ (k : Known) (f1 f2 : List Form) (denotes : Written → Ty → Type 0) (
     one_type s _ _ _ (rule.call {l = l} {x = x} {n = i} {f = f} {es = es} {ts = ts} h p n) sc u others q =
         let v : IsCall k f2 denotes s x es others = view k f2 denotes s l (tree.Call x es) (ExprKind-F.Call x es) u others (out_call x es) q in
         elim v [
-        | inl c ↦ ap (λ g. g.results) (fair.functions x i c.number f c.function (function_in k f1 x i f h) c.there) ∙ sym c.types
-        | inr c ↦ absurd (fair.own x i f c.call (function_in k f1 x i f h) c.there)
+          | inl c ↦ ap (λ g. g.results) (fair.functions x i c.number f c.function (function_in k f1 x i f h) c.there) ∙ sym c.types
+          | inr c ↦ absurd (fair.own x i f c.call (function_in k f1 x i f h) c.there)
         ]
     one_type s _ _ _ (rule.built_in {l = l} {x = x} {a = a} {b = b} {es = es} {ts = ts} {tys = tys} h p g d n) sc u others q =
         let v : IsCall k f2 denotes s x es others = view k f2 denotes s l (tree.Call x es) (ExprKind-F.Call x es) u others (out_call x es) q in
         elim v [
-        | inl c ↦ absurd (fair.own x c.number c.function b c.there (built_in_in k f1 x b h))
-        | inr c ↦
-            let same : b ≡ c.call = one_call k x b c.call (built_in_in k f1 x b h) c.there in
-            let types : tys ≡ c.operands = all_one s es ts tys p sc c.exprs c.operands c.typed in
-            let gives : Gives b tys c.type = subst (λ z. Gives z tys c.type) (sym same) (subst (λ l. Gives c.call l c.type) (sym types) c.gives) in
-            ap (λ y. y ∷ []) (one_result b tys a c.type g gives) ∙ sym c.types
+          | inl c ↦ absurd (fair.own x c.number c.function b c.there (built_in_in k f1 x b h))
+          | inr c ↦
+              let same : b ≡ c.call = one_call k x b c.call (built_in_in k f1 x b h) c.there in
+              let types : tys ≡ c.operands = all_one s es ts tys p sc c.exprs c.operands c.typed in
+              let gives : Gives b tys c.type = subst (λ z. Gives z tys c.type) (sym same) (subst (λ l. Gives c.call l c.type) (sym types) c.gives) in
+              ap (λ y. y ∷ []) (one_result b tys a c.type g gives) ∙ sym c.types
         ]
     one_type s _ _ _ (rule.convert {l = l} {a = a} {c = c} {e = e} {t = t} p h n) sc u others q =
         let v : IsConvert k f2 denotes s c e others = view k f2 denotes s l (tree.Convert c e) (ExprKind-F.Convert c e) u others (out_convert c e) q in
@@ -154,14 +154,14 @@ module _ (k : Known) (f1 f2 : List Form) (denotes : Written → Ty → Type 0) (
     one_type s _ _ _ (rule.empty_stream {l = l} {x = x} a h n) sc u others q =
         let v : IsStreamIf k f2 denotes s (Some x) [] others = view k f2 denotes s l (tree.Stream (Some x) []) (ExprKind-F.Stream (Some x) []) u others (out_stream (Some x) []) q in
         elim v [
-        | inl c ↦ ap (λ b. b ∷ []) (same_Some (ty.Stream a) (ty.Stream c.element) (sym h ∙ ap (λ y. newest y k.types) (same_Some x c.name c.is_name) ∙ c.named)) ∙ sym c.types
-        | inr c ↦ absurd (no_value (at_table k f2) denotes s [] c.exprs c.element c.others c.typed refl)
+          | inl c ↦ ap (λ b. b ∷ []) (same_Some (ty.Stream a) (ty.Stream c.element) (sym h ∙ ap (λ y. newest y k.types) (same_Some x c.name c.is_name) ∙ c.named)) ∙ sym c.types
+          | inr c ↦ absurd (no_value (at_table k f2) denotes s [] c.exprs c.element c.others c.typed refl)
         ]
     one_type s _ _ _ (rule.stream {l = l} {a = a} {tys = tys} {x = x} {es = es} {ts = ts} r same h d n) sc u others q =
         let v : IsStreamIf k f2 denotes s x es others = view k f2 denotes s l (tree.Stream x es) (ExprKind-F.Stream x es) u others (out_stream x es) q in
         elim v [
-        | inl c ↦ absurd (no_value (at_table k f1) denotes s es ts a tys r c.is_empty)
-        | inr c ↦ ap (λ b. ty.Stream b ∷ []) (same_first a c.element tys c.others (all_one s es ts (a ∷ tys) r sc c.exprs (c.element ∷ c.others) c.typed)) ∙ sym c.types
+          | inl c ↦ absurd (no_value (at_table k f1) denotes s es ts a tys r c.is_empty)
+          | inr c ↦ ap (λ b. ty.Stream b ∷ []) (same_first a c.element tys c.others (all_one s es ts (a ∷ tys) r sc c.exprs (c.element ∷ c.others) c.typed)) ∙ sym c.types
         ]
     one_type s _ _ _ (rule.a_record {l = l} {x = x} {ms = ms} {vs = vs} {ts = ts} p d h deep n) sc u others q =
         let v : IsRecord k f2 denotes s x vs others = view k f2 denotes s l (tree.Record x vs) (ExprKind-F.Record x vs) u others (out_a_record x vs) q in
@@ -218,7 +218,7 @@ module _ (k : Known) (f1 f2 : List Form) (denotes : Written → Ty → Type 0) (
         let v : IsDefinition k f2 denotes s xs es ds ws others later = view_definitions k f2 denotes s xs es ds ws others later q in
         let made : tys ≡ v.made = all_one s es ts tys p sc v.exprs v.made v.typed in
         let behind : Defines (at_table k f2) denotes (define_all (names_in xs) tys s) ds v.rest v.others later =
-            subst (λ m. Defines (at_table k f2) denotes (define_all (names_in xs) m s) ds v.rest v.others later) (sym made) v.later in
+        subst (λ m. Defines (at_table k f2) denotes (define_all (names_in xs) m s) ds v.rest v.others later) (sym made) v.later in
         let same = definitions_one (define_all (names_in xs) tys s) ds us rest after r (defined_proper (names_in xs) tys s (all_proper k f1 denotes misnames fair s es ts tys p sc) sc) v.rest v.others later behind in
         (ap (λ l. l ++ rest) made ∙ ap (λ l. v.made ++ l) same.0 ∙ sym v.types, same.1)
 
@@ -228,7 +228,7 @@ module _ (k : Known) (f1 f2 : List Form) (denotes : Written → Ty → Type 0) (
         let v : IsCrossed k f2 denotes s l g [] ds cs others = crossed_of k f2 denotes s l (g ∷ []) ds cs u others q in
         let same = generated_one s g sources bounds names made p sc v.sources v.bounds v.names v.made v.generates in
         let body : IsBody k f2 denotes (define_all names made s) ds cs others =
-            subst (λ m. IsBody k f2 denotes (define_all names m s) ds cs others) (sym same.1) (subst (λ x. IsBody k f2 denotes (define_all x v.made s) ds cs others) (sym same.0) v.inside) in
+        subst (λ m. IsBody k f2 denotes (define_all names m s) ds cs others) (sym same.1) (subst (λ x. IsBody k f2 denotes (define_all x v.made s) ds cs others) (sym same.0) v.inside) in
         let started = defined_proper names made s (generated_proper k f1 denotes misnames fair s g sources bounds names made p sc) sc in
         let behind = definitions_one (define_all names made s) ds values defined inside r started body.values body.made body.inside body.defines in
         clauses_one inside cs clauses ts tys c (definitions_proper k f1 denotes misnames fair (define_all names made s) ds values defined inside r started).1 body.clauses body.exprs others
@@ -238,7 +238,7 @@ module _ (k : Known) (f1 f2 : List Form) (denotes : Written → Ty → Type 0) (
         let same = generated_one s g sources bounds names made p sc v.sources v.bounds v.names v.made v.generates in
         let w : IsInnerLoop k f2 denotes (define_all v.names v.made s) l gs ds cs others = inner_of k f2 denotes f1 (define_all names made s) l gs ds cs t inner others r (define_all v.names v.made s) v.inside in
         let loop : IsInnerLoop k f2 denotes (define_all names made s) l gs ds cs others =
-            subst (λ m. IsInnerLoop k f2 denotes (define_all names m s) l gs ds cs others) (sym same.1) (subst (λ x. IsInnerLoop k f2 denotes (define_all x v.made s) l gs ds cs others) (sym same.0) w) in
+        subst (λ m. IsInnerLoop k f2 denotes (define_all names m s) l gs ds cs others) (sym same.1) (subst (λ x. IsInnerLoop k f2 denotes (define_all x v.made s) l gs ds cs others) (sym same.0) w) in
         let started = defined_proper names made s (generated_proper k f1 denotes misnames fair s g sources bounds names made p sc) sc in
         one_folds cs inner loop.inner clauses loop.clauses tys others (crossed_one (define_all names made s) l gs ds cs t inner r started loop.tree loop.inner loop.crosses) f loop.folds
 

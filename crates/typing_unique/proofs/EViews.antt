@@ -129,4 +129,3 @@ out_turn is_first is_until e ds = search (rules, kinds.the_lemmas)
 
 pub out_clause : (l : ℕ) (kind : ClauseKind) (e : Expr) (m : Option Mask) → out-Clause (roll-Clause (record { line = l; kind = kind; value = e; mask = m })) ≡ record { line = l; kind = kind; value = e; mask = m }
 out_clause l kind e m = search (rules, kinds.the_lemmas)
-

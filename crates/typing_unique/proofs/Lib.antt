@@ -15,4 +15,7 @@ pub mod ETypes
 pub mod EScopes
 pub mod EProper
 pub mod EOne
+pub mod EParts
+pub mod ENone
+pub mod ELaws
 pub mod UBodies

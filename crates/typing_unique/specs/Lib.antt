@@ -1,3 +1,4 @@
 pub mod Fair
 pub mod UnitLaws
 pub mod Inverted
+pub mod ExprLaws

@@ -1,5 +1,5 @@
 //! The laws on written types and whole units.
-ghost use Rattle.typing_unique.specs.UnitLaws.{OneDenotedLaw, NoneDenotedLaw, OneDeclaredLaw, OneTypingLaw};
+ghost use Rattle.typing_unique.specs.UnitLaws.{OneDenotedLaw, NoneDenotedLaw, OneDeclaredLaw, OneTypingLaw, NoProgramLaw};
 
 /// Tokens begin with one written type at most, and it denotes one type.
 pub fn a_written_type_is_one_type()
@@ -19,4 +19,9 @@ pub fn a_unit_has_one_list_of_functions()
 /// A unit is one program: two typed trees of it have functions of the same names and types.
 pub fn a_unit_is_one_program()
     ensures { OneTypingLaw }
+{}
+
+/// A unit that breaks a rule is no program.
+pub fn a_unit_that_breaks_a_rule_is_no_program()
+    ensures { NoProgramLaw }
 {}
