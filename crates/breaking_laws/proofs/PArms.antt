@@ -1,5 +1,5 @@
 -- Results of arms: those that are refused, and what the arms so far have.
-use Rattle.std.proofs.Common.{◌≡◌, ◌⊎◌, ⊎_elim, ℕ, Bool, true, false, List, [], ◌∷◌, ◌++◌, flat_map, length, All, Option, Some, None, Ok, slice_get, refl, sym, ap, subst, ◌∙◌}
+use Rattle.std.proofs.Common.{◌≡◌, ⊎_elim, ℕ, List, [], ◌∷◌, ◌++◌, length, All, Option, Some, None, Ok, slice_get, refl, sym, ap, subst, ◌∙◌}
 use Rattle.std.specs.Prelude.{Contains}
 use Rattle.std.proofs.lemmas.List.{append_assoc, append-nil}
 use Rattle.std.proofs.lemmas.List.Elements.{Contains-append_left, Contains-append_right}
@@ -9,13 +9,12 @@ use Rattle.flow_value.specs.declared.ty.Ty.{Ty}
 use Rattle.flow_value.specs.declared.ty.Ty.TheVariants as ty
 use Rattle.type_table.specs.declared.form.Form.{Form}
 use Rattle.type_table.specs.declared.form.Form.TheVariants as form
-use Rattle.sisal_tree.specs.declared.unit.Named.{Named}
 use Rattle.sisal_tree.specs.declared.unit.Written.{Written}
 use Rattle.sisal_tree.specs.declared.expr.Arm.{Arm, out-Arm}
 use Rattle.typed_tree.specs.declared.expr.TypedExpr.{TypedExpr}
 use Rattle.typed_tree.specs.Scopes as scopes
 use Rattle.typed_tree.specs.Types.{Member, IsNumber}
-use Rattle.typed_tree.specs.Typing.{Known, Number, IsTag, with_content, names_of}
+use Rattle.typed_tree.specs.Typing.{Known, IsTag, with_content, names_of}
 use Rattle.typed_tree.specs.Breaks as breaks
 use Rattle.typed_tree.specs.Breaks.{IsTwice, BreaksArm, HasResults}
 use Rattle.type_rules.specs.Applies.{Grows}
@@ -24,12 +23,12 @@ use Rattle.type_rules.specs.Parts.{tag_part, tags_part}
 use Rattle.value_names.specs.Names.{Names}
 use Rattle.typing_laws.specs.Given.{Given, Arms}
 use Rattle.typing_laws.specs.Judged.{Agrees, Stands, denotes_in, AllTyped}
-use Rattle.typing_laws.specs.Casing.{tags_in, ArmsTyped, AddsArms, first_types, AreSame, EntersArm, Keeps}
-use Rattle.typing_laws.proofs.Later.{agrees_before, used_on}
+use Rattle.typing_laws.specs.Casing.{tags_in, ArmsTyped, first_types, AreSame, EntersArm}
+use Rattle.typing_laws.proofs.Later.{agrees_before}
 use Rattle.typing_laws.proofs.Sound.{part_later}
 use Rattle.typing_laws.proofs.Choosing.{union_at, all_contents}
 use Rattle.typing_laws.proofs.Cased.{union_members, tag_content, tags_typed, rolled_arm, content_stands, many_tags}
-use Rattle.breaking_laws.specs.Broken.{IsWhole, misnames_in, BreaksInAt}
+use Rattle.breaking_laws.specs.Broken.{misnames_in}
 use Rattle.breaking_laws.specs.Parts as parts
 use Rattle.breaking_laws.specs.Parts.{BreaksArms, BreaksArmsAt, OneHas, TwoDiffer, ArmsHave, AddsResults, Differs}
 use Rattle.breaking_laws.specs.PartLaws.{ArmResultsLaw, AfterArmsLaw, ArmResultLaw, NoResultsLaw, MoreResultsLaw}
@@ -153,8 +152,8 @@ arm_result_added g f0 f1 names inner a ts ns old mid new grows enters results ke
             subst (λ n. TwoDiffer k g s n ms arms) (sym name)
             (⊎_elim (λ odd. two_among k g s old.name ms others (a ∷ []) (have.uneven (sym enters.even ∙ odd) k s ms before stands number))
             (λ other. two_by k g s old.name ms arms old.types ns (λ same. other (subst (λ o. AreSame o ns) (sym enters.types) same))
-                (arm_has g f0 f1 names inner union others a ts ns old mid grows typed enters results k s ms agrees stands number)
-                (λ l is. one_among k g s old.name ms others (a ∷ []) l (have.first l is k s ms before stands number)))
+            (arm_has g f0 f1 names inner union others a ts ns old mid grows typed enters results k s ms agrees stands number)
+            (λ l is. one_among k g s old.name ms others (a ∷ []) l (have.first l is k s ms before stands number)))
             (differs.uneven e));
       };
 }

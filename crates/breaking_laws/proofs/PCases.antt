@@ -1,5 +1,5 @@
 -- `tagcase` that is refused.
-use Rattle.std.proofs.Common.{◌≡◌, ◌⊎◌, ⊎_elim, ℕ, zero, suc, ◌+◌, ◌<◌, Bool, true, false, List, [], ◌∷◌, ◌++◌, map, flat_map, length, All, Option, Some, None, slice_get, get_or, refl, sym, ap, subst, ◌∙◌, arith}
+use Rattle.std.proofs.Common.{◌≡◌, ⊎_elim, ℕ, suc, ◌<◌, Bool, true, false, List, [], ◌∷◌, flat_map, length, Option, Some, None, slice_get, get_or, refl, sym, ap, subst, ◌∙◌, arith}
 use Rattle.std.specs.Prelude.{Contains}
 use Rattle.std.proofs.lemmas.List.Elements.{All-contains}
 use Rattle.std.proofs.lemmas.Option.{slice_get_within, slice_get-get_or}
@@ -10,8 +10,7 @@ use Rattle.type_table.specs.declared.form.Form.TheVariants as form
 use Rattle.type_table.specs.declared.form.Member.{Member as NumberedMember}
 use Rattle.type_table.specs.Tables.{IsTable}
 use Rattle.sisal_tree.specs.declared.unit.Written.{Written}
-use Rattle.sisal_tree.specs.declared.expr.Arm.{Arm, out-Arm}
-use Rattle.sisal_tree.specs.declared.expr.Expr.{Expr}
+use Rattle.sisal_tree.specs.declared.expr.Arm.{Arm}
 use Rattle.sisal_tree.specs.declared.expr.ExprKind.TheVariants as tree
 use Rattle.sisal_tree.specs.declared.expr.TagCase.{TagCase, out-TagCase, roll-TagCase}
 use Rattle.typed_tree.specs.declared.expr.TypedExpr.{TypedExpr}
@@ -28,13 +27,13 @@ use Rattle.type_rules.proofs.Membership.{member_stands}
 use Rattle.value_names.specs.Names.{Names}
 use Rattle.typing_laws.specs.Given.{Given, Parts, Arms}
 use Rattle.typing_laws.specs.Judged.{Agrees, Stands, denotes_in, AllOnes}
-use Rattle.typing_laws.specs.Casing.{tags_in, HasTag, IsChosen, Begins, AreSame, ArmsTyped}
+use Rattle.typing_laws.specs.Casing.{tags_in, HasTag, Begins, AreSame, ArmsTyped}
 use Rattle.typing_laws.proofs.Later.{used_on, agrees_before}
 use Rattle.typing_laws.proofs.Called.{one_of}
 use Rattle.typing_laws.proofs.Sound.{part_later}
 use Rattle.typing_laws.proofs.Choosing.{union_at, tag_flat}
 use Rattle.typing_laws.proofs.Cased.{arms_begin, union_members, union_type, once_at, not_named, rolled_case}
-use Rattle.breaking_laws.specs.Broken.{IsWhole, misnames_in, BreaksAt, BreaksOneAt, BreaksInAt}
+use Rattle.breaking_laws.specs.Broken.{misnames_in, BreaksAt, BreaksInAt}
 use Rattle.breaking_laws.specs.Parts as parts
 use Rattle.breaking_laws.specs.Parts.{BreaksArms, BreaksArmsAt, OneHas, TwoDiffer, ArmsHave, AddsResults, Differs}
 use Rattle.breaking_laws.specs.PartLaws.{CaseSubjectLaw, CaseNoUnionLaw, CaseArmsLaw, CaseOtherwiseLaw, CaseNoArmLaw, CaseDifferLaw, CaseOtherwiseDiffersLaw}
@@ -74,7 +73,7 @@ case_no_union_refused g f0 f1 names l c subject rule line used table ones p =
           let number : Number k (p.number ∷ []) (o.1 ∷ []) = subst (λ n. Number k n (o.1 ∷ [])) p.is_subject (subst (λ t. Number k subject.types t) o.3 x.number) in
           let none : tags_at k.forms p.number ≡ None = ap (λ f. tags_at f p.number) whole.same ∙ p.none in
           let never : NoUnion o.1 = λ ms e.
-              let u = at_union k.forms k.spellings p.number ms (subst (IsNumber k.forms k.spellings p.number) e number.each.0) in none_is_some u.0 (tags_at k.forms p.number) none (ap (part_if tags_part) u.1) in
+          let u = at_union k.forms k.spellings p.number ms (subst (IsNumber k.forms k.spellings p.number) e number.each.0) in none_is_some u.0 (tags_at k.forms p.number) none (ap (part_if tags_part) u.1) in
           subst (λ r. Breaks k (denotes_in g k) (misnames_in g k) s (at l (tree.TagCase c)) r line) (sym p.is_rule)
           (subst (λ i. Breaks k (denotes_in g k) (misnames_in g k) s (at l (tree.TagCase c)) 18 i) (sym p.is_line)
           (whole_case k (denotes_in g k) (misnames_in g k) s l c 18 l (case_no_union (out-TagCase c).name (out-TagCase c).subject (out-TagCase c).arms (out-TagCase c).otherwise o.4 never)));
@@ -216,11 +215,11 @@ case_otherwise_differs g f0 f1 f2 f3 names l c subject es ts ns begun done final
           ⊎_elim
           (λ odd. two_break g f3 k s l c begins.union whole.agrees u (subst (λ n. TwoDiffer k g s n u.tags (out-TagCase c).arms) name (have.uneven odd k s u.tags two stands u.number)))
           (λ other. last_by done.types other (λ os is.
-              let o = subst (λ n. OneHas k g s n u.tags (out-TagCase c).arms os) name (have.first os is k s u.tags two stands u.number) in
-              λ differ. whole_case k (denotes_in g k) (misnames_in g k) s l c 18 l
-                  (subst (λ o. Breaks k (denotes_in g k) (misnames_in g k) s (at l (tree.TagCase (roll-TagCase (record { name = (out-TagCase c).name; subject = (out-TagCase c).subject; arms = (out-TagCase c).arms; otherwise = o })))) 18 l)
-                  (sym some) (otherwise_differs u.tags (out-TagCase c).name (out-TagCase c).subject (out-TagCase c).arms es u.typed o.contains o.results r.typed
-                  (types_of_two g f3 k whole.agrees os ns o.tys r.tys o.number r.number differ)))))
+          let o = subst (λ n. OneHas k g s n u.tags (out-TagCase c).arms os) name (have.first os is k s u.tags two stands u.number) in
+          λ differ. whole_case k (denotes_in g k) (misnames_in g k) s l c 18 l
+          (subst (λ o. Breaks k (denotes_in g k) (misnames_in g k) s (at l (tree.TagCase (roll-TagCase (record { name = (out-TagCase c).name; subject = (out-TagCase c).subject; arms = (out-TagCase c).arms; otherwise = o })))) 18 l)
+          (sym some) (otherwise_differs u.tags (out-TagCase c).name (out-TagCase c).subject (out-TagCase c).arms es u.typed o.contains o.results r.typed
+          (types_of_two g f3 k whole.agrees os ns o.tys r.tys o.number r.number differ)))))
           (differs.uneven e);
     }))
   where

@@ -1,8 +1,7 @@
 -- Values of clauses, and masks, that are refused.
-use Rattle.std.proofs.Common.{◌≡◌, ℕ, List, [], ◌∷◌, ◌++◌, Option, Some, None, refl, sym, ap, subst, ◌∙◌, rules}
+use Rattle.std.proofs.Common.{◌≡◌, ℕ, [], ◌∷◌, ◌++◌, Some, sym, ap, subst, rules}
 use Rattle.std.specs.Prelude.{Contains}
 use Rattle.flow_value.specs.declared.ty.Ty.{Ty}
-use Rattle.type_table.specs.declared.form.Form.{Form}
 use Rattle.sisal_tree.specs.declared.unit.Written.{Written}
 use Rattle.sisal_tree.specs.declared.expr.Clause.{Clause, out-Clause, roll-Clause}
 use Rattle.sisal_tree.specs.declared.expr.ExprKind.TheViews as kinds
@@ -10,11 +9,9 @@ use Rattle.sisal_tree.specs.declared.expr.Mask.{Mask}
 use Rattle.typed_tree.specs.Scopes as scopes
 use Rattle.typed_tree.specs.Typing.{Known, Number}
 use Rattle.typed_tree.specs.Breaks.{BreaksClause, in_clause, in_mask, mask}
-use Rattle.value_names.specs.Names.{Names}
-use Rattle.typing_laws.specs.Given.{Given}
 use Rattle.typing_laws.specs.Judged.{denotes_in}
 use Rattle.typing_laws.proofs.Called.{one_of}
-use Rattle.breaking_laws.specs.Broken.{IsWhole, misnames_in, BreaksOneAt}
+use Rattle.breaking_laws.specs.Broken.{misnames_in, BreaksOneAt}
 use Rattle.breaking_laws.specs.Parts as parts
 use Rattle.breaking_laws.specs.Parts.{BreaksClauses, BreaksClausesAt}
 use Rattle.breaking_laws.specs.PartLaws.{ClauseValueLaw, ClauseMaskLaw, MaskLaw, OneClauseLaw}

@@ -1,37 +1,31 @@
 -- Definitions that are refused.
-use Rattle.std.proofs.Common.{◌≡◌, inl, inr, ℕ, zero, suc, ◌<◌, ltb, Bool, true, false, nat_eq, List, [], ◌∷◌, ◌++◌, map, length, Option, Some, None, slice_get, refl, sym, ap, subst, ◌∙◌, arith, rules}
+use Rattle.std.proofs.Common.{◌≡◌, ℕ, zero, suc, ◌<◌, ltb, Bool, true, false, nat_eq, List, [], ◌∷◌, ◌++◌, Option, Some, None, slice_get, refl, sym, ap, subst, ◌∙◌, rules}
 use Rattle.std.specs.Prelude.{if◌then◌else◌, Contains}
 use Rattle.std.proofs.lemmas.Bool.{lt-ltb}
-use Rattle.std.proofs.lemmas.List.{append_assoc, append-nil}
+use Rattle.std.proofs.lemmas.List.{append_assoc}
 use Rattle.std.proofs.lemmas.Option.{same_Some}
 use Rattle.name_scope.specs.Newest.{newest}
 use Rattle.flow_value.specs.declared.ty.Ty.{Ty}
 use Rattle.type_table.specs.declared.form.Form.{Form}
-use Rattle.type_table.specs.Tables.{IsTable}
-use Rattle.sisal_tree.specs.declared.unit.Named.{Named}
 use Rattle.sisal_tree.specs.declared.unit.Written.{Written}
 use Rattle.sisal_tree.specs.declared.expr.Def.{Def, out-Def, roll-Def}
-use Rattle.sisal_tree.specs.declared.expr.Expr.{Expr}
 use Rattle.sisal_tree.specs.declared.expr.ExprKind.TheViews as kinds
 use Rattle.sisal_tree.specs.declared.expr.Target.{Target}
 use Rattle.typed_tree.specs.declared.expr.TypedExpr.{TypedExpr}
 use Rattle.typed_tree.specs.Scopes as tree
 use Rattle.typed_tree.specs.Types.{IsNumber, AreNumbers}
-use Rattle.typed_tree.specs.Typing.{Known, Number, AreTyped, Defines, no_def, a_def, names_in}
+use Rattle.typed_tree.specs.Typing.{Known, AreTyped, Defines, no_def, a_def, names_in}
 use Rattle.typed_tree.specs.Breaks as breaks
 use Rattle.typed_tree.specs.Breaks.{IsTwice, IsPair, BreaksDefs, defined_twice, in_values, number_of_values, in_declared, declared, after_one, named_in, line_of}
-use Rattle.type_rules.specs.Applies.{Grows}
 use Rattle.value_names.specs.declared.value.Value.{Value}
 use Rattle.value_names.specs.Names.{Names}
 use Rattle.value_names.specs.Scopes.{loop_value}
 use Rattle.typing_laws.specs.Turns.{AreBelow, IsInTurn}
-use Rattle.typing_laws.specs.Given.{Given}
-use Rattle.typing_laws.specs.Judged.{Agrees, Stands, AreValues, denotes_in, IsAbove}
-use Rattle.typing_laws.specs.Defining.{targets_in, AllDefined}
+use Rattle.typing_laws.specs.Judged.{denotes_in, IsAbove}
 use Rattle.typing_laws.proofs.Unique.{as_many, a_number}
 use Rattle.typing_laws.proofs.Entering.{defines_append, in_turn_above}
 use Rattle.typing_laws.proofs.Turning.{AreSame, same_in_loop}
-use Rattle.breaking_laws.specs.Broken.{IsWhole, Reaches, misnames_in}
+use Rattle.breaking_laws.specs.Broken.{misnames_in}
 use Rattle.breaking_laws.specs.Parts as parts
 use Rattle.breaking_laws.specs.Parts.{StandsTwice, BreaksTargets, BreaksTurn, in_defs, renamed, InLoop, BreaksTargetsAt, BreaksDefsAt}
 use Rattle.breaking_laws.specs.PartLaws.{DefinedTwiceLaw, AfterDefsLaw, ValuesLaw, TargetsLaw, CountLaw, OneTargetLaw, MisnamedLaw, DeclaredLaw, RetypedLaw}

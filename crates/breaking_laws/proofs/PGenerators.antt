@@ -1,6 +1,5 @@
 -- Generators, groups of them and loops over groups that are refused.
-use Rattle.std.proofs.Common.{◌≡◌, ◌⊎◌, inl, inr, ℕ, Bool, true, false, nat_eq, List, [], ◌∷◌, ◌++◌, length, Option, Some, None, slice_get, refl, sym, ap, subst, ◌∙◌, rules}
-use Rattle.std.specs.Prelude.{Contains}
+use Rattle.std.proofs.Common.{◌≡◌, ◌⊎◌, inl, inr, ℕ, Bool, true, false, nat_eq, List, [], ◌∷◌, ◌++◌, length, Option, Some, None, refl, sym, ap, subst, ◌∙◌, rules}
 use Rattle.std.specs.Option.{is_some}
 use Rattle.std.proofs.lemmas.Bool.{eqb-true}
 use Rattle.std.proofs.lemmas.List.{append-nil}
@@ -19,22 +18,21 @@ use Rattle.sisal_tree.specs.declared.expr.Generator.{Generator, out-Generator, r
 use Rattle.sisal_tree.specs.declared.expr.Loop.TheVariants as loop
 use Rattle.typed_tree.specs.declared.expr.TypedExpr.{TypedExpr}
 use Rattle.typed_tree.specs.Scopes as scopes
-use Rattle.typed_tree.specs.Types.{IsNumber, AreNumbers, IsSequence}
-use Rattle.typed_tree.specs.Typing.{Known, Number, Defines, at, names_of}
+use Rattle.typed_tree.specs.Types.{IsNumber, AreNumbers}
+use Rattle.typed_tree.specs.Typing.{Known, Defines, at, names_of}
 use Rattle.typed_tree.specs.Breaks.{Breaks, IsTwice, NoSequence, generators_in, BreaksGenerator, in_from, in_to, bounds, at_range, no_sequence, BreaksGroups, after_group, in_body, in_clauses, in_groups}
 use Rattle.typed_tree.specs.Breaks as breaks
-use Rattle.type_rules.specs.Applies.{Grows}
 use Rattle.type_rules.specs.Parts.{sequence_at}
 use Rattle.type_rules.proofs.Telling.{integer_tells, sequence_tells}
 use Rattle.value_names.specs.Names.{Names}
 use Rattle.value_names.specs.Scopes.{define_all}
 use Rattle.typing_laws.specs.Given.{Given, Group}
 use Rattle.typing_laws.specs.Judged.{Agrees, Stands, denotes_in, AreOnes, no_one, a_one}
-use Rattle.typing_laws.specs.Looping.{up_to, GroupTyped, GroupsTyped, no_group, a_group}
+use Rattle.typing_laws.specs.Looping.{up_to, GroupsTyped, no_group, a_group}
 use Rattle.typing_laws.proofs.Later.{used_on}
 use Rattle.typing_laws.proofs.Entering.{stands_with_all}
 use Rattle.typing_laws.proofs.Generated.{groups_later}
-use Rattle.breaking_laws.specs.Broken.{IsWhole, misnames_in, BreaksAt, BreaksOneAt}
+use Rattle.breaking_laws.specs.Broken.{misnames_in, BreaksAt, BreaksOneAt}
 use Rattle.breaking_laws.specs.Parts as parts
 use Rattle.breaking_laws.specs.Parts.{BreaksDefsAt, IsNoSource, no_elements, no_range, BreaksGeneratorAt, BreaksGroup, BreaksGroupAt, BreaksGroupsAt, BreaksClauses, BreaksClausesAt}
 use Rattle.breaking_laws.specs.PartLaws.{FromLaw, ToLaw, NoSourceLaw, OneGeneratorLaw, GroupTwiceLaw, AfterGroupsLaw, ProductGroupsLaw, ProductDefsLaw, ProductClausesLaw}

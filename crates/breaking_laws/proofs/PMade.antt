@@ -1,5 +1,5 @@
 -- What clauses make of values, that is refused, also through groups.
-use Rattle.std.proofs.Common.{◌≡◌, ◌⊎◌, inl, inr, ℕ, zero, suc, ◌<◌, ◌≤◌, Bool, List, [], ◌∷◌, ◌++◌, Option, Some, None, slice_get, refl, sym, ap, subst, ◌∙◌, arith}
+use Rattle.std.proofs.Common.{◌≡◌, inl, inr, ℕ, zero, suc, ◌<◌, Bool, List, [], ◌∷◌, Option, Some, None, slice_get, refl, sym, ap, subst, ◌∙◌, arith}
 use Rattle.std.specs.Prelude.{Contains}
 use Rattle.std.proofs.lemmas.Option.{same_Some}
 use Rattle.flow_value.specs.declared.ty.Ty.{Ty}
@@ -17,8 +17,8 @@ use Rattle.sisal_tree.specs.declared.expr.ClauseKind.TheVariants as made
 use Rattle.typed_tree.specs.declared.expr.ClauseForm.{ClauseForm}
 use Rattle.typed_tree.specs.declared.expr.TypedExpr.{TypedExpr}
 use Rattle.typed_tree.specs.Scopes as scopes
-use Rattle.typed_tree.specs.Types.{IsNumber, AreNumbers, IsShallow, depth_of, Makes, array_of, stream_of, value_of, sum, product, least, greatest, catenate_arrays, catenate_streams, MakesThrough, no_group, through}
-use Rattle.typed_tree.specs.Typing.{Known, Number, Types}
+use Rattle.typed_tree.specs.Types.{IsNumber, IsShallow, depth_of, Makes, array_of, stream_of, value_of, sum, product, least, greatest, catenate_arrays, catenate_streams, MakesThrough, no_group, through}
+use Rattle.typed_tree.specs.Typing.{Known, Types}
 use Rattle.typed_tree.specs.Breaks.{BreaksClause, reduction, deep_clause}
 use Rattle.typed_tree.proofs.Depths.{depth_array, depth_stream}
 use Rattle.type_rules.specs.declared.fault.Refused.TheVariants as refused
@@ -27,9 +27,8 @@ use Rattle.type_rules.specs.declared.head.Sort.{Sort}
 use Rattle.type_rules.specs.declared.head.Sort.TheVariants as sort
 use Rattle.type_rules.specs.Applies.{Grows, IsTooDeep}
 use Rattle.type_rules.specs.Folds.{IsUnmade, makes_of, kept, reduced}
-use Rattle.type_rules.specs.Typed.{FitsClause, IsSortOf, IsAsDeep}
+use Rattle.type_rules.specs.Typed.{FitsClause}
 use Rattle.type_rules.proofs.Clauses.{clauses_by_type}
-use Rattle.typing_laws.specs.Given.{Given}
 use Rattle.typing_laws.specs.Judged.{denotes_in}
 use Rattle.typing_laws.specs.Looping.{AreMade, AreValuesOf, no_value, a_value}
 use Rattle.typing_laws.specs.Looping as looping

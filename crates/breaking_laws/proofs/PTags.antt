@@ -1,7 +1,7 @@
 -- The tags of an arm that are refused.
-use Rattle.std.proofs.Common.{◌≡◌, ◌⊎◌, inl, inr, ℕ, ◌+◌, ◌<◌, Bool, true, false, nat_eq, List, [], ◌∷◌, ◌++◌, map, flat_map, length, Option, Some, None, Result, Ok, Err, slice_get, slice_set, get_or, refl, sym, ap, subst, ◌∙◌, arith}
+use Rattle.std.proofs.Common.{◌≡◌, inl, inr, ℕ, ◌<◌, Bool, true, false, nat_eq, List, [], ◌∷◌, ◌++◌, flat_map, length, Option, Some, None, Result, Ok, Err, slice_get, slice_set, get_or, refl, sym, ap, subst, ◌∙◌, arith}
 use Rattle.std.specs.Prelude.{if◌then◌else◌, Contains}
-use Rattle.std.proofs.lemmas.Bool.{eqb-true, eq-eqb}
+use Rattle.std.proofs.lemmas.Bool.{eq-eqb}
 use Rattle.std.proofs.lemmas.List.{append_assoc, append-nil, map-append}
 use Rattle.std.proofs.lemmas.List.Elements.{Contains-append_left, Contains-append_right}
 use Rattle.std.proofs.lemmas.Option.{same_Some, slice_get_within, slice_get-get_or}
@@ -11,7 +11,6 @@ use Rattle.flow_value.specs.declared.ty.Ty.TheVariants as ty
 use Rattle.type_table.specs.declared.form.Form.{Form}
 use Rattle.type_table.specs.declared.form.Form.TheVariants as form
 use Rattle.type_table.specs.declared.form.Member.{Member as NumberedMember}
-use Rattle.type_table.specs.Forms.{first_member}
 use Rattle.type_table.proofs.Members.{is_member}
 use Rattle.sisal_tree.specs.declared.unit.Named.{Named}
 use Rattle.sisal_tree.specs.declared.unit.Written.{Written}
@@ -22,15 +21,14 @@ use Rattle.typed_tree.specs.Typing.{Known, IsTag, names_of}
 use Rattle.typed_tree.specs.Breaks as breaks
 use Rattle.typed_tree.specs.Breaks.{IsTwice, NoMember, BreaksArm}
 use Rattle.type_rules.specs.Arms.{is_free, chosen_at, agrees, gives_arm}
-use Rattle.type_rules.specs.Parts.{part_if, tag_part, tags_part, tag_at, tags_at}
+use Rattle.type_rules.specs.Parts.{part_if, tag_part, tag_at, tags_at}
 use Rattle.type_rules.proofs.Membership.{tag_absent}
-use Rattle.value_names.specs.Names.{Names}
-use Rattle.typing_laws.specs.Given.{Given, Arms}
+use Rattle.typing_laws.specs.Given.{Given}
 use Rattle.typing_laws.specs.Judged.{Agrees, denotes_in}
-use Rattle.typing_laws.specs.Casing.{tags_in, HasTag, IsChosen, ArmsTyped}
-use Rattle.typing_laws.proofs.Choosing.{arm_begins, a_tag, free_is, goes_on, union_at, tag_flat, flat_tag}
+use Rattle.typing_laws.specs.Casing.{tags_in, IsChosen}
+use Rattle.typing_laws.proofs.Choosing.{arm_begins, a_tag, free_is, goes_on, union_at, flat_tag}
 use Rattle.typing_laws.proofs.Cased.{union_members, tag_content, rolled_arm, many_tags}
-use Rattle.breaking_laws.specs.Broken.{IsWhole, misnames_in}
+use Rattle.breaking_laws.specs.Broken.{misnames_in}
 use Rattle.breaking_laws.specs.Parts as parts
 use Rattle.breaking_laws.specs.Parts.{BreaksArms, BreaksArmsAt, IsNoArm}
 use Rattle.breaking_laws.specs.PartLaws.{ArmTagsLaw}
@@ -139,10 +137,10 @@ module _ (g : Given) (f : List Form) (k : Known) (known : Agrees g f k) (union :
   tags_break seen (t ∷ ts) content arms line p before e =
       by (tag_at k.forms union t.name) refl
       (λ m found free rest. subst (λ l. BreaksTags k ms at (arm_tags others) l line) (append_assoc seen (t ∷ []) ts)
-          (tags_break (seen ++ (t ∷ [])) ts (Some m.1) (slice_set arms m.0 (Some (length (tags_in others)))) line
-          (subst (λ l. IsChosen nms (slice_set arms m.0 (Some (length (tags_in others)))) (tags_in others ++ (l ∷ []))) (sym (map-append (λ n. n.name) seen (t ∷ [])))
-          (a_tag nms arms (tags_in others) (names_of seen) t.name m p (sym (ap (part_if (tag_part t.name)) here) ∙ found) free))
-          (t, m.0, Contains-append_right seen (t ∷ []) t (contains_first t []), found) rest))
+      (tags_break (seen ++ (t ∷ [])) ts (Some m.1) (slice_set arms m.0 (Some (length (tags_in others)))) line
+      (subst (λ l. IsChosen nms (slice_set arms m.0 (Some (length (tags_in others)))) (tags_in others ++ (l ∷ []))) (sym (map-append (λ n. n.name) seen (t ∷ [])))
+      (a_tag nms arms (tags_in others) (names_of seen) t.name m p (sym (ap (part_if (tag_part t.name)) here) ∙ found) free))
+      (t, m.0, Contains-append_right seen (t ∷ []) t (contains_first t []), found) rest))
       e
     where
       there : Contains (seen ++ (t ∷ ts)) t

@@ -1,13 +1,12 @@
 -- Turns of a loop, and loops with turns, that are refused.
-use Rattle.std.proofs.Common.{◌≡◌, ℕ, ◌+◌, ◌≤◌, List, [], ◌∷◌, ◌++◌, map, length, Option, Some, None, refl, sym, ap, subst, ◌∙◌, arith, rules}
+use Rattle.std.proofs.Common.{◌≡◌, ℕ, ◌+◌, ◌≤◌, List, [], ◌∷◌, length, refl, sym, ap, subst, ◌∙◌, arith, rules}
 use Rattle.std.proofs.lemmas.Bool.{eqb-true}
 use Rattle.flow_value.specs.declared.ty.Ty.{Ty}
 use Rattle.flow_value.specs.declared.ty.Ty.TheVariants as ty
-use Rattle.type_table.specs.declared.form.Form.{Form}
 use Rattle.type_table.specs.Tables.{IsTable}
 use Rattle.sisal_tree.specs.declared.unit.Written.{Written}
 use Rattle.sisal_tree.specs.declared.expr.Clause.{Clause}
-use Rattle.sisal_tree.specs.declared.expr.Def.{Def, roll-Def}
+use Rattle.sisal_tree.specs.declared.expr.Def.{Def}
 use Rattle.sisal_tree.specs.declared.expr.ExprKind.TheVariants as tree
 use Rattle.sisal_tree.specs.declared.expr.ExprKind.TheViews as kinds
 use Rattle.sisal_tree.specs.declared.expr.Loop.TheVariants as loop
@@ -15,21 +14,19 @@ use Rattle.sisal_tree.specs.declared.expr.Turn.{Turn, out-Turn, roll-Turn}
 use Rattle.typed_tree.specs.declared.expr.TypedExpr.{TypedExpr}
 use Rattle.typed_tree.specs.Scopes as scopes
 use Rattle.typed_tree.specs.Scopes.{targets}
-use Rattle.typed_tree.specs.Typing.{Known, Number, Types, Defines, loop_of, at, names_of}
+use Rattle.typed_tree.specs.Typing.{Known, Number, Defines, loop_of, at, names_of}
 use Rattle.typed_tree.specs.Breaks as breaks
 use Rattle.typed_tree.specs.Breaks.{Breaks, BreaksDefs, in_initial, in_loop_test, loop_test, in_turn_of, in_loop_clauses}
 use Rattle.type_rules.proofs.Telling.{boolean_tells}
 use Rattle.value_names.specs.declared.value.Value.{Value}
-use Rattle.value_names.specs.Names.{Names}
 use Rattle.typing_laws.specs.Turns.{AreBelow, IsInTurn, loop_names, in_turn}
-use Rattle.typing_laws.specs.Given.{Given, Defined}
-use Rattle.typing_laws.specs.Judged.{Agrees, Stands, AreValues, denotes_in}
-use Rattle.typing_laws.specs.Defining.{targets_in, AllDefined}
+use Rattle.typing_laws.specs.Judged.{Stands, AreValues, denotes_in}
+use Rattle.typing_laws.specs.Defining.{targets_in}
 use Rattle.typing_laws.specs.Looping.{IsStarted, loop_in}
 use Rattle.typing_laws.proofs.Unique.{as_many}
 use Rattle.typing_laws.proofs.Called.{one_of}
 use Rattle.typing_laws.proofs.Turning.{loop_stands, loop_below, turn_stands, names_in_order, defines_height, many_names}
-use Rattle.breaking_laws.specs.Broken.{IsWhole, misnames_in, BreaksAt, BreaksOneAt}
+use Rattle.breaking_laws.specs.Broken.{misnames_in, BreaksAt, BreaksOneAt}
 use Rattle.breaking_laws.specs.Parts as parts
 use Rattle.breaking_laws.specs.Parts.{BreaksTurn, in_defs, renamed, BreaksDefsAt, BreaksTurnOf, BreaksRenewingAt, BreaksTurnAt, BreaksClauses, BreaksClausesAt}
 use Rattle.breaking_laws.specs.PartLaws.{RenewingLaw, TurnDefsLaw, TurnTestLaw, TruthLaw, InitialDefsLaw, InitialTurnLaw, InitialClausesLaw}
@@ -117,7 +114,7 @@ module _ (k : Known) (denotes : Written → Ty → Type 0) (misnames : Written �
   rolled_breaks rule line (parts.BreaksTurnOf.in_defs (in_defs p)) = in_turn_of ds (out-Turn turn).defs cs (out-Turn turn).is_first (out-Turn turn).is_until (out-Turn turn).test defines p
   rolled_breaks _ _ (parts.BreaksTurnOf.in_defs (renamed {turned = turned} before xs es after {us = vs} {earlier = earlier} e q values pair retyped)) =
       subst (λ d. Breaks k denotes misnames s (at l (tree.For (loop.Initial ds (roll-Turn (record { is_first = (out-Turn turn).is_first; is_until = (out-Turn turn).is_until; test = (out-Turn turn).test; defs = d })) cs)))
-          23 (breaks.line_of xs)) (sym e)
+      23 (breaks.line_of xs)) (sym e)
       (breaks.retyped ds before xs after es cs (out-Turn turn).is_first (out-Turn turn).is_until (out-Turn turn).test defines
       (subst (λ d. Defines k denotes (scopes.in_turn (loop_of s ds first) (targets d) inside) before vs earlier turned) e q) values pair retyped)
 

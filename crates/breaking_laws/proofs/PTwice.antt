@@ -1,18 +1,17 @@
 -- Names that stand twice in a list.
-use Rattle.std.proofs.Common.{◌≡◌, ◌⊎◌, inl, inr, ℕ, zero, suc, ◌<◌, List, [], ◌∷◌, ◌++◌, map, flat_map, length, Option, Some, None, get_or, slice_get, refl, sym, ap, subst, ◌∙◌, arith}
+use Rattle.std.proofs.Common.{◌≡◌, ◌⊎◌, inl, inr, ℕ, zero, suc, List, [], ◌∷◌, ◌++◌, Option, Some, None, get_or, slice_get, refl, sym, ap, subst, ◌∙◌, arith}
 use Rattle.std.specs.Prelude.{Contains, if◌then◌else◌, Bool, true, false, nat_eq}
 use Rattle.std.proofs.lemmas.Bool.{eqb-true}
-use Rattle.std.proofs.lemmas.List.{append_assoc, append-nil, map-append}
+use Rattle.std.proofs.lemmas.List.{append_assoc, map-append}
 use Rattle.std.proofs.lemmas.List.Elements.{Contains-append_left, Contains-append_right}
 use Rattle.std.proofs.lemmas.Option.{same_Some, slice_get_within, slice_get-get_or}
 use Rattle.std.proofs.lemmas.Grind.{flat_map-append}
 use Rattle.name_scope.specs.Newest.{newest}
 use Rattle.sisal_tree.specs.declared.unit.Named.{Named}
 use Rattle.sisal_tree.specs.declared.expr.Def.{Def, out-Def}
-use Rattle.sisal_tree.specs.declared.expr.Target.{Target}
 use Rattle.typed_tree.specs.Breaks as breaks
 use Rattle.typed_tree.specs.Breaks.{IsTwice, twice, later, named_in}
-use Rattle.value_names.specs.Scopes.{twice_if, twice_onto, twice_in}
+use Rattle.value_names.specs.Scopes.{twice_if, twice_onto}
 use Rattle.typing_laws.specs.Defining.{named_targets, targets_in}
 use Rattle.breaking_laws.specs.PartLaws.{TwiceLaw}
 use Rattle.breaking_laws.proofs.FTables.{contains_first}

@@ -1,5 +1,5 @@
 -- What the laws say: definitions, loops, turns, generators, clauses and `tagcase` that are refused break the rule that is named.
-use Rattle.std.specs.Prelude.{◌≡◌, ◌≢◌, ℕ, suc, List, [], ◌∷◌, ◌++◌, length, Bool, true, false, Option, Some, None, Contains, is_some, slice_get}
+use Rattle.std.specs.Prelude.{◌≡◌, ◌≢◌, ℕ, suc, List, [], ◌∷◌, ◌++◌, length, Bool, false, Option, Some, None, Contains, is_some, slice_get}
 use Rattle.name_scope.specs.Newest.{newest}
 use Rattle.type_table.specs.declared.form.Form.{Form}
 use Rattle.type_table.specs.Tables.{IsTable}
@@ -26,7 +26,7 @@ use Rattle.type_rules.specs.declared.fault.Refused.TheVariants as refused
 use Rattle.value_names.specs.declared.value.Value.{Value}
 use Rattle.value_names.specs.Names.{Names}
 use Rattle.value_names.specs.Scopes.{loop_value, twice_in}
-use Rattle.typing_laws.specs.Casing.{AddsArms, AddsLast, Begins, EntersArm, Keeps}
+use Rattle.typing_laws.specs.Casing.{AddsArms, Begins, EntersArm, Keeps}
 use Rattle.typing_laws.specs.Defining.{AllDefined, targets_in}
 use Rattle.typing_laws.specs.Given.{Arms, Defined, Given, Group, Parts}
 use Rattle.typing_laws.specs.Given as given
