@@ -1,5 +1,5 @@
 -- A typing of an expression consists of what its form says.
-use Rattle.std.proofs.Common.{◌≡◌, ◌⊎◌, inl, inr, ℕ, List, [], ◌∷◌, ◌++◌, Bool, Option, Some, None, All, refl, sym, subst}
+use Rattle.std.proofs.Common.{◌≡◌, inl, inr, ℕ, List, [], ◌∷◌, ◌++◌, Bool, Option, Some, None, All, refl, sym, subst}
 use Rattle.std.proofs.lemmas.List.Elements.{All-weaker}
 use Rattle.flow_value.specs.declared.ty.Ty.{Ty}
 use Rattle.flow_value.specs.declared.ty.Ty.TheVariants as ty
@@ -12,16 +12,16 @@ use Rattle.sisal_tree.specs.declared.expr.ExprKind.TheVariants as tree
 use Rattle.sisal_tree.specs.declared.expr.ExprKind.TheOpen.{ExprKind-F, Loop-F}
 use Rattle.sisal_tree.specs.declared.expr.ExprKind.TheViews.{out-ExprKind, out-Loop}
 use Rattle.sisal_tree.specs.declared.expr.FieldValue.{FieldValue}
-use Rattle.sisal_tree.specs.declared.expr.Elements.{Elements, out-Elements, roll-Elements}
-use Rattle.sisal_tree.specs.declared.expr.Def.{Def, out-Def, roll-Def}
+use Rattle.sisal_tree.specs.declared.expr.Elements.{Elements, roll-Elements}
+use Rattle.sisal_tree.specs.declared.expr.Def.{Def, roll-Def}
 use Rattle.sisal_tree.specs.declared.expr.Target.{Target}
-use Rattle.sisal_tree.specs.declared.expr.TagCase.{TagCase, out-TagCase, roll-TagCase}
-use Rattle.sisal_tree.specs.declared.expr.Arm.{Arm, out-Arm, roll-Arm}
+use Rattle.sisal_tree.specs.declared.expr.TagCase.{TagCase, roll-TagCase}
+use Rattle.sisal_tree.specs.declared.expr.Arm.{Arm, roll-Arm}
 use Rattle.sisal_tree.specs.declared.expr.Loop.{Loop}
 use Rattle.sisal_tree.specs.declared.expr.Loop.TheVariants as loop
-use Rattle.sisal_tree.specs.declared.expr.Generator.{Generator, out-Generator, roll-Generator}
-use Rattle.sisal_tree.specs.declared.expr.Turn.{Turn, out-Turn, roll-Turn}
-use Rattle.sisal_tree.specs.declared.expr.Clause.{Clause, out-Clause, roll-Clause}
+use Rattle.sisal_tree.specs.declared.expr.Generator.{Generator, roll-Generator}
+use Rattle.sisal_tree.specs.declared.expr.Turn.{Turn, roll-Turn}
+use Rattle.sisal_tree.specs.declared.expr.Clause.{Clause, roll-Clause}
 use Rattle.sisal_tree.specs.declared.expr.Mask.{Mask}
 use Rattle.sisal_tree.specs.declared.expr.ClauseKind.{ClauseKind}
 use Rattle.typed_tree.specs.declared.built_in.BuiltIn.{BuiltIn}
@@ -32,7 +32,7 @@ use Rattle.typed_tree.specs.Scopes.{Scope, define_all}
 use Rattle.typed_tree.specs.Types.{Member, constant_type, scalar_type, prefix_type, binary_type}
 use Rattle.typed_tree.specs.Typing as rule
 use Rattle.typed_tree.specs.Typing.{Signature, Known, IsFunction, IsBuiltIn, IsNamedType, Has, IsTag, names_of, AreAllNamed, at, Types, AreTyped, Replaces, HasFields, Defines, Crosses, Generates, AreClauses, IsMask, AreArms, IsOtherwise, Folds}
-use Rattle.typing_unique.specs.Inverted.{at_table, IsInside, IsInnerLoop, TypedIn, FieldsIn, ReplacesIn, MaskIn, IsGroup, IsOwnCall, IsBuiltInCall, IsCall, IsArray, IsArrayIf, IsStreamIf, IsTagCase, IsInitial, IsProduct, IsLoop, Inverted, IsDefinition, DefinesIn, CrossesIn, IsGenerator, GeneratesIn, IsClause, ClausesIn, IsArm, ArmsIn}
+use Rattle.typing_unique.specs.Inverted.{at_table, IsInside, IsInnerLoop, TypedIn, FieldsIn, ReplacesIn, MaskIn, IsArray, IsTagCase, IsInitial, IsProduct, IsLoop, Inverted, IsDefinition, DefinesIn, CrossesIn, IsGenerator, GeneratesIn, IsClause, ClausesIn, IsArm, ArmsIn}
 use Rattle.typing_unique.proofs.EViews.{out_constant, out_name, out_old, out_group, out_call, out_convert, out_error_of, out_is_error, out_is_tag, out_prefix, out_binary, out_select, out_update, out_field, out_replace, out_empty_array, out_array, out_stream, out_a_record, out_union, out_let, out_if, out_tag_case, out_for, out_product, out_initial, out_elements, out_def, out_case, out_arm, out_generator, out_turn, out_clause}
 
 abbrev IsNotEmpty : List (List Generator) → Type 0

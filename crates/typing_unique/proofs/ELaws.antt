@@ -1,5 +1,5 @@
 -- The laws on expressions, as they are stated.
-use Rattle.std.proofs.Common.{◌≡◌, ℕ, List, All}
+use Rattle.std.proofs.Common.{ℕ, List}
 use Rattle.flow_value.specs.declared.ty.Ty.{Ty}
 use Rattle.type_table.specs.declared.form.Form.{Form}
 use Rattle.sisal_tree.specs.declared.unit.Written.{Written}

@@ -1,5 +1,5 @@
 -- What breaks a rule has no type, whatever the table of types.
-use Rattle.std.proofs.Common.{◌≡◌, ◌⊎◌, inl, inr, ℕ, suc, ◌+◌, List, [], ◌∷◌, ◌++◌, map, flat_map, length, Option, Some, None, All, refl, sym, ap, subst, ◌∙◌, arith}
+use Rattle.std.proofs.Common.{◌≡◌, inl, inr, ℕ, suc, ◌+◌, List, [], ◌∷◌, ◌++◌, map, flat_map, length, Option, Some, None, All, refl, sym, ap, subst, ◌∙◌, arith}
 use Rattle.std.specs.Prelude.{Contains}
 use Rattle.std.proofs.lemmas.Option.{same_Some, none-some}
 use Rattle.std.proofs.lemmas.List.Elements.{All-contains}
@@ -7,7 +7,6 @@ use Rattle.name_scope.specs.Newest.{newest}
 use Rattle.flow_value.specs.declared.ty.Ty.{Ty}
 use Rattle.flow_value.specs.declared.ty.Ty.TheVariants as ty
 use Rattle.type_table.specs.declared.form.Form.{Form}
-use Rattle.sisal_tree.specs.declared.unit.Named.{Named}
 use Rattle.sisal_tree.specs.declared.unit.Written.{Written}
 use Rattle.sisal_tree.specs.declared.expr.Expr.{Expr}
 use Rattle.sisal_tree.specs.declared.expr.ExprKind.TheVariants as tree
@@ -27,14 +26,14 @@ use Rattle.typed_tree.specs.Typing.{Known, IsTypeNamed, Has, IsTag, names_of, Ar
 use Rattle.typed_tree.specs.Breaks as breaks
 use Rattle.typed_tree.specs.Breaks.{IsUnknown, IsPair, targets_in, named_in, generators_in, Breaks, BreaksOne, BreaksIn, BreaksDefs, BreaksGroups, BreaksGenerator, BreaksClause, BreaksArm, HasResults}
 use Rattle.typing_unique.specs.Fair.{AreOnce, AreProper, IsFair}
-use Rattle.typing_unique.specs.Inverted.{at_table, IsProperScope, IsName, IsErrorOf, IsEmptyArray, IsGroup, IsCall, IsConvert, IsIsError, IsIsTag, IsPrefix, IsBinary, IsSelect, IsUpdate, IsField, IsReplace, IsArray, IsArrayIf, IsStreamIf, IsRecord, IsUnion, IsLet, IsIf, IsTagCase, IsInitial, IsProduct, IsBody, IsInside, IsInnerLoop, IsCrossed, IsGenerator, IsElements, IsRange, IsTested, IsDefinition}
+use Rattle.typing_unique.specs.Inverted.{at_table, IsProperScope, IsName, IsErrorOf, IsEmptyArray, IsGroup, IsCall, IsConvert, IsIsError, IsIsTag, IsPrefix, IsBinary, IsSelect, IsUpdate, IsField, IsReplace, IsArray, IsArrayIf, IsStreamIf, IsRecord, IsUnion, IsLet, IsIf, IsTagCase, IsInitial, IsProduct, IsBody, IsInside, IsCrossed, IsElements, IsTested}
 use Rattle.typing_unique.proofs.EViews.{out_name, out_old, out_group, out_call, out_convert, out_error_of, out_is_error, out_is_tag, out_prefix, out_binary, out_select, out_update, out_field, out_replace, out_empty_array, out_array, out_stream, out_a_record, out_union, out_let, out_if, out_generator, out_clause, out_arm}
 use Rattle.typing_unique.proofs.EInverted.{view, view_array, view_case, view_product, view_initial, view_definitions, crossed_of}
-use Rattle.typing_unique.proofs.ETypes.{same_record, same_union, one_element, same_first, one_result, one_made_through, union_proper, content_proper, one_place}
+use Rattle.typing_unique.proofs.ETypes.{same_record, same_union, same_first, one_result, one_made_through, union_proper, content_proper, one_place}
 use Rattle.typing_unique.proofs.EScopes.{defined_proper, content_defined, turn_proper}
 use Rattle.typing_unique.proofs.EProper.{the_one, first_tag, no_names_of, proper, all_proper, definitions_proper, generated_proper}
 use Rattle.typing_unique.proofs.EOne.{one_call, one_content, no_value, one_type, all_one, fields_one, definitions_one, generated_one}
-use Rattle.typing_unique.proofs.EParts.{contains_none, named_in_list, twice_not_distinct, names_of_targets, targets_after, as_many_targets, declared_in, declared_at, Ends, ends_folded, ends_more, expr_at, IsValueAt, field_at, IsChangeAt, change_at, IsGeneratorAt, generator_at, names_generated, IsFrom, from_of, range_of, ends_begin, IsClauseAt, clause_at, IsArmAt, arm_at, tags_are, other_in, IsSplit, split, kept, flat_tags}
+use Rattle.typing_unique.proofs.EParts.{named_in_list, twice_not_distinct, names_of_targets, targets_after, as_many_targets, declared_in, declared_at, Ends, ends_folded, ends_more, expr_at, field_at, change_at, IsGeneratorAt, generator_at, names_generated, from_of, range_of, ends_begin, IsClauseAt, clause_at, IsArmAt, arm_at, tags_are, other_in, IsSplit, split, kept, flat_tags}
 
 out_any_array : (x : Option ℕ) (els : Option Elements) → out-ExprKind (tree.Array x els) ≡ ExprKind-F.Array x els
 out_any_array x None = out_empty_array x

@@ -7,7 +7,6 @@ use Rattle.name_scope.specs.Newest.{newest}
 use Rattle.flow_value.specs.declared.ty.Ty.{Ty}
 use Rattle.flow_value.specs.declared.ty.Ty.TheVariants as ty
 use Rattle.type_table.specs.declared.form.Form.{Form}
-use Rattle.sisal_tree.specs.declared.unit.Named.{Named}
 use Rattle.sisal_tree.specs.declared.unit.Written.{Written}
 use Rattle.sisal_tree.specs.declared.expr.Expr.{Expr}
 use Rattle.sisal_tree.specs.declared.expr.ExprKind.TheVariants as tree
@@ -23,11 +22,11 @@ use Rattle.typed_tree.specs.declared.expr.TypedExpr.{TypedExpr}
 use Rattle.typed_tree.specs.declared.expr.Source.{Source}
 use Rattle.typed_tree.specs.declared.expr.ClauseForm.{ClauseForm}
 use Rattle.typed_tree.specs.Scopes.{Meaning, At, Scope, define_all}
-use Rattle.typed_tree.specs.Types.{Member, IsSequence, constant_type, scalar_type, prefix_type, binary_type, Gives, Makes}
+use Rattle.typed_tree.specs.Types.{Member, IsSequence, binary_type, Gives, Makes}
 use Rattle.typed_tree.specs.Typing as rule
 use Rattle.typed_tree.specs.Typing.{Signature, Known, IsBuiltIn, Has, IsTag, AreAllNamed, names_in, names_of, with_content, Folds, Types, AreTyped, HasFields, Defines, Crosses, Generates, AreClauses, AreArms, IsOtherwise}
-use Rattle.typing_unique.specs.Fair.{AreOnce, IsProper, AreProper, IsFair}
-use Rattle.typing_unique.specs.Inverted.{at_table, IsProperScope, IsConstant, IsName, IsErrorOf, IsEmptyArray, IsEmptyStream, IsGroup, IsOwnCall, IsBuiltInCall, IsCall, IsConvert, IsIsError, IsIsTag, IsPrefix, IsBinary, IsSelect, IsUpdate, IsField, IsReplace, IsArray, IsStream, IsStreamIf, IsRecord, IsUnion, IsLet, IsIf, IsTagCase, IsInitial, IsProduct, IsNoDefinition, IsDefinition, IsBody, IsInnerLoop, IsCrossed, IsRange, IsElements, IsNoGenerator, IsClause, IsArm, IsNewField, IsFirst}
+use Rattle.typing_unique.specs.Fair.{AreOnce, AreProper, IsFair}
+use Rattle.typing_unique.specs.Inverted.{at_table, IsProperScope, IsConstant, IsName, IsErrorOf, IsEmptyArray, IsGroup, IsCall, IsConvert, IsIsError, IsIsTag, IsPrefix, IsBinary, IsSelect, IsUpdate, IsField, IsReplace, IsArray, IsStreamIf, IsRecord, IsUnion, IsLet, IsIf, IsTagCase, IsInitial, IsProduct, IsNoDefinition, IsDefinition, IsBody, IsInnerLoop, IsCrossed, IsRange, IsElements, IsNoGenerator, IsClause, IsArm, IsNewField, IsFirst}
 use Rattle.typing_unique.proofs.EViews.{out_constant, out_name, out_old, out_group, out_call, out_convert, out_error_of, out_is_error, out_is_tag, out_prefix, out_binary, out_select, out_update, out_field, out_replace, out_empty_array, out_stream, out_a_record, out_union, out_let, out_if, out_clause}
 use Rattle.typing_unique.proofs.EInverted.{has_in, function_in, built_in_in, tags_in, view, view_array, view_case, view_product, view_initial, definitions_of, view_definitions, crossed_of, inner_of, generated_of, view_generators, clauses_of, view_clauses, view_arms, first_of, fields_of}
 use Rattle.typing_unique.proofs.ETypes.{same_array, same_record, same_union, one_element, same_first, one_result, one_made, record_proper, union_proper, content_proper, one_place, made_of, makes_is}

@@ -1,9 +1,8 @@
 -- Parts of typed phrases, and what holds of lists of them.
-use Rattle.std.proofs.Common.{◌≡◌, ◌⊎◌, inl, inr, ℕ, zero, suc, ◌+◌, List, [], ◌∷◌, ◌++◌, map, flat_map, length, Option, Some, None, All, refl, sym, ap, subst, ◌∙◌, arith, rules}
+use Rattle.std.proofs.Common.{◌≡◌, ◌⊎◌, inl, inr, ℕ, suc, ◌+◌, List, [], ◌∷◌, ◌++◌, map, flat_map, length, Option, Some, None, All, refl, sym, ap, subst, ◌∙◌, arith, rules}
 use Rattle.std.specs.Prelude.{Contains}
 use Rattle.std.proofs.lemmas.List.{length-append, append_assoc}
-use Rattle.std.proofs.lemmas.List.Elements.{Contains-push_cases, Contains-append_cases, Contains-append_left, Contains-append_right}
-use Rattle.name_scope.specs.Newest.{newest}
+use Rattle.std.proofs.lemmas.List.Elements.{Contains-push_cases, Contains-append_cases, Contains-append_right}
 use Rattle.flow_value.specs.declared.ty.Ty.{Ty}
 use Rattle.flow_value.specs.declared.ty.Ty.TheVariants as ty
 use Rattle.type_table.specs.declared.form.Form.{Form}
@@ -14,24 +13,24 @@ use Rattle.sisal_tree.specs.declared.expr.ExprKind.TheViews as kinds
 use Rattle.sisal_tree.specs.declared.expr.FieldValue.{FieldValue}
 use Rattle.sisal_tree.specs.declared.expr.Def.{Def, out-Def, roll-Def}
 use Rattle.sisal_tree.specs.declared.expr.Target.{Target}
-use Rattle.sisal_tree.specs.declared.expr.Arm.{Arm, out-Arm, roll-Arm}
-use Rattle.sisal_tree.specs.declared.expr.Generator.{Generator, out-Generator, roll-Generator}
-use Rattle.sisal_tree.specs.declared.expr.Clause.{Clause, out-Clause, roll-Clause}
+use Rattle.sisal_tree.specs.declared.expr.Arm.{Arm, out-Arm}
+use Rattle.sisal_tree.specs.declared.expr.Generator.{Generator, out-Generator}
+use Rattle.sisal_tree.specs.declared.expr.Clause.{Clause, out-Clause}
 use Rattle.sisal_tree.specs.declared.expr.ClauseKind.{ClauseKind}
 use Rattle.sisal_tree.specs.declared.expr.Mask.{Mask}
 use Rattle.typed_tree.specs.declared.expr.TypedExpr.{TypedExpr}
 use Rattle.typed_tree.specs.declared.expr.Source.{Source}
 use Rattle.typed_tree.specs.declared.expr.ClauseForm.{ClauseForm}
-use Rattle.typed_tree.specs.Scopes.{Meaning, At, Scope, define_all, targets, AreDistinct, KeepsType, KeepTypes}
+use Rattle.typed_tree.specs.Scopes.{Meaning, Scope, define_all, targets, AreDistinct, KeepsType, KeepTypes}
 use Rattle.typed_tree.specs.Types.{Member, IsShallow, Makes, MakesThrough}
 use Rattle.typed_tree.specs.Types as types
 use Rattle.typed_tree.specs.Typing as rule
 use Rattle.typed_tree.specs.Typing.{Known, Has, IsTag, names_of, AreTargets, names_in, with_content, Folds, Types, AreTyped, Replaces, HasFields, Defines, Generates, AreClauses, AreArms, IsOtherwise}
 use Rattle.typed_tree.specs.Breaks.{IsTwice, twice, later, targets_in, named_in, index_in, generators_in, IsMistyped, IsPair, IsRetyped}
 use Rattle.typed_tree.specs.Breaks as breaks
-use Rattle.typing_unique.specs.Inverted.{at_table, index_names, IsGenerator, IsRange, IsElements, IsNoGenerator, MaskIn, TypedIn, IsFirst, IsNewField, IsChanged, IsClause, IsArm, IsDefinition, IsNoDefinition}
-use Rattle.typing_unique.proofs.EViews.{out_def, out_arm, out_generator, out_clause}
-use Rattle.typing_unique.proofs.EInverted.{first_of, fields_of, changed_of, mask_of, generated_of, clauses_of, arms_of, definitions_of, has_in, tags_in}
+use Rattle.typing_unique.specs.Inverted.{at_table, index_names, IsGenerator, IsRange, IsNoGenerator, MaskIn, IsFirst, IsNewField, IsChanged, IsClause, IsArm, IsDefinition, IsNoDefinition}
+use Rattle.typing_unique.proofs.EViews.{out_def, out_clause}
+use Rattle.typing_unique.proofs.EInverted.{first_of, fields_of, changed_of, mask_of, generated_of, clauses_of, arms_of, definitions_of}
 
 -- ---- lists
 

@@ -1,5 +1,5 @@
 -- The types of typed expressions have no field or tag twice.
-use Rattle.std.proofs.Common.{◌≡◌, ◌⊎◌, inl, inr, ℕ, zero, suc, List, [], ◌∷◌, ◌++◌, map, flat_map, Option, Some, None, All, slice_get, refl, sym, ap, subst, ◌∙◌, arith}
+use Rattle.std.proofs.Common.{◌≡◌, ◌⊎◌, inl, inr, ℕ, zero, suc, List, [], ◌∷◌, map, flat_map, Option, Some, None, All, slice_get, refl, sym, ap, subst, arith}
 use Rattle.std.specs.Prelude.{Contains}
 use Rattle.std.proofs.lemmas.Option.{same_Some, none-some}
 use Rattle.std.proofs.lemmas.List.Elements.{All-nil, All-cons, All-head, All-tail, All-append}
@@ -16,15 +16,15 @@ use Rattle.sisal_tree.specs.declared.expr.Clause.{Clause}
 use Rattle.typed_tree.specs.declared.expr.TypedExpr.{TypedExpr}
 use Rattle.typed_tree.specs.declared.expr.Source.{Source}
 use Rattle.typed_tree.specs.declared.expr.ClauseForm.{ClauseForm}
-use Rattle.typed_tree.specs.Scopes.{Scope, define_all, targets, AreDistinct, in_turn}
-use Rattle.typed_tree.specs.Types.{Member, IsMember, IsSequence, constant_type, scalar_type, prefix_type, binary_type}
+use Rattle.typed_tree.specs.Scopes.{Scope, define_all, AreDistinct}
+use Rattle.typed_tree.specs.Types.{Member, IsMember, constant_type, scalar_type, prefix_type, binary_type}
 use Rattle.typed_tree.specs.Typing as rule
 use Rattle.typed_tree.specs.Typing.{Signature, Known, IsSpelled, IsTag, AreAllNamed, names_in, names_of, loop_of, with_content, Folds, Types, AreTyped, HasFields, Defines, Crosses, Generates, AreClauses, AreArms, IsOtherwise}
-use Rattle.typing_unique.specs.Fair.{AreOnce, IsProper, integer, boolean, character, null, array, stream, a_record, a_union, AreProper, no_member, a_member, IsFair}
+use Rattle.typing_unique.specs.Fair.{AreOnce, IsProper, integer, boolean, array, stream, a_record, AreProper, no_member, a_member, IsFair}
 use Rattle.typing_unique.specs.Inverted.{at_table, IsProperScope}
 use Rattle.typing_unique.proofs.EInverted.{has_in, function_in, tags_in}
-use Rattle.typing_unique.proofs.ETypes.{element_proper, stream_proper, record_proper, union_proper, sequence_proper, content_proper, constant_proper, scalar_proper, prefix_proper, binary_proper, gives_proper, makes_proper, distinct_places}
-use Rattle.typing_unique.proofs.EScopes.{name_proper, defined_proper, content_defined, turn_proper}
+use Rattle.typing_unique.proofs.ETypes.{element_proper, record_proper, union_proper, sequence_proper, content_proper, constant_proper, scalar_proper, prefix_proper, binary_proper, gives_proper, makes_proper, distinct_places}
+use Rattle.typing_unique.proofs.EScopes.{name_proper, defined_proper, content_defined}
 
 pub one : (a : Ty) → IsProper a → All IsProper (a ∷ [])
 one a p = All-cons IsProper a [] p (All-nil IsProper)

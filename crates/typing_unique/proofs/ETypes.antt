@@ -1,5 +1,5 @@
 -- Types: what they are made of, and which have no field or tag twice.
-use Rattle.std.proofs.Common.{◌≡◌, ◌⊎◌, inl, inr, ℕ, zero, suc, Bool, true, false, List, [], ◌∷◌, Option, Some, None, All, slice_get, refl, sym, ap, subst, ◌∙◌, rules, arith}
+use Rattle.std.proofs.Common.{◌≡◌, inl, inr, ℕ, zero, suc, Bool, true, false, List, [], ◌∷◌, Option, Some, None, All, slice_get, refl, sym, ap, subst, ◌∙◌, rules, arith}
 use Rattle.std.specs.Prelude.{Contains}
 use Rattle.std.proofs.lemmas.Option.{same_Some, none-some}
 use Rattle.std.proofs.lemmas.List.Elements.{All-head, All-tail, Contains-append_right}
@@ -18,8 +18,6 @@ use Rattle.sisal_tree.specs.declared.expr.Constant.{Constant}
 use Rattle.sisal_tree.specs.declared.expr.Constant.TheVariants as constant
 use Rattle.sisal_tree.specs.declared.expr.ClauseKind.{ClauseKind}
 use Rattle.sisal_tree.specs.declared.expr.ClauseKind.TheVariants as made
-use Rattle.sisal_tree.specs.declared.expr.Direction.{Direction}
-use Rattle.sisal_tree.specs.declared.expr.Reduction.{Reduction}
 use Rattle.typed_tree.specs.declared.built_in.BuiltIn.{BuiltIn}
 use Rattle.typed_tree.specs.declared.built_in.BuiltIn.TheVariants as call
 use Rattle.typed_tree.specs.Scopes.{AreDistinct}

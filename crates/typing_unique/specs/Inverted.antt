@@ -1,10 +1,9 @@
 -- What the typing of an expression must consist of, by the form of the expression: the typing rules (typed_tree/specs/Typing)
 -- read from the conclusion to the premises. The types of the program by number may be those of another table.
-use Rattle.std.specs.Prelude.{◌≡◌, ◌⊎◌, ℕ, List, [], ◌∷◌, ◌++◌, map, flat_map, length, Bool, Option, Some, None, All}
+use Rattle.std.specs.Prelude.{◌≡◌, ◌⊎◌, ℕ, List, [], ◌∷◌, ◌++◌, map, flat_map, Option, Some, None, All}
 use Rattle.name_scope.specs.Newest.{newest}
 use Rattle.flow_value.specs.declared.ty.Ty.{Ty}
 use Rattle.flow_value.specs.declared.ty.Ty.TheVariants as ty
-use Rattle.flow_value.specs.declared.operation.Scalar1.TheVariants as unary
 use Rattle.type_table.specs.declared.form.Form.{Form}
 use Rattle.sisal_tree.specs.declared.unit.Named.{Named}
 use Rattle.sisal_tree.specs.declared.unit.Written.{Written}
@@ -28,11 +27,9 @@ use Rattle.sisal_tree.specs.declared.expr.Generator.{Generator, out-Generator}
 use Rattle.sisal_tree.specs.declared.expr.Turn.{Turn, out-Turn}
 use Rattle.sisal_tree.specs.declared.expr.Clause.{Clause, out-Clause}
 use Rattle.sisal_tree.specs.declared.expr.Mask.{Mask}
-use Rattle.value_ops.specs.declared.operation.Operation.TheVariants as operation
 use Rattle.typed_tree.specs.declared.built_in.BuiltIn.{BuiltIn}
 use Rattle.typed_tree.specs.declared.expr.TypedExpr.{TypedExpr}
 use Rattle.typed_tree.specs.declared.expr.Source.{Source}
-use Rattle.typed_tree.specs.declared.expr.Source.TheVariants as source
 use Rattle.typed_tree.specs.declared.expr.ClauseForm.{ClauseForm}
 use Rattle.typed_tree.specs.Scopes.{Meaning, At, Later, Scope, define_all, targets, AreDistinct, in_turn, KeepTypes}
 use Rattle.typed_tree.specs.Types.{Member, IsSequence, IsShallow, constant_type, scalar_type, IsConverted, prefix_type, AreOperands, binary_type, Gives, Makes}
