@@ -1,0 +1,181 @@
+-- What a walk over an expression makes step by step, from what it makes of the parts.
+use Rattle.std.proofs.Common.{◌≡◌, ℕ, ◌+◌, ◌<◌, ◌≤◌, ◌-◌, List, [], ◌∷◌, ◌++◌, take, drop, length, get_or, map, Option, Some, None, Result, Ok, Err, IfOk, OnOk, refl, sym, ap, subst, ◌∙◌, arith}
+use Rattle.std.specs.Prelude.{Contains}
+use Rattle.std.proofs.lemmas.List.{append_cancel_left, append_cancel_right, take_more, take_all, map-append, append_assoc, append-nil}
+use Rattle.std.proofs.lemmas.List.Elements.{Contains-get_or}
+use Rattle.type_table.specs.declared.form.Form.{Form}
+use Rattle.sisal_tree.specs.declared.expr.Arm.{Arm}
+use Rattle.sisal_tree.specs.declared.expr.BinaryOperator.{BinaryOperator}
+use Rattle.sisal_tree.specs.declared.expr.Clause.{Clause, out-Clause}
+use Rattle.sisal_tree.specs.declared.expr.Def.{Def, out-Def}
+use Rattle.sisal_tree.specs.declared.expr.FieldValue.{FieldValue}
+use Rattle.sisal_tree.specs.declared.expr.Generator.{Generator}
+use Rattle.sisal_tree.specs.declared.expr.Loop.{Loop}
+use Rattle.sisal_tree.specs.declared.expr.Mask.{Mask}
+use Rattle.sisal_tree.specs.declared.expr.TagCase.{TagCase}
+use Rattle.sisal_tree.specs.declared.expr.Turn.{Turn}
+use Rattle.sisal_tree.specs.declared.expr.Elements.{Elements, out-Elements}
+use Rattle.sisal_tree.specs.declared.expr.Expr.{Expr}
+use Rattle.sisal_tree.specs.declared.expr.ExprKind.{ExprKind}
+use Rattle.sisal_tree.specs.declared.expr.ExprKind.TheOpen.{ExprKind-F}
+use Rattle.sisal_tree.specs.declared.expr.ExprKind.TheViews.{out-ExprKind}
+use Rattle.sisal_tree.specs.declared.expr.ExprKind.TheVariants as tree
+use Rattle.typed_tree.specs.declared.expr.TypedExpr.{TypedExpr}
+use Rattle.typed_tree.specs.Typing.{at}
+use Rattle.type_rules.specs.Applies.{Grows}
+use Rattle.value_names.specs.declared.in_force.Mark.{Mark}
+use Rattle.value_names.specs.Names.{Names}
+use Rattle.value_names.specs.Scopes.{mark_of, left}
+use Rattle.typing_laws.specs.Given.{Given, Parts}
+use Rattle.typing_laws.specs.Judged.{Adds, AddsSingle, AllElements, AllOnes, AllTyped, IsAbove, IsUsedIn, Typed}
+use Rattle.typing_laws.specs.Forming.{AreElements, NoOperands, Operands, OperandsIn}
+use Rattle.typing_laws.specs.Looping.{IsAround}
+use Rattle.typing_laws.proofs.Leaving.{drop_back, left_above}
+use Rattle.typing_laws.proofs.Later.{all_later, ones_later}
+use Rattle.typing_laws.proofs.Listing.{adds_more, adds_ones}
+use Rattle.typing_laws.proofs.Formed.{out_array, out_binary, out_replace, out_select, out_stream, out_update}
+
+-- ---- results
+
+pub ok_both : {T E Q : Type 0} {P R : T → Type 0} (r : Result T E) → ((x : T) → P x → Q → R x) → IfOk r P → OnOk r Q → IfOk r R
+ok_both (Ok x) f h q = f x h q
+ok_both (Err e) f h q = tt
+
+pub ok_two : {T E Q S R : Type 0} (r : Result T E) → (Q → S → R) → OnOk r Q → OnOk r S → OnOk r R
+ok_two (Ok x) f h q = f h q
+ok_two (Err e) f h q = tt
+
+pub ok_three : {T E Q S U R : Type 0} (r : Result T E) → (Q → S → U → R) → OnOk r Q → OnOk r S → OnOk r U → OnOk r R
+ok_three (Ok x) f h q s = f h q s
+ok_three (Err e) f h q s = tt
+
+-- ---- places of a list
+
+pub here : {A : Type 0} (xs : List A) (i : ℕ) (x : A) → i < length xs → x ≡ get_or xs i x → Contains xs x
+here xs i x h e = subst (Contains xs) (sym e) (Contains-get_or xs i x h)
+
+pub taken : {A : Type 0} (xs : List A) (i : ℕ) (x : A) → i < length xs → x ≡ get_or xs i x → take i xs ++ x ∷ [] ≡ take (i + 1) xs
+taken xs i x h e = ap (λ y. take i xs ++ y ∷ []) e ∙ sym (take_more xs i x h)
+
+-- ---- expressions
+
+pub kind_typed : (g : Given) (f : List Form) (names : Names) (e : Expr) (kind : ExprKind) (t : TypedExpr) → e.kind ≡ kind → Typed g f names (at e.line kind) t → Typed g f names e t
+kind_typed g f names e kind t is p = subst (λ k. Typed g f names (at e.line k) t) (sym is) p
+
+pub let_left : (old inside after new : Names) (m : Mark) → new ≡ left m after → m ≡ mark_of old → after ≡ inside → IsAbove old inside → new ≡ old
+let_left old inside after new m e q r a = e ∙ ap (λ m. left m after) q ∙ ap (left (mark_of old)) r ∙ left_above old inside a
+
+-- ---- names that end
+
+pub around_above : (old mid new : Names) → IsAround old mid → IsAbove mid new → IsAround old new
+around_above old mid new p q = record {
+  more = q.more ++ p.more;
+  others = p.others;
+  names = q.names ∙ ap (λ l. q.more ++ l) p.names ∙ sym (append_assoc q.more p.more old.names);
+  olds = q.olds ∙ p.olds;
+}
+
+pub left_around : (old new : Names) → IsAround old new → left (mark_of old) new ≡ old
+left_around old new p =
+    ap (λ l. record { names = l; olds = drop (length new.olds - length old.olds) new.olds; height = old.height }) (drop_back new.names p.more old.names p.names)
+    ∙ ap (λ l. record { names = old.names; olds = l; height = old.height }) (drop_back new.olds p.others old.olds p.olds)
+
+pub turn_left : (old mid inside new : Names) (m : Mark) → new ≡ left m inside → m ≡ mark_of old → IsAround old mid → IsAbove mid inside → new ≡ old
+turn_left old mid inside new m e q p a = e ∙ ap (λ m. left m inside) q ∙ left_around old inside (around_above old mid inside p a)
+
+-- a value of an expression that has one
+only_one : (ns : List ℕ) → length ns ≡ 1 → (n : ℕ) × (ns ≡ n ∷ [])
+only_one [] e = absurd (omega (arith, e))
+only_one (n ∷ []) e = (n, refl)
+only_one (n ∷ m ∷ ns) e = absurd (omega (arith, e))
+
+pub single_added : (t : TypedExpr) (old new : Parts) → length t.types ≡ 1 → new.exprs ≡ old.exprs ++ t ∷ [] → new.types ≡ old.types ++ t.types → AddsSingle old new
+single_added t old new one exprs types =
+    let n = only_one t.types one in
+    record { expr = t; type = n.0; exprs = exprs; types = types ∙ ap (λ l. old.types ++ l) n.1 }
+
+-- ---- lists of expressions
+
+module _ (g : Given) (names : Names) where
+  pub many_more : (f0 f1 : List Form) (now : Names) (es : List Expr) (i : ℕ) (e : Expr) (t : TypedExpr) (first old new : Parts) → i < length es → e ≡ get_or es i e → IsUsedIn g f0 f1 → now ≡ names
+      → Adds first old (AllTyped g f0 names (take i es)) → Typed g f1 now e t → new.exprs ≡ old.exprs ++ t ∷ [] → new.types ≡ old.types ++ t.types → Adds first new (AllTyped g f1 names (take (i + 1) es))
+  many_more f0 f1 now es i e t first old new h is u same p q exprs types =
+      subst (λ l. Adds first new (AllTyped g f1 names l)) (taken es i e h is)
+      (adds_more g f0 f1 names (take i es) e t first old new u.grows p (subst (λ n. Typed g f1 n e t) same q) exprs types)
+
+  pub ones_more : (f0 f1 : List Form) (now : Names) {A : Type 0} (of : A → Expr) (vs : List A) (i : ℕ) (v : A) (first old new : Parts) → i < length vs → v ≡ get_or vs i v → IsUsedIn g f0 f1 → now ≡ names
+      → Adds first old (AllOnes g f0 names (map of (take i vs))) → Adds old new (AllOnes g f1 now (of v ∷ [])) → Adds first new (AllOnes g f1 names (map of (take (i + 1) vs)))
+  ones_more f0 f1 now of vs i v first old new h is u same p q =
+      subst (λ l. Adds first new (AllOnes g f1 names l)) (sym (map-append of (take i vs) (v ∷ [])) ∙ ap (map of) (taken vs i v h is))
+      (adds_ones g f0 f1 names (map of (take i vs)) (of v ∷ []) first old new u.grows p (subst (λ n. Adds old new (AllOnes g f1 n (of v ∷ []))) same q))
+
+  pub two_ones : (f0 f1 : List Form) (now : Names) (e f : Expr) (first mid last : Parts) → IsUsedIn g f0 f1 → now ≡ names
+      → Adds first mid (AllOnes g f0 names (e ∷ [])) → Adds mid last (AllOnes g f1 now (f ∷ [])) → Adds first last (AllOnes g f1 names (e ∷ f ∷ []))
+  two_ones f0 f1 now e f first mid last u same p q = adds_ones g f0 f1 names (e ∷ []) (f ∷ []) first mid last u.grows p (subst (λ n. Adds mid last (AllOnes g f1 n (f ∷ []))) same q)
+
+  pub more_ones : (f0 f1 : List Form) (now : Names) (es fs : List Expr) (first mid last : Parts) → IsUsedIn g f0 f1 → now ≡ names
+      → Adds first mid (AllOnes g f0 names es) → Adds mid last (AllOnes g f1 now fs) → Adds first last (AllOnes g f1 names (es ++ fs))
+  more_ones f0 f1 now es fs first mid last u same p q = adds_ones g f0 f1 names es fs first mid last u.grows p (subst (λ n. Adds mid last (AllOnes g f1 n fs)) same q)
+
+  -- the operands of a form that is known
+  pub operands_of : (f : List Form) (kind known : ExprKind) (first last : Parts) → kind ≡ known → Adds first last (Operands g f names known) → Adds first last (Operands g f names kind)
+  operands_of f kind known first last is p = subst (λ k. Adds first last (Operands g f names k)) (sym is) p
+
+  operands_in : (f : List Form) (kind : ExprKind) (layer : ExprKind-F ExprKind Loop Arm Clause Def Elements Expr FieldValue Generator Mask TagCase Turn) (first last : Parts) → out-ExprKind kind ≡ layer
+      → Adds first last (OperandsIn g f names layer) → Adds first last (Operands g f names kind)
+  operands_in f kind layer first last e p = record {
+    exprs = p.exprs;
+    types = p.types;
+    is_exprs = p.is_exprs;
+    is_types = p.is_types;
+    holds = record { is = subst (λ l. OperandsIn g f names l p.exprs p.types) (sym e) p.holds };
+  }
+
+  pub binary_operands : (f : List Form) (o : BinaryOperator) (a b : Expr) (first last : Parts) → Adds first last (AllOnes g f names (a ∷ b ∷ [])) → Adds first last (Operands g f names (tree.Binary o a b))
+  binary_operands f o a b first last p = operands_in f (tree.Binary o a b) _ first last (out_binary o a b) p
+
+  pub select_operands : (f : List Form) (a b : Expr) (first last : Parts) → Adds first last (AllOnes g f names (a ∷ b ∷ [])) → Adds first last (Operands g f names (tree.Select a b))
+  select_operands f a b first last p = operands_in f (tree.Select a b) _ first last (out_select a b) p
+
+  pub update_operands : (f : List Form) (a b d : Expr) (first last : Parts) → Adds first last (AllOnes g f names (a ∷ b ∷ d ∷ [])) → Adds first last (Operands g f names (tree.Update a b d))
+  update_operands f a b d first last p = operands_in f (tree.Update a b d) _ first last (out_update a b d) p
+
+  pub replace_operands : (f : List Form) (a : Expr) (vs : List FieldValue) (first last : Parts) → Adds first last (AllOnes g f names (a ∷ map (λ v. v.value) vs)) → Adds first last (Operands g f names (tree.Replace a vs))
+  replace_operands f a vs first last p = operands_in f (tree.Replace a vs) _ first last (out_replace a vs) p
+
+  -- elements that have some value, if there are any
+  pub stream_operands : (f : List Form) (x : Option ℕ) (es : List Expr) (first last : Parts) → Adds first last (AllTyped g f names es) → (length last.types ≡ length first.types → es ≡ [])
+      → Adds first last (Operands g f names (tree.Stream x es))
+  stream_operands f x es first last p some = operands_in f (tree.Stream x es) _ first last (out_stream x es) (record {
+    exprs = p.exprs;
+    types = p.types;
+    is_exprs = p.is_exprs;
+    is_types = p.is_types;
+    holds = record { typed = p.holds; some = λ none. some (ap length (p.is_types ∙ ap (λ l. first.types ++ l) none ∙ append-nil first.types)) };
+  })
+
+  -- a lower bound, and elements
+  pub array_operands : (f0 f1 : List Form) (now : Names) (x : Option ℕ) (els : Elements) (first mid last : Parts) → IsUsedIn g f0 f1 → now ≡ names
+      → Adds first mid (AllOnes g f0 names ((out-Elements els).lower ∷ [])) → AddsSingle first mid → Adds mid last (AllTyped g f1 now (out-Elements els).values)
+      → Adds first last (Operands g f1 names (tree.Array x (Some els)))
+  array_operands f0 f1 now x els first mid last u same p s q =
+      let e : p.exprs ≡ s.expr ∷ [] = append_cancel_left first.exprs p.exprs (s.expr ∷ []) (sym p.is_exprs ∙ s.exprs) in
+      let n : p.types ≡ s.type ∷ [] = append_cancel_left first.types p.types (s.type ∷ []) (sym p.is_types ∙ s.types) in
+      let lower : AllOnes g f0 names ((out-Elements els).lower ∷ []) (s.expr ∷ []) (s.type ∷ []) =
+      subst (λ l. AllOnes g f0 names ((out-Elements els).lower ∷ []) (s.expr ∷ []) l) n (subst (λ l. AllOnes g f0 names ((out-Elements els).lower ∷ []) l p.types) e p.holds) in
+      operands_in f1 (tree.Array x (Some els)) _ first last (out_array x els) (record {
+        exprs = p.exprs ++ q.exprs;
+        types = p.types ++ q.types;
+        is_exprs = q.is_exprs ∙ ap (λ l. l ++ q.exprs) p.is_exprs ∙ append_assoc first.exprs p.exprs q.exprs;
+        is_types = q.is_types ∙ ap (λ l. l ++ q.types) p.is_types ∙ append_assoc first.types p.types q.types;
+        holds = record {
+          low = s.expr;
+          bound = s.type;
+          exprs = q.exprs;
+          types = q.types;
+          is_exprs = ap (λ l. l ++ q.exprs) e;
+          is_types = ap (λ l. l ++ q.types) n;
+          lower = ones_later g f0 f1 names ((out-Elements els).lower ∷ []) (s.expr ∷ []) (s.type ∷ []) u.grows lower;
+          elements = subst (λ m. AllTyped g f1 m (out-Elements els).values q.exprs q.types) same q.holds;
+        };
+      })
