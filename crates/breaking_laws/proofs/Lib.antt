@@ -6,3 +6,13 @@ pub mod FForms
 pub mod FFinish
 pub mod FCalls
 pub mod FBodies
+pub mod PReach
+pub mod PTwice
+pub mod PDefs
+pub mod PTurns
+pub mod PClauses
+pub mod PMade
+pub mod PGenerators
+pub mod PTags
+pub mod PArms
+pub mod PCases

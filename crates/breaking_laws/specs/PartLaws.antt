@@ -1,7 +1,6 @@
 -- What the laws say: definitions, loops, turns, generators, clauses and `tagcase` that are refused break the rule that is named.
-use Rattle.std.specs.Prelude.{◌≡◌, ◌≢◌, ℕ, suc, List, [], ◌∷◌, ◌++◌, length, Bool, true, false, Option, Some, None, Contains, is_some, slice_get, slice_range}
+use Rattle.std.specs.Prelude.{◌≡◌, ◌≢◌, ℕ, suc, List, [], ◌∷◌, ◌++◌, length, Bool, false, Option, Some, None, Contains, is_some, slice_get}
 use Rattle.name_scope.specs.Newest.{newest}
-use Rattle.flow_value.specs.declared.ty.Ty.{Ty}
 use Rattle.type_table.specs.declared.form.Form.{Form}
 use Rattle.type_table.specs.Tables.{IsTable}
 use Rattle.sisal_tree.specs.declared.unit.Named.{Named}
@@ -17,27 +16,24 @@ use Rattle.sisal_tree.specs.declared.expr.Mask.{Mask}
 use Rattle.sisal_tree.specs.declared.expr.TagCase.{TagCase, out-TagCase}
 use Rattle.sisal_tree.specs.declared.expr.Target.{Target}
 use Rattle.sisal_tree.specs.declared.expr.Turn.{Turn, out-Turn}
-use Rattle.sisal_grammar.specs.Placed.{placed}
 use Rattle.typed_tree.specs.declared.expr.TypedExpr.{TypedExpr}
 use Rattle.typed_tree.specs.Typing.{at}
-use Rattle.typed_tree.specs.Written.{Misnames}
 use Rattle.typed_tree.specs.Breaks.{generators_in, line_of}
 use Rattle.type_rules.specs.Applies.{Grows}
 use Rattle.type_rules.specs.Arms.{are_all_named}
 use Rattle.type_rules.specs.Folds.{IsUnmade}
 use Rattle.type_rules.specs.declared.fault.Refused.TheVariants as refused
-use Rattle.unit_types.specs.Rests.{AreKnown, AreStanding, AreTokensSpelled, IsUsed}
 use Rattle.value_names.specs.declared.value.Value.{Value}
 use Rattle.value_names.specs.Names.{Names}
 use Rattle.value_names.specs.Scopes.{loop_value, twice_in}
-use Rattle.typing_laws.specs.Casing.{AddsArms, AddsLast, Begins, EntersArm, Keeps}
+use Rattle.typing_laws.specs.Casing.{AddsArms, Begins, EntersArm, Keeps}
 use Rattle.typing_laws.specs.Defining.{AllDefined, targets_in}
 use Rattle.typing_laws.specs.Given.{Arms, Defined, Given, Group, Parts}
 use Rattle.typing_laws.specs.Given as given
 use Rattle.typing_laws.specs.Judged.{IsUsedIn, AllOnes, AllTyped, IsDenoted}
 use Rattle.typing_laws.specs.Looping.{AllMade, AllValues, GroupsTyped, up_to}
 use Rattle.typing_laws.specs.Turns.{AreBelow, in_turn, loop_names}
-use Rattle.breaking_laws.specs.Broken.{Broken, BrokenIn, BrokenOne}
+use Rattle.breaking_laws.specs.Broken.{Broken, BrokenIn, BrokenOne, Misnamed}
 use Rattle.breaking_laws.specs.Parts.{StandsTwice, BrokenTargets, BrokenDefs, BrokenRenewing, BrokenTurn, IsNoTruth, BrokenClauses, BrokenValues, EndsFalse, BrokenMade, BrokenGenerator, HasNoSource, BrokenGroup, BrokenGroups, BrokenArms, IsNoUnion, IsNoArm, AddsResults, Differs}
 
 -- ---- definitions
@@ -75,9 +71,7 @@ OneTargetLaw = (g : Given) (f0 f1 : List Form) (names : Names) (turn : Option �
 
 -- the written type of a target
 abbrev pub MisnamedLaw : Type 0
-MisnamedLaw = (g : Given) (f : List Form) (names : Names) (turn : Option ℕ) (at : ℕ) (x : Target) (w : Written) (n rule line : ℕ) → IsTable f → x.ty ≡ Some w
-    → ((spellings : List (List ℕ)) (types : List (ℕ × Ty)) → AreTokensSpelled spellings g.tokens → AreStanding spellings f → AreKnown f spellings g.named types
-    → Misnames spellings types (slice_range (placed 0 g.tokens) w.from w.to) rule line)
+MisnamedLaw = (g : Given) (f : List Form) (names : Names) (turn : Option ℕ) (at : ℕ) (x : Target) (w : Written) (n rule line : ℕ) → x.ty ≡ Some w → Misnamed g f w rule line
     → BrokenTargets g f names turn at (x ∷ []) (n ∷ []) rule line
 
 -- a value of another type than is declared

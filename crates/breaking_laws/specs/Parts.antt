@@ -1,5 +1,5 @@
 -- What the walk over a function's body says where it refuses definitions, loops, turns, generators, clauses or `tagcase`.
-use Rattle.std.specs.Prelude.{◌≡◌, ◌≢◌, ◌⊎◌, ℕ, suc, List, [], ◌∷◌, ◌++◌, flat_map, length, Bool, true, false, Option, Some, None, Ok, Err, Contains}
+use Rattle.std.specs.Prelude.{◌≡◌, ◌≢◌, ◌⊎◌, ℕ, List, [], ◌∷◌, ◌++◌, flat_map, length, Bool, false, Option, Some, None, Err, Contains}
 use Rattle.flow_value.specs.declared.ty.Ty.{Ty}
 use Rattle.flow_value.specs.declared.ty.Ty.TheVariants as ty
 use Rattle.type_table.specs.declared.form.Form.{Form}

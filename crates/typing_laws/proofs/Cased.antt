@@ -55,12 +55,12 @@ union_members k n nms ms e p =
     subst (λ l. AreMembers k.forms k.spellings l ms) (form_union s.0 nms (sym s.1 ∙ e)) s.2
 
 module _ (k : Known) (union : ℕ) (nms : List NumberedMember) (ms : List Member) (is_union : slice_get k.forms union ≡ Some (form.Union nms)) (members : AreMembers k.forms k.spellings nms ms) where
-  tag_content : (x : ℕ) (r : ℕ × ℕ) → tag_at k.forms union x ≡ Some r → (content : Ty) × rule.Has k ms x r.0 content × IsNumber k.forms k.spellings r.1 content
+  pub tag_content : (x : ℕ) (r : ℕ × ℕ) → tag_at k.forms union x ≡ Some r → (content : Ty) × rule.Has k ms x r.0 content × IsNumber k.forms k.spellings r.1 content
   tag_content x r e =
       let f = found k.forms k.spellings nms ms members x r (sym (ap (part_if (tag_part x)) is_union) ∙ e) in
       (f.0, record { spelling = f.1.spelling; spelled = f.1.spelled; member = f.1.member }, f.2)
 
-  tags_typed : (old : List Form) → Grows old k.forms → (content : ℕ) (a : Ty) → IsNumber k.forms k.spellings content a → (ts : List Named) → AreContents old union content ts → All (λ tag. IsTag k ms tag a) (names_of ts)
+  pub tags_typed : (old : List Form) → Grows old k.forms → (content : ℕ) (a : Ty) → IsNumber k.forms k.spellings content a → (ts : List Named) → AreContents old union content ts → All (λ tag. IsTag k ms tag a) (names_of ts)
   tags_typed old grows content a number _ no_tag = All-nil (λ tag. IsTag k ms tag a)
   tags_typed old grows content a number _ (a_content t {ts = ts} place e r) =
       let f = tag_content t.name (place, content) (part_later old k.forms grows (tag_part t.name) union (place, content) e) in
@@ -69,7 +69,7 @@ module _ (k : Known) (union : ℕ) (nms : List NumberedMember) (ms : List Member
 
 -- ---- one arm
 
-rolled_arm : (a : Arm) → roll-Arm (record { line = (out-Arm a).line; tags = (out-Arm a).tags; results = (out-Arm a).results }) ≡ a
+pub rolled_arm : (a : Arm) → roll-Arm (record { line = (out-Arm a).line; tags = (out-Arm a).tags; results = (out-Arm a).results }) ≡ a
 rolled_arm a = search (rules, kinds.the_lemmas)
 
 arms_append : (k : Known) (denotes : Written → Ty → Type 0) (s : scopes.Scope) (x : Option ℕ) (ms : List Member) (tys : List Ty) (arms : List Arm) (results : List (List TypedExpr)) (tags : List (List ℕ))
@@ -81,7 +81,7 @@ arms_append k denotes s x ms tys _ _ _ a content ts rule.no_arm p q =
 arms_append k denotes s x ms tys _ _ _ a content ts (rule.an_arm l c names {es = es} {ts = us} {arms = arms} {typed_arms = results} {tags = tags} t u r) p q =
     rule.an_arm l c names t u (arms_append k denotes s x ms tys arms results tags a content ts r p q)
 
-content_stands : (k : Known) (x : Option ℕ) (n : ℕ) (a : Ty) (names : Names) (s : scopes.Scope) → Stands k names s → IsNumber k.forms k.spellings n a → Stands k (named_content x n names) (with_content x a s)
+pub content_stands : (k : Known) (x : Option ℕ) (n : ℕ) (a : Ty) (names : Names) (s : scopes.Scope) → Stands k names s → IsNumber k.forms k.spellings n a → Stands k (named_content x n names) (with_content x a s)
 content_stands k None n a names s st p = st
 content_stands k (Some x) n a names s st p = stands_with k names s x n a st p
 
@@ -89,7 +89,7 @@ tags_append : (arms : List Arm) (a : Arm) → tags_in (arms ++ (a ∷ [])) ≡ t
 tags_append [] a = refl
 tags_append (b ∷ arms) a = ap (λ l. names_of (out-Arm b).tags ∷ l) (tags_append arms a)
 
-many_tags : (arms : List Arm) → length (tags_in arms) ≡ length arms
+pub many_tags : (arms : List Arm) → length (tags_in arms) ≡ length arms
 many_tags [] = refl
 many_tags (a ∷ arms) = ap suc (many_tags arms)
 
@@ -195,7 +195,7 @@ module _ (k : Known) (nms : List NumberedMember) (chosen : List (Option ℕ)) (t
       let same : q.member ≡ m = same_Some q.member m (sym q.is ∙ ap (slice_get nms) place ∙ here) in
       subst (λ x. HasTag tags i x) (sym q.named ∙ ap (λ m. m.name) same) r.3
 
-  not_named : (j : ℕ) (m : NumberedMember) → slice_get nms j ≡ Some m → slice_get chosen j ≡ Some None → (i : ℕ) → HasTag tags i m.name → ⊥
+  pub not_named : (j : ℕ) (m : NumberedMember) → slice_get nms j ≡ Some m → slice_get chosen j ≡ Some None → (i : ℕ) → HasTag tags i m.name → ⊥
   not_named j m here free i t =
       let r = p.named i m.name t in
       let q = is_member m.name 0 nms r.0 r.1 in
@@ -255,11 +255,11 @@ module _ (k : Known) (nms : List NumberedMember) (chosen : List (Option ℕ)) (t
 
 -- ---- the whole
 
-rolled_case : (c : TagCase) → roll-TagCase (record { name = (out-TagCase c).name; subject = (out-TagCase c).subject; arms = (out-TagCase c).arms; otherwise = (out-TagCase c).otherwise }) ≡ c
+pub rolled_case : (c : TagCase) → roll-TagCase (record { name = (out-TagCase c).name; subject = (out-TagCase c).subject; arms = (out-TagCase c).arms; otherwise = (out-TagCase c).otherwise }) ≡ c
 rolled_case c = search (rules, kinds.the_lemmas)
 
 -- the type of the subject
-union_type : (k : Known) (n : ℕ) (a : Ty) (nms : List NumberedMember) → IsNumber k.forms k.spellings n a → slice_get k.forms n ≡ Some (form.Union nms) → (fs : List Member) × (a ≡ ty.Uni fs) × AreMembers k.forms k.spellings nms fs
+pub union_type : (k : Known) (n : ℕ) (a : Ty) (nms : List NumberedMember) → IsNumber k.forms k.spellings n a → slice_get k.forms n ≡ Some (form.Union nms) → (fs : List Member) × (a ≡ ty.Uni fs) × AreMembers k.forms k.spellings nms fs
 union_type k n a nms p e =
     let s : HasFields k.forms k.spellings ty.Uni nms a = standing_at k.forms k.spellings n (Some (form.Union nms)) e a p in (s.fields, s.is, s.stand)
 

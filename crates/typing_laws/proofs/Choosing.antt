@@ -144,7 +144,7 @@ module _ (ms : List NumberedMember) where
     distinct = subst AreDistinct (sym (flat_still tags)) p.distinct;
   }
 
-  a_tag : (arms : List (Option ℕ)) (tags : List (List ℕ)) (names : List ℕ) (x : ℕ) (m : ℕ × ℕ) → IsChosen ms arms (tags ++ (names ∷ [])) → first_member x 0 ms ≡ Some m → slice_get arms m.0 ≡ Some None
+  pub a_tag : (arms : List (Option ℕ)) (tags : List (List ℕ)) (names : List ℕ) (x : ℕ) (m : ℕ × ℕ) → IsChosen ms arms (tags ++ (names ∷ [])) → first_member x 0 ms ≡ Some m → slice_get arms m.0 ≡ Some None
       → IsChosen ms (slice_set arms m.0 (Some (length tags))) (tags ++ ((names ++ (x ∷ [])) ∷ []))
   a_tag arms tags names x m p found free = record {
     size = size_set arms m.0 (Some (length tags)) ∙ p.size;
@@ -200,14 +200,14 @@ pub record Gives (forms : List Form) (union arm line : ℕ) (content : Option �
   pub same : agrees content place.1 ≡ true
   pub rest : gives_arm forms union arm line (Some place.1) (slice_set arms place.0 (Some arm)) ts ≡ Ok r
 
-free_is : (o : Option (Option ℕ)) → is_free o ≡ true → o ≡ Some None
+pub free_is : (o : Option (Option ℕ)) → is_free o ≡ true → o ≡ Some None
 free_is None e = absurd cc
 free_is (Some None) e = refl
 free_is (Some (Some i)) e = absurd cc
 
 module _ (forms : List Form) (union arm line : ℕ) where
   -- what is done with a tag at a place
-  abbrev goes_on : Option ℕ → Named → List Named → Option (ℕ × List (Option ℕ)) → Result (Option ℕ × List (Option ℕ)) ℕ
+  abbrev pub goes_on : Option ℕ → Named → List Named → Option (ℕ × List (Option ℕ)) → Result (Option ℕ × List (Option ℕ)) ℕ
   goes_on content t ts o = elim o [
     | None ↦ Err t.line
     | Some c ↦ if agrees content c.0 then gives_arm forms union arm line (Some c.0) c.1 ts else Err line

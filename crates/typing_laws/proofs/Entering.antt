@@ -112,7 +112,7 @@ module _ (k : Known) (denotes : Written → Ty → Type 0) where
       rolled : (d : Def) → roll-Def (record { targets = (out-Def d).targets; values = (out-Def d).values }) ≡ d
       rolled d = search (rules, kinds.the_lemmas)
 
-  defines_append : (s : scopes.Scope) (ds es : List Def) (us vs : List (List TypedExpr)) (xs ys : List Ty) (between after : scopes.Scope)
+  pub defines_append : (s : scopes.Scope) (ds es : List Def) (us vs : List (List TypedExpr)) (xs ys : List Ty) (between after : scopes.Scope)
       → Defines k denotes s ds us xs between → Defines k denotes between es vs ys after → Defines k denotes s (ds ++ es) (us ++ vs) (xs ++ ys) after
   defines_append s _ es _ vs _ ys between after no_def q = q
   defines_append s _ es _ vs _ ys between after (a_def xs {es = values} {ts = ts} {tys = tys} {others = others} {ds = ds} {us = us} p t r) q =

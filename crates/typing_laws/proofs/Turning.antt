@@ -256,7 +256,7 @@ targets_many denotes [] (t ∷ ts) p = absurd p
 targets_many denotes (x ∷ xs) [] p = absurd p
 targets_many denotes (x ∷ xs) (t ∷ ts) p = ap suc (targets_many denotes xs ts p.1)
 
-defines_height : (k : Known) (denotes : Written → Ty → Type 0) (s : scopes.Scope) (ds : List Def) (us : List (List TypedExpr)) (tys : List Ty) (after : scopes.Scope) → Defines k denotes s ds us tys after
+pub defines_height : (k : Known) (denotes : Written → Ty → Type 0) (s : scopes.Scope) (ds : List Def) (us : List (List TypedExpr)) (tys : List Ty) (after : scopes.Scope) → Defines k denotes s ds us tys after
     → after.height ≡ s.height + length tys
 defines_height k denotes s _ _ _ _ rule.no_def = omega arith
 defines_height k denotes s _ _ _ after (rule.a_def xs {tys = tys} {others = others} {ds = ds} {us = us} p t r) =
@@ -268,7 +268,7 @@ defines_height k denotes s _ _ _ after (rule.a_def xs {tys = tys} {others = othe
 rolled : (turn : Turn) → roll-Turn (record { is_first = (out-Turn turn).is_first; is_until = (out-Turn turn).is_until; test = (out-Turn turn).test; defs = (out-Turn turn).defs }) ≡ turn
 rolled turn = search (rules, kinds.the_lemmas)
 
-many_names : (xs : List Named) → length (names_of xs) ≡ length xs
+pub many_names : (xs : List Named) → length (names_of xs) ≡ length xs
 many_names [] = refl
 many_names (x ∷ xs) = ap suc (many_names xs)
 

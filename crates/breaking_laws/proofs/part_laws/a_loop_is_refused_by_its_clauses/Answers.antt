@@ -1,0 +1,5 @@
+use Rattle.breaking_laws.proofs.PTurns.{initial_clauses_refused}
+use Rattle.breaking_laws.proofs.part_laws.a_loop_is_refused_by_its_clauses.Goals as goal
+
+pub returns : goal.returns
+returns c = initial_clauses_refused
