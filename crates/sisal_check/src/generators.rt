@@ -64,9 +64,11 @@ fn one_group(gs: &Seq<Generator>, given: &Given<'_>, walk: &mut Walk) -> Result<
 {
     let mut made = no_generators(given.alloc);
     for g in gs.as_slice() {
+        walk.types.holds();
         let gone = generator(g, &mut made, given, walk);
         look_back(gone, &made, walk)?;
     }
+    walk.types.holds();
     enter(made, walk)
 }
 
@@ -91,9 +93,13 @@ fn generator(
     match to {
         Some(to) => {
             one(to, &mut bounds, given, walk)?;
+            walk.types.holds();
             keep(*name, *at, bounds, made, walk)
         }
-        None => keep(*name, *at, bounds, made, walk),
+        None => {
+            walk.types.holds();
+            keep(*name, *at, bounds, made, walk)
+        }
     }
 }
 

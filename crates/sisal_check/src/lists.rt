@@ -26,6 +26,7 @@ pub(crate) fn one(
     ensures breaks { IfErr result (IsRule (λ rule at_line. BrokenOne (given_of given.now) walk.old.types walk.old.names e.now rule at_line)) }
 {
     let made = typed(e, given, walk)?;
+    walk.types.holds();
     keep_one(made, parts)
 }
 

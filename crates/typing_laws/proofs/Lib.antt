@@ -18,3 +18,4 @@ pub mod Bodied
 pub mod Kept
 pub mod Tagged
 pub mod Rows
+pub mod Used
