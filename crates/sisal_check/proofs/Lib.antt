@@ -1,2 +1,3 @@
 mod Depths
 mod Whole
+pub mod Forms

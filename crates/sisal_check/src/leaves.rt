@@ -54,7 +54,10 @@ pub(crate) fn value(
 {
     match walk.names.find(name) {
         Some(found) => level(line, found, given),
-        None => Err(TypeFault::Rule { rule: 9, line }),
+        None => {
+            walk.types.holds();
+            Err(TypeFault::Rule { rule: 9, line })
+        }
     }
 }
 
@@ -71,7 +74,10 @@ pub(crate) fn old_value(
 {
     match walk.names.find_old(name) {
         Some(found) => level(line, found, given),
-        None => Err(TypeFault::Rule { rule: 10, line }),
+        None => {
+            walk.types.holds();
+            Err(TypeFault::Rule { rule: 10, line })
+        }
     }
 }
 
