@@ -1,7 +1,7 @@
 -- What a walk over an expression makes step by step, from what it makes of the parts.
 use Rattle.std.proofs.Common.{◌≡◌, ℕ, ◌+◌, ◌<◌, ◌≤◌, ◌-◌, List, [], ◌∷◌, ◌++◌, take, drop, length, get_or, map, Option, Some, None, Result, Ok, Err, IfOk, OnOk, refl, sym, ap, subst, ◌∙◌, arith}
 use Rattle.std.specs.Prelude.{Contains}
-use Rattle.std.proofs.lemmas.List.{append_cancel_left, append_cancel_right, take_more, take_all, map-append, append_assoc, append-nil}
+use Rattle.std.proofs.lemmas.List.{append_cancel_left, append_cancel_right, length-append, take_more, take_all, map-append, append_assoc, append-nil}
 use Rattle.std.proofs.lemmas.List.Elements.{Contains-get_or}
 use Rattle.type_table.specs.declared.form.Form.{Form}
 use Rattle.sisal_tree.specs.declared.expr.Arm.{Arm}
@@ -29,9 +29,10 @@ use Rattle.value_names.specs.Scopes.{mark_of, left}
 use Rattle.typing_laws.specs.Given.{Given, Parts}
 use Rattle.typing_laws.specs.Judged.{Adds, AddsSingle, AllElements, AllOnes, AllTyped, IsAbove, IsUsedIn, Typed}
 use Rattle.typing_laws.specs.Forming.{AreElements, NoOperands, Operands, OperandsIn}
-use Rattle.typing_laws.specs.Looping.{IsAround}
+use Rattle.typing_laws.specs.Looping.{AllValues, IsAround}
+use Rattle.typing_laws.proofs.Crossed.{a_clause_value, a_masked_value, all_values_append, values_later}
 use Rattle.typing_laws.proofs.Leaving.{drop_back, left_above}
-use Rattle.typing_laws.proofs.Later.{all_later, ones_later}
+use Rattle.typing_laws.proofs.Later.{all_later, ones_later, used_same}
 use Rattle.typing_laws.proofs.Listing.{adds_more, adds_ones}
 use Rattle.typing_laws.proofs.Formed.{out_array, out_binary, out_replace, out_select, out_stream, out_update}
 
@@ -179,3 +180,45 @@ module _ (g : Given) (names : Names) where
           elements = subst (λ m. AllTyped g f1 m (out-Elements els).values q.exprs q.types) same q.holds;
         };
       })
+
+-- ---- clauses
+
+push_same : (xs ys : List ℕ) (a b : ℕ) → xs ++ a ∷ [] ≡ ys ++ b ∷ [] → (xs ≡ ys) × (a ≡ b)
+push_same [] [] a b e = (refl, (let h : a ≡ b = cc in h))
+push_same [] (y ∷ ys) a b e = absurd (let l = ap length e in let m = length-append ys (b ∷ []) in omega (arith, l, m))
+push_same (x ∷ xs) [] a b e = absurd (let l = ap length e in let m = length-append xs (a ∷ []) in omega (arith, l, m))
+push_same (x ∷ xs) (y ∷ ys) a b e =
+    let same : x ≡ y = cc in
+    let rest : xs ++ a ∷ [] ≡ ys ++ b ∷ [] = cc in
+    let r = push_same xs ys a b rest in
+    (ap (λ z. z ∷ xs) same ∙ ap (λ l. y ∷ l) r.0, r.1)
+
+module _ (g : Given) (names : Names) where
+  pub values_more : (f0 f1 : List Form) (now : Names) (cs : List Clause) (i : ℕ) (x : Clause) (old new : Parts) → i < length cs → x ≡ get_or cs i x → IsUsedIn g f0 f1 → now ≡ names
+      → AllValues g f0 names (take i cs) old.exprs old.types → Adds old new (AllValues g f1 now (x ∷ [])) → AllValues g f1 names (take (i + 1) cs) new.exprs new.types
+  values_more f0 f1 now cs i x old new h is u same p q =
+      subst (λ l. AllValues g f1 names l new.exprs new.types) (taken cs i x h is)
+      (subst (λ l. AllValues g f1 names (take i cs ++ x ∷ []) l new.types) (sym q.is_exprs)
+      (subst (λ l. AllValues g f1 names (take i cs ++ x ∷ []) (old.exprs ++ q.exprs) l) (sym q.is_types)
+      (all_values_append g f1 names (take i cs) (x ∷ []) old.exprs q.exprs old.types q.types (values_later g f0 f1 names (take i cs) old.exprs old.types u.grows p)
+      (subst (λ n. AllValues g f1 n (x ∷ []) q.exprs q.types) same q.holds))))
+
+  pub clause_alone : (f : List Form) (c : Clause) (first last : Parts) → (out-Clause c).mask ≡ None → Adds first last (AllOnes g f names ((out-Clause c).value ∷ [])) → Adds first last (AllValues g f names (c ∷ []))
+  clause_alone f c first last none p = record { exprs = p.exprs; types = p.types; is_exprs = p.is_exprs; is_types = p.is_types; holds = a_clause_value g f names c p.exprs p.types none p.holds }
+
+  pub clause_masked : (f0 f1 : List Form) (now : Names) (c : Clause) (m : Mask) (first mid late last : Parts) → (out-Clause c).mask ≡ Some m → IsUsedIn g f0 f1 → now ≡ names
+      → Adds first mid (AllOnes g f0 names ((out-Clause c).value ∷ [])) → Adds mid late (AllOnes g f1 now (m.test ∷ [])) → AddsSingle mid late → late.types ≡ last.types ++ 0 ∷ [] → last.exprs ≡ late.exprs
+      → Adds first last (AllValues g f1 names (c ∷ []))
+  clause_masked f0 f1 now c m first mid late last some u same p q s ends exprs =
+      let n : q.types ≡ s.type ∷ [] = append_cancel_left mid.types q.types (s.type ∷ []) (sym q.is_types ∙ s.types) in
+      let both = push_same mid.types last.types s.type 0 (sym s.types ∙ ends) in
+      record {
+        exprs = p.exprs ++ q.exprs;
+        types = p.types;
+        is_exprs = exprs ∙ q.is_exprs ∙ ap (λ l. l ++ q.exprs) p.is_exprs ∙ append_assoc first.exprs p.exprs q.exprs;
+        is_types = sym both.0 ∙ p.is_types;
+        holds = a_masked_value g f0 f1 names c m p.exprs q.exprs p.types q.types u.grows some p.holds (subst (λ n. AllOnes g f1 n (m.test ∷ []) q.exprs q.types) same q.holds) (n ∙ ap (λ k. k ∷ []) both.1);
+      }
+
+pub used_as : (g : Given) (a b : List Form) → b ≡ a → IsUsedIn g a b
+used_as g a b e = subst (IsUsedIn g a) (sym e) (used_same g a)
