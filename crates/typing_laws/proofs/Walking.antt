@@ -9,7 +9,7 @@ use Rattle.sisal_tree.specs.declared.expr.BinaryOperator.{BinaryOperator}
 use Rattle.sisal_tree.specs.declared.expr.Clause.{Clause, out-Clause}
 use Rattle.sisal_tree.specs.declared.expr.Def.{Def, out-Def}
 use Rattle.sisal_tree.specs.declared.expr.FieldValue.{FieldValue}
-use Rattle.sisal_tree.specs.declared.expr.Generator.{Generator}
+use Rattle.sisal_tree.specs.declared.expr.Generator.{Generator, out-Generator}
 use Rattle.sisal_tree.specs.declared.expr.Loop.{Loop}
 use Rattle.sisal_tree.specs.declared.expr.Mask.{Mask}
 use Rattle.sisal_tree.specs.declared.expr.TagCase.{TagCase}
@@ -25,14 +25,17 @@ use Rattle.typed_tree.specs.Typing.{at}
 use Rattle.type_rules.specs.Applies.{Grows}
 use Rattle.value_names.specs.declared.in_force.Mark.{Mark}
 use Rattle.value_names.specs.Names.{Names}
-use Rattle.value_names.specs.Scopes.{mark_of, left}
-use Rattle.typing_laws.specs.Given.{Given, Parts}
+use Rattle.value_names.specs.Scopes.{define_all, mark_of, left}
+use Rattle.typing_laws.specs.Given.{Given, Group, Parts}
+use Rattle.typing_laws.specs.Defining.{AllDefined}
 use Rattle.typing_laws.specs.Judged.{Adds, AddsSingle, AllElements, AllOnes, AllTyped, IsAbove, IsUsedIn, Typed}
 use Rattle.typing_laws.specs.Forming.{AreElements, NoOperands, Operands, OperandsIn}
-use Rattle.typing_laws.specs.Looping.{AllValues, IsAround}
+use Rattle.typing_laws.specs.Looping.{AddsGenerator, AllValues, GroupsTyped, no_group, a_group, IsAround, KeepsGenerator, up_to}
 use Rattle.typing_laws.proofs.Crossed.{a_clause_value, a_masked_value, all_values_append, values_later}
 use Rattle.typing_laws.proofs.Leaving.{drop_back, left_above}
-use Rattle.typing_laws.proofs.Later.{all_later, ones_later, used_same}
+use Rattle.typing_laws.proofs.Entering.{above_on, defined_above, same_above}
+use Rattle.typing_laws.proofs.Generated.{one_more_generated}
+use Rattle.typing_laws.proofs.Later.{agrees_before, all_later, ones_later, used_same}
 use Rattle.typing_laws.proofs.Listing.{adds_more, adds_ones}
 use Rattle.typing_laws.proofs.Formed.{out_array, out_binary, out_replace, out_select, out_stream, out_update}
 
@@ -222,3 +225,24 @@ module _ (g : Given) (names : Names) where
 
 pub used_as : (g : Given) (a b : List Form) → b ≡ a → IsUsedIn g a b
 used_as g a b e = subst (IsUsedIn g a) (sym e) (used_same g a)
+
+-- ---- definitions, generators and loops
+
+pub defined_on : (g : Given) (f0 f1 : List Form) (before after : Names) (turn : Option ℕ) (ds : List Def) (us : List (List TypedExpr)) (ns : List ℕ) → IsUsedIn g f0 f1
+    → AllDefined g f0 before after turn ds us ns → AllDefined g f1 before after turn ds us ns
+defined_on g f0 f1 before after turn ds us ns u p = record {
+  holds = λ k s a st. p.holds k s (agrees_before g f0 f1 k u.grows a) st;
+  count = p.count;
+  kept = p.kept;
+  above = p.above;
+}
+
+pub generator_added : (g : Given) (f0 f1 : List Form) (names : Names) (one : Generator) (parts : Parts) (old new : Group) → IsUsedIn g f0 f1
+    → AllOnes g f1 names ((out-Generator one).from ∷ up_to (out-Generator one).to) parts.exprs parts.types → KeepsGenerator f1 (out-Generator one).name (out-Generator one).at parts old new
+    → AddsGenerator g f0 f1 names one old new
+generator_added g f0 f1 names one parts old new u p k = record { holds = λ others q. one_more_generated g f0 f1 names others one parts old new u.grows q p k }
+
+pub groups_above : (g : Given) (f : List Form) (names after : Names) (gs : List (List Generator)) (ms : List Group) → GroupsTyped g f names gs ms after → IsAbove names after
+groups_above g f names _ _ _ no_group = same_above names
+groups_above g f names after _ _ (a_group {m = m} {groups = groups} {ms = ms} p r) =
+    above_on names (define_all m.names m.types names) after (defined_above m.names m.types names) (groups_above g f (define_all m.names m.types names) after groups ms r)
