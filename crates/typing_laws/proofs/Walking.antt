@@ -21,6 +21,8 @@ use Rattle.sisal_tree.specs.declared.expr.ExprKind.TheOpen.{ExprKind-F}
 use Rattle.sisal_tree.specs.declared.expr.ExprKind.TheViews.{out-ExprKind}
 use Rattle.sisal_tree.specs.declared.expr.ExprKind.TheVariants as tree
 use Rattle.typed_tree.specs.declared.expr.TypedExpr.{TypedExpr}
+use Rattle.sisal_tree.specs.declared.unit.Named.{Named}
+use Rattle.typed_tree.specs.Breaks.{generators_in, index_in}
 use Rattle.typed_tree.specs.Typing.{at}
 use Rattle.type_rules.specs.Applies.{Grows}
 use Rattle.value_names.specs.declared.in_force.Mark.{Mark}
@@ -30,7 +32,7 @@ use Rattle.typing_laws.specs.Given.{Given, Group, Parts}
 use Rattle.typing_laws.specs.Defining.{AllDefined}
 use Rattle.typing_laws.specs.Judged.{Adds, AddsSingle, AllElements, AllOnes, AllTyped, IsAbove, IsUsedIn, Typed}
 use Rattle.typing_laws.specs.Forming.{AreElements, NoOperands, Operands, OperandsIn}
-use Rattle.typing_laws.specs.Looping.{AddsGenerator, AllValues, GroupsTyped, no_group, a_group, IsAround, KeepsGenerator, up_to}
+use Rattle.typing_laws.specs.Looping.{AddsGenerator, AllValues, GroupsTyped, no_group, a_group, IsAround, KeepsGenerator, index_names, up_to}
 use Rattle.typing_laws.proofs.Crossed.{a_clause_value, a_masked_value, all_values_append, values_later}
 use Rattle.typing_laws.proofs.Leaving.{drop_back, left_above}
 use Rattle.typing_laws.proofs.Entering.{above_on, defined_above, same_above}
@@ -246,3 +248,19 @@ pub groups_above : (g : Given) (f : List Form) (names after : Names) (gs : List 
 groups_above g f names _ _ _ no_group = same_above names
 groups_above g f names after _ _ (a_group {m = m} {groups = groups} {ms = ms} p r) =
     above_on names (define_all m.names m.types names) after (defined_above m.names m.types names) (groups_above g f (define_all m.names m.types names) after groups ms r)
+
+pub ok_now : {T E P : Type 0} (r : Result T E) (x : T) → r ≡ Ok x → OnOk r P → P
+ok_now {P = P} r x e h = subst (λ r. OnOk r P) e h
+
+same_index : (line : ℕ) (x : Option ℕ) → index_in line x ≡ index_names x line
+same_index line None = refl
+same_index line (Some x) = refl
+
+pub generators_more : (gs : List Generator) (x : Generator) → generators_in (gs ++ x ∷ []) ≡ generators_in gs ++ ((out-Generator x).name ∷ index_names (out-Generator x).at (out-Generator x).name.line)
+generators_more [] x = append-nil (generators_here x) ∙ ap (λ l. (out-Generator x).name ∷ l) (same_index (out-Generator x).name.line (out-Generator x).at)
+  where
+    generators_here : Generator → List Named
+    generators_here x = (out-Generator x).name ∷ index_in (out-Generator x).name.line (out-Generator x).at
+generators_more (y ∷ gs) x =
+    let first : List Named = (out-Generator y).name ∷ index_in (out-Generator y).name.line (out-Generator y).at in
+    ap (λ l. first ++ l) (generators_more gs x) ∙ sym (append_assoc first (generators_in gs) ((out-Generator x).name ∷ index_names (out-Generator x).at (out-Generator x).name.line))
