@@ -1,8 +1,45 @@
--- Faults that name a rule; lists with their parts.
-use Rattle.std.proofs.Common.{◌≡◌, ℕ, ◌+◌, ◌<◌, List, [], ◌∷◌, map, drop, length, Option, Some, None, Result, Ok, Err, IfErr, IsErrAnd, slice_get, refl, sym, ap, subst, ◌∙◌}
+-- Faults that name a rule; the forms of expressions, from what the walk reads of them.
+use Rattle.std.proofs.Common.{◌≡◌, ℕ, ◌≤◌, ◌<◌, Bool, true, false, not, Bor, List, [], ◌∷◌, drop, length, Option, Some, None, Result, Ok, Err, IfErr, IsErrAnd, is_some, slice_get, refl, sym, ap, subst, ◌∙◌}
+use Rattle.std.specs.Prelude.{IfNone, if◌then◌else◌}
+use Rattle.std.specs.Option.{option_copied}
+use Rattle.std.specs.Str.{bytes_eq}
+use Rattle.std.proofs.lemmas.Slice.Eq.{bytes_eq-Decides}
+use Rattle.std.proofs.lemmas.List.{drop_all}
+use Rattle.std.proofs.lemmas.Option.{same_Some, slice_get_within}
+use Rattle.sisal_lex.specs.Words.{beside}
+use Rattle.type_table.specs.declared.form.Form.{Form}
+use Rattle.type_table.specs.Tables.{IsTable}
+use Rattle.sisal_tree.specs.declared.expr.BinaryOperator.{BinaryOperator}
+use Rattle.sisal_tree.specs.declared.expr.Elements.{Elements}
+use Rattle.sisal_tree.specs.declared.expr.Expr.{Expr}
+use Rattle.sisal_tree.specs.declared.expr.ExprKind.{ExprKind}
+use Rattle.sisal_tree.specs.declared.expr.ExprKind.TheVariants as tree
+use Rattle.sisal_tree.specs.declared.expr.FieldValue.{FieldValue}
+use Rattle.sisal_tree.specs.declared.expr.PrefixOperator.{PrefixOperator}
+use Rattle.sisal_tree.specs.declared.expr.Scalar.{Scalar}
+use Rattle.typed_tree.specs.declared.built_in.BuiltIn.{BuiltIn}
+use Rattle.typed_tree.specs.BuiltIns.{built_ins}
+use Rattle.typed_tree.specs.Typing.{at}
 use Rattle.type_rules.specs.declared.fault.TypeFault.{TypeFault}
 use Rattle.type_rules.specs.declared.fault.TypeFault.TheVariants as fault
+use Rattle.type_rules.specs.declared.head.Head.{Head}
+use Rattle.type_rules.specs.declared.head.Head.TheVariants as head
 use Rattle.type_rules.specs.Faults.{IsRule}
+use Rattle.value_names.specs.Names.{Names}
+use Rattle.typing_laws.specs.Bodies.{define_params}
+use Rattle.typing_laws.proofs.Used.{HeadFits}
+use Rattle.typing_laws.proofs.Headed.{array_head, empty_array_head}
+use Rattle.sisal_check.specs.Walked.{IsArrayHead, IsHeadSpelled}
+use Rattle.typing_laws.specs.Given as by
+use Rattle.typing_laws.specs.Forming.{HasHead, IsHead, IsPlain, IsBuiltIn, fields_of}
+use Rattle.typing_laws.specs.Forming as form
+use Rattle.breaking_laws.specs.Broken.{Broken}
+use Rattle.breaking_laws.specs.Refusals.{IsUnnamed, IsNoBuiltIn}
+use Rattle.breaking_laws.specs.FormLaws.{NamesType}
+use Rattle.breaking_laws.specs.FormLaws as part
+use Rattle.breaking_laws.proofs.FParts.{no_type_breaks}
+
+-- ---- faults
 
 pub rule_weaker : (P Q : ℕ → ℕ → Type 0) (f : TypeFault) → ((rule line : ℕ) → P rule line → Q rule line) → IsRule P f → IsRule Q f
 rule_weaker P Q (fault.Rule rule line) f h = f rule line h
@@ -16,3 +53,123 @@ faults_weaker (Err e) P Q f h = rule_weaker P Q e f h
 pub passed_on : {T : Type 0} (r : Result T TypeFault) (e : TypeFault) → IsErrAnd r (λ f. f ≡ e) → (P Q : ℕ → ℕ → Type 0) → ((rule line : ℕ) → P rule line → Q rule line) → IsRule P e → IfErr r (IsRule Q)
 passed_on (Ok x) e is P Q f h = tt
 passed_on (Err x) e is P Q f h = subst (IsRule Q) (sym is) (rule_weaker P Q e f h)
+
+-- ---- lists
+
+true_not : (b : Bool) → b ≡ true → true ≡ not b → ⊥
+true_not true e f = cc
+true_not false e f = cc
+
+false_not : (b : Bool) → false ≡ not b → b ≡ true
+false_not true e = refl
+false_not false e = absurd cc
+
+pub differ : (xs ys : List ℕ) → true ≡ not (bytes_eq xs ys) → xs ≡ ys → ⊥
+differ xs ys e same = true_not (bytes_eq xs ys) ((bytes_eq-Decides xs ys).1 same) e
+
+pub alike : (xs ys : List ℕ) → false ≡ not (bytes_eq xs ys) → xs ≡ ys
+alike xs ys e = (bytes_eq-Decides xs ys).0 (false_not (bytes_eq xs ys) e)
+
+pub is_within : {X : Type 0} (xs : List X) (k : ℕ) (r : Option (Bor X)) → option_copied r ≡ slice_get xs k → is_some r ≡ true → k < length xs
+is_within xs k None e there = absurd cc
+is_within xs k (Some x) e there = slice_get_within xs k x.now (sym e)
+
+no_params : (xs : List ℕ) (s : Names) → define_params xs [] s ≡ s
+no_params [] s = refl
+no_params (x ∷ xs) s = refl
+
+pub all_params : (xs ts : List ℕ) (p : ℕ) (s : Names) → length ts ≤ p → define_params xs (drop p ts) s ≡ s
+all_params xs ts p s h = ap (λ l. define_params xs l s) (drop_all p ts h) ∙ no_params xs s
+
+-- ---- names that are built in
+
+none_some : (o : Option BuiltIn) (b : BuiltIn) → o ≡ None → o ≡ Some b → ⊥
+none_some None b e f = cc
+none_some (Some x) b e f = cc
+
+pub no_built_in : (g : by.Given) (x : ℕ) (name : List ℕ) (r : Option BuiltIn) → slice_get g.spellings x ≡ Some name → r ≡ beside name built_ins → IfNone r (IsNoBuiltIn g x)
+no_built_in g x name (Some b) there is = tt
+no_built_in g x name None there is = λ b q.
+    none_some (beside name built_ins) b (sym is) (ap (λ s. beside s built_ins) (same_Some name q.spelling (sym there ∙ q.spelled)) ∙ q.named)
+
+-- ---- forms that name no type
+
+module _ (kind : ExprKind) where
+  plain : (k : ExprKind) (h : Head) → kind ≡ k → IsPlain k h → IsPlain kind h
+  plain k h is p = subst (λ r. IsPlain r h) (sym is) p
+
+  pub plain_convert : (c : Scalar) (e : Expr) → kind ≡ tree.Convert c e → IsPlain kind (head.Convert c)
+  plain_convert c e is = plain (tree.Convert c e) (head.Convert c) is (record { holds = λ g k. form.convert c e })
+
+  pub plain_is_error : (e : Expr) → kind ≡ tree.IsError e → IsPlain kind head.IsError
+  plain_is_error e is = plain (tree.IsError e) head.IsError is (record { holds = λ g k. form.is_error e })
+
+  pub plain_is_tag : (x : ℕ) (e : Expr) → kind ≡ tree.IsTag x e → IsPlain kind (head.IsTag x)
+  plain_is_tag x e is = plain (tree.IsTag x e) (head.IsTag x) is (record { holds = λ g k. form.is_tag x e })
+
+  pub plain_prefix : (o : PrefixOperator) (e : Expr) → kind ≡ tree.Prefix o e → IsPlain kind (head.Prefix o)
+  plain_prefix o e is = plain (tree.Prefix o e) (head.Prefix o) is (record { holds = λ g k. form.prefix o e })
+
+  pub plain_binary : (o : BinaryOperator) (e f : Expr) → kind ≡ tree.Binary o e f → IsPlain kind (head.Binary o)
+  plain_binary o e f is = plain (tree.Binary o e f) (head.Binary o) is (record { holds = λ g k. form.binary o e f })
+
+  pub plain_select : (e i : Expr) → kind ≡ tree.Select e i → IsPlain kind head.Select
+  plain_select e i is = plain (tree.Select e i) head.Select is (record { holds = λ g k. form.select e i })
+
+  pub plain_update : (e i f : Expr) → kind ≡ tree.Update e i f → IsPlain kind head.Update
+  plain_update e i f is = plain (tree.Update e i f) head.Update is (record { holds = λ g k. form.update e i f })
+
+  pub plain_field : (e : Expr) (x : ℕ) → kind ≡ tree.Field e x → IsPlain kind (head.Field x)
+  plain_field e x is = plain (tree.Field e x) (head.Field x) is (record { holds = λ g k. form.field e x })
+
+-- ---- forms that name a type
+
+pub same_kind : (g : by.Given) (f : List Form) (kind k : ExprKind) (h : Head) → kind ≡ k → IsHead g f k h → IsHead g f kind h
+same_kind g f kind k h is p = subst (λ r. IsHead g f r h) (sym is) p
+
+pub replace_head : (g : by.Given) (f : List Form) (e : Expr) (vs : List FieldValue) (xs : List ℕ) → xs ≡ fields_of vs → IsHead g f (tree.Replace e vs) (head.Replace xs)
+replace_head g f e vs xs is = subst (λ l. IsHead g f (tree.Replace e vs) (head.Replace l)) (sym is) (record { holds = λ k agrees. form.replace e vs })
+
+-- the name of a type is not known
+pub unnamed : (g : by.Given) (f : List Form) (names : Names) (l : ℕ) (kind k : ExprKind) (x : Option ℕ) → IsTable f → kind ≡ k → ((y : ℕ) → x ≡ Some y → NamesType k y) → (rule line : ℕ) → IsUnnamed g.named x l rule line
+    → Broken g f names (at l kind) rule line
+unnamed g f names l kind k None table is of rule line p = absurd p.2
+unnamed g f names l kind k (Some y) table is of rule line p =
+    subst (λ r. Broken g f names (at l r) rule line) (sym is)
+    (subst (λ r. Broken g f names (at l k) r line) (sym p.0) (subst (λ r. Broken g f names (at l k) 2 r) (sym p.1) (no_type_breaks g f names l k y table (of y refl) p.2)))
+
+pub array_named : (x : Option ℕ) (els : Option Elements) (y : ℕ) → x ≡ Some y → NamesType (tree.Array x els) y
+array_named x els y e = subst (λ z. NamesType (tree.Array z els) y) (sym e) (part.array y els)
+
+pub stream_named : (x : Option ℕ) (es : List Expr) (y : ℕ) → x ≡ Some y → NamesType (tree.Stream x es) y
+stream_named x es y e = subst (λ z. NamesType (tree.Stream z es) y) (sym e) (part.stream y es)
+
+pub record_named : (x : Option ℕ) (vs : List FieldValue) (y : ℕ) → x ≡ Some y → NamesType (tree.Record x vs) y
+record_named x vs y e = subst (λ z. NamesType (tree.Record z vs) y) (sym e) (part.a_record y vs)
+
+pub union_named : (x tag : ℕ) (e : Expr) (y : ℕ) → Some x ≡ Some y → NamesType (tree.Union x tag e) y
+union_named x tag e y is = subst (λ z. NamesType (tree.Union z tag e) y) (sym (same_Some x y is)) (part.union y tag e)
+
+-- an array, with elements or without
+pub arrays_head : (g : by.Given) (f : List Form) (x : Option ℕ) (els : Option Elements) (h : Head) → IsArrayHead g x (is_some els) h → IsHead g f (tree.Array x els) h
+arrays_head g f x None h p = subst (λ r. IsHead g f (tree.Array x None) r) (sym p.is) (empty_array_head g f x p.named p.found)
+arrays_head g f x (Some els) h p = subst (λ r. IsHead g f (tree.Array x (Some els)) r) (sym p.is) (array_head g f x p.named els p.found)
+
+-- the names of the fields of a form are spelled
+pub head_fits : (names : List (List ℕ)) (h : Head) → IsHeadSpelled names h → HeadFits names h
+head_fits names (head.ErrorOf n) s = tt
+head_fits names (head.Convert c) s = tt
+head_fits names head.IsError s = tt
+head_fits names (head.IsTag x) s = tt
+head_fits names (head.Prefix o) s = tt
+head_fits names (head.Binary o) s = tt
+head_fits names head.Select s = tt
+head_fits names head.Update s = tt
+head_fits names (head.Field x) s = tt
+head_fits names (head.Replace xs) s = tt
+head_fits names (head.Array x) s = tt
+head_fits names (head.EmptyArray x) s = tt
+head_fits names (head.Stream x) s = tt
+head_fits names (head.Record x xs) s = s
+head_fits names (head.Union n x) s = tt
+head_fits names (head.BuiltIn b) s = tt

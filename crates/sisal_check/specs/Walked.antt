@@ -1,5 +1,5 @@
 -- What the walk over a function's body is given, and what it makes on its way, as the laws of typing have it.
-use Rattle.std.specs.Prelude.{◌≡◌, ℕ, ◌-◌, ◌<◌, List, ◌++◌, drop, length, map, Bool, true, All, None}
+use Rattle.std.specs.Prelude.{◌≡◌, ℕ, ◌-◌, ◌<◌, List, ◌++◌, drop, length, map, Bool, true, false, All, Option, None}
 use Rattle.type_table.specs.declared.form.Form.{Form}
 use Rattle.sisal_tree.specs.declared.expr.Clause.{Clause}
 use Rattle.sisal_tree.specs.declared.expr.Def.{Def}
@@ -18,6 +18,7 @@ use Rattle.value_names.specs.Names.{Names}
 use Rattle.typing_laws.specs.Given as by
 use Rattle.typing_laws.specs.Bodies.{parameters_in}
 use Rattle.typing_laws.specs.Defining.{AllDefined}
+use Rattle.typing_laws.specs.Forming.{AreFound}
 use Rattle.typing_laws.specs.Judged.{AllTyped, IsDenoted}
 use Rattle.typing_laws.specs.Looping.{AllValues, AllMade, GroupsTyped, IsCrossed, initial_of}
 use Rattle.sisal_check.specs.declared.state.Given.{Given}
@@ -74,6 +75,16 @@ pub record IsErrorHead (g : by.Given) (forms : List Form) (w : Written) (h : Hea
   pub type : ℕ
   pub is : h ≡ head.ErrorOf type
   pub denoted : IsDenoted g forms w type
+
+-- an array, with elements or without
+abbrev pub array_form : Bool → Option ℕ → Head
+array_form true named = head.Array named
+array_form false named = head.EmptyArray named
+
+pub record IsArrayHead (g : by.Given) (x : Option ℕ) (has_elements : Bool) (h : Head) : Type 0 where
+  pub named : Option ℕ
+  pub is : h ≡ array_form has_elements named
+  pub found : AreFound g.named x named
 
 -- ---- loops
 

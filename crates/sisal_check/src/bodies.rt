@@ -144,8 +144,10 @@ fn body(
 fn parameters(xs: &[u32], types: &[u32], names: &mut InForce) -> Result<(), NoMemory>
     ensures { OnOk result (names.new ≡ define_params xs.now types.now names.old) }
 {
-    for (x, ty) in xs.iter().zip(types) {
-        names.define(*x, *ty)?;
+    let mut place = 0;
+    while place < xs.len() && place < types.len() {
+        names.define(xs[place], types[place])?;
+        place += 1;
     }
     Ok(())
 }

@@ -55,13 +55,16 @@ pub(crate) fn tag_case(
         otherwise,
     } = cases;
     let subject = only(subject.get(), given, walk)?;
+    walk.types.holds();
     let mut done = begin(line, *name, &subject, given, walk)?;
     each_arm(arms.as_slice(), &mut done, given, walk)?;
     let count = number_of(done.results.len())?;
+    walk.types.holds();
     match otherwise {
         Some(es) => last(es.as_slice(), &mut done, given, walk)?,
         None => name_all(line, &done)?,
     }
+    walk.types.holds();
     case(line, count, subject, done)
 }
 
@@ -130,6 +133,7 @@ fn one_arm(
         results,
     } = arm;
     let outer = walk.names.mark();
+    walk.types.holds();
     enter(tags.as_slice(), *line, done, walk)?;
     let results = all(results.as_slice(), given, walk)?;
     walk.names.leave(outer);

@@ -70,6 +70,7 @@ fn clause_value(
     match mask {
         Some(mask) => {
             one(&mask.test, values, given, walk)?;
+            walk.types.holds();
             end_mask(values, *line)
         }
         None => Ok(()),

@@ -50,6 +50,7 @@ pub(crate) fn defs(
     ensures breaks { IfErr result (IsRule (λ rule at_line. BrokenDefs (given_of given.now) walk.old.types walk.old.names turn ds.now rule at_line)) }
 {
     let targets = targets_of(given.alloc, ds)?;
+    walk.types.holds();
     distinct(targets.as_slice(), walk)?;
     let mut defined = Defined {
         exprs: Seq::new(given.alloc),

@@ -64,9 +64,11 @@ fn one_group(gs: &Seq<Generator>, given: &Given<'_>, walk: &mut Walk) -> Result<
 {
     let mut made = no_generators(given.alloc);
     for g in gs.as_slice() {
+        walk.types.holds();
         let gone = generator(g, &mut made, given, walk);
         look_back(gone, &made, walk)?;
     }
+    walk.types.holds();
     enter(made, walk)
 }
 
@@ -82,6 +84,7 @@ fn generator(
     ensures used { OnOk result (IsUsedIn (given_of given.now) walk.old.types walk.new.types) }
     ensures names { OnOk result (walk.new.names ≡ walk.old.names) }
     ensures adds { OnOk result (AddsGenerator (given_of given.now) walk.old.types walk.new.types walk.old.names g.now (group_of made.old) (group_of made.new)) }
+    ensures gained { OnOk result (made.new.names ≡ made.old.names ++ ((out-Generator g.now).name ∷ index_names (out-Generator g.now).at (out-Generator g.now).name.line)) }
     ensures breaks { IfErr result (IsRule (λ rule at_line. BrokenGenerator (given_of given.now) walk.old.types walk.old.names g.now rule at_line)) }
     ensures front { (more : List Named) × (made.old.names ++ ((out-Generator g.now).name ∷ index_names (out-Generator g.now).at (out-Generator g.now).name.line) ≡ made.new.names ++ more) }
 {
@@ -91,9 +94,13 @@ fn generator(
     match to {
         Some(to) => {
             one(to, &mut bounds, given, walk)?;
+            walk.types.holds();
             keep(*name, *at, bounds, made, walk)
         }
-        None => keep(*name, *at, bounds, made, walk),
+        None => {
+            walk.types.holds();
+            keep(*name, *at, bounds, made, walk)
+        }
     }
 }
 

@@ -2,7 +2,7 @@
 ghost use Rattle.breaking_laws.specs.Broken.{Broken, Misnamed};
 ghost use Rattle.breaking_laws.specs.Refusals.{IsUnnamed, Never};
 ghost use Rattle.name_scope.specs.Newest.{newest};
-ghost use Rattle.sisal_check.specs.Walked.{IsErrorHead, IsHeadSpelled, given_of};
+ghost use Rattle.sisal_check.specs.Walked.{IsArrayHead, IsErrorHead, IsHeadSpelled, given_of};
 ghost use Rattle.std.specs.Prelude.{All, IfErr, IfOk, List, OnOk, Some, length, ℕ, ◌<◌, ◌≡◌};
 ghost use Rattle.type_rules.specs.Faults.{IsRule};
 ghost use Rattle.typed_tree.specs.Typing.{at};
@@ -34,8 +34,7 @@ pub(crate) fn head_of(
     match kind {
         ExprKind::ErrorOf(written) => error_of(*written, given, walk),
         ExprKind::Replace(_, vs) => Ok(Head::Replace(names_of(given.alloc, vs.as_slice())?)),
-        ExprKind::Array(name, Some(_)) => Ok(Head::Array(type_of(*name, line, given)?)),
-        ExprKind::Array(name, None) => Ok(Head::EmptyArray(type_of(*name, line, given)?)),
+        ExprKind::Array(name, elements) => array_of(*name, elements.is_some(), line, given),
         ExprKind::Stream(name, _) => Ok(Head::Stream(type_of(*name, line, given)?)),
         ExprKind::Record(name, vs) => record_of(*name, vs.as_slice(), line, given),
         ExprKind::Union(name, tag, _) => Ok(Head::Union(type_named(*name, line, given)?, *tag)),
@@ -93,6 +92,25 @@ fn record_of(
     let names = names_of(given.alloc, vs)?;
     all_spelled(names.as_slice(), given)?;
     Ok(Head::Record(ty, names))
+}
+
+/// An array with elements, or without.
+fn array_of(
+    name: Option<u32>,
+    has_elements: bool,
+    line: u32,
+    given: &Given<'_>,
+) -> Result<Head, TypeFault>
+    ensures head { IfOk result (λ h. IsArrayHead (given_of given.now) name has_elements h) }
+    ensures spelled { IfOk result (λ h. (spellings : List (List ℕ)) → IsHeadSpelled spellings h) }
+    ensures breaks { IfErr result (IsRule (λ rule at_line. IsUnnamed (given_of given.now).named name line rule at_line)) }
+{
+    let ty = type_of(name, line, given)?;
+    if has_elements {
+        Ok(Head::Array(ty))
+    } else {
+        Ok(Head::EmptyArray(ty))
+    }
 }
 
 /// The type of a constructor's name, where it has one.

@@ -63,12 +63,14 @@ pub(crate) fn turn_of(
     } = turn;
     if *is_first {
         let tests = only(test.get(), given, walk)?;
+        walk.types.holds();
         let test = truth(line, tests)?;
         let renewing = turn_defs(defs.as_slice(), first, started, given, walk)?;
         Ok(whole(true, *is_until, test, renewing))
     } else {
         let renewing = turn_defs(defs.as_slice(), first, started, given, walk)?;
         let tests = only(test.get(), given, walk)?;
+        walk.types.holds();
         let test = truth(line, tests)?;
         Ok(whole(false, *is_until, test, renewing))
     }

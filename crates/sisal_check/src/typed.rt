@@ -1,9 +1,9 @@
 //! Expressions.
 ghost use Rattle.breaking_laws.specs.Broken.{Broken, BrokenForm};
-ghost use Rattle.breaking_laws.specs.Refusals.{HasElements};
+ghost use Rattle.breaking_laws.specs.Refusals.{HasElements, Never};
 ghost use Rattle.sisal_check.specs.Walked.{given_of, parts_of};
 ghost use Rattle.sisal_tree.specs.declared.expr.ExprKind.TheViews.{out-ExprKind};
-ghost use Rattle.std.specs.Prelude.{IfErr, IfOk, OnOk, [], ◌≡◌};
+ghost use Rattle.std.specs.Prelude.{IfErr, IfOk, OnOk, [], length, ◌<◌, ◌≡◌};
 ghost use Rattle.type_rules.specs.Faults.{IsRule};
 ghost use Rattle.typed_tree.specs.Typing.{at};
 ghost use Rattle.typing_laws.specs.Forming.{Operands};
@@ -42,6 +42,7 @@ pub(crate) fn typed(e: &Expr, given: &Given<'_>, walk: &mut Walk) -> Result<Type
         }
         ExprKind::Call(x, es) => {
             let operands = all(es.as_slice(), given, walk)?;
+            walk.types.holds();
             call(*line, *x, operands, given, walk)
         }
         ExprKind::Let(ds, es) => {
@@ -55,6 +56,7 @@ pub(crate) fn typed(e: &Expr, given: &Given<'_>, walk: &mut Walk) -> Result<Type
             let test = only(test.get(), given, walk)?;
             let then = all(then.as_slice(), given, walk)?;
             let otherwise = all(otherwise.as_slice(), given, walk)?;
+            walk.types.holds();
             if_else(*line, test, then, otherwise)
         }
         ExprKind::TagCase(cases) => tag_case(cases, *line, given, walk),
@@ -80,6 +82,7 @@ fn applied(
     let head = head_of(kind, line, given, walk)?;
     let mut parts = Parts::new(given.alloc);
     operands(kind, &mut parts, given, walk)?;
+    walk.types.holds();
     finish(line, head, parts, given, walk)
 }
 
@@ -94,17 +97,21 @@ fn operands(
     ensures used { OnOk result (IsUsedIn (given_of given.now) walk.old.types walk.new.types) }
     ensures names { OnOk result (walk.new.names ≡ walk.old.names) }
     ensures adds { OnOk result (Adds (parts_of parts.old) (parts_of parts.new) (Operands (given_of given.now) walk.new.types walk.old.names kind.now)) }
-    ensures elements { parts.old.types ≡ [] → OnOk result (HasElements (out-ExprKind kind.now) parts.new.types) }
+    ensures elements { OnOk result (HasElements (out-ExprKind kind.now) parts.new.types) }
     ensures breaks { IfErr result (IsRule (λ rule at_line. BrokenForm (given_of given.now) walk.old.types walk.old.names kind.now rule at_line)) }
 {
     match kind {
-        ExprKind::Convert(_, e)
-        | ExprKind::IsError(e)
-        | ExprKind::IsTag(_, e)
-        | ExprKind::Prefix(_, e)
-        | ExprKind::Field(e, _)
-        | ExprKind::Union(_, _, e) => one(e.get(), parts, given, walk),
-        ExprKind::Binary(_, e, f) | ExprKind::Select(e, f) => {
+        ExprKind::Convert(_, e) => one(e.get(), parts, given, walk),
+        ExprKind::IsError(e) => one(e.get(), parts, given, walk),
+        ExprKind::IsTag(_, e) => one(e.get(), parts, given, walk),
+        ExprKind::Prefix(_, e) => one(e.get(), parts, given, walk),
+        ExprKind::Field(e, _) => one(e.get(), parts, given, walk),
+        ExprKind::Union(_, _, e) => one(e.get(), parts, given, walk),
+        ExprKind::Binary(_, e, f) => {
+            one(e.get(), parts, given, walk)?;
+            one(f.get(), parts, given, walk)
+        }
+        ExprKind::Select(e, f) => {
             one(e.get(), parts, given, walk)?;
             one(f.get(), parts, given, walk)
         }
@@ -119,10 +126,41 @@ fn operands(
         }
         ExprKind::Array(_, Some(elements)) => {
             one(elements.lower.get(), parts, given, walk)?;
-            many(elements.values.as_slice(), parts, given, walk)
+            many(elements.values.as_slice(), parts, given, walk)?;
+            has_element(parts)
         }
-        ExprKind::Stream(_, es) => many(es.as_slice(), parts, given, walk),
+        ExprKind::Stream(_, es) => {
+            let before = parts.types.len();
+            many(es.as_slice(), parts, given, walk)?;
+            has_value(es.as_slice(), before, parts)
+        }
         ExprKind::Record(_, vs) => fields(vs.as_slice(), parts, given, walk),
-        _ => Ok(()),
+        ExprKind::Array(_, None) => Ok(()),
+        ExprKind::ErrorOf(_) => Ok(()),
+        _ => Err(TypeFault::NoMemory),
     }
+}
+
+/// An array has some element behind its lower bound; what has none, as no text has, is refused as
+/// want of memory.
+fn has_element(parts: &Parts) -> Result<(), TypeFault>
+    ensures element { OnOk result (1 < length parts.now.types) }
+    ensures breaks { IfErr result (IsRule (λ rule at_line. Never rule at_line)) }
+{
+    if parts.types.len() < 2 {
+        return Err(TypeFault::NoMemory);
+    }
+    Ok(())
+}
+
+/// The expressions of a stream have some value behind so many, if there are any; those without a
+/// value, as no text has, are refused as want of memory.
+fn has_value(es: &[Expr], before: usize, parts: &Parts) -> Result<(), TypeFault>
+    ensures value { OnOk result (length parts.now.types ≡ before → es.now ≡ []) }
+    ensures breaks { IfErr result (IsRule (λ rule at_line. Never rule at_line)) }
+{
+    if !es.is_empty() && parts.types.len() == before {
+        return Err(TypeFault::NoMemory);
+    }
+    Ok(())
 }

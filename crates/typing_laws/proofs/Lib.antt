@@ -18,3 +18,5 @@ pub mod Bodied
 pub mod Kept
 pub mod Tagged
 pub mod Rows
+pub mod Used
+pub mod Walking

@@ -1,5 +1,12 @@
 -- The depth of what is walked, and below it how often that is still passed on whole.
-use Rattle.std.proofs.Common.{◌+◌, ◌*◌}
+use Rattle.std.proofs.Common.{◌≡◌, ◌+◌, ◌*◌, map, take}
+use Rattle.typed_tree.specs.Breaks.{generators_in}
+use Rattle.typing_laws.specs.Casing.{AddsArms}
+use Rattle.typing_laws.specs.Defining.{AllDefined, targets_in}
+use Rattle.typing_laws.specs.Judged.{Adds, AllOnes, AllTyped, IsUsedIn}
+use Rattle.typing_laws.specs.Looping.{AllGenerated, AllValues, GroupsTyped}
+use Rattle.breaking_laws.specs.Parts.{AddsResults}
+use Rattle.sisal_check.specs.Walked.{given_of, parts_of, arms_of, group_of}
 use Rattle.sisal_check.proofs.+walk.Given as goal
 
 abbrev pub decreases-cases::each_arm : goal.decreases-cases::each_arm
@@ -67,3 +74,57 @@ decreases-typed::operands l = 4 * goal.size-typed::operands l + 0
 
 abbrev pub decreases-typed::typed : goal.decreases-typed::typed
 decreases-typed::typed l = 4 * goal.size-typed::typed l + 0
+
+-- ---- what the loops keep
+
+abbrev pub invariant-lists::many-loop-e : goal.invariant-lists::many-loop-e
+invariant-lists::many-loop-e l = record {
+  used : IsUsedIn (given_of l.given) l.fn.walk.types l.walk.types;
+  names : l.walk.names ≡ l.fn.walk.names;
+  adds : Adds (parts_of l.fn.parts) (parts_of l.parts) (AllTyped (given_of l.given) l.walk.types l.fn.walk.names (take l.e-index l.es));
+}
+
+abbrev pub invariant-lists::fields-loop-v : goal.invariant-lists::fields-loop-v
+invariant-lists::fields-loop-v l = record {
+  used : IsUsedIn (given_of l.given) l.fn.walk.types l.walk.types;
+  names : l.walk.names ≡ l.fn.walk.names;
+  adds : Adds (parts_of l.fn.parts) (parts_of l.parts) (AllOnes (given_of l.given) l.walk.types l.fn.walk.names (map (λ v. v.value) (take l.v-index l.vs)));
+}
+
+abbrev pub invariant-clauses::clause_values-loop-c : goal.invariant-clauses::clause_values-loop-c
+invariant-clauses::clause_values-loop-c l = record {
+  used : IsUsedIn (given_of l.given) l.fn.walk.types l.walk.types;
+  names : l.walk.names ≡ l.fn.walk.names;
+  typed : AllValues (given_of l.given) l.walk.types l.fn.walk.names (take l.c-index l.cs) l.values.exprs l.values.types;
+}
+
+-- the names of definitions so far came into force
+abbrev pub invariant-defs::defs-loop-d : goal.invariant-defs::defs-loop-d
+invariant-defs::defs-loop-d l = record {
+  used : IsUsedIn (given_of l.given) l.fn.walk.types l.walk.types;
+  typed : AllDefined (given_of l.given) l.walk.types l.fn.walk.names l.walk.names l.turn (take l.d-index l.ds) l.defined.exprs l.defined.types;
+  targets : l.defined.targets ≡ targets_in l.ds;
+}
+
+abbrev pub invariant-generators::groups-loop-g : goal.invariant-generators::groups-loop-g
+invariant-generators::groups-loop-g l = record {
+  used : IsUsedIn (given_of l.given) l.fn.walk.types l.walk.types;
+  typed : GroupsTyped (given_of l.given) l.walk.types l.fn.walk.names (take l.g-index l.gs) (map group_of l.goes) l.walk.names;
+}
+
+-- the names of generators so far are the first ones
+abbrev pub invariant-generators::one_group-loop-g : goal.invariant-generators::one_group-loop-g
+invariant-generators::one_group-loop-g l = record {
+  used : IsUsedIn (given_of l.given) l.fn.walk.types l.walk.types;
+  names : l.walk.names ≡ l.fn.walk.names;
+  typed : AllGenerated (given_of l.given) l.walk.types l.fn.walk.names (take l.g-index l.gs) (group_of l.made);
+  front : l.made.names ≡ generators_in (take l.g-index l.gs);
+}
+
+abbrev pub invariant-cases::each_arm-loop-arm : goal.invariant-cases::each_arm-loop-arm
+invariant-cases::each_arm-loop-arm l = record {
+  used : IsUsedIn (given_of l.given) l.fn.walk.types l.walk.types;
+  names : l.walk.names ≡ l.fn.walk.names;
+  adds : AddsArms (given_of l.given) l.fn.walk.types l.walk.types l.fn.walk.names (take l.arm-index l.arms) (arms_of l.fn.done) (arms_of l.done);
+  results : AddsResults (given_of l.given) l.fn.walk.types l.walk.types l.fn.walk.names (take l.arm-index l.arms) (arms_of l.fn.done) (arms_of l.done);
+}

@@ -1,7 +1,10 @@
-use Rattle.std.proofs.Common.{◌≡◌, drop}
+use Rattle.std.proofs.Common.{◌≡◌, ◌-◌, drop, length}
 use Rattle.typing_laws.specs.Bodies.{define_params}
 use Rattle.sisal_check.proofs.bodies.parameters.Given as goal
 
--- what is left decides the whole
-abbrev pub invariant-loop-x : goal.invariant-loop-x
-invariant-loop-x l = define_params (drop l.x-index l.xs) (drop l.x-index l.types) l.names ≡ define_params l.xs l.types l.fn.names
+-- what is still to be defined decides the whole
+abbrev pub invariant-loop-place : goal.invariant-loop-place
+invariant-loop-place l = define_params (drop l.place l.xs) (drop l.place l.types) l.names ≡ define_params l.xs l.types l.fn.names
+
+abbrev pub decreases-loop-place : goal.decreases-loop-place
+decreases-loop-place l = length l.xs - l.place

@@ -24,7 +24,17 @@ returns-in-Some-clause-breaks c =
     (λ rule line q. refusal.own c.in-Some.number (sym c.find.ensures ∙ c.in-Some.is) q) c.call_of.ensures.breaks
 
 pub returns-in-Some-built_in-clause-calls : goal.returns-in-Some-built_in-clause-calls
-returns-in-Some-built_in-clause-calls c = ?
+returns-in-Some-built_in-clause-calls c =
+    let g = given_of c.args.given.now in
+    let p = parts_of c.args.operands in
+    let b = c.in-Some-built_in.built_in in
+    IfOk-weaker c.finish.result (λ t. Finishes c.args.walk.now.types c.finish.new.walk.types c.args.line (head.BuiltIn b) p t)
+    (λ t. Calls g c.args.walk.now.types c.finish.new.walk.types c.args.line c.args.name p t) (λ t q. built_in b c.in-Some-built_in.ensures.some q) c.finish.ensures.finishes
 
 pub returns-in-Some-built_in-clause-breaks : goal.returns-in-Some-built_in-clause-breaks
-returns-in-Some-built_in-clause-breaks c = ?
+returns-in-Some-built_in-clause-breaks c =
+    let g = given_of c.args.given.now in
+    let b = c.in-Some-built_in.built_in in
+    faults_weaker c.finish.result (λ rule line. Refuses c.args.walk.now.types c.args.line (head.BuiltIn b) c.args.operands.types rule line)
+    (λ rule line. RefusesCall g c.args.walk.now.types c.args.line c.args.name c.args.operands.types rule line)
+    (λ rule line q. refusal.built_in b c.in-Some-built_in.ensures.some q) c.finish.ensures.breaks
