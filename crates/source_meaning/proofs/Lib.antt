@@ -1,6 +1,8 @@
 pub mod AddedRows
+pub mod AtOnce
 pub mod Begins
 pub mod Depths
+pub mod Descents
 pub mod Follows
 pub mod Grows
 pub mod Laws

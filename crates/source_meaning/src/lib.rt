@@ -4,6 +4,7 @@
 
 mod begin;
 mod budget;
+mod direct;
 mod evaluator;
 mod finish;
 mod loops;
@@ -12,6 +13,7 @@ mod rows;
 mod slots;
 mod sources;
 mod state;
+mod strides;
 mod words;
 
-pub use evaluator::{Found, MeanFault, depths_agree, mean};
+pub use evaluator::{Found, MeanFault, depths_agree, mean, turns_agree};

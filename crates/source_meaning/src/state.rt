@@ -31,6 +31,8 @@ pub struct Walk<'a> {
     pub count: usize,
     /// How many of them are left.
     pub left: usize,
+    /// Whether the values at a place are looked for at once. What the loop gives is the same.
+    pub is_direct: bool,
     /// The clauses so far.
     pub clauses: Vec<Clause>,
 }
