@@ -202,11 +202,7 @@ struct Pair {
 
 /// Two operands, where there are two.
 #[cycle(direct)]
-fn direct_pair(
-    alloc: Global,
-    parts: &[TypedExpr],
-    names: &[Val],
-) -> Result<Option<Pair>, NoMemory>
+fn direct_pair(alloc: Global, parts: &[TypedExpr], names: &[Val]) -> Result<Option<Pair>, NoMemory>
     ensures { IfOk result (λ o. IfSome o (λ d. (n : ℕ) (p : Program) → meanings n p parts.now names.now ≡ Some (slot_value names.now d.first ∷ slot_value names.now d.second ∷ [], d.steps))) }
 {
     let [a, b] = parts else {
@@ -302,11 +298,7 @@ fn direct_operation(
 
 /// An operand, where a name is only lent.
 #[cycle(direct)]
-fn direct_slot(
-    alloc: Global,
-    e: &TypedExpr,
-    names: &[Val],
-) -> Result<Option<LentOutcome>, NoMemory>
+fn direct_slot(alloc: Global, e: &TypedExpr, names: &[Val]) -> Result<Option<LentOutcome>, NoMemory>
     ensures { IfOk result (λ o. IfSome o (λ d. (n : ℕ) (p : Program) → meaning n p e.now names.now ≡ Some (slot_value names.now d.slot ∷ [], d.steps))) }
 {
     match &e.kind {

@@ -6,9 +6,9 @@ ghost use Rattle.source_meaning.specs.Slots.{slot_values, given_values};
 ghost use Rattle.source_meaning.specs.Meaning.{over, renew as renewed_names};
 ghost use Rattle.source_meaning.specs.Pending.{Program, Rest, rest, load, whole, before, fuel, walked_body, walk, spanned, tested, ended};
 
+use crate::direct::sum;
 use crate::finish::give_failed;
 use crate::rows::{add_row, made, no_rows};
-use crate::direct::sum;
 use crate::slots::{Given, Slot, add_values};
 use crate::sources::{Places, lower_of, names_at, places_of};
 use crate::state::{After, Going, Round, State, Turned, Walk, Walked};

@@ -70,11 +70,7 @@ pub fn direct_definitions(
 }
 
 /// The values of the clauses of a loop over generators, where the names of a place are in force.
-fn direct_body(
-    alloc: Global,
-    parts: Walked<'_>,
-    names: &mut Items,
-) -> Result<Option<Row>, NoMemory>
+fn direct_body(alloc: Global, parts: Walked<'_>, names: &mut Items) -> Result<Option<Row>, NoMemory>
     ensures values { IfOk result (λ o. IfSome o (λ d. (n : ℕ) (p : Program) → walked_body n p parts.entry names.old ≡ Some (d.values, d.steps))) }
     ensures kept { IfOk result (λ o. take (length names.old) names.new ≡ names.old) }
 {

@@ -7,7 +7,7 @@ use Rattle.source_meaning.specs.Timed.{given, andthen}
 use Rattle.source_meaning.specs.Slots.{slot_value, slot_values}
 use Rattle.source_meaning.specs.Meaning.{meaning, meanings, kind_meaning}
 use Rattle.source_meaning.specs.Pending.{Program}
-use Rattle.source_meaning.proofs.AtOnce.{one_of, counted, only_is, row_step, behind_steps, applied, group_is, apply_is, said_yes, said_no, said_failed, slots_behind}
+use Rattle.source_meaning.proofs.AtOnce.{one_of, two_of, counted, only_is, both_are, row_step, behind_steps, applied, group_is, apply_is, said_yes, said_no, said_failed, slots_behind}
 use Rattle.source_meaning.proofs.direct.+direct.Goals as goal
 
 pub direct-returns-in-Some : goal.direct-returns-in-Some
@@ -119,3 +119,14 @@ direct_operation-returns-in_ok-value-in-Some t c = λ n p.
     let f = c.in-Some.found in
     let h : (n : ℕ) (p : Program) → meanings n p c.args.parts.now env ≡ Some (slot_values env f.slots, f.steps) = search rules in
     applied _ _ f.steps c.args.op.now c.in_ok-value-in-Some.value (h n p) c.in_ok-value-in-Some.ensures
+
+pub direct_pair-returns-in-Some-sum : goal.direct_pair-returns-in-Some-sum
+direct_pair-returns-in-Some-sum t c = λ n p.
+    let env = c.args.names.now in
+    let f = c.in-Some.first in
+    let g = c.in-Some-2.second in
+    let e : c.args.parts.now ≡ c.a-item.result ∷ c.b-item.result ∷ [] = two_of _ _ _ c.in-len2.len_at_least c.in-len2.len_below c.a-item.is c.b-item.is in
+    let h : (n : ℕ) (p : Program) → meaning n p c.a-item.result env ≡ Some (slot_value env f.slot ∷ [], f.steps) = search rules in
+    let i : (n : ℕ) (p : Program) → meaning n p c.b-item.result env ≡ Some (slot_value env g.slot ∷ [], g.steps) = search rules in
+    let s : c.in-Some-sum.steps ≡ f.steps + g.steps = search rules in
+    ap (λ es. meanings n p es env) e ∙ both_are n p c.a-item.result c.b-item.result env (slot_value env f.slot ∷ []) (slot_value env g.slot ∷ []) f.steps g.steps _ (h n p) (i n p) s
