@@ -4,6 +4,7 @@ pub mod Begins
 pub mod Depths
 pub mod Descents
 pub mod Follows
+pub mod Forward
 pub mod Grows
 pub mod Laws
 pub mod Parts

@@ -2,6 +2,7 @@
 //! language in `specs/`, and an evaluator that computes them.
 #![tactic(auto)]
 
+mod ahead;
 mod begin;
 mod budget;
 mod direct;

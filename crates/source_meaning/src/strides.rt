@@ -7,7 +7,7 @@ ghost use Rattle.source_meaning.specs.Pending.{Program, walked_body};
 
 use crate::direct::{are_direct, direct, sum};
 use crate::slots::{Given, Slot, add_values};
-use crate::sources::names_at;
+use crate::sources::add_names_at;
 use crate::state::Walked;
 use flow_value::{Items, NoMemory, Seq, Val};
 use std::alloc::Global;
@@ -102,8 +102,7 @@ pub fn direct_place(
 {
     let height = names.len();
     let sources = parts.form.sources.as_slice();
-    let more = names_at(alloc, names.as_slice(), sources, bounds, place)?;
-    add_values(names, Given::Many(more))?;
+    add_names_at(alloc, names, sources, bounds, place)?;
     let row = direct_body(alloc, parts, names)?;
     names.truncate(height);
     Ok(row)
