@@ -7,6 +7,7 @@ pub mod Follows
 pub mod Forward
 pub mod Grows
 pub mod Laws
+pub mod Over
 pub mod Parts
 pub mod Renewals
 pub mod Rests

@@ -101,7 +101,7 @@ fn direct_kind(
 
 /// The value of a list of one expression.
 #[cycle(direct)]
-fn direct_only(
+pub fn direct_only(
     alloc: Global,
     parts: &[TypedExpr],
     names: &[Val],

@@ -63,6 +63,8 @@ pub struct Round<'a> {
     pub height: usize,
     /// Whether a test comes before the next turn.
     pub is_tested: bool,
+    /// Whether a turn is looked for at once. What the loop gives is the same.
+    pub is_direct: bool,
     /// The clauses so far.
     pub clauses: Vec<Clause>,
 }

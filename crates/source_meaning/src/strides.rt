@@ -1,14 +1,18 @@
 //! The bodies of loops whose values come at once.
-ghost use Rattle.std.specs.Prelude.{◌≡◌, ℕ, ◌++◌, IfOk, IfSome, Some, take, length};
+ghost use Rattle.std.specs.Prelude.{◌≡◌, ℕ, ◌+◌, ◌<◌, List, ◌++◌, IfOk, IfSome, Some, None, take, length};
+ghost use Rattle.flow_value.specs.declared.value.Val.{Val};
+ghost use Rattle.source_meaning.specs.Timed.{Timed, plus, andthen};
+ghost use Rattle.source_meaning.specs.Words.{goes_on, test_of};
 ghost use Rattle.source_meaning.specs.Slots.{slot_values};
 ghost use Rattle.source_meaning.specs.Sources.{names_at};
 ghost use Rattle.source_meaning.specs.Meaning.{meanings, definitions};
 ghost use Rattle.source_meaning.specs.Pending.{Program, walked_body};
 
-use crate::direct::{are_direct, direct, sum};
+use crate::direct::{are_direct, direct, direct_only, sum};
 use crate::slots::{Given, Slot, add_values};
 use crate::sources::add_names_at;
-use crate::state::Walked;
+use crate::state::{Turned, Walked};
+use crate::words::{Test, goes_on, test_of};
 use flow_value::{Items, NoMemory, Seq, Val};
 use std::alloc::Global;
 use typed_tree::TypedExpr;
@@ -116,4 +120,92 @@ pub fn is_direct_body(parts: Walked<'_>) -> bool {
         }
     }
     are_direct(parts.values.as_slice())
+}
+
+/// The steps of a test that comes at once, where it has the loop go on.
+fn direct_test(
+    alloc: Global,
+    is_until: bool,
+    test: &[TypedExpr],
+    names: &[Val],
+) -> Result<Option<usize>, NoMemory>
+    ensures { IfOk result (λ o. IfSome o (λ k. (n : ℕ) (p : Program) (F : Test → Timed (List Val)) → andthen (meanings n p test.now names.now) (λ ts. F (goes_on is_until (test_of ts))) ≡ plus k (F Test.Yes))) }
+{
+    let Some(found) = direct_only(alloc, test, names)? else {
+        return Ok(None);
+    };
+    match goes_on(is_until, test_of(&[found.value])) {
+        Test::Yes => Ok(Some(found.steps)),
+        _ => Ok(None),
+    }
+}
+
+/// The values of the clauses before a turn and the steps of its test.
+pub fn direct_before(
+    alloc: Global,
+    parts: Turned<'_>,
+    names: &[Val],
+) -> Result<Option<Row>, NoMemory>
+    ensures { IfOk result (λ o. IfSome o (λ d. (n : ℕ) (p : Program) (F : List Val → Test → Timed (List Val)) → andthen (meanings n p parts.entry.values.now names.now) (λ row. andthen (meanings n p parts.entry.test.now names.now) (λ ts. F row (goes_on parts.entry.form.now.is_until (test_of ts)))) ≡ plus d.steps (F d.values Test.Yes))) }
+{
+    let Some(row) = direct_row(alloc, parts.values.as_slice(), names)? else {
+        return Ok(None);
+    };
+    let Some(tested) = direct_test(alloc, parts.form.is_until, parts.test.as_slice(), names)? else {
+        return Ok(None);
+    };
+    match sum(row.steps, tested) {
+        Some(steps) => Ok(Some(Row {
+            values: row.values,
+            steps,
+        })),
+        None => Ok(None),
+    }
+}
+
+/// The steps of the definitions of a turn, whose names come into force, and of the turn itself.
+/// Where that is none, the names are as before.
+pub fn direct_turn(
+    alloc: Global,
+    parts: Turned<'_>,
+    before: usize,
+    names: &mut Items,
+) -> Result<Option<usize>, NoMemory>
+    ensures defined { IfOk result (λ o. IfSome o (λ k. (n : ℕ) (p : Program) (G : List Val → Timed (List Val)) → plus before (plus 1 (andthen (definitions n p parts.entry.defs.now names.old) G)) ≡ plus k (G names.new))) }
+    ensures counted { IfOk result (λ o. IfSome o (λ k. before < k)) }
+    ensures kept { IfOk result (λ o. take (length names.old) names.new ≡ names.old) }
+    ensures undone { IfOk result (λ o. o ≡ None → names.new ≡ names.old) }
+{
+    let height = names.len();
+    match direct_definitions(alloc, parts.defs.as_slice(), names)? {
+        Some(made) => match turn_steps(before, made) {
+            Some(steps) => Ok(Some(steps)),
+            None => {
+                names.truncate(height);
+                Ok(None)
+            }
+        },
+        None => {
+            names.truncate(height);
+            Ok(None)
+        }
+    }
+}
+
+/// So many steps, that of a turn, and those of its definitions, unless they are too many.
+fn turn_steps(before: usize, made: usize) -> Option<usize>
+    ensures { IfSome result (λ k. k ≡ (before + 1) + made) }
+{
+    let turned = sum(before, 1)?;
+    sum(turned, made)
+}
+
+/// Whether the turns of a loop and what stands before them are of the forms that come at once.
+pub fn is_direct_turn(parts: Turned<'_>) -> bool {
+    for def in parts.defs.as_slice() {
+        if !are_direct(def.as_slice()) {
+            return false;
+        }
+    }
+    are_direct(parts.values.as_slice()) && are_direct(parts.test.as_slice())
 }
