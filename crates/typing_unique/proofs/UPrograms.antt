@@ -68,12 +68,12 @@ pub one_declared : (u : tree.Unit) (ds es : List Declared) → AreDeclared u ds 
 one_declared u ds es p q = one_declares u [] u.items ds es p.declares q.declares
 
 -- the parts of a typed unit, at another name of its list of functions
-record IsTypedAt (u : tree.Unit) (p : Program) (ds : List Declared) : Type 0 where
-  forward : All (λ d. Contains (signatures ds) d.signature) ds
-  functions : AreFunctionsOf u p.types ds (given ds) p.functions
-  defines : AreDefined u ds u.defines p.defines
+pub record IsTypedAt (u : tree.Unit) (p : Program) (ds : List Declared) : Type 0 where
+  pub forward : All (λ d. Contains (signatures ds) d.signature) ds
+  pub functions : AreFunctionsOf u p.types ds (given ds) p.functions
+  pub defines : AreDefined u ds u.defines p.defines
 
-typed_at : (u : tree.Unit) (p : Program) (ds : List Declared) (t : IsTyped u p) → t.declared ≡ ds → IsTypedAt u p ds
+pub typed_at : (u : tree.Unit) (p : Program) (ds : List Declared) (t : IsTyped u p) → t.declared ≡ ds → IsTypedAt u p ds
 typed_at u p ds t e = subst (IsTypedAt u p) e (record { forward = t.forward; functions = t.functions; defines = t.defines })
 
 -- ---- names of functions
@@ -172,6 +172,18 @@ one_place (x ∷ xs) f g (suc n) zero d p q e =
     absurd (d.0 (subst (Contains (map (λ s. s.name) (map (λ d. d.signature) xs))) (e ∙ ap (λ d. d.signature.name) (sym same))
     (map_there (λ s. s.name) f.signature (map (λ d. d.signature) xs) (map_there (λ d. d.signature) f xs (got_there f xs n p)))))
 one_place (x ∷ xs) f g (suc n) (suc m) d p q e = ap suc (one_place xs f g n m d.1 p q e)
+
+-- a name is that of one function, by its number
+pub one_signature : (ss : List Signature) (f g : Signature) (n m : ℕ) → AreDistinct (map (λ s. s.name) ss) → slice_get ss n ≡ Some f → slice_get ss m ≡ Some g → f.name ≡ g.name → n ≡ m
+one_signature [] f g n m d p q e = cc
+one_signature (x ∷ ss) f g zero zero d p q e = refl
+one_signature (x ∷ ss) f g zero (suc m) d p q e =
+    let same : x ≡ f = cc in
+    absurd (d.0 (subst (Contains (map (λ s. s.name) ss)) (sym e ∙ ap (λ s. s.name) (sym same)) (map_there (λ s. s.name) g ss (got_there g ss m q))))
+one_signature (x ∷ ss) f g (suc n) zero d p q e =
+    let same : x ≡ g = cc in
+    absurd (d.0 (subst (Contains (map (λ s. s.name) ss)) (e ∙ ap (λ s. s.name) (sym same)) (map_there (λ s. s.name) f ss (got_there f ss n p))))
+one_signature (x ∷ ss) f g (suc n) (suc m) d p q e = ap suc (one_signature ss f g n m d.1 p q e)
 
 one_defines : (u : tree.Unit) (ds : List Declared) (ns : List Named) (ms others : List ℕ) → AreDistinct (map (λ s. s.name) (signatures ds)) → AreDefined u ds ns ms → AreDefined u ds ns others
     → ms ≡ others
