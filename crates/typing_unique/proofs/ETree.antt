@@ -16,7 +16,6 @@ use Rattle.sisal_tree.specs.declared.expr.Clause.{Clause}
 use Rattle.sisal_tree.specs.declared.expr.Mask.{Mask}
 use Rattle.flow_value.specs.declared.operation.Scalar1.TheVariants as unary
 use Rattle.value_ops.specs.declared.operation.Operation.TheVariants as operation
-use Rattle.typed_tree.specs.declared.built_in.BuiltIn.{BuiltIn}
 use Rattle.typed_tree.specs.declared.expr.TypedExpr.{TypedExpr}
 use Rattle.typed_tree.specs.declared.expr.TypedKind.TheVariants as node
 use Rattle.typed_tree.specs.declared.expr.Source.{Source}
@@ -118,7 +117,7 @@ module _ (k : Known) (denotes : Written → Ty → Type 0) (misnames : Written �
         let type = type_of s e t (ty.Uni ms ∷ []) p sc v.part (ty.Uni v.members ∷ []) v.typed in
         same_tree k denotes numbered l ns (node.Apply (operation.IsTag place) (t ∷ [])) (node.Apply (operation.IsTag v.place) (v.part ∷ [])) u (ty.Bool ∷ []) others n same v.tree
         (ap (λ i. node.Apply (operation.IsTag i) (t ∷ []))
-            (place_of ms v.members x place v.place content v.content (tags_once s e t ms p sc).1 (same_union ms v.members (same_first (ty.Uni ms) (ty.Uni v.members) [] [] type)) h v.has)
+        (place_of ms v.members x place v.place content v.content (tags_once s e t ms p sc).1 (same_union ms v.members (same_first (ty.Uni ms) (ty.Uni v.members) [] [] type)) h v.has)
         ∙ ap (λ z. node.Apply (operation.IsTag v.place) (z ∷ [])) (one_tree s e t (ty.Uni ms ∷ []) p sc v.part (ty.Uni v.members ∷ []) type v.typed))
     one_tree s _ _ _ (rule.prefix {l = l} {o = o} {e = e} {t = t} {ns = ns} p n) sc u others same q =
         let v : IsPrefixTree k denotes s l o e u others = view k denotes s l (tree.Prefix o e) (ExprKind-F.Prefix o e) u others (out_prefix o e) q in
@@ -149,7 +148,7 @@ module _ (k : Known) (denotes : Written → Ty → Type 0) (misnames : Written �
         let type = type_of s e t (ty.Rec ms ∷ []) p sc v.part (ty.Rec v.members ∷ []) v.typed in
         same_tree k denotes numbered l ns (node.Apply (operation.Field place) (t ∷ [])) (node.Apply (operation.Field v.place) (v.part ∷ [])) u (content ∷ []) others n same v.tree
         (ap (λ i. node.Apply (operation.Field i) (t ∷ []))
-            (place_of ms v.members x place v.place content v.content (once_in s e t ms p sc) (same_record ms v.members (same_first (ty.Rec ms) (ty.Rec v.members) [] [] type)) h v.has)
+        (place_of ms v.members x place v.place content v.content (once_in s e t ms p sc) (same_record ms v.members (same_first (ty.Rec ms) (ty.Rec v.members) [] [] type)) h v.has)
         ∙ ap (λ z. node.Apply (operation.Field v.place) (z ∷ [])) (one_tree s e t (ty.Rec ms ∷ []) p sc v.part (ty.Rec v.members ∷ []) type v.typed))
     one_tree s _ _ _ (rule.replace {l = l} {ms = ms} {e = e} {t = t} {vs = vs} {places = places} {us = ts} {ns = ns} p r d n) sc u others same q =
         let v : IsReplaceTree k denotes s l e vs u others = view k denotes s l (tree.Replace e vs) (ExprKind-F.Replace e vs) u others (out_replace e vs) q in
@@ -187,14 +186,14 @@ module _ (k : Known) (denotes : Written → Ty → Type 0) (misnames : Written �
         same_tree k denotes numbered l ns (node.Apply (operation.Union place) (t ∷ [])) (node.Apply (operation.Union v.place) (v.part ∷ [])) u (ty.Uni ms ∷ []) others n same v.tree
         (ap (λ i. node.Apply (operation.Union i) (t ∷ [])) (place_of ms v.members tag place v.place content v.content (union_proper ms (fair.types x (ty.Uni ms) h)).1 members has v.has)
         ∙ ap (λ z. node.Apply (operation.Union v.place) (z ∷ []))
-            (one_tree s e t (content ∷ []) p sc v.part (v.content ∷ []) (type_of s e t (content ∷ []) p sc v.part (v.content ∷ []) v.typed) v.typed))
+        (one_tree s e t (content ∷ []) p sc v.part (v.content ∷ []) (type_of s e t (content ∷ []) p sc v.part (v.content ∷ []) v.typed) v.typed))
     one_tree s _ _ _ (rule.let_in {after = after} {l = l} {ds = ds} {us = us} {made = made} {tys = tys} {es = es} {ts = ts} {ns = ns} p d r n) sc u others same q =
         let v : IsLetTree k denotes s l ds es u others = view k denotes s l (tree.Let ds es) (ExprKind-F.Let ds es) u others (out_let ds es) q in
         let behind = definitions_one k k.forms k.forms denotes misnames fair s ds us made after p sc v.values v.made v.after v.defines in
         same_tree k denotes numbered l ns (node.Let us ts) (node.Let v.values v.exprs) u tys others n same v.tree
         (ap (λ z. node.Let z ts) (definitions_trees s ds us made after p sc v.values v.made v.after v.defines)
         ∙ ap (λ z. node.Let v.values z) (all_trees after es ts tys r (definitions_proper k k.forms denotes misnames fair s ds us made after p sc).1 v.exprs others
-            (subst (λ z. AreTyped k denotes z es v.exprs others) (sym behind.1) v.typed)))
+        (subst (λ z. AreTyped k denotes z es v.exprs others) (sym behind.1) v.typed)))
     one_tree s _ _ _ (rule.if_else {l = l} {c = c} {t = t} {es = es} {fs = fs} {ts = ts} {us = us} {tys = tys} {ns = ns} p r w n) sc u others same q =
         let v : IsIfTree k denotes s l c es fs u others = view k denotes s l (tree.If c es fs) (ExprKind-F.If c es fs) u others (out_if c es fs) q in
         same_tree k denotes numbered l ns (node.If (t ∷ []) ts us) (node.If (v.test ∷ []) v.yes v.no_exprs) u tys others n same v.tree
@@ -232,11 +231,11 @@ module _ (k : Known) (denotes : Written → Ty → Type 0) (misnames : Written �
         (ap (λ f. node.Initial (record { is_first = is_first; is_until = is_until; renewed = renewals (loop_of s ds f) s.height (targets es); clauses = clauses }) us (t ∷ []) vs ts) begun.0
         ∙ ap (λ z. node.Initial (record { is_first = is_first; is_until = is_until; renewed = renewals (loop_of s ds v.first) s.height (targets es); clauses = z }) us (t ∷ []) vs ts) made.0
         ∙ ap (λ z. node.Initial (record { is_first = is_first; is_until = is_until; renewed = renewals (loop_of s ds v.first) s.height (targets es); clauses = v.clauses }) z (t ∷ []) vs ts)
-            (definitions_trees s ds us first started p sc v.values v.first v.started v.defines)
+        (definitions_trees s ds us first started p sc v.values v.first v.started v.defines)
         ∙ ap (λ z. node.Initial (record { is_first = is_first; is_until = is_until; renewed = renewals (loop_of s ds v.first) s.height (targets es); clauses = v.clauses }) v.values (z ∷ []) vs ts)
-            (one_tree started test t (ty.Bool ∷ []) r fit.1 v.part (ty.Bool ∷ []) refl (subst (λ z. Types k denotes z test v.part (ty.Bool ∷ [])) (sym begun.1) v.typed_test))
+        (one_tree started test t (ty.Bool ∷ []) r fit.1 v.part (ty.Bool ∷ []) refl (subst (λ z. Types k denotes z test v.part (ty.Bool ∷ [])) (sym begun.1) v.typed_test))
         ∙ ap (λ z. node.Initial (record { is_first = is_first; is_until = is_until; renewed = renewals (loop_of s ds v.first) s.height (targets es); clauses = v.clauses }) v.values (v.part ∷ []) z ts)
-            (definitions_trees (in_turn (loop_of s ds first) (targets es) started) es vs later after w (turn_proper s started ds first (targets es) fit.0 fit.1) v.renewed v.later v.turned turns)
+        (definitions_trees (in_turn (loop_of s ds first) (targets es) started) es vs later after w (turn_proper s started ds first (targets es) fit.0 fit.1) v.renewed v.later v.turned turns)
         ∙ ap (λ z. node.Initial (record { is_first = is_first; is_until = is_until; renewed = renewals (loop_of s ds v.first) s.height (targets es); clauses = v.clauses }) v.values (v.part ∷ []) v.renewed z) made.1)
 
     pub all_trees : (s : Scope) (es : List Expr) (ts : List TypedExpr) (tys : List Ty) → AreTyped k denotes s es ts tys → IsProperScope s
@@ -260,10 +259,11 @@ module _ (k : Known) (denotes : Written → Ty → Type 0) (misnames : Written �
     changed_trees s ms _ _ _ rule.no_field once sc others us q = let v : (others ≡ []) × (us ≡ []) = changed_of k denotes s ms [] others us q in (sym v.0, sym v.1)
     changed_trees s ms _ _ _ (rule.a_field {n = n} {place = place} {a = a} {e = e} {t = t} {vs = vs} {places = places} {us = ts} h p r) once sc others us q =
         let v : IsChangedTree k denotes s ms (record { field = n; value = e }) vs others us = changed_of k denotes s ms (record { field = n; value = e } ∷ vs) others us q in
-        let rest = changed_trees s ms vs places ts r once sc v.others v.trees v.later in
-        (ap (λ i. i ∷ places) (place_of ms ms n.name place v.place a v.type once refl h v.has) ∙ ap (λ l. v.place ∷ l) rest.0 ∙ sym v.is_places,
-        ap (λ z. z ∷ ts) (one_tree s e t (a ∷ []) p sc v.first (v.type ∷ []) (type_of s e t (a ∷ []) p sc v.first (v.type ∷ []) v.typed) v.typed)
-        ∙ ap (λ l. v.first ∷ l) rest.1 ∙ sym v.is_trees)
+        let rest = changed_trees s ms vs places ts r once sc v.others v.trees v.later in (
+          ap (λ i. i ∷ places) (place_of ms ms n.name place v.place a v.type once refl h v.has) ∙ ap (λ l. v.place ∷ l) rest.0 ∙ sym v.is_places,
+          ap (λ z. z ∷ ts) (one_tree s e t (a ∷ []) p sc v.first (v.type ∷ []) (type_of s e t (a ∷ []) p sc v.first (v.type ∷ []) v.typed) v.typed)
+              ∙ ap (λ l. v.first ∷ l) rest.1 ∙ sym v.is_trees,
+        )
 
     pub definitions_trees : (s : Scope) (ds : List Def) (us : List (List TypedExpr)) (tys : List Ty) (after : Scope) → Defines k denotes s ds us tys after → IsProperScope s
         → (ws : List (List TypedExpr)) (others : List Ty) (later : Scope) → Defines k denotes s ds ws others later → us ≡ ws
@@ -275,7 +275,7 @@ module _ (k : Known) (denotes : Written → Ty → Type 0) (misnames : Written �
         subst (λ m. Defines k denotes (define_all (names_in xs) m s) ds v.rest v.others later) (sym made) v.later in
         ap (λ z. z ∷ us) (all_trees s es ts tys p sc v.exprs v.made v.typed)
         ∙ ap (λ l. v.exprs ∷ l)
-            (definitions_trees (define_all (names_in xs) tys s) ds us rest after r (defined_proper (names_in xs) tys s (all_proper k k.forms denotes misnames fair s es ts tys p sc) sc) v.rest v.others later behind)
+        (definitions_trees (define_all (names_in xs) tys s) ds us rest after r (defined_proper (names_in xs) tys s (all_proper k k.forms denotes misnames fair s es ts tys p sc) sc) v.rest v.others later behind)
         ∙ sym v.is
 
     pub crossed_trees : (s : Scope) (l : ℕ) (gs : List (List Generator)) (ds : List Def) (cs : List Clause) (t : TypedExpr) (tys : List Ty) → Crosses k denotes s l gs ds cs t tys → IsProperScope s
@@ -297,7 +297,7 @@ module _ (k : Known) (denotes : Written → Ty → Type 0) (misnames : Written �
         ∙ ap (λ z. node.Product (record { sources = v.sources; clauses = z }) bounds values ts) results.0
         ∙ ap (λ z. node.Product (record { sources = v.sources; clauses = body.clauses }) z values ts) over.1
         ∙ ap (λ z. node.Product (record { sources = v.sources; clauses = body.clauses }) v.bounds z ts)
-            (definitions_trees (define_all names made s) ds values defined inside r started body.values body.made body.inside body.defines)
+        (definitions_trees (define_all names made s) ds values defined inside r started body.values body.made body.inside body.defines)
         ∙ ap (λ z. node.Product (record { sources = v.sources; clauses = body.clauses }) v.bounds body.values z) results.1)
     crossed_trees s l _ ds cs _ tys (rule.a_group {names = names} {ns = ns} {tys = made} {inner = inner} {g = g} {gs = gs} {sources = sources} {bounds = bounds} {forms = clauses} {t = t} p d r f n) sc u others same q =
         let v : IsCrossedTree k denotes s l g gs ds cs u others = crossed_of k denotes s l (g ∷ gs) ds cs u others q in
@@ -316,7 +316,7 @@ module _ (k : Known) (denotes : Written → Ty → Type 0) (misnames : Written �
         ∙ ap (λ z. node.Product (record { sources = v.sources; clauses = z }) bounds [] (t ∷ [])) (one_forms cs inner loop.inner clauses loop.clauses tys others results f loop.folds)
         ∙ ap (λ z. node.Product (record { sources = v.sources; clauses = loop.clauses }) z [] (t ∷ [])) over.1
         ∙ ap (λ z. node.Product (record { sources = v.sources; clauses = loop.clauses }) v.bounds [] (z ∷ []))
-            (crossed_trees (define_all names made s) l gs ds cs t inner r started loop.part loop.inner results loop.crosses))
+        (crossed_trees (define_all names made s) l gs ds cs t inner r started loop.part loop.inner results loop.crosses))
 
     pub generated_trees : (s : Scope) (gs : List Generator) (sources : List Source) (bounds : List TypedExpr) (names : List ℕ) (tys : List Ty) → Generates k denotes s gs sources bounds names tys
         → IsProperScope s → (sources2 : List Source) (bounds2 : List TypedExpr) (names2 : List ℕ) (others : List Ty) → Generates k denotes s gs sources2 bounds2 names2 others
@@ -325,23 +325,26 @@ module _ (k : Known) (denotes : Written → Ty → Type 0) (misnames : Written �
         let v : (sources2 ≡ []) × (bounds2 ≡ []) = generated_of k denotes s [] sources2 bounds2 names2 others q in (sym v.0, sym v.1)
     generated_trees s _ _ _ _ _ (rule.range n {e = e} {f = f} {t = t} {u = u} {names = names} {tys = tys} {gs = gs} {sources = sources} {bounds = bounds} p r w) sc sources2 bounds2 names2 others q =
         let v : IsRangeTree k denotes s e f gs sources2 bounds2 = view_generators k denotes s n e (Some f) None gs sources2 bounds2 names2 others q in
-        let rest = generated_trees s gs sources bounds names tys w sc v.others v.rest v.names v.types v.later in
-        (ap (λ l. source.Range ∷ l) rest.0 ∙ sym v.is_sources,
-        ap (λ z. z ∷ u ∷ bounds) (one_tree s e t (ty.Int ∷ []) p sc v.from (ty.Int ∷ []) refl v.typed_from)
-        ∙ ap (λ z. v.from ∷ z ∷ bounds) (one_tree s f u (ty.Int ∷ []) r sc v.to (ty.Int ∷ []) refl v.typed_to)
-        ∙ ap (λ l. v.from ∷ v.to ∷ l) rest.1 ∙ sym v.is_bounds)
+        let rest = generated_trees s gs sources bounds names tys w sc v.others v.rest v.names v.types v.later in (
+          ap (λ l. source.Range ∷ l) rest.0 ∙ sym v.is_sources,
+          ap (λ z. z ∷ u ∷ bounds) (one_tree s e t (ty.Int ∷ []) p sc v.from (ty.Int ∷ []) refl v.typed_from)
+              ∙ ap (λ z. v.from ∷ z ∷ bounds) (one_tree s f u (ty.Int ∷ []) r sc v.to (ty.Int ∷ []) refl v.typed_to)
+              ∙ ap (λ l. v.from ∷ v.to ∷ l) rest.1 ∙ sym v.is_bounds,
+        )
     generated_trees s _ _ _ _ _ (rule.elements n {a = a} {b = b} {e = e} {t = t} {names = names} {tys = tys} {gs = gs} {sources = sources} {bounds = bounds} p h w) sc sources2 bounds2 names2 others q =
         let v : IsElementsTree k denotes s e None gs sources2 bounds2 = view_generators k denotes s n e None None gs sources2 bounds2 names2 others q in
-        let rest = generated_trees s gs sources bounds names tys w sc v.others v.rest v.names v.types v.later in
-        (ap (λ l. source.Elements ∷ l) rest.0 ∙ sym v.is_sources,
-        ap (λ z. z ∷ bounds) (one_tree s e t (a ∷ []) p sc v.part (v.whole ∷ []) (type_of s e t (a ∷ []) p sc v.part (v.whole ∷ []) v.typed) v.typed)
-        ∙ ap (λ l. v.part ∷ l) rest.1 ∙ sym v.is_bounds)
+        let rest = generated_trees s gs sources bounds names tys w sc v.others v.rest v.names v.types v.later in (
+          ap (λ l. source.Elements ∷ l) rest.0 ∙ sym v.is_sources,
+          ap (λ z. z ∷ bounds) (one_tree s e t (a ∷ []) p sc v.part (v.whole ∷ []) (type_of s e t (a ∷ []) p sc v.part (v.whole ∷ []) v.typed) v.typed)
+              ∙ ap (λ l. v.part ∷ l) rest.1 ∙ sym v.is_bounds,
+        )
     generated_trees s _ _ _ _ _ (rule.indexed n {i = i} {a = a} {b = b} {e = e} {t = t} {names = names} {tys = tys} {gs = gs} {sources = sources} {bounds = bounds} p h w) sc sources2 bounds2 names2 others q =
         let v : IsElementsTree k denotes s e (Some i) gs sources2 bounds2 = view_generators k denotes s n e None (Some i) gs sources2 bounds2 names2 others q in
-        let rest = generated_trees s gs sources bounds names tys w sc v.others v.rest v.names v.types v.later in
-        (ap (λ l. source.Indexed ∷ l) rest.0 ∙ sym v.is_sources,
-        ap (λ z. z ∷ bounds) (one_tree s e t (a ∷ []) p sc v.part (v.whole ∷ []) (type_of s e t (a ∷ []) p sc v.part (v.whole ∷ []) v.typed) v.typed)
-        ∙ ap (λ l. v.part ∷ l) rest.1 ∙ sym v.is_bounds)
+        let rest = generated_trees s gs sources bounds names tys w sc v.others v.rest v.names v.types v.later in (
+          ap (λ l. source.Indexed ∷ l) rest.0 ∙ sym v.is_sources,
+          ap (λ z. z ∷ bounds) (one_tree s e t (a ∷ []) p sc v.part (v.whole ∷ []) (type_of s e t (a ∷ []) p sc v.part (v.whole ∷ []) v.typed) v.typed)
+              ∙ ap (λ l. v.part ∷ l) rest.1 ∙ sym v.is_bounds,
+        )
 
     pub clauses_trees : (s : Scope) (cs : List Clause) (clauses : List ClauseForm) (ts : List TypedExpr) (tys : List Ty) → AreClauses k denotes s cs clauses ts tys → IsProperScope s
         → (clauses2 : List ClauseForm) (us : List TypedExpr) (others : List Ty) → AreClauses k denotes s cs clauses2 us others → (clauses ≡ clauses2) × (ts ≡ us)
@@ -350,10 +353,11 @@ module _ (k : Known) (denotes : Written → Ty → Type 0) (misnames : Written �
     clauses_trees s _ _ _ _ (rule.a_clause l {kind = kind} {a = a} {b = b} {e = e} {t = t} {m = m} {masks = masks} {cs = cs} {forms = clauses} {ts = ts} {tys = tys} p h d w r) sc clauses2 us others q =
         let v : IsClauseTree k denotes s kind e m cs clauses2 us = view_clauses k denotes s l kind e m cs clauses2 us others q in
         let type = type_of s e t (a ∷ []) p sc v.part (v.value ∷ []) v.typed in
-        let rest = clauses_trees s cs clauses ts tys r sc v.clauses v.exprs v.others v.later in
-        (ap (λ z. clause_form kind z m ∷ clauses) (same_first a v.value [] [] type) ∙ ap (λ l. clause_form kind v.value m ∷ l) rest.0 ∙ sym v.is_forms,
-        ap (λ z. z ∷ (masks ++ ts)) (one_tree s e t (a ∷ []) p sc v.part (v.value ∷ []) type v.typed)
-        ∙ ap (λ z. v.part ∷ (z ++ ts)) (mask_trees s m masks w sc v.masks v.mask) ∙ ap (λ l. v.part ∷ (v.masks ++ l)) rest.1 ∙ sym v.is_trees)
+        let rest = clauses_trees s cs clauses ts tys r sc v.clauses v.exprs v.others v.later in (
+          ap (λ z. clause_form kind z m ∷ clauses) (same_first a v.value [] [] type) ∙ ap (λ l. clause_form kind v.value m ∷ l) rest.0 ∙ sym v.is_forms,
+          ap (λ z. z ∷ (masks ++ ts)) (one_tree s e t (a ∷ []) p sc v.part (v.value ∷ []) type v.typed)
+              ∙ ap (λ z. v.part ∷ (z ++ ts)) (mask_trees s m masks w sc v.masks v.mask) ∙ ap (λ l. v.part ∷ (v.masks ++ l)) rest.1 ∙ sym v.is_trees,
+        )
 
     pub mask_trees : (s : Scope) (m : Option Mask) (ts : List TypedExpr) → IsMask k denotes s m ts → IsProperScope s → (us : List TypedExpr) → IsMask k denotes s m us → ts ≡ us
     mask_trees s _ _ rule.no_mask sc us q = let e : us ≡ [] = mask_of k denotes s None us q in sym e

@@ -35,7 +35,7 @@ use Rattle.typed_tree.specs.Types.{Member, constant_type, scalar_type, prefix_ty
 use Rattle.typed_tree.specs.Operations.{prefix_operation, binary_operation, convert_operation, built_in_operation, clause_form}
 use Rattle.typed_tree.specs.Typing as rule
 use Rattle.typed_tree.specs.Typing.{Known, Number, names_of, loop_of, named_arms, at, with, Types, AreTyped, Replaces, HasFields, Defines, Crosses, Generates, AreClauses, IsMask, AreArms, Folds}
-use Rattle.typing_unique.specs.InvertedTree.{source_of, HasTree, IsArrayTree, IsTagCaseTree, IsInitialTree, IsLoopTree, InvertedTree, TypedTreeIn, FieldsTreeIn, ReplacesTreeIn, IsDefinitionTree, DefinesTreeIn, IsInsideTree, IsInnerLoopTree, CrossesTreeIn, IsGeneratorTree, GeneratesTreeIn, IsClauseTree, ClausesTreeIn, IsArmTree, ArmsTreeIn, MaskTreeIn}
+use Rattle.typing_unique.specs.InvertedTree.{HasTree, IsArrayTree, IsTagCaseTree, IsInitialTree, IsLoopTree, InvertedTree, TypedTreeIn, FieldsTreeIn, ReplacesTreeIn, IsDefinitionTree, DefinesTreeIn, IsInsideTree, IsInnerLoopTree, CrossesTreeIn, IsGeneratorTree, GeneratesTreeIn, IsClauseTree, ClausesTreeIn, IsArmTree, ArmsTreeIn, MaskTreeIn}
 use Rattle.typing_unique.proofs.EViews.{out_constant, out_name, out_old, out_group, out_call, out_convert, out_error_of, out_is_error, out_is_tag, out_prefix, out_binary, out_select, out_update, out_field, out_replace, out_empty_array, out_array, out_stream, out_a_record, out_union, out_let, out_if, out_tag_case, out_for, out_product, out_initial, out_elements, out_def, out_case, out_arm, out_generator, out_turn, out_clause}
 use Rattle.typing_unique.proofs.EInverted.{some_group}
 
@@ -126,18 +126,43 @@ module _ (k : Known) (denotes : Written → Ty → Type 0) where
       let case = roll-TagCase (record { name = x; subject = e; arms = arms; otherwise = other }) in
       turned s l (tree.TagCase case) (ExprKind-F.TagCase case) t tys (out_tag_case case)
       (subst (λ r. IsTagCaseTree k denotes s l r.name r.subject r.arms r.otherwise (with l ns (node.Case (record { named = named_arms x arms; choices = choices }) (i ∷ []) (typed_arms ++ last))) tys) (sym (out_case x e arms other))
-      (record { members = ms; part = i; typed_arms = typed_arms; last = last; tags = tags; choices = choices; typed = p; are_arms = q; otherwise = o; chooses = c;
-        tree = built l (node.Case (record { named = named_arms x arms; choices = choices }) (i ∷ []) (typed_arms ++ last)) ns tys n }))
+      (record {
+        members = ms;
+        part = i;
+        typed_arms = typed_arms;
+        last = last;
+        tags = tags;
+        choices = choices;
+        typed = p;
+        are_arms = q;
+        otherwise = o;
+        chooses = c;
+        tree = built l (node.Case (record { named = named_arms x arms; choices = choices }) (i ∷ []) (typed_arms ++ last)) ns tys n;
+      }))
   inverted_tree s _ t _ (rule.for_product {l = l} {tys = tys} {gs = gs} {ds = ds} {cs = cs} p) =
       loop_turned s l (loop.Product gs ds cs) (Loop-F.Product gs ds cs) t tys (out_product gs ds cs) p
   inverted_tree s _ t _ (rule.for_initial {started = started} {turned = after} {l = l} {first = first} {later = later} {tys = tys} {ns = ns} is_first is_until {test = test} {t = i} {ds = ds} {es = es} {us = us} {vs = vs} {cs = cs} {forms = clauses} {ts = ts} p d q r e keeps c n) =
       let turn = roll-Turn (record { is_first = is_first; is_until = is_until; test = test; defs = es }) in
       loop_turned s l (loop.Initial ds turn cs) (Loop-F.Initial ds turn cs) t tys (out_initial ds turn cs)
       (subst (λ r. IsInitialTree k denotes s l ds r.is_first r.is_until r.test r.defs cs
-          (with l ns (node.Initial (record { is_first = is_first; is_until = is_until; renewed = renewals (loop_of s ds first) s.height (targets es); clauses = clauses }) us (i ∷ []) vs ts)) tys)
+      (with l ns (node.Initial (record { is_first = is_first; is_until = is_until; renewed = renewals (loop_of s ds first) s.height (targets es); clauses = clauses }) us (i ∷ []) vs ts)) tys)
       (sym (out_turn is_first is_until test es))
-      (record { started = started; turned = after; first = first; later = later; values = us; renewed = vs; part = i; clauses = clauses; exprs = ts; defines = p; typed_test = q; turns = r; results = c;
-        tree = built l (node.Initial (record { is_first = is_first; is_until = is_until; renewed = renewals (loop_of s ds first) s.height (targets es); clauses = clauses }) us (i ∷ []) vs ts) ns tys n }))
+      (record {
+        started = started;
+        turned = after;
+        first = first;
+        later = later;
+        values = us;
+        renewed = vs;
+        part = i;
+        clauses = clauses;
+        exprs = ts;
+        defines = p;
+        typed_test = q;
+        turns = r;
+        results = c;
+        tree = built l (node.Initial (record { is_first = is_first; is_until = is_until; renewed = renewals (loop_of s ds first) s.height (targets es); clauses = clauses }) us (i ∷ []) vs ts) ns tys n;
+      }))
 
   -- what the tree of an expression of a known form consists of
   pub view : (s : Scope) (l : ℕ) (kind : ExprKind) (v : ExprKind-F ExprKind Loop Arm Clause Def Elements Expr FieldValue Generator Mask TagCase Turn) (t : TypedExpr) (tys : List Ty)

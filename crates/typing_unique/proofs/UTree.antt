@@ -1,5 +1,5 @@
 -- A unit has one typed tree over a table in which each type has one number.
-use Rattle.std.proofs.Common.{◌≡◌, ℕ, List, [], ◌∷◌, map, Contains, refl, sym, ap, subst, ◌∙◌, Option, Some}
+use Rattle.std.proofs.Common.{◌≡◌, ℕ, List, ◌∷◌, Contains, refl, sym, ap, subst, ◌∙◌, Option, Some}
 use Rattle.flow_value.specs.declared.ty.Ty.{Ty}
 use Rattle.type_table.specs.declared.form.Form.{Form}
 use Rattle.sisal_tree.specs.declared.unit.FunKind.{FunKind}
@@ -7,14 +7,13 @@ use Rattle.sisal_tree.specs.declared.unit.Unit as tree
 use Rattle.typed_tree.specs.declared.expr.TypedExpr.{TypedExpr}
 use Rattle.typed_tree.specs.declared.program.Function.{Function}
 use Rattle.typed_tree.specs.declared.program.Program.{Program}
-use Rattle.typed_tree.specs.Typing.{Signature, Known, IsFunction}
-use Rattle.typed_tree.specs.Units.{is_given, Declared, given, signatures, parameters, denotes, known, AreDeclared, HasBody, global, defined, IsFunctionOf, AreFunctionsOf, no_function, a_function, IsTyped}
+use Rattle.typed_tree.specs.Units.{is_given, Declared, given, signatures, parameters, denotes, known, AreDeclared, HasBody, global, defined, IsFunctionOf, AreFunctionsOf, no_function, a_function}
 use Rattle.typed_tree.specs.Faults.{misnames}
 use Rattle.typing_unique.specs.InvertedTree.{AreNumbered}
 use Rattle.typing_unique.specs.UnitLaws.{AreSpelledOnce, IsEachOnce, OneTreeLaw}
 use Rattle.typing_unique.proofs.UDeclared.{first_there, later_there, filter_there}
 use Rattle.typing_unique.proofs.UFair.{fair}
-use Rattle.typing_unique.proofs.UPrograms.{IsTypedAt, typed_at, one_declared, one_signature, same_program}
+use Rattle.typing_unique.proofs.UPrograms.{typed_at, one_declared, one_signature, same_program}
 use Rattle.typing_unique.proofs.UBodies.{parameters_proper}
 use Rattle.typing_unique.proofs.ETreeParts.{numbers_one}
 use Rattle.typing_unique.proofs.ETree.{all_trees}

@@ -1,6 +1,6 @@
 -- What the typed tree of an expression must consist of, by the form of the expression: the typing rules (typed_tree/specs/Typing)
 -- read from the conclusion to the premises, at one table of types.
-use Rattle.std.specs.Prelude.{◌≡◌, ◌⊎◌, ℕ, List, [], ◌∷◌, ◌++◌, map, flat_map, Bool, Option, Some, None, All}
+use Rattle.std.specs.Prelude.{◌≡◌, ◌⊎◌, ℕ, List, [], ◌∷◌, ◌++◌, Bool, Option, Some, None, All}
 use Rattle.name_scope.specs.Newest.{newest}
 use Rattle.flow_value.specs.declared.ty.Ty.{Ty}
 use Rattle.flow_value.specs.declared.ty.Ty.TheVariants as ty
@@ -34,7 +34,7 @@ use Rattle.typed_tree.specs.declared.expr.TypedKind.TheVariants as node
 use Rattle.typed_tree.specs.declared.expr.Source.{Source}
 use Rattle.typed_tree.specs.declared.expr.Source.TheVariants as source
 use Rattle.typed_tree.specs.declared.expr.ClauseForm.{ClauseForm}
-use Rattle.typed_tree.specs.Scopes.{Meaning, At, Scope, define_all, targets, AreDistinct, in_turn, renewals}
+use Rattle.typed_tree.specs.Scopes.{Meaning, At, Scope, define_all, targets, in_turn, renewals}
 use Rattle.typed_tree.specs.Types.{Member, IsNumber, prefix_type}
 use Rattle.typed_tree.specs.Operations.{prefix_operation, binary_operation, convert_operation, built_in_operation, clause_form}
 use Rattle.typed_tree.specs.Typing.{Signature, Known, IsFunction, IsBuiltIn, IsTypeNamed, Number, Has, IsTag, Chooses, with, names_of, names_in, loop_of, with_content, named_arms, Folds, Types, AreTyped, Replaces, HasFields, Defines, Crosses, Generates, AreClauses, IsMask, AreArms, IsOtherwise}

@@ -6,8 +6,9 @@ mod expr_laws;
 mod unit_laws;
 
 pub use expr_laws::{
-    an_expression_has_one_list_of_types, an_expression_has_one_typed_tree, definitions_lead_to_one_scope,
-    definitions_that_break_a_rule_define_nothing, expressions_have_one_list_of_types, expressions_have_one_list_of_typed_trees,
+    an_expression_has_one_list_of_types, an_expression_has_one_typed_tree,
+    definitions_lead_to_one_scope, definitions_that_break_a_rule_define_nothing,
+    expressions_have_one_list_of_typed_trees, expressions_have_one_list_of_types,
     lists_that_break_a_rule_have_no_types, types_are_proper, what_breaks_a_rule_has_no_type,
     what_breaks_a_rule_is_not_one_value,
 };
