@@ -39,7 +39,7 @@ abbrev IsNotEmpty : List (List Generator) → Type 0
 IsNotEmpty [] = ⊥
 IsNotEmpty (g ∷ gs) = Unit {0}
 
-some_group : (k : Known) (denotes : Written → Ty → Type 0) (s : Scope) (l : ℕ) (gs : List (List Generator)) (ds : List Def) (cs : List Clause) (t : TypedExpr) (tys : List Ty)
+pub some_group : (k : Known) (denotes : Written → Ty → Type 0) (s : Scope) (l : ℕ) (gs : List (List Generator)) (ds : List Def) (cs : List Clause) (t : TypedExpr) (tys : List Ty)
     → Crosses k denotes s l gs ds cs t tys → IsNotEmpty gs
 some_group k denotes s l _ ds cs _ tys (rule.one_group p d q e c n) = tt
 some_group k denotes s l _ ds cs _ tys (rule.a_group p d q f n) = tt

@@ -11,11 +11,16 @@ pub mod UFair
 pub mod UPrograms
 pub mod EViews
 pub mod EInverted
+pub mod ETreeViews
 pub mod ETypes
 pub mod EScopes
 pub mod EProper
 pub mod EOne
 pub mod EParts
+pub mod ETreeParts
+pub mod ETree
+pub mod ETreeLaws
 pub mod ENone
 pub mod ELaws
 pub mod UBodies
+pub mod UTree

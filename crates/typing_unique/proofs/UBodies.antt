@@ -20,7 +20,7 @@ use Rattle.typing_unique.proofs.UFair.{declared_proper, fair}
 use Rattle.typing_unique.proofs.UPrograms.{no_program}
 
 module _ (u : tree.Unit) (once : AreSpelledOnce u.tokens.names) (ds : List Declared) (are : AreDeclared u ds) where
-  parameters_proper : (d : Declared) → Contains ds d → IsProperScope (parameters d.signature)
+  pub parameters_proper : (d : Declared) → Contains ds d → IsProperScope (parameters d.signature)
   parameters_proper d c = defined_proper d.signature.parameters d.signature.params no_names (declared_proper u once ds are d c).params no_names_proper
 
   pub one_body : (forms others : List Form) (d : Declared) → Contains ds d → (es : List Expr) (ts us : List TypedExpr) (tys more : List Ty)

@@ -1,5 +1,6 @@
 -- A unit that breaks a rule is no program, where its functions' bodies have one list of types and none where they break a rule.
-use Rattle.std.proofs.Common.{◌≡◌, ◌≢◌, ℕ, zero, suc, true, List, [], ◌∷◌, map, Contains, All, refl, sym, ap, subst, ◌∙◌, ◌⊎◌, inl, inr, Option, Some, slice_get}
+use Rattle.std.proofs.Common.{◌≡◌, ◌≢◌, ℕ, zero, suc, true, List, [], ◌∷◌, map, Contains, All, refl, sym, ap, subst, ◌∙◌, ◌⊎◌, inl, inr, Option, Some, slice_get, option_map}
+use Rattle.std.proofs.lemmas.Option.{slice_get-map}
 use Rattle.std.proofs.lemmas.List.Elements.{All-map, All-contains}
 use Rattle.flow_value.specs.declared.ty.Ty.{Ty}
 use Rattle.type_table.specs.declared.form.Form.{Form}
@@ -68,12 +69,12 @@ pub one_declared : (u : tree.Unit) (ds es : List Declared) → AreDeclared u ds 
 one_declared u ds es p q = one_declares u [] u.items ds es p.declares q.declares
 
 -- the parts of a typed unit, at another name of its list of functions
-record IsTypedAt (u : tree.Unit) (p : Program) (ds : List Declared) : Type 0 where
-  forward : All (λ d. Contains (signatures ds) d.signature) ds
-  functions : AreFunctionsOf u p.types ds (given ds) p.functions
-  defines : AreDefined u ds u.defines p.defines
+pub record IsTypedAt (u : tree.Unit) (p : Program) (ds : List Declared) : Type 0 where
+  pub forward : All (λ d. Contains (signatures ds) d.signature) ds
+  pub functions : AreFunctionsOf u p.types ds (given ds) p.functions
+  pub defines : AreDefined u ds u.defines p.defines
 
-typed_at : (u : tree.Unit) (p : Program) (ds : List Declared) (t : IsTyped u p) → t.declared ≡ ds → IsTypedAt u p ds
+pub typed_at : (u : tree.Unit) (p : Program) (ds : List Declared) (t : IsTyped u p) → t.declared ≡ ds → IsTypedAt u p ds
 typed_at u p ds t e = subst (IsTypedAt u p) e (record { forward = t.forward; functions = t.functions; defines = t.defines })
 
 -- ---- names of functions
@@ -159,25 +160,28 @@ alike u forms others ds _ _ _ (a_function {d = d} {f = f} {es = es} {fs = fs} p 
       results = (d.signature.results, p.results, q.results);
     }) (alike u forms others ds es fs gs ps qs)
 
-one_place : (es : List Declared) (f g : Declared) (n m : ℕ) → AreDistinct (map (λ s. s.name) (map (λ d. d.signature) es)) → slice_get es n ≡ Some f → slice_get es m ≡ Some g
-    → f.signature.name ≡ g.signature.name → n ≡ m
-one_place [] f g n m d p q e = cc
-one_place (x ∷ xs) f g zero zero d p q e = refl
-one_place (x ∷ xs) f g zero (suc m) d p q e =
+-- a name is that of one function, by its number
+pub one_signature : (ss : List Signature) (f g : Signature) (n m : ℕ) → AreDistinct (map (λ s. s.name) ss) → slice_get ss n ≡ Some f → slice_get ss m ≡ Some g → f.name ≡ g.name → n ≡ m
+one_signature [] f g n m d p q e = cc
+one_signature (x ∷ ss) f g zero zero d p q e = refl
+one_signature (x ∷ ss) f g zero (suc m) d p q e =
     let same : x ≡ f = cc in
-    absurd (d.0 (subst (Contains (map (λ s. s.name) (map (λ d. d.signature) xs))) (sym e ∙ ap (λ d. d.signature.name) (sym same))
-    (map_there (λ s. s.name) g.signature (map (λ d. d.signature) xs) (map_there (λ d. d.signature) g xs (got_there g xs m q)))))
-one_place (x ∷ xs) f g (suc n) zero d p q e =
+    absurd (d.0 (subst (Contains (map (λ s. s.name) ss)) (sym e ∙ ap (λ s. s.name) (sym same)) (map_there (λ s. s.name) g ss (got_there g ss m q))))
+one_signature (x ∷ ss) f g (suc n) zero d p q e =
     let same : x ≡ g = cc in
-    absurd (d.0 (subst (Contains (map (λ s. s.name) (map (λ d. d.signature) xs))) (e ∙ ap (λ d. d.signature.name) (sym same))
-    (map_there (λ s. s.name) f.signature (map (λ d. d.signature) xs) (map_there (λ d. d.signature) f xs (got_there f xs n p)))))
-one_place (x ∷ xs) f g (suc n) (suc m) d p q e = ap suc (one_place xs f g n m d.1 p q e)
+    absurd (d.0 (subst (Contains (map (λ s. s.name) ss)) (e ∙ ap (λ s. s.name) (sym same)) (map_there (λ s. s.name) f ss (got_there f ss n p))))
+one_signature (x ∷ ss) f g (suc n) (suc m) d p q e = ap suc (one_signature ss f g n m d.1 p q e)
+
+signature_at : (es : List Declared) (d : Declared) (n : ℕ) → slice_get es n ≡ Some d → slice_get (map (λ d. d.signature) es) n ≡ Some d.signature
+signature_at es d n e = slice_get-map (λ d. d.signature) es n ∙ ap (λ o. option_map (λ d. d.signature) o) e
 
 one_defines : (u : tree.Unit) (ds : List Declared) (ns : List Named) (ms others : List ℕ) → AreDistinct (map (λ s. s.name) (signatures ds)) → AreDefined u ds ns ms → AreDefined u ds ns others
     → ms ≡ others
 one_defines u ds _ _ _ d no_name no_name = refl
 one_defines u ds _ _ _ d (a_name {n = n} {names = ns} {ns = ms} p ps) (a_name {n = m} {ns = others} q qs) =
-    ap (λ k. k ∷ ms) (one_place (given ds) p.function q.function n m d p.there q.there (p.named ∙ sym q.named))
+    ap (λ k. k ∷ ms)
+    (one_signature (signatures ds) p.function.signature q.function.signature n m d (signature_at (given ds) p.function n p.there) (signature_at (given ds) q.function m q.there)
+    (p.named ∙ sym q.named))
     ∙ ap (λ l. m ∷ l) (one_defines u ds ns ms others d ps qs)
 
 pub same_program : (u : tree.Unit) (p q : Program) → IsTyped u p → IsTyped u q → SameProgram u p q

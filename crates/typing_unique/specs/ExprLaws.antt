@@ -1,5 +1,6 @@
 -- What the laws on expressions say, where what is known is fair: an expression has one list of types, whatever the table of types,
--- and none where it breaks a rule; the types have no field or tag twice.
+-- and none where it breaks a rule; the types have no field or tag twice; at a table in which each type has one number the typed
+-- tree is one.
 use Rattle.std.specs.Prelude.{◌≡◌, ℕ, List, [], ◌∷◌, All}
 use Rattle.flow_value.specs.declared.ty.Ty.{Ty}
 use Rattle.type_table.specs.declared.form.Form.{Form}
@@ -14,6 +15,7 @@ use Rattle.typed_tree.specs.Units.{denotes}
 use Rattle.typed_tree.specs.Faults.{misnames}
 use Rattle.typing_unique.specs.Fair.{IsProper, IsFair}
 use Rattle.typing_unique.specs.Inverted.{at_table, IsProperScope}
+use Rattle.typing_unique.specs.InvertedTree.{AreNumbered}
 
 -- what is known is fair, where these names of types are known in the unit, and so are the names of values in force
 pub record IsFairAt (u : tree.Unit) (types : List (ℕ × Ty)) (k : Known) (s : Scope) : Type 0 where
@@ -40,6 +42,16 @@ abbrev pub OneScopeLaw : Type 0
 OneScopeLaw = (u : tree.Unit) (types : List (ℕ × Ty)) (k : Known) (s : Scope) → IsFairAt u types k s
     → (forms : List Form) (ds : List Def) (ts vs : List (List TypedExpr)) (tys others : List Ty) (after later : Scope)
     → Defines k (denotes u types) s ds ts tys after → Defines (at_table k forms) (denotes u types) s ds vs others later → (tys ≡ others) × (after ≡ later)
+
+-- an expression has one typed tree
+abbrev pub OneTypedLaw : Type 0
+OneTypedLaw = (u : tree.Unit) (types : List (ℕ × Ty)) (k : Known) (s : Scope) → IsFairAt u types k s → AreNumbered k
+    → (e : Expr) (t v : TypedExpr) (tys others : List Ty) → Types k (denotes u types) s e t tys → Types k (denotes u types) s e v others → t ≡ v
+
+-- expressions one after another have one list of typed trees
+abbrev pub OneTypedListLaw : Type 0
+OneTypedListLaw = (u : tree.Unit) (types : List (ℕ × Ty)) (k : Known) (s : Scope) → IsFairAt u types k s → AreNumbered k
+    → (es : List Expr) (ts vs : List TypedExpr) (tys others : List Ty) → AreTyped k (denotes u types) s es ts tys → AreTyped k (denotes u types) s es vs others → ts ≡ vs
 
 -- what breaks a rule has no type
 abbrev pub NoTypeLaw : Type 0

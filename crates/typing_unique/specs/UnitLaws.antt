@@ -7,7 +7,7 @@ use Rattle.sisal_tree.specs.declared.unit.Unit as tree
 use Rattle.sisal_grammar.specs.declared.value.Placed.{Placed}
 use Rattle.typed_tree.specs.declared.program.Function.{Function}
 use Rattle.typed_tree.specs.declared.program.Program.{Program}
-use Rattle.typed_tree.specs.Types.{AreNumbers}
+use Rattle.typed_tree.specs.Types.{IsNumber, AreNumbers}
 use Rattle.typed_tree.specs.Written.{Denotes, Misnames}
 use Rattle.typed_tree.specs.Units.{Declared, AreDeclared, IsTyped}
 use Rattle.typed_tree.specs.Faults.{BreaksUnit}
@@ -58,3 +58,11 @@ pub record SameProgram (u : tree.Unit) (p q : Program) : Type 0 where
 
 abbrev pub OneTypingLaw : Type 0
 OneTypingLaw = (u : tree.Unit) (p q : Program) → IsTyped u p → IsTyped u q → SameProgram u p q
+
+-- each type has one number in the table
+abbrev pub IsEachOnce : List Form → List (List ℕ) → Type 0
+IsEachOnce forms names = (n m : ℕ) (a : Ty) → IsNumber forms names n a → IsNumber forms names m a → n ≡ m
+
+-- over one table, in which each type has one number, a unit has one typed tree
+abbrev pub OneTreeLaw : Type 0
+OneTreeLaw = (u : tree.Unit) (p q : Program) → AreSpelledOnce u.tokens.names → IsTyped u p → IsTyped u q → p.types ≡ q.types → IsEachOnce p.types u.tokens.names → p ≡ q

@@ -1,5 +1,5 @@
 //! The laws on expressions.
-ghost use Rattle.typing_unique.specs.ExprLaws.{ProperLaw, OneTypeLaw, OneListLaw, OneScopeLaw, NoTypeLaw, NoOneLaw, NoListLaw, NoScopeLaw};
+ghost use Rattle.typing_unique.specs.ExprLaws.{ProperLaw, OneTypeLaw, OneListLaw, OneScopeLaw, OneTypedLaw, OneTypedListLaw, NoTypeLaw, NoOneLaw, NoListLaw, NoScopeLaw};
 
 /// No type of an expression has a field or a tag twice.
 pub fn types_are_proper()
@@ -19,6 +19,17 @@ pub fn expressions_have_one_list_of_types()
 /// Definitions define names of one list of types, and lead to one scope.
 pub fn definitions_lead_to_one_scope()
     ensures { OneScopeLaw }
+{}
+
+/// At a table in which each type has one number, an expression has one typed tree.
+pub fn an_expression_has_one_typed_tree()
+    ensures { OneTypedLaw }
+{}
+
+/// At a table in which each type has one number, expressions one after another have one list of
+/// typed trees.
+pub fn expressions_have_one_list_of_typed_trees()
+    ensures { OneTypedListLaw }
 {}
 
 /// An expression that breaks a rule has no types.

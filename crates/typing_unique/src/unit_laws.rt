@@ -1,5 +1,5 @@
 //! The laws on written types and whole units.
-ghost use Rattle.typing_unique.specs.UnitLaws.{OneDenotedLaw, NoneDenotedLaw, OneDeclaredLaw, OneTypingLaw, NoProgramLaw};
+ghost use Rattle.typing_unique.specs.UnitLaws.{OneDenotedLaw, NoneDenotedLaw, OneDeclaredLaw, OneTypingLaw, NoProgramLaw, OneTreeLaw};
 
 /// Tokens begin with one written type at most, and it denotes one type.
 pub fn a_written_type_is_one_type()
@@ -24,4 +24,9 @@ pub fn a_unit_is_one_program()
 /// A unit that breaks a rule is no program.
 pub fn a_unit_that_breaks_a_rule_is_no_program()
     ensures { NoProgramLaw }
+{}
+
+/// Over one table, in which each type has one number, a unit has one typed tree.
+pub fn a_unit_is_one_typed_tree()
+    ensures { OneTreeLaw }
 {}
