@@ -1,0 +1,16 @@
+pub mod ItemSums
+pub mod ItemsOnce
+pub mod Counting
+pub mod Endings
+pub mod Growth
+pub mod Claimables
+pub mod Confluent
+pub mod Depths
+pub mod Finding
+pub mod Ranks
+pub mod Wellformed
+pub mod Given
+pub mod Executions
+pub mod Slicing
+pub mod Theorems
+pub mod Examples

@@ -1,0 +1,49 @@
+-- The laws of a graph's meaning, of its cost, and of all orders in which it may fire.
+use Rattle.std.specs.Prelude.{◌≡◌, ℕ, ◌≤◌, List, Some, ◌↔◌}
+use Rattle.graph_meaning.specs.Carried.{Carried}
+use Rattle.graph_meaning.specs.Entered.{cost}
+use Rattle.graph_meaning.specs.Demand.{Network, Cut, IsCut, AreOrderly, dem, tree}
+use Rattle.graph_meaning.specs.Histories.{Run, Cost, IsConfluent, IsNeverStuck}
+use Rattle.graph_meaning.specs.Growing.{Grows, IsExecution}
+
+-- the run of a graph on its inputs, where `cut` cuts the iterations of each ForAll into slices
+abbrev pub run_of : Cut → Network → ℕ → List Carried → Run
+run_of cut u g ins n = tree cut n u g ins
+
+-- the results that one depth gives are given at every greater one
+abbrev pub AreValuesStable : Type 0
+AreValuesStable = (u : Network) (g : ℕ) (ins rs : List Carried) (n m : ℕ) → n ≤ m → dem n u g ins ≡ Some rs → dem m u g ins ≡ Some rs
+
+-- so is the cost
+abbrev pub AreCostsStable : Type 0
+AreCostsStable = (cut : Cut) (u : Network) (g : ℕ) (ins : List Carried) (c n m : ℕ) → n ≤ m → cost (tree cut n u g ins) ≡ Some c → cost (tree cut m u g ins) ≡ Some c
+
+-- the tree of a greater depth shows what that of a smaller one shows, and maybe more
+abbrev pub DoTreesGrow : Type 0
+DoTreesGrow = (cut : Cut) (u : Network) (g : ℕ) (ins : List Carried) (n m : ℕ) → n ≤ m → Grows (tree cut n u g ins) (tree cut m u g ins)
+
+-- the cost is the sum of the firings of all items of a whole tree
+abbrev pub IsCostTheSum : Type 0
+IsCostTheSum = (cut : Cut) (u : Network) (g : ℕ) (ins : List Carried) (c : ℕ) → Cost (run_of cut u g ins) c ↔ ((n : ℕ) × (cost (tree cut n u g ins) ≡ Some c))
+
+-- it is the same however the iterations are cut into slices
+abbrev pub IsCostOfAnyCut : Type 0
+IsCostOfAnyCut = (cut other : Cut) (u : Network) (g : ℕ) (ins : List Carried) (n : ℕ) → IsCut cut → IsCut other → cost (tree cut n u g ins) ≡ cost (tree other n u g ins)
+
+-- in graphs without a cycle, where the cost is defined the results are too
+abbrev pub IsMeantWhereCosted : Type 0
+IsMeantWhereCosted = (cut : Cut) (u : Network) (g : ℕ) (ins : List Carried) (c n : ℕ) → IsCut cut → AreOrderly u → cost (tree cut n u g ins) ≡ Some c → (rs : List Carried) × (dem n u g ins ≡ Some rs)
+
+-- every legal complete history of every execution ends alike, and none is stuck
+abbrev pub AreExecutionsConfluent : Type 0
+AreExecutionsConfluent = (run : Run) (limit : ℕ) → IsExecution run → IsConfluent run limit
+
+abbrev pub AreExecutionsNeverStuck : Type 0
+AreExecutionsNeverStuck = (run : Run) (limit : ℕ) → IsExecution run → IsNeverStuck run limit
+
+-- so it is with every graph without a cycle, on every inputs, with every limit and every cut
+abbrev pub AreRunsConfluent : Type 0
+AreRunsConfluent = (cut : Cut) (u : Network) (g : ℕ) (ins : List Carried) (limit : ℕ) → IsCut cut → AreOrderly u → IsConfluent (run_of cut u g ins) limit
+
+abbrev pub AreRunsNeverStuck : Type 0
+AreRunsNeverStuck = (cut : Cut) (u : Network) (g : ℕ) (ins : List Carried) (limit : ℕ) → IsCut cut → AreOrderly u → IsNeverStuck (run_of cut u g ins) limit

@@ -1,0 +1,10 @@
+//! What a dataflow graph means, and every order in which its nodes may fire (IF1 manual M-170).
+#![tactic(auto)]
+
+mod laws;
+
+pub use laws::{
+    costs_are_stable, executions_are_confluent, executions_are_never_stuck,
+    runs_are_confluent, runs_are_never_stuck, the_cost_is_of_any_cut, the_cost_is_the_sum,
+    trees_grow, values_are_given_where_the_cost_is, values_are_stable,
+};
