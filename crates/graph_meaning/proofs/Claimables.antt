@@ -1,9 +1,9 @@
 -- In a tree all is finished, or something can be claimed, or what is open lies as deep as the tree goes.
 use Rattle.std.proofs.Common.{◌≡◌, ℕ, zero, suc, ◌<◌, ◌≤◌, Bool, true, false, List, [], ◌∷◌, Option, Some, None, ◌⊎◌, inl, inr, refl, sym, ap, ◌∙◌, subst, arith}
 use native.Mathlib.Decide.{ℕ_discrete}
-use Rattle.graph_meaning.specs.Entered.{Entered, NoNode, SimpleNode, WholeNode, Steps, Left, Unshown, GraphStep, SliceStep, Item, Node, Entry, Slice, Leave, Inside, entry_fires, IsSlice, Has, PartsHave, IsWhole, AreWhole, all_given, IsLast, IsIn, Fed, OfPart, OfSlices, AfterWithin, After, AfterParts, IsFresh, IsDistinct, AreDistinct, total, total_parts, Falls, InnerAcyclic, AreAcyclic, IsAcyclic}
+use Rattle.graph_meaning.specs.Entered.{Entered, NoNode, SimpleNode, WholeNode, Steps, Left, Unshown, GraphStep, SliceStep, Item, Node, Entry, Slice, Leave, Inside, entry_fires, IsSlice, Has, StepsHave, IsWhole, AreWhole, all_given, IsLast, IsIn, Fed, OfStep, OfSlices, AfterWithin, After, AfterSteps, IsFresh, IsDistinct, AreDistinct, total, total_steps, Falls, InnerAcyclic, AreAcyclic, IsAcyclic}
 use Rattle.graph_meaning.proofs.ItemsOnce.{label_of, AtLeast, pick, fresh-facts, part-facts, PartFacts}
-use Rattle.graph_meaning.specs.Growing.{Grows, simple, unknown, compound, GrowsParts, leaves, part, slices, OutAt, Fills, OpenAt, OpenParts, IsOpenBelow}
+use Rattle.graph_meaning.specs.Growing.{Grows, simple, unknown, compound, GrowsSteps, leaves, part, slices, OutAt, Fills, OpenAt, OpenSteps, IsOpenBelow}
 use Rattle.graph_meaning.proofs.Growth.{whole-grows, last-grows, fresh-grows, after-parts-facts, after-fresh, costs-whole}
 
 abbrev pub Test : Type 0
@@ -45,7 +45,7 @@ module _ (g : Entered) (l : ℕ) (ws : List ℕ) (a : Entered) (p : Steps) (s : 
   first-after i j (inr (inr (inl h))) = absurd (let x = (after-parts-facts p l 1 _ (Inside l 0 i) j h).1 in omega (arith, x))
   first-after i j (inr (inr (inr h))) = absurd (after-fresh g s l fresh (Inside l 0 i) j h refl)
 
-  next-after : (i j : Item) → label_of i ≡ l → AtLeast 1 i → After g (WholeNode l ws a p s) i j → AfterParts p l 1 (OfPart (Node l) l 0 a) i j
+  next-after : (i j : Item) → label_of i ≡ l → AtLeast 1 i → After g (WholeNode l ws a p s) i j → AfterSteps p l 1 (OfStep (Node l) l 0 a) i j
   next-after i j e at (inl h) = absurd (subst (AtLeast 1) h.0 at)
   next-after i j e at (inr (inl h)) = absurd (let x = subst (AtLeast 1) h.1 at in omega (arith, x))
   next-after i j e at (inr (inr (inl h))) = h
@@ -58,27 +58,27 @@ module _ (g : Entered) (l : ℕ) (ws : List ℕ) (a : Entered) (p : Steps) (s : 
   rest-after i j n (inr (inr (inr h))) = h
 
 module _ (t : Bool) (l k : ℕ) (a : Entered) (p : Steps) (before : Item → Type 0) where
-  entry-after : (j : Item) → AfterParts (GraphStep t a p) l k before (Entry t l k) j → before j
+  entry-after : (j : Item) → AfterSteps (GraphStep t a p) l k before (Entry t l k) j → before j
   entry-after j (inl h) = h.1
   entry-after j (inr (inl h)) = absurd (entry-inside t l k l k h.0 h.1)
   entry-after j (inr (inr h)) = absurd (let x = (after-parts-facts p l (suc k) _ (Entry t l k) j h).1 in omega (arith, x))
 
-  part-after : (i j : Item) → AfterParts (GraphStep t a p) l k before (Inside l k i) j → InsideAfter (After a a) (Entry t l k) l k i j
+  part-after : (i j : Item) → AfterSteps (GraphStep t a p) l k before (Inside l k i) j → InsideAfter (After a a) (Entry t l k) l k i j
   part-after i j (inl h) = absurd (entry-inside t l k l k i (sym h.0))
   part-after i j (inr (inl h)) = within-after (After a a) (Entry t l k) l k i j h
   part-after i j (inr (inr h)) = absurd (let x = (after-parts-facts p l (suc k) _ (Inside l k i) j h).1 in omega (arith, x))
 
-  later-after : (i j : Item) → AtLeast (suc k) i → AfterParts (GraphStep t a p) l k before i j → AfterParts p l (suc k) (OfPart (Entry t l k) l k a) i j
+  later-after : (i j : Item) → AtLeast (suc k) i → AfterSteps (GraphStep t a p) l k before i j → AfterSteps p l (suc k) (OfStep (Entry t l k) l k a) i j
   later-after i j at (inl h) = absurd (let x = subst (AtLeast (suc k)) h.0 at in omega (arith, x))
   later-after i j at (inr (inl h)) = absurd (let x = subst (AtLeast (suc k)) h.1 at in omega (arith, x))
   later-after i j at (inr (inr h)) = h
 
 module _ (l k : ℕ) (cs : List (Option ℕ)) (p : Steps) (before : Item → Type 0) where
-  slice-after : (r : ℕ) (j : Item) → AfterParts (SliceStep cs p) l k before (Slice l k r) j → before j
+  slice-after : (r : ℕ) (j : Item) → AfterSteps (SliceStep cs p) l k before (Slice l k r) j → before j
   slice-after r j (inl h) = h.2
   slice-after r j (inr h) = absurd (let x = (after-parts-facts p l (suc k) _ (Slice l k r) j h).1 in omega (arith, x))
 
-  beyond-after : (i j : Item) → AtLeast (suc k) i → AfterParts (SliceStep cs p) l k before i j → AfterParts p l (suc k) (OfSlices l k cs) i j
+  beyond-after : (i j : Item) → AtLeast (suc k) i → AfterSteps (SliceStep cs p) l k before i j → AfterSteps p l (suc k) (OfSlices l k cs) i j
   beyond-after i j at (inl h) = absurd (let x = subst (AtLeast (suc k)) h.1 at in omega (arith, x))
   beyond-after i j at (inr h) = h
 
@@ -90,9 +90,9 @@ SureAt g f F i = (g' f' : Entered) → Grows g g' → Grows f f' → (j : Item) 
 
 -- the same in the parts of a node, where all items of the part before are finished
 abbrev SureParts : Steps → ℕ → ℕ → Test → Item → Type 0
-SureParts p l k F i = (q : Steps) → GrowsParts p q → (j : Item) → AfterParts q l k (λ x. F x ≡ true) i j → F j ≡ true
+SureParts p l k F i = (q : Steps) → GrowsSteps p q → (j : Item) → AfterSteps q l k (λ x. F x ≡ true) i j → F j ≡ true
 
-after-weaken : (p : Steps) (l k : ℕ) (b c : Item → Type 0) → ((j : Item) → b j → c j) → (i j : Item) → AfterParts p l k b i j → AfterParts p l k c i j
+after-weaken : (p : Steps) (l k : ℕ) (b c : Item → Type 0) → ((j : Item) → b j → c j) → (i j : Item) → AfterSteps p l k b i j → AfterSteps p l k c i j
 after-weaken Left l k b c f i j h = (h.0, f j h.1)
 after-weaken Unshown l k b c f i j h = absurd h
 after-weaken (GraphStep t inside next) l k b c f i j (inl h) = inl (h.0, f j h.1)
@@ -108,12 +108,12 @@ pub data Look (g f : Entered) (F : Test) (d : ℕ) : Type 0 where
   Deep : d ≤ total f (mark F) → Look g f F d
 
 data LookParts (p : Steps) (l k : ℕ) (F : Test) (d : ℕ) : Type 0 where
-  ReadyPart : (i : Item) (w : Option ℕ) → PartsHave l k p i w → F i ≡ false → SureParts p l k F i → LookParts p l k F d
-  DeepPart : d ≤ total_parts p l k (mark F) → LookParts p l k F d
+  ReadyPart : (i : Item) (w : Option ℕ) → StepsHave l k p i w → F i ≡ false → SureParts p l k F i → LookParts p l k F d
+  DeepPart : d ≤ total_steps p l k (mark F) → LookParts p l k F d
 
 record PartsDone (p : Steps) (l k : ℕ) (F : Test) : Type 0 where
   whole : AreWhole p
-  made : (i : Item) (w : Option ℕ) → PartsHave l k p i w → F i ≡ true
+  made : (i : Item) (w : Option ℕ) → StepsHave l k p i w → F i ≡ true
 
 pub record FrameDone (f : Entered) (F : Test) : Type 0 where
   pub whole : IsWhole f
@@ -141,7 +141,7 @@ Preds NoNode n m = ⊥
 Preds (SimpleNode l ws rest) n m = ((n ≡ l) × IsIn m ws) ⊎ Preds rest n m
 Preds (WholeNode l ws first next rest) n m = ((n ≡ l) × IsIn m ws) ⊎ Preds rest n m
 
-whole-leaves : (p : Steps) (l k : ℕ) → AreWhole p → PartsHave l k p (Leave l) (Some 0)
+whole-leaves : (p : Steps) (l k : ℕ) → AreWhole p → StepsHave l k p (Leave l) (Some 0)
 whole-leaves Left l k w = (refl, refl)
 whole-leaves Unshown l k w = absurd w
 whole-leaves (GraphStep t inside next) l k w = inr (inr (whole-leaves next l (suc k) w.1))
@@ -272,7 +272,7 @@ record Grown (l : ℕ) (ws : List ℕ) (first : Entered) (next : Steps) (rest f'
   s : Entered
   shape : f' ≡ WholeNode l ws a p s
   after_it : Grows rest s
-  inside_it : (Grows first a × GrowsParts next p) ⊎ ((first ≡ NoNode) × (next ≡ Unshown))
+  inside_it : (Grows first a × GrowsSteps next p) ⊎ ((first ≡ NoNode) × (next ≡ Unshown))
 
 grown : (l : ℕ) (ws : List ℕ) (first : Entered) (next : Steps) (rest f' : Entered) → Grows (WholeNode l ws first next rest) f' → Grown l ws first next rest f'
 grown l ws first next rest f' (unknown {a = a} {s = s} {p = p} gr) = record { a = a; p = p; s = s; shape = refl; after_it = gr; inside_it = inr (refl, refl) }
@@ -280,7 +280,7 @@ grown l ws first next rest f' (compound {b = a} {s = s} {q = p} ga gp gr) = reco
 
 module _ (out : ℕ → Bool) (g : Entered) (F : Test) (l : ℕ) (ws : List ℕ) (first : Entered) (next : Steps) (rest : Entered) (fresh : IsFresh l rest) where
   -- it is enough to look at compound nodes
-  sure-by : (i : Item) → ((g' : Entered) → Grows g g' → (a : Entered) (p : Steps) (s : Entered) → Grows rest s → (Grows first a × GrowsParts next p) ⊎ ((first ≡ NoNode) × (next ≡ Unshown)) → (j : Item) → After g' (WholeNode l ws a p s) i j → F j ≡ true) → SureAt g (WholeNode l ws first next rest) F i
+  sure-by : (i : Item) → ((g' : Entered) → Grows g g' → (a : Entered) (p : Steps) (s : Entered) → Grows rest s → (Grows first a × GrowsSteps next p) ⊎ ((first ≡ NoNode) × (next ≡ Unshown)) → (j : Item) → After g' (WholeNode l ws a p s) i j → F j ≡ true) → SureAt g (WholeNode l ws first next rest) F i
   sure-by i h g' f' gg gr j x =
       let v = grown l ws first next rest f' gr in
       h g' gg v.a v.p v.s v.after_it v.inside_it j (subst (λ y. After g' y i j) v.shape x)
@@ -311,7 +311,7 @@ module _ (out : ℕ → Bool) (g : Entered) (F : Test) (l : ℕ) (ws : List ℕ)
       in-first a ga j (inl h) = ap F h ∙ own
       in-first a ga j (inr h) = ap F h.1 ∙ sure a a ga ga h.0 h.2
 
-      by : (a : Entered) (p : Steps) → (Grows first a × GrowsParts next p) ⊎ ((first ≡ NoNode) × (next ≡ Unshown)) → (j : Item) → InsideAfter (After a a) (Node l) l 0 i j → F j ≡ true
+      by : (a : Entered) (p : Steps) → (Grows first a × GrowsSteps next p) ⊎ ((first ≡ NoNode) × (next ≡ Unshown)) → (j : Item) → InsideAfter (After a a) (Node l) l 0 i j → F j ≡ true
       by a p (inl v) j h = in-first a v.0 j h
       by a p (inr v) j h = absurd (subst (λ x. Has x i w) v.0 has)
 
@@ -326,13 +326,13 @@ module _ (out : ℕ → Bool) (g : Entered) (F : Test) (l : ℕ) (ws : List ℕ)
       facts : PartFacts l 1 i
       facts = part-facts next l 1 i w has
 
-      of-first : (a : Entered) → Grows first a → (j : Item) → OfPart (Node l) l 0 a j → F j ≡ true
+      of-first : (a : Entered) → Grows first a → (j : Item) → OfStep (Node l) l 0 a j → F j ≡ true
       of-first a ga j (inl h) = ap F h ∙ own
       of-first a ga j (inr h) = ap F h.2 ∙ done.made h.0 h.1 (subst (λ x. Has x h.0 h.1) (sym (whole-grows ga done.whole)) h.3)
 
-      by : (a : Entered) (p : Steps) → (Grows first a × GrowsParts next p) ⊎ ((first ≡ NoNode) × (next ≡ Unshown)) → (j : Item) → AfterParts p l 1 (OfPart (Node l) l 0 a) i j → F j ≡ true
-      by a p (inl v) j h = sure p v.1 j (after-weaken p l 1 (OfPart (Node l) l 0 a) (λ x. F x ≡ true) (of-first a v.0) i j h)
-      by a p (inr v) j h = absurd (subst (λ x. PartsHave l 1 x i w) v.1 has)
+      by : (a : Entered) (p : Steps) → (Grows first a × GrowsSteps next p) ⊎ ((first ≡ NoNode) × (next ≡ Unshown)) → (j : Item) → AfterSteps p l 1 (OfStep (Node l) l 0 a) i j → F j ≡ true
+      by a p (inl v) j h = sure p v.1 j (after-weaken p l 1 (OfStep (Node l) l 0 a) (λ x. F x ≡ true) (of-first a v.0) i j h)
+      by a p (inr v) j h = absurd (subst (λ x. StepsHave l 1 x i w) v.1 has)
 
       go : SureAt g (WholeNode l ws first next rest) F i
       go = sure-by i (λ g' gg a p s gr v j h. by a p v j (next-after g' l ws a p s (fresh-grows gr l fresh) i j facts.label facts.part h))
@@ -373,13 +373,13 @@ module _ (t : Bool) (l k : ℕ) (a : Entered) (p : Steps) (F : Test) where
   lift-later : F (Entry t l k) ≡ true → FrameDone a (λ i. F (Inside l k i)) → (d : ℕ) → LookParts p l (suc k) F d → LookParts (GraphStep t a p) l k F (suc d)
   lift-later own done d (ReadyPart i w has e sure) = ReadyPart i w (inr (inr has)) e go
     where
-      of-part : (b : Entered) → Grows a b → (j : Item) → OfPart (Entry t l k) l k b j → F j ≡ true
+      of-part : (b : Entered) → Grows a b → (j : Item) → OfStep (Entry t l k) l k b j → F j ≡ true
       of-part b ga j (inl h) = ap F h ∙ own
       of-part b ga j (inr h) = ap F h.2 ∙ done.made h.0 h.1 (subst (λ x. Has x h.0 h.1) (sym (whole-grows ga done.whole)) h.3)
 
       go : SureParts (GraphStep t a p) l k F i
       go q (part {b = b} {q = r} ga gp) j h =
-          sure r gp j (after-weaken r l (suc k) (OfPart (Entry t l k) l k b) (λ x. F x ≡ true) (of-part b ga) i j
+          sure r gp j (after-weaken r l (suc k) (OfStep (Entry t l k) l k b) (λ x. F x ≡ true) (of-part b ga) i j
           (later-after t l k b r (λ x. F x ≡ true) i j (part-facts p l (suc k) i w has).part h))
   lift-later own done d (DeepPart le) = DeepPart (let x = ap (λ b. pick b 1) own in omega (arith, le, x))
 
@@ -435,7 +435,7 @@ module _ (l k : ℕ) (F : Test) where
       of-slices : (ds : List (Option ℕ)) → (c ∷ cs) ≡ ds → (j : Item) → OfSlices l k ds j → F j ≡ true
       of-slices ds eq j h = x j h.0 (subst (λ z. IsSlice l k 0 z j h.0) (sym eq) h.1)
 
-      lifted : (i : Item) (w : Option ℕ) → PartsHave l (suc k) p i w → SureParts p l (suc k) F i → SureParts (SliceStep (c ∷ cs) p) l k F i
+      lifted : (i : Item) (w : Option ℕ) → StepsHave l (suc k) p i w → SureParts p l (suc k) F i → SureParts (SliceStep (c ∷ cs) p) l k F i
       lifted i w has sure q (slices {ds = ds} {q = r} gc gp) j h =
           sure r gp j (after-weaken r l (suc k) (OfSlices l k ds) (λ z. F z ≡ true) (of-slices ds (costs-whole gc (slices-given 0 (c ∷ cs) g x))) i j
           (beyond-after l k ds r (λ z. F z ≡ true) i j (part-facts p l (suc k) i w has).part h))
@@ -467,7 +467,7 @@ mutual
       ))
       (step rest g out F (suc d) di.3 ac.3 op.1 (λ i w h. gi i w (inr (inr (inr h)))) n (λ m p. hyp m (inr p)))
 
-  look-parts : (p : Steps) (l k : ℕ) (F : Test) (d : ℕ) → AreDistinct p → AreAcyclic p → OpenParts d p → ((i : Item) (w : Option ℕ) → PartsHave l k p i w → F i ≡ true → w ≡ None → ⊥) → PartsDone p l k F ⊎ LookParts p l k F d
+  look-parts : (p : Steps) (l k : ℕ) (F : Test) (d : ℕ) → AreDistinct p → AreAcyclic p → OpenSteps d p → ((i : Item) (w : Option ℕ) → StepsHave l k p i w → F i ≡ true → w ≡ None → ⊥) → PartsDone p l k F ⊎ LookParts p l k F d
   look-parts Left l k F d di ac op gi = leave-look l k F d (F (Leave l)) refl
   look-parts Unshown l k F zero di ac op gi = inr (DeepPart (omega arith))
   look-parts Unshown l k F (suc d) di ac op gi = absurd op

@@ -1,6 +1,6 @@
 -- What a legal history counts, against the firings of the tree.
 use Rattle.std.proofs.Common.{◌≡◌, ℕ, suc, ◌+◌, ◌≤◌, Bool, true, false, ◌||◌, List, [], ◌∷◌, Option, Some, None, inl, inr, refl, sym, ap, ◌∙◌, subst, arith}
-use Rattle.graph_meaning.specs.Entered.{Entered, NoNode, SimpleNode, WholeNode, Steps, Left, Unshown, GraphStep, SliceStep, Item, Node, Entry, Slice, Leave, Inside, IsSlice, Has, PartsHave, total, firings, all_firings, IsDistinct}
+use Rattle.graph_meaning.specs.Entered.{Entered, NoNode, SimpleNode, WholeNode, Steps, Left, Unshown, GraphStep, SliceStep, Item, Node, Entry, Slice, Leave, Inside, IsSlice, Has, StepsHave, total, firings, all_firings, IsDistinct}
 use Rattle.graph_meaning.specs.Histories.{Run, Exists, OwnFirings, Outcome, Made, OverLimit, NoMemory, Event, Claim, Idle, Ended, Finish, History, early, is_slice, is_item, count, claims, finishes, makes, is_claimed, is_finished, is_made, ClaimedBy, Claimable, MadeWith, Legal}
 use Rattle.graph_meaning.proofs.ItemSums.{Number, total-add, total-mono, total-zero, total-same}
 use Rattle.graph_meaning.proofs.ItemsOnce.{pick, at, once, is_item-sound, is_item-same}
@@ -22,7 +22,7 @@ mutual
   has-early (WholeNode l ws first next rest) i w (inr (inr (inl h))) e = parts-early next l 1 i w h e
   has-early (WholeNode l ws first next rest) i w (inr (inr (inr h))) e = has-early rest i w h e
 
-  parts-early : (p : Steps) (l k : ℕ) (i : Item) (w : Option ℕ) → PartsHave l k p i w → is_slice i ≡ false → w ≡ Some (early i)
+  parts-early : (p : Steps) (l k : ℕ) (i : Item) (w : Option ℕ) → StepsHave l k p i w → is_slice i ≡ false → w ≡ Some (early i)
   parts-early Left l k i w h e = h.1 ∙ sym (ap (λ j. Some (early j)) h.0)
   parts-early Unshown l k i w h e = absurd h
   parts-early (GraphStep t inside next) l k i w (inl h) e = h.1 ∙ sym (ap (λ j. Some (early j)) h.0)

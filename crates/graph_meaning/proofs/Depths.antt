@@ -1,10 +1,10 @@
 -- What is given at one depth is given at every greater one, and trees grow with the depth.
 use Rattle.std.proofs.Common.{◌≡◌, ℕ, zero, suc, ◌≤◌, List, [], ◌∷◌, length, map, Option, Some, None, refl, sym, ap, ◌∙◌, subst, arith}
-use Rattle.graph_meaning.specs.Entered.{Entered, NoNode, SimpleNode, WholeNode, Steps, Left, Unshown, GraphStep, SliceStep, cost, parts_cost, slices_cost, plus, entry_fires, IsWhole, AreWhole, all_given}
+use Rattle.graph_meaning.specs.Entered.{Entered, NoNode, SimpleNode, WholeNode, Steps, Left, Unshown, GraphStep, SliceStep, cost, steps_cost, slices_cost, plus, entry_fires, IsWhole, AreWhole, all_given}
 use Rattle.graph_meaning.specs.Carried.{Carried}
 use Rattle.graph_meaning.specs.Forms.{Form, Next, Enter, Iterate, Leave, next_of, first, follow, gather}
-use Rattle.graph_meaning.specs.Demand.{Source, Port, Fixed, Kind, Plain, Whole, Vertex, Net, Network, Cut, Of, at_label, and_then, all, outputs, demanded, operands, graph_meaning, Rest, of_kind, of_node, leads_to, dem, Grow, compound, parts_of, node_tree, nodes_tree, graph_tree, on_results, slice_cost, tree_from, tree}
-use Rattle.graph_meaning.specs.Growing.{Grows, empty, simple, unknown, compound as compound_grows, GrowsParts, leaves, deeper, part, slices, GrowsCosts, no_cost, open_cost, known_cost}
+use Rattle.graph_meaning.specs.Demand.{Source, Port, Fixed, Kind, Plain, Whole, Vertex, Net, Network, Cut, Of, at_label, and_then, all, outputs, demanded, operands, graph_meaning, Rest, of_kind, of_node, leads_to, dem, Grow, compound, steps_of, node_tree, nodes_tree, graph_tree, on_results, slice_cost, tree_from, tree}
+use Rattle.graph_meaning.specs.Growing.{Grows, empty, simple, unknown, compound as compound_grows, GrowsSteps, leaves, deeper, part, slices, GrowsCosts, no_cost, open_cost, known_cost}
 use Rattle.graph_meaning.proofs.Growth.{whole-grows}
 
 -- the second is given where the first is, and is the same
@@ -88,24 +88,24 @@ mutual
   cost-whole NoNode c e = tt
   cost-whole (SimpleNode l ws rest) c e = let x = plus-right (Some 1) (cost rest) c e in cost-whole rest x.0 x.1
   cost-whole (WholeNode l ws first next rest) c e =
-      let x = plus-right (Some 1) (plus (cost first) (plus (parts_cost next) (cost rest))) c e in
-      let a = plus-left (cost first) (plus (parts_cost next) (cost rest)) x.0 x.1 in
-      let y = plus-right (cost first) (plus (parts_cost next) (cost rest)) x.0 x.1 in
-      let p = plus-left (parts_cost next) (cost rest) y.0 y.1 in
-      let r = plus-right (parts_cost next) (cost rest) y.0 y.1 in
+      let x = plus-right (Some 1) (plus (cost first) (plus (steps_cost next) (cost rest))) c e in
+      let a = plus-left (cost first) (plus (steps_cost next) (cost rest)) x.0 x.1 in
+      let y = plus-right (cost first) (plus (steps_cost next) (cost rest)) x.0 x.1 in
+      let p = plus-left (steps_cost next) (cost rest) y.0 y.1 in
+      let r = plus-right (steps_cost next) (cost rest) y.0 y.1 in
       (cost-whole first a.0 a.1, parts-cost-whole next p.0 p.1, cost-whole rest r.0 r.1)
 
-  parts-cost-whole : (p : Steps) (c : ℕ) → parts_cost p ≡ Some c → AreWhole p
+  parts-cost-whole : (p : Steps) (c : ℕ) → steps_cost p ≡ Some c → AreWhole p
   parts-cost-whole Left c e = tt
   parts-cost-whole Unshown c e = absurd cc
   parts-cost-whole (GraphStep t inside next) c e =
-      let x = plus-right (Some (entry_fires t)) (plus (cost inside) (parts_cost next)) c e in
-      let a = plus-left (cost inside) (parts_cost next) x.0 x.1 in
-      let b = plus-right (cost inside) (parts_cost next) x.0 x.1 in
+      let x = plus-right (Some (entry_fires t)) (plus (cost inside) (steps_cost next)) c e in
+      let a = plus-left (cost inside) (steps_cost next) x.0 x.1 in
+      let b = plus-right (cost inside) (steps_cost next) x.0 x.1 in
       (cost-whole inside a.0 a.1, parts-cost-whole next b.0 b.1)
   parts-cost-whole (SliceStep cs next) c e =
-      let a = plus-left (slices_cost cs) (parts_cost next) c e in
-      let b = plus-right (slices_cost cs) (parts_cost next) c e in
+      let a = plus-left (slices_cost cs) (steps_cost next) c e in
+      let b = plus-right (slices_cost cs) (steps_cost next) c e in
       (slices-whole cs a.0 a.1, parts-cost-whole next b.0 b.1)
 
 pub cost-below : (f g : Entered) → Grows f g → Below (cost f) (cost g)
@@ -129,12 +129,12 @@ costs-grow f f' h (rows ∷ cut) = go (f rows) (f' rows) (h rows) (costs-grow f 
     go None o' b g = open_cost g
     go (Some n) o' b g = subst (λ x. GrowsCosts (Some n ∷ map f cut) (x ∷ map f' cut)) (sym (b n refl)) (known_cost g)
 
-on-results-grow : {A : Type 0} (o o' : Option A) (f f' : A → Steps) → Below o o' → ((a : A) → GrowsParts (f a) (f' a)) → GrowsParts (on_results o f) (on_results o' f')
+on-results-grow : {A : Type 0} (o o' : Option A) (f f' : A → Steps) → Below o o' → ((a : A) → GrowsSteps (f a) (f' a)) → GrowsSteps (on_results o f) (on_results o' f')
 on-results-grow None o' f f' b h = deeper
-on-results-grow (Some a) o' f f' b h = subst (λ x. GrowsParts (f a) (on_results x f')) (sym (b a refl)) (h a)
+on-results-grow (Some a) o' f f' b h = subst (λ x. GrowsSteps (f a) (on_results x f')) (sym (b a refl)) (h a)
 
 abbrev GrowBelow : Grow → Grow → Type 0
-GrowBelow grow grow' = (form : Form) (ks : List Carried) (next : Next) → GrowsParts (grow form ks next) (grow' form ks next)
+GrowBelow grow grow' = (form : Form) (ks : List Carried) (next : Next) → GrowsSteps (grow form ks next) (grow' form ks next)
 
 from-nothing : (v : Vertex) (p : Steps) (r r' : Entered) → Grows r r' → Grows (compound v Unshown r) (compound v p r')
 from-nothing v Left r r' g = unknown g
@@ -142,15 +142,15 @@ from-nothing v Unshown r r' g = unknown g
 from-nothing v (GraphStep t a q) r r' g = unknown g
 from-nothing v (SliceStep cs q) r r' g = unknown g
 
-compound-grows : (v : Vertex) (p p' : Steps) (r r' : Entered) → GrowsParts p p' → Grows r r' → Grows (compound v p r) (compound v p' r')
+compound-grows : (v : Vertex) (p p' : Steps) (r r' : Entered) → GrowsSteps p p' → Grows r r' → Grows (compound v p r) (compound v p' r')
 compound-grows v p p' r r' leaves g = compound_grows empty leaves g
 compound-grows v p p' r r' deeper g = from-nothing v p' r r' g
 compound-grows v p p' r r' (part a q) g = compound_grows a q g
 compound-grows v p p' r r' (slices c q) g = compound_grows empty (slices c q) g
 
-parts-of-grow : (grow grow' : Grow) → GrowBelow grow grow' → (form : Form) (o o' : Option (List Carried)) → Below o o' → GrowsParts (parts_of grow form o) (parts_of grow' form o')
+parts-of-grow : (grow grow' : Grow) → GrowBelow grow grow' → (form : Form) (o o' : Option (List Carried)) → Below o o' → GrowsSteps (steps_of grow form o) (steps_of grow' form o')
 parts-of-grow grow grow' h form None o' b = deeper
-parts-of-grow grow grow' h form (Some ks) o' b = subst (λ x. GrowsParts (parts_of grow form (Some ks)) (parts_of grow' form x)) (sym (b ks refl)) (h form ks (next_of (first form ks)))
+parts-of-grow grow grow' h form (Some ks) o' b = subst (λ x. GrowsSteps (steps_of grow form (Some ks)) (steps_of grow' form x)) (sym (b ks refl)) (h form ks (next_of (first form ks)))
 
 node-grows : (grow grow' : Grow) → GrowBelow grow grow' → (v : Vertex) (k : Kind) (o o' : Option (List Carried)) → Below o o' → (r r' : Entered) → Grows r r' → Grows (node_tree grow v k o r) (node_tree grow' v k o' r')
 node-grows grow grow' h v (Plain row shape) o o' b r r' g = simple g

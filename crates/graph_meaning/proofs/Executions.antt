@@ -3,11 +3,11 @@ use Rattle.std.proofs.Common.{◌≡◌, ℕ, zero, suc, Bool, true, false, List
 use Rattle.graph_meaning.specs.Entered.{Entered, Steps, SliceStep, IsWhole, all_given, cost, plus}
 use Rattle.graph_meaning.specs.Carried.{Carried}
 use Rattle.graph_meaning.specs.Forms.{Form, Next, Enter, Iterate, Leave, First, Begins, Skips, next_of, first, follow, gather}
-use Rattle.graph_meaning.specs.Demand.{Kind, Plain, Whole, Vertex, Net, Network, Cut, waits, all, dem, parts_of, node_tree, nodes_tree, on_results, slice_cost, tree_from, tree, EachNode, flatten, IsCut}
+use Rattle.graph_meaning.specs.Demand.{Kind, Plain, Whole, Vertex, Net, Network, Cut, waits, all, dem, steps_of, node_tree, nodes_tree, on_results, slice_cost, tree_from, tree, EachNode, flatten, IsCut}
 use Rattle.graph_meaning.proofs.Ranks.{IsRanked, AreRanked}
 use Rattle.graph_meaning.proofs.Depths.{plus-left, plus-right, cost-whole, tree-grows}
 use Rattle.graph_meaning.proofs.Wellformed.{tree-good}
-use Rattle.graph_meaning.specs.Growing.{Fills, OpenAt, OpenParts, IsOpenBelow}
+use Rattle.graph_meaning.specs.Growing.{Fills, OpenAt, OpenSteps, IsOpenBelow}
 use Rattle.graph_meaning.proofs.Given.{given-all, Ends, whole-ends, Facts, facts, KindEnds, known, out, node-known, node-out, whole_tree, outs-of, OpenFirst, compound-open, compound-zero, whole-results}
 use Rattle.graph_meaning.specs.Growing.{IsExecution}
 
@@ -32,11 +32,11 @@ module _ (cut : Cut) (is_cut : IsCut cut) (u : Network) (ready : AreRanked u) wh
       go None k h t = absurd h
       go (Some c) k h t = k c refl (t h)
 
-  on-known : {A : Type 0} (d : ℕ) (o : Option A) (f : A → Steps) → ((a : A) → OpenParts d (f a)) → (a : A) × (o ≡ Some a) → OpenParts d (on_results o f)
-  on-known d o f h x = subst (λ y. OpenParts d (on_results y f)) (sym x.1) (h x.0)
+  on-known : {A : Type 0} (d : ℕ) (o : Option A) (f : A → Steps) → ((a : A) → OpenSteps d (f a)) → (a : A) × (o ≡ Some a) → OpenSteps d (on_results o f)
+  on-known d o f h x = subst (λ y. OpenSteps d (on_results y f)) (sym x.1) (h x.0)
 
   abbrev PartsOpen : ℕ → Type 0
-  PartsOpen n = (form : Form) (ks : List Carried) (next : Next) → OpenParts n (tree_from cut n u form ks next)
+  PartsOpen n = (form : Form) (ks : List Carried) (next : Next) → OpenSteps n (tree_from cut n u form ks next)
 
   -- the parts of a node after its first, and all parts, from those of the depth below
   module _ (d : ℕ) (frames : (g : ℕ) (ins : List Carried) → IsOpenBelow d (tree cut d u g ins)) (parts : PartsOpen d) where
@@ -51,7 +51,7 @@ module _ (cut : Cut) (is_cut : IsCut cut) (u : Network) (ready : AreRanked u) wh
         q : Steps
         q = on_results (all (map (λ ins. dem d u g ins) (row ∷ rows))) (λ rs. tree_from cut d u form ks (gather form ks ms rs))
 
-        go : (cs : List (List (List Carried))) (s : List (List Carried)) (others : List (List (List Carried))) → cs ≡ s ∷ others → flatten cs ≡ row ∷ rows → OpenParts (suc d) (SliceStep (map (slice_cost (λ ins. tree cut d u g ins)) cs) q)
+        go : (cs : List (List (List Carried))) (s : List (List Carried)) (others : List (List (List Carried))) → cs ≡ s ∷ others → flatten cs ≡ row ∷ rows → OpenSteps (suc d) (SliceStep (map (slice_cost (λ ins. tree cut d u g ins)) cs) q)
         go [] s others e j = absurd cc
         go (s' ∷ others') s others e j = λ given.
             on-known d (all (map (λ ins. dem d u g ins) (row ∷ rows))) _ (λ rs. parts form ks (gather form ks ms rs))
@@ -73,14 +73,14 @@ module _ (cut : Cut) (is_cut : IsCut cut) (u : Network) (ready : AreRanked u) wh
           let x = parts-open-next form ks (Enter false g is stage) in (x.0, x.1, λ whole. h (whole-ends _ whole))
 
       -- a compound node
-      opened : (v : Vertex) (form : Form) → Facts cut u (suc d) graph is_ready ins v → (Ends (parts_of (tree_from cut (suc d) u) form (told v)) → KindEnds cut u (suc d) graph is_ready ins v.kind (told v)) → Fills has_out the_whole (waits v) → OpenFirst cut u (suc d) graph is_ready ins d v.label (parts_of (tree_from cut (suc d) u) form (told v))
+      opened : (v : Vertex) (form : Form) → Facts cut u (suc d) graph is_ready ins v → (Ends (steps_of (tree_from cut (suc d) u) form (told v)) → KindEnds cut u (suc d) graph is_ready ins v.kind (told v)) → Fills has_out the_whole (waits v) → OpenFirst cut u (suc d) graph is_ready ins d v.label (steps_of (tree_from cut (suc d) u) form (told v))
       opened v form f ends fills =
           let outs = outs-of cut u (suc d) graph is_ready ins v f fills in
           let k = node-known cut u (suc d) graph is_ready ins v f outs in
-          let given : Ends (parts_of (tree_from cut (suc d) u) form (told v)) → has_out v.label ≡ true = λ e. node-out cut u (suc d) graph is_ready ins v f outs (ends e) in
-          subst (λ o. OpenFirst cut u (suc d) graph is_ready ins d v.label (parts_of (tree_from cut (suc d) u) form o)) (sym k.1)
+          let given : Ends (steps_of (tree_from cut (suc d) u) form (told v)) → has_out v.label ≡ true = λ e. node-out cut u (suc d) graph is_ready ins v f outs (ends e) in
+          subst (λ o. OpenFirst cut u (suc d) graph is_ready ins d v.label (steps_of (tree_from cut (suc d) u) form o)) (sym k.1)
           (entered form v.label k.0 (first form k.0)
-          (λ e. given (subst (λ o. Ends (parts_of (tree_from cut (suc d) u) form o)) (sym k.1) e)))
+          (λ e. given (subst (λ o. Ends (steps_of (tree_from cut (suc d) u) form o)) (sym k.1) e)))
 
       node-open : (v : Vertex) (k : Kind) → v.kind ≡ k → Facts cut u (suc d) graph is_ready ins v → (r : Entered) → OpenAt has_out the_whole (suc d) r → OpenAt has_out the_whole (suc d) (node_tree (tree_from cut (suc d) u) v k (told v) r)
       node-open v (Plain row shape) e f r h =

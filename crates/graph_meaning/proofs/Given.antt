@@ -6,11 +6,11 @@ use Rattle.graph_meaning.specs.Entered.{Entered, Steps, Left, Unshown, GraphStep
 use Rattle.graph_meaning.specs.Carried.{Carried, Unfilled}
 use Rattle.graph_meaning.specs.NodeValues.{op}
 use Rattle.graph_meaning.specs.Forms.{Form, Next, Enter, Iterate, Leave, next_of, first, follow, gather}
-use Rattle.graph_meaning.specs.Demand.{Source, Port, Fixed, Kind, Plain, Whole, Vertex, Net, Network, Cut, Of, at_label, data_labels, waits, and_then, all, outputs, demanded, operands, of_kind, of_node, leads_to, dem, Grow, compound, parts_of, node_tree, nodes_tree, on_results, tree_from, IsLabel, LabelsOnce, EachNode}
+use Rattle.graph_meaning.specs.Demand.{Source, Port, Fixed, Kind, Plain, Whole, Vertex, Net, Network, Cut, Of, at_label, data_labels, waits, and_then, all, outputs, demanded, operands, of_kind, of_node, leads_to, dem, Grow, compound, steps_of, node_tree, nodes_tree, on_results, tree_from, IsLabel, LabelsOnce, EachNode}
 use Rattle.graph_meaning.proofs.Finding.{label-found, all-found}
 use Rattle.graph_meaning.proofs.Ranks.{IsRanked}
 use Rattle.graph_meaning.proofs.Depths.{outputs-below, demanded-below, all-below}
-use Rattle.graph_meaning.specs.Growing.{OutAt, Fills, OpenAt, OpenParts}
+use Rattle.graph_meaning.specs.Growing.{OutAt, Fills, OpenAt, OpenSteps}
 
 -- a list of operands is given if each is
 pub given-all : {A B : Type 0} (f : A → Option B) (xs : List A) (x : A) → (a : B) × (f x ≡ Some a) → (as₁ : List B) × (all (map f xs) ≡ Some as₁) → (as₁ : List B) × (all (map f (x ∷ xs)) ≡ Some as₁)
@@ -108,7 +108,7 @@ module _ (cut : Cut) (u : Network) (n : ℕ) (graph : Net) (ready : IsRanked gra
   -- the node goes on to its results
   abbrev pub KindEnds : Kind → Option (List Carried) → Type 0
   KindEnds (Plain row shape) ks = Unit {0}
-  KindEnds (Whole form) ks = Ends (parts_of grown form ks)
+  KindEnds (Whole form) ks = Ends (steps_of grown form ks)
 
   kind-gives : (k : Kind) (ks : List Carried) → KindEnds k (Some ks) → (rs : List Carried) × (of_kind (leads_to n u) k ks ≡ Some rs)
   kind-gives (Plain row shape) ks h = (op row shape ks, refl)
@@ -138,7 +138,7 @@ module _ (cut : Cut) (u : Network) (n : ℕ) (graph : Net) (ready : IsRanked gra
 
   node-ends : (v : Vertex) (k : Kind) (o : Option (List Carried)) (r : Entered) → IsWhole (node_tree grown v k o r) → KindEnds k o × IsWhole r
   node-ends v (Plain row shape) o r h = (tt, h)
-  node-ends v (Whole form) o r h = compound-ends v (parts_of grown form o) r h
+  node-ends v (Whole form) o r h = compound-ends v (steps_of grown form o) r h
 
   nodes-end : (vs : List Vertex) → IsWhole (nodes_tree grown known vs) → EachNode (λ v. KindEnds v.kind (known v)) vs
   nodes-end [] h = tt
@@ -166,7 +166,7 @@ module _ (cut : Cut) (u : Network) (n : ℕ) (graph : Net) (ready : IsRanked gra
 
   node-at : (v : Vertex) (k : Kind) (o : Option (List Carried)) (r : Entered) (m : ℕ) → OutAt out (node_tree grown v k o r) m → (m ≡ v.label → out v.label ≡ true) × OutAt out r m
   node-at v (Plain row shape) o r m h = h
-  node-at v (Whole form) o r m h = compound-at v (parts_of grown form o) r m h
+  node-at v (Whole form) o r m h = compound-at v (steps_of grown form o) r m h
 
   out-at : (vs : List Vertex) (m : ℕ) → IsLabel vs m → OutAt out (nodes_tree grown known vs) m → out m ≡ true
   out-at [] m i h = absurd i
@@ -183,7 +183,7 @@ module _ (cut : Cut) (u : Network) (n : ℕ) (graph : Net) (ready : IsRanked gra
   abbrev pub OpenFirst : ℕ → ℕ → Steps → Type 0
   OpenFirst d l Left = out l ≡ true
   OpenFirst d l Unshown = ⊥
-  OpenFirst d l (GraphStep t a q) = ((o : ℕ → Bool) × OpenAt o a d a) × (IsWhole a → OpenParts d q) × (AreWhole q → out l ≡ true)
+  OpenFirst d l (GraphStep t a q) = ((o : ℕ → Bool) × OpenAt o a d a) × (IsWhole a → OpenSteps d q) × (AreWhole q → out l ≡ true)
   OpenFirst d l (SliceStep cs q) = ⊥
 
   pub compound-open : (d : ℕ) (v : Vertex) (p : Steps) (r : Entered) → (Fills out whole_tree (waits v) → OpenFirst d v.label p) → OpenAt out whole_tree (suc d) r → OpenAt out whole_tree (suc d) (compound v p r)

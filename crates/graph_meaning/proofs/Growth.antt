@@ -1,7 +1,7 @@
 -- A tree of a greater depth: where one leaves something open the other may go on.
 use Rattle.std.proofs.Common.{◌≡◌, ℕ, suc, Bool, List, [], ◌∷◌, Option, Some, None, ◌⊎◌, inl, inr, refl, sym, ap, ◌∙◌, subst, arith}
-use Rattle.graph_meaning.specs.Entered.{Entered, NoNode, SimpleNode, WholeNode, Steps, Left, Unshown, GraphStep, SliceStep, Item, Node, Entry, Inside, entry_fires, IsSlice, Has, PartsHave, IsWhole, AreWhole, all_given, IsLast, OfPart, OfSlices, AfterWithin, After, AfterParts, IsFresh}
-use Rattle.graph_meaning.specs.Growing.{Grows, empty, simple, unknown, compound, GrowsParts, leaves, deeper, part, slices, GrowsCosts, no_cost, open_cost, known_cost}
+use Rattle.graph_meaning.specs.Entered.{Entered, NoNode, SimpleNode, WholeNode, Steps, Left, Unshown, GraphStep, SliceStep, Item, Node, Entry, Inside, entry_fires, IsSlice, Has, StepsHave, IsWhole, AreWhole, all_given, IsLast, OfStep, OfSlices, AfterWithin, After, AfterSteps, IsFresh}
+use Rattle.graph_meaning.specs.Growing.{Grows, empty, simple, unknown, compound, GrowsSteps, leaves, deeper, part, slices, GrowsCosts, no_cost, open_cost, known_cost}
 use Rattle.graph_meaning.proofs.ItemsOnce.{label_of, AtLeast, weaker}
 
 -- what is given stays
@@ -34,7 +34,7 @@ mutual
   has-grows (compound {l = l} a p r) i w (inr (inr (inl h))) = let x = parts-grows p l 1 i w h in (x.0, inr (inr (inl x.1)), x.2)
   has-grows (compound a p r) i w (inr (inr (inr h))) = let x = has-grows r i w h in (x.0, inr (inr (inr x.1)), x.2)
 
-  parts-grows : {p q : Steps} → GrowsParts p q → (l k : ℕ) (i : Item) (w : Option ℕ) → PartsHave l k p i w → (v : Option ℕ) × PartsHave l k q i v × Stays w v
+  parts-grows : {p q : Steps} → GrowsSteps p q → (l k : ℕ) (i : Item) (w : Option ℕ) → StepsHave l k p i w → (v : Option ℕ) × StepsHave l k q i v × Stays w v
   parts-grows leaves l k i w h = (w, h, stays-same w)
   parts-grows deeper l k i w h = absurd h
   parts-grows (part a p) l k i w (inl h) = (w, inl h, stays-same w)
@@ -58,7 +58,7 @@ mutual
       let e = whole-grows a w.0 in let e2 = parts-whole p w.1 in let e3 = whole-grows g w.2 in
       ap (λ x. WholeNode l ws x p₀ r) e ∙ (ap (λ x. WholeNode l ws b x r) e2 ∙ ap (WholeNode l ws b q) e3)
 
-  pub parts-whole : {p q : Steps} → GrowsParts p q → AreWhole p → p ≡ q
+  pub parts-whole : {p q : Steps} → GrowsSteps p q → AreWhole p → p ≡ q
   parts-whole leaves w = refl
   parts-whole deeper w = absurd w
   parts-whole (part {t = t} {b = b} {p = p} a g) w = ap (λ x. GraphStep t x p) (whole-grows a w.0) ∙ ap (GraphStep t b) (parts-whole g w.1)
@@ -80,13 +80,13 @@ fresh-grows (unknown g) n h = (h.0, fresh-grows g n h.1)
 fresh-grows (compound a p g) n h = (h.0, fresh-grows g n h.1)
 
 -- what comes after something is labelled
-pub after-parts-facts : (p : Steps) (l k : ℕ) (before : Item → Type 0) (i j : Item) → AfterParts p l k before i j → (label_of i ≡ l) × AtLeast k i
+pub after-parts-facts : (p : Steps) (l k : ℕ) (before : Item → Type 0) (i j : Item) → AfterSteps p l k before i j → (label_of i ≡ l) × AtLeast k i
 after-parts-facts Left l k before i j h = (ap label_of h.0, subst (AtLeast k) (sym h.0) tt)
 after-parts-facts Unshown l k before i j h = absurd h
 after-parts-facts (GraphStep t inside next) l k before i j (inl h) = (ap label_of h.0, subst (AtLeast k) (sym h.0) (omega arith))
 after-parts-facts (GraphStep t inside next) l k before i j (inr (inl h)) = (ap label_of h.1, subst (AtLeast k) (sym h.1) (omega arith))
 after-parts-facts (GraphStep t inside next) l k before i j (inr (inr h)) =
-    let x = after-parts-facts next l (suc k) (OfPart (Entry t l k) l k inside) i j h in (x.0, weaker k i x.1)
+    let x = after-parts-facts next l (suc k) (OfStep (Entry t l k) l k inside) i j h in (x.0, weaker k i x.1)
 after-parts-facts (SliceStep cs next) l k before i j (inl h) = (ap label_of h.1, subst (AtLeast k) (sym h.1) (omega arith))
 after-parts-facts (SliceStep cs next) l k before i j (inr h) =
     let x = after-parts-facts next l (suc k) (OfSlices l k cs) i j h in (x.0, weaker k i x.1)
@@ -109,7 +109,7 @@ last-stays (unknown g) n j (inr h) = inr (last-stays g n j h)
 last-stays (compound a p g) n j (inl h) = inl h
 last-stays (compound a p g) n j (inr h) = inr (last-stays g n j h)
 
-of-part-grows : {a b : Entered} → Grows a b → (entry : Item) (l k : ℕ) (j : Item) → OfPart entry l k a j → OfPart entry l k b j
+of-part-grows : {a b : Entered} → Grows a b → (entry : Item) (l k : ℕ) (j : Item) → OfStep entry l k a j → OfStep entry l k b j
 of-part-grows g entry l k j (inl h) = inl h
 of-part-grows g entry l k j (inr h) = let x = has-grows g h.0 h.1 h.3 in inr (h.0, x.0, h.2, x.1)
 
@@ -135,17 +135,17 @@ mutual
   after-grows (compound {l = l} {a = x} {b = y} a p r) g g' last any i j (inr (inl h)) =
       inr (inl (within-grows (After x x) (After y y) (after-grows a x y (last-stays a) (λ _. ⊥)) (Node l) l 0 i j h))
   after-grows (compound {l = l} {a = x} {b = y} a p r) g g' last any i j (inr (inr (inl h))) =
-      inr (inr (inl (after-parts-grow p l 1 (OfPart (Node l) l 0 x) (OfPart (Node l) l 0 y) (of-part-grows a (Node l) l 0) i j h)))
+      inr (inr (inl (after-parts-grow p l 1 (OfStep (Node l) l 0 x) (OfStep (Node l) l 0 y) (of-part-grows a (Node l) l 0) i j h)))
   after-grows (compound a p r) g g' last any i j (inr (inr (inr h))) = inr (inr (inr (after-grows r g g' last any i j h)))
 
-  after-parts-grow : {p q : Steps} → GrowsParts p q → (l k : ℕ) (b c : Item → Type 0) → ((j : Item) → b j → c j) → (i j : Item) → AfterParts p l k b i j → AfterParts q l k c i j
+  after-parts-grow : {p q : Steps} → GrowsSteps p q → (l k : ℕ) (b c : Item → Type 0) → ((j : Item) → b j → c j) → (i j : Item) → AfterSteps p l k b i j → AfterSteps q l k c i j
   after-parts-grow leaves l k b c f i j h = (h.0, f j h.1)
   after-parts-grow deeper l k b c f i j h = absurd h
   after-parts-grow (part a p) l k b c f i j (inl h) = inl (h.0, f j h.1)
   after-parts-grow (part {t = t} {a = x} {b = y} a p) l k b c f i j (inr (inl h)) =
       inr (inl (within-grows (After x x) (After y y) (after-grows a x y (last-stays a) (λ _. ⊥)) (Entry t l k) l k i j h))
   after-parts-grow (part {t = t} {a = x} {b = y} a p) l k b c f i j (inr (inr h)) =
-      inr (inr (after-parts-grow p l (suc k) (OfPart (Entry t l k) l k x) (OfPart (Entry t l k) l k y) (of-part-grows a (Entry t l k) l k) i j h))
+      inr (inr (after-parts-grow p l (suc k) (OfStep (Entry t l k) l k x) (OfStep (Entry t l k) l k y) (of-part-grows a (Entry t l k) l k) i j h))
   after-parts-grow (slices s p) l k b c f i j (inl h) = inl (h.0, h.1, f j h.2)
   after-parts-grow (slices {cs = cs} {ds = ds} s p) l k b c f i j (inr h) =
       inr (after-parts-grow p l (suc k) (OfSlices l k cs) (OfSlices l k ds) (λ x y. let z = slice-grows s l k 0 x y.0 y.1 in (z.0, z.1)) i j h)
@@ -167,7 +167,7 @@ mutual
   whole-given (WholeNode l ws first next rest) d i w (inr (inr (inl h))) = parts-given next l 1 d.1 i w h
   whole-given (WholeNode l ws first next rest) d i w (inr (inr (inr h))) = whole-given rest d.2 i w h
 
-  parts-given : (p : Steps) (l k : ℕ) → AreWhole p → (i : Item) (w : Option ℕ) → PartsHave l k p i w → (c : ℕ) × (w ≡ Some c)
+  parts-given : (p : Steps) (l k : ℕ) → AreWhole p → (i : Item) (w : Option ℕ) → StepsHave l k p i w → (c : ℕ) × (w ≡ Some c)
   parts-given Left l k d i w h = (0, h.1)
   parts-given Unshown l k d i w h = absurd h
   parts-given (GraphStep t inside next) l k d i w (inl h) = (entry_fires t, h.1)

@@ -1,6 +1,6 @@
 -- Sums over the items of a tree.
 use Rattle.std.proofs.Common.{◌≡◌, ℕ, suc, ◌+◌, ◌≤◌, List, [], ◌∷◌, Option, Some, inl, inr, refl, arith}
-use Rattle.graph_meaning.specs.Entered.{Entered, NoNode, SimpleNode, WholeNode, Steps, Left, Unshown, GraphStep, SliceStep, Item, Node, Entry, Slice, Leave, Inside, entry_fires, IsSlice, Has, PartsHave, total, total_parts, total_slices}
+use Rattle.graph_meaning.specs.Entered.{Entered, NoNode, SimpleNode, WholeNode, Steps, Left, Unshown, GraphStep, SliceStep, Item, Node, Entry, Slice, Leave, Inside, entry_fires, IsSlice, Has, StepsHave, total, total_steps, total_slices}
 
 abbrev pub Number : Type 0
 Number = Item → Option ℕ → ℕ
@@ -16,7 +16,7 @@ mutual
   total-add (WholeNode l ws first next rest) φ ψ =
       omega (arith, total-add first (λ i. φ (Inside l 0 i)) (λ i. ψ (Inside l 0 i)), parts-add next l 1 φ ψ, total-add rest φ ψ)
 
-  parts-add : (p : Steps) (l k : ℕ) (φ ψ : Number) → total_parts p l k (λ i w. φ i w + ψ i w) ≡ total_parts p l k φ + total_parts p l k ψ
+  parts-add : (p : Steps) (l k : ℕ) (φ ψ : Number) → total_steps p l k (λ i w. φ i w + ψ i w) ≡ total_steps p l k φ + total_steps p l k ψ
   parts-add Left l k φ ψ = refl
   parts-add Unshown l k φ ψ = refl
   parts-add (GraphStep t inside next) l k φ ψ =
@@ -41,7 +41,7 @@ mutual
         total-mono rest φ ψ (λ i w x. h i w (inr (inr (inr x)))),
       )
 
-  parts-mono : (p : Steps) (l k : ℕ) (φ ψ : Number) → ((i : Item) (w : Option ℕ) → PartsHave l k p i w → φ i w ≤ ψ i w) → total_parts p l k φ ≤ total_parts p l k ψ
+  parts-mono : (p : Steps) (l k : ℕ) (φ ψ : Number) → ((i : Item) (w : Option ℕ) → StepsHave l k p i w → φ i w ≤ ψ i w) → total_steps p l k φ ≤ total_steps p l k ψ
   parts-mono Left l k φ ψ h = h (Leave l) (Some 0) (refl, refl)
   parts-mono Unshown l k φ ψ h = omega arith
   parts-mono (GraphStep t inside next) l k φ ψ h =
@@ -60,7 +60,7 @@ none i w = 0
 total-none : (f : Entered) → total f none ≡ 0
 total-none f = omega (arith, total-add f none none)
 
-parts-none : (p : Steps) (l k : ℕ) → total_parts p l k none ≡ 0
+parts-none : (p : Steps) (l k : ℕ) → total_steps p l k none ≡ 0
 parts-none p l k = omega (arith, parts-add p l k none none)
 
 slices-none : (l k r : ℕ) (cs : List (Option ℕ)) → total_slices none l k r cs ≡ 0
@@ -69,7 +69,7 @@ slices-none l k r cs = omega (arith, slices-add l k r cs none none)
 pub total-zero : (f : Entered) (φ : Number) → ((i : Item) (w : Option ℕ) → Has f i w → φ i w ≡ 0) → total f φ ≡ 0
 total-zero f φ h = omega (arith, total-mono f φ none (λ i w x. omega (arith, h i w x)), total-none f)
 
-pub parts-zero : (p : Steps) (l k : ℕ) (φ : Number) → ((i : Item) (w : Option ℕ) → PartsHave l k p i w → φ i w ≡ 0) → total_parts p l k φ ≡ 0
+pub parts-zero : (p : Steps) (l k : ℕ) (φ : Number) → ((i : Item) (w : Option ℕ) → StepsHave l k p i w → φ i w ≡ 0) → total_steps p l k φ ≡ 0
 parts-zero p l k φ h = omega (arith, parts-mono p l k φ none (λ i w x. omega (arith, h i w x)), parts-none p l k)
 
 pub slices-zero : (l k r : ℕ) (cs : List (Option ℕ)) (φ : Number) → ((i : Item) (w : Option ℕ) → IsSlice l k r cs i w → φ i w ≡ 0) → total_slices φ l k r cs ≡ 0

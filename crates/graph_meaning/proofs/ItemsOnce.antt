@@ -1,6 +1,6 @@
 -- An item stands once in a tree.
 use Rattle.std.proofs.Common.{◌≡◌, ℕ, suc, ◌≤◌, Bool, true, false, List, [], ◌∷◌, Option, Some, inl, inr, refl, sym, ap, ◌∙◌, subst, arith}
-use Rattle.graph_meaning.specs.Entered.{Entered, NoNode, SimpleNode, WholeNode, Steps, Left, Unshown, GraphStep, SliceStep, Item, Node, Entry, Slice, Leave, Inside, entry_fires, IsSlice, Has, PartsHave, total, total_parts, total_slices, IsFresh, IsDistinct, AreDistinct}
+use Rattle.graph_meaning.specs.Entered.{Entered, NoNode, SimpleNode, WholeNode, Steps, Left, Unshown, GraphStep, SliceStep, Item, Node, Entry, Slice, Leave, Inside, entry_fires, IsSlice, Has, StepsHave, total, total_steps, total_slices, IsFresh, IsDistinct, AreDistinct}
 use Rattle.graph_meaning.specs.Histories.{dec_item, is_yes, is_item}
 use Rattle.graph_meaning.proofs.ItemSums.{Number, total-zero, parts-zero, slices-zero, total-same}
 
@@ -102,7 +102,7 @@ pub record PartFacts (l k : ℕ) (i : Item) : Type 0 where
   pub label : label_of i ≡ l
   pub part : AtLeast k i
 
-pub part-facts : (p : Steps) (l k : ℕ) (i : Item) (w : Option ℕ) → PartsHave l k p i w → PartFacts l k i
+pub part-facts : (p : Steps) (l k : ℕ) (i : Item) (w : Option ℕ) → StepsHave l k p i w → PartFacts l k i
 part-facts Left l k i w h = subst (PartFacts l k) (sym h.0) (record { label = refl; part = tt })
 part-facts Unshown l k i w h = absurd h
 part-facts (GraphStep t inside next) l k i w (inl h) = subst (PartFacts l k) (sym h.0) (record { label = refl; part = omega arith })
@@ -127,7 +127,7 @@ at-frame f i g n = total-zero f (at i g) (λ j w h. at-other i j (g w) (n j w h)
 at-inside : (f : Entered) (l k : ℕ) (i : Item) (g : Option ℕ → ℕ) → ((j : Item) → Inside l k j ≡ i → ⊥) → total f (λ j. at i g (Inside l k j)) ≡ 0
 at-inside f l k i g n = total-zero f (λ j. at i g (Inside l k j)) (λ j w h. at-other i (Inside l k j) (g w) (n j))
 
-at-parts : (p : Steps) (l k : ℕ) (i : Item) (g : Option ℕ → ℕ) → ((j : Item) (w : Option ℕ) → PartsHave l k p j w → j ≡ i → ⊥) → total_parts p l k (at i g) ≡ 0
+at-parts : (p : Steps) (l k : ℕ) (i : Item) (g : Option ℕ → ℕ) → ((j : Item) (w : Option ℕ) → StepsHave l k p j w → j ≡ i → ⊥) → total_steps p l k (at i g) ≡ 0
 at-parts p l k i g n = parts-zero p l k (at i g) (λ j w h. at-other i j (g w) (n j w h))
 
 at-slices : (l k r : ℕ) (cs : List (Option ℕ)) (i : Item) (g : Option ℕ → ℕ) → ((j : Item) (w : Option ℕ) → IsSlice l k r cs j w → j ≡ i → ⊥) → total_slices (at i g) l k r cs ≡ 0
@@ -189,7 +189,7 @@ mutual
         once rest d.3 i w g h,
       )
 
-  once-parts : (p : Steps) (l k : ℕ) → AreDistinct p → (i : Item) (w : Option ℕ) (g : Option ℕ → ℕ) → PartsHave l k p i w → total_parts p l k (at i g) ≡ g w
+  once-parts : (p : Steps) (l k : ℕ) → AreDistinct p → (i : Item) (w : Option ℕ) (g : Option ℕ → ℕ) → StepsHave l k p i w → total_steps p l k (at i g) ≡ g w
   once-parts Left l k d i w g h = omega (arith, ap g h.1, at-self i (Leave l) (g (Some 0)) (sym h.0))
   once-parts Unshown l k d i w g h = absurd h
   once-parts (GraphStep t inside next) l k d i w g (inl h) =

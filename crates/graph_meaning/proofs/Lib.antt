@@ -14,3 +14,6 @@ pub mod Executions
 pub mod Slicing
 pub mod Theorems
 pub mod Examples
+pub mod Lists
+pub mod Units
+pub mod Ended

@@ -28,11 +28,11 @@ eqb-same a b e = eqb_yes (subst T (sym e) tt)
 
 in-sound : (n : ℕ) (ms : List ℕ) → is_in n ms ≡ true → IsIn n ms
 in-sound n [] e = absurd cc
-in-sound n (m ∷ ms) e = go (eqb n m) refl e
+in-sound n (m ∷ ms) e = go (eqb n m) refl e (in-sound n ms)
   where
-    go : (b : Bool) → eqb n m ≡ b → b || is_in n ms ≡ true → IsIn n (m ∷ ms)
-    go true f h = inl (eqb-same n m f)
-    go false f h = inr (in-sound n ms h)
+    go : (b : Bool) → eqb n m ≡ b → b || is_in n ms ≡ true → (is_in n ms ≡ true → IsIn n ms) → IsIn n (m ∷ ms)
+    go true f h k = inl (eqb-same n m f)
+    go false f h k = inr (k h)
 
 in-complete : (n : ℕ) (ms : List ℕ) → IsIn n ms → is_in n ms ≡ true
 in-complete n [] h = absurd h
@@ -85,13 +85,13 @@ module _ (edge : ℕ → ℕ → Bool) where
       go (inr h) (inl k) = by-right (leads xs l m) (leads xs l y) (leads xs y m) h.0 (from k)
       go (inr h) (inr k) = by-right (leads xs l m) (leads xs l y) (leads xs y m) h.0 k.1
   joins (y ∷ xs) x l m (inr i) a b =
-      go (or-cases (leads xs l x) (leads xs l y) (leads xs y x) a) (or-cases (leads xs x m) (leads xs x y) (leads xs y m) b)
+      go (λ p q. joins xs x p q i) (or-cases (leads xs l x) (leads xs l y) (leads xs y x) a) (or-cases (leads xs x m) (leads xs x y) (leads xs y m) b)
     where
-      go : (leads xs l x ≡ true) ⊎ ((leads xs l y ≡ true) × (leads xs y x ≡ true)) → (leads xs x m ≡ true) ⊎ ((leads xs x y ≡ true) × (leads xs y m ≡ true)) → leads (y ∷ xs) l m ≡ true
-      go (inl h) (inl k) = by-left (leads xs l m) (leads xs l y) (leads xs y m) (joins xs x l m i h k)
-      go (inl h) (inr k) = by-right (leads xs l m) (leads xs l y) (leads xs y m) (joins xs x l y i h k.0) k.1
-      go (inr h) (inl k) = by-right (leads xs l m) (leads xs l y) (leads xs y m) h.0 (joins xs x y m i h.1 k)
-      go (inr h) (inr k) = by-right (leads xs l m) (leads xs l y) (leads xs y m) h.0 k.1
+      go : ((p q : ℕ) → leads xs p x ≡ true → leads xs x q ≡ true → leads xs p q ≡ true) → (leads xs l x ≡ true) ⊎ ((leads xs l y ≡ true) × (leads xs y x ≡ true)) → (leads xs x m ≡ true) ⊎ ((leads xs x y ≡ true) × (leads xs y m ≡ true)) → leads (y ∷ xs) l m ≡ true
+      go f (inl h) (inl k) = by-left (leads xs l m) (leads xs l y) (leads xs y m) (f l m h k)
+      go f (inl h) (inr k) = by-right (leads xs l m) (leads xs l y) (leads xs y m) (f l y h k.0) k.1
+      go f (inr h) (inl k) = by-right (leads xs l m) (leads xs l y) (leads xs y m) h.0 (f y m h.1 k)
+      go f (inr h) (inr k) = by-right (leads xs l m) (leads xs l y) (leads xs y m) h.0 k.1
 
   -- how many of a list a node leads to by the nodes of another
   abbrev one_if : Bool → ℕ
@@ -154,11 +154,11 @@ module _ (g : Net) (orderly : IsOrderly g) where
 
   leads-sound : (xs : List ℕ) (l m : ℕ) → leads edge_of xs l m ≡ true → WaitsFor g.nodes l m
   leads-sound [] l m e = straight (in-sound m (waits_of (at_label g.nodes l)) e)
-  leads-sound (x ∷ xs) l m e = go (or-cases edge_of (leads edge_of xs l m) (leads edge_of xs l x) (leads edge_of xs x m) e)
+  leads-sound (x ∷ xs) l m e = go (or-cases edge_of (leads edge_of xs l m) (leads edge_of xs l x) (leads edge_of xs x m) e) (leads-sound xs)
     where
-      go : (leads edge_of xs l m ≡ true) ⊎ ((leads edge_of xs l x ≡ true) × (leads edge_of xs x m ≡ true)) → WaitsFor g.nodes l m
-      go (inl h) = leads-sound xs l m h
-      go (inr h) = through (leads-sound xs l x h.0) (leads-sound xs x m h.1)
+      go : (leads edge_of xs l m ≡ true) ⊎ ((leads edge_of xs l x ≡ true) × (leads edge_of xs x m ≡ true)) → ((p q : ℕ) → leads edge_of xs p q ≡ true → WaitsFor g.nodes p q) → WaitsFor g.nodes l m
+      go (inl h) f = f l m h
+      go (inr h) f = through (f l x h.0) (f x m h.1)
 
   no-way : (l : ℕ) → way l l ≡ false
   no-way l = go (way l l) (λ e. orderly.acyclic l (leads-sound (labels g.nodes) l l e))

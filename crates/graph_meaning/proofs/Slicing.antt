@@ -1,9 +1,9 @@
 -- The cost is the same however the iterations are cut into slices.
 use Rattle.std.proofs.Common.{◌≡◌, ℕ, zero, suc, Bool, List, [], ◌∷◌, ◌++◌, map, Option, Some, None, refl, sym, ap, ◌∙◌, arith}
-use Rattle.graph_meaning.specs.Entered.{Entered, Steps, Left, Unshown, GraphStep, SliceStep, cost, parts_cost, slices_cost, plus, entry_fires}
+use Rattle.graph_meaning.specs.Entered.{Entered, Steps, Left, Unshown, GraphStep, SliceStep, cost, steps_cost, slices_cost, plus, entry_fires}
 use Rattle.graph_meaning.specs.Carried.{Carried}
 use Rattle.graph_meaning.specs.Forms.{Form, Next, Enter, Iterate, Leave, next_of, first, follow, gather}
-use Rattle.graph_meaning.specs.Demand.{Kind, Plain, Whole, Vertex, Network, Cut, all, operands, of_node, leads_to, dem, Grow, compound, parts_of, node_tree, nodes_tree, on_results, slice_cost, tree_from, tree, flatten, IsCut}
+use Rattle.graph_meaning.specs.Demand.{Kind, Plain, Whole, Vertex, Network, Cut, all, operands, of_node, leads_to, dem, Grow, compound, steps_of, node_tree, nodes_tree, on_results, slice_cost, tree_from, tree, flatten, IsCut}
 
 plus-assoc : (a b c : Option ℕ) → plus a (plus b c) ≡ plus (plus a b) c
 plus-assoc None b c = refl
@@ -32,27 +32,27 @@ slice-same body body' h (x ∷ rows) = ap (λ c. plus (plus (Some 1) c) (slice_c
 data Alike : Steps → Steps → Type 0 where
   leaves : Alike Left Left
   deeper : Alike Unshown Unshown
-  part : {t : Bool} {a b : Entered} {p q : Steps} → cost a ≡ cost b → parts_cost p ≡ parts_cost q → Alike (GraphStep t a p) (GraphStep t b q)
-  slices : {cs ds : List (Option ℕ)} {p q : Steps} → slices_cost cs ≡ slices_cost ds → parts_cost p ≡ parts_cost q → Alike (SliceStep cs p) (SliceStep ds q)
+  part : {t : Bool} {a b : Entered} {p q : Steps} → cost a ≡ cost b → steps_cost p ≡ steps_cost q → Alike (GraphStep t a p) (GraphStep t b q)
+  slices : {cs ds : List (Option ℕ)} {p q : Steps} → slices_cost cs ≡ slices_cost ds → steps_cost p ≡ steps_cost q → Alike (SliceStep cs p) (SliceStep ds q)
 
-alike-cost : {p q : Steps} → Alike p q → parts_cost p ≡ parts_cost q
+alike-cost : {p q : Steps} → Alike p q → steps_cost p ≡ steps_cost q
 alike-cost leaves = refl
 alike-cost deeper = refl
-alike-cost (part {t = t} {b = b} {p = p} e f) = ap (λ x. plus (Some (entry_fires t)) (plus x (parts_cost p))) e ∙ ap (λ x. plus (Some (entry_fires t)) (plus (cost b) x)) f
-alike-cost (slices {ds = ds} {p = p} e f) = ap (λ x. plus x (parts_cost p)) e ∙ ap (plus (slices_cost ds)) f
+alike-cost (part {t = t} {b = b} {p = p} e f) = ap (λ x. plus (Some (entry_fires t)) (plus x (steps_cost p))) e ∙ ap (λ x. plus (Some (entry_fires t)) (plus (cost b) x)) f
+alike-cost (slices {ds = ds} {p = p} e f) = ap (λ x. plus x (steps_cost p)) e ∙ ap (plus (slices_cost ds)) f
 
 compound-alike : (v : Vertex) (p q : Steps) (r s : Entered) → Alike p q → cost r ≡ cost s → cost (compound v p r) ≡ cost (compound v q s)
 compound-alike v p q r s leaves e = ap (λ x. plus (Some 1) (plus (Some 0) (plus (Some 0) x))) e
 compound-alike v p q r s deeper e = refl
 compound-alike v p q r s (part {a = a} {b = b} {p = p'} {q = q'} f g) e =
-    ap (λ x. plus (Some 1) (plus x (plus (parts_cost p') (cost r)))) f ∙ (ap (λ x. plus (Some 1) (plus (cost b) (plus x (cost r)))) g ∙ ap (λ x. plus (Some 1) (plus (cost b) (plus (parts_cost q') x))) e)
+    ap (λ x. plus (Some 1) (plus x (plus (steps_cost p') (cost r)))) f ∙ (ap (λ x. plus (Some 1) (plus (cost b) (plus x (cost r)))) g ∙ ap (λ x. plus (Some 1) (plus (cost b) (plus (steps_cost q') x))) e)
 compound-alike v p q r s (slices {cs = cs} {ds = ds} {p = p'} {q = q'} f g) e =
-    ap (λ x. plus (Some 1) (plus (Some 0) (plus x (cost r)))) (alike-cost (slices {cs = cs} {ds = ds} {p = p'} {q = q'} f g)) ∙ ap (λ x. plus (Some 1) (plus (Some 0) (plus (parts_cost (SliceStep ds q')) x))) e
+    ap (λ x. plus (Some 1) (plus (Some 0) (plus x (cost r)))) (alike-cost (slices {cs = cs} {ds = ds} {p = p'} {q = q'} f g)) ∙ ap (λ x. plus (Some 1) (plus (Some 0) (plus (steps_cost (SliceStep ds q')) x))) e
 
 abbrev GrowAlike : Grow → Grow → Type 0
 GrowAlike grow grow' = (form : Form) (ks : List Carried) (next : Next) → Alike (grow form ks next) (grow' form ks next)
 
-parts-of-alike : (grow grow' : Grow) → GrowAlike grow grow' → (form : Form) (o : Option (List Carried)) → Alike (parts_of grow form o) (parts_of grow' form o)
+parts-of-alike : (grow grow' : Grow) → GrowAlike grow grow' → (form : Form) (o : Option (List Carried)) → Alike (steps_of grow form o) (steps_of grow' form o)
 parts-of-alike grow grow' h form None = deeper
 parts-of-alike grow grow' h form (Some ks) = h form ks (next_of (first form ks))
 
@@ -64,7 +64,7 @@ nodes-alike : (grow grow' : Grow) → GrowAlike grow grow' → (ks : Vertex → 
 nodes-alike grow grow' h ks [] = refl
 nodes-alike grow grow' h ks (v ∷ vs) = node-alike grow grow' h v v.kind (ks v) _ _ (nodes-alike grow grow' h ks vs)
 
-on-results-same : {A : Type 0} (o : Option A) (f f' : A → Steps) → ((a : A) → parts_cost (f a) ≡ parts_cost (f' a)) → parts_cost (on_results o f) ≡ parts_cost (on_results o f')
+on-results-same : {A : Type 0} (o : Option A) (f f' : A → Steps) → ((a : A) → steps_cost (f a) ≡ steps_cost (f' a)) → steps_cost (on_results o f) ≡ steps_cost (on_results o f')
 on-results-same None f f' h = refl
 on-results-same (Some a) f f' h = h a
 

@@ -1,6 +1,6 @@
 -- The theorem on the machine.
 use Rattle.std.proofs.Common.{◌≡◌, ℕ, suc, ◌+◌, List, [], ◌∷◌, Option, Some, None, refl, sym, ap, ◌∙◌, arith}
-use Rattle.graph_meaning.specs.Entered.{Entered, NoNode, SimpleNode, WholeNode, Steps, Left, Unshown, GraphStep, SliceStep, Item, Node, Entry, Slice, Leave, Inside, IsWhole, AreWhole, all_given, total, total_parts, total_slices, firings, all_firings, cost, parts_cost, slices_cost, plus, entry_fires}
+use Rattle.graph_meaning.specs.Entered.{Entered, NoNode, SimpleNode, WholeNode, Steps, Left, Unshown, GraphStep, SliceStep, Item, Node, Entry, Slice, Leave, Inside, IsWhole, AreWhole, all_given, total, total_steps, total_slices, firings, all_firings, cost, steps_cost, slices_cost, plus, entry_fires}
 use Rattle.graph_meaning.specs.Demand.{tree}
 use Rattle.graph_meaning.specs.Laws.{run_of, AreValuesStable, AreCostsStable, DoTreesGrow, IsCostTheSum, IsCostOfAnyCut, IsMeantWhereCosted, AreRunsConfluent, AreRunsNeverStuck}
 use Rattle.graph_meaning.proofs.Ranks.{ranked}
@@ -24,22 +24,22 @@ mutual
       let a = cost-sum first (λ i. φ (Inside l 0 i)) (λ i v. h (Inside l 0 i) v) w.0 in
       let b = parts-sum next l 1 φ h w.1 in
       let c = cost-sum rest φ h w.2 in
-      ap (λ x. plus (Some 1) (plus x (plus (parts_cost next) (cost rest)))) a
+      ap (λ x. plus (Some 1) (plus x (plus (steps_cost next) (cost rest)))) a
       ∙ (ap (λ x. plus (Some 1) (plus (Some (total first (λ i. φ (Inside l 0 i)))) (plus x (cost rest)))) b
-      ∙ (ap (λ x. plus (Some 1) (plus (Some (total first (λ i. φ (Inside l 0 i)))) (plus (Some (total_parts next l 1 φ)) x))) c
-      ∙ ap (λ x. Some (x + (total first (λ i. φ (Inside l 0 i)) + (total_parts next l 1 φ + total rest φ)))) (sym (h (Node l) (Some 1)))))
+      ∙ (ap (λ x. plus (Some 1) (plus (Some (total first (λ i. φ (Inside l 0 i)))) (plus (Some (total_steps next l 1 φ)) x))) c
+      ∙ ap (λ x. Some (x + (total first (λ i. φ (Inside l 0 i)) + (total_steps next l 1 φ + total rest φ)))) (sym (h (Node l) (Some 1)))))
 
-  parts-sum : (p : Steps) (l k : ℕ) (φ : Number) → ((i : Item) (w : Option ℕ) → φ i w ≡ firings i w) → AreWhole p → parts_cost p ≡ Some (total_parts p l k φ)
+  parts-sum : (p : Steps) (l k : ℕ) (φ : Number) → ((i : Item) (w : Option ℕ) → φ i w ≡ firings i w) → AreWhole p → steps_cost p ≡ Some (total_steps p l k φ)
   parts-sum Left l k φ h w = ap Some (sym (h (Leave l) (Some 0)))
   parts-sum Unshown l k φ h w = absurd w
   parts-sum (GraphStep t inside next) l k φ h w =
       let a = cost-sum inside (λ i. φ (Inside l k i)) (λ i v. h (Inside l k i) v) w.0 in
       let b = parts-sum next l (suc k) φ h w.1 in
-      ap (λ x. plus (Some (entry_fires t)) (plus x (parts_cost next))) a
+      ap (λ x. plus (Some (entry_fires t)) (plus x (steps_cost next))) a
       ∙ (ap (λ x. plus (Some (entry_fires t)) (plus (Some (total inside (λ i. φ (Inside l k i)))) x)) b
-      ∙ ap (λ x. Some (x + (total inside (λ i. φ (Inside l k i)) + total_parts next l (suc k) φ))) (sym (h (Entry t l k) (Some (entry_fires t)))))
+      ∙ ap (λ x. Some (x + (total inside (λ i. φ (Inside l k i)) + total_steps next l (suc k) φ))) (sym (h (Entry t l k) (Some (entry_fires t)))))
   parts-sum (SliceStep cs next) l k φ h w =
-      ap (λ x. plus x (parts_cost next)) (slices-sum l k 0 cs φ h w.0) ∙ ap (plus (Some (total_slices φ l k 0 cs))) (parts-sum next l (suc k) φ h w.1)
+      ap (λ x. plus x (steps_cost next)) (slices-sum l k 0 cs φ h w.0) ∙ ap (plus (Some (total_slices φ l k 0 cs))) (parts-sum next l (suc k) φ h w.1)
 
 some-same : (a b : ℕ) → Some a ≡ Some b → a ≡ b
 some-same a b e = grind (arith, e)

@@ -3,7 +3,7 @@ use Rattle.std.proofs.Common.{ℕ, zero, suc, ◌<◌, ◌≢◌, List, [], ◌�
 use Rattle.graph_meaning.specs.Entered.{Entered, NoNode, Steps, Left, Unshown, GraphStep, SliceStep, IsIn, IsFresh, IsDistinct, AreDistinct, Falls, InnerAcyclic, AreAcyclic, IsAcyclic}
 use Rattle.graph_meaning.specs.Carried.{Carried}
 use Rattle.graph_meaning.specs.Forms.{Form, Next, Enter, Iterate, Leave, next_of, first, follow, gather}
-use Rattle.graph_meaning.specs.Demand.{Kind, Plain, Whole, Vertex, Net, Network, Cut, Of, waits, all, operands, of_node, leads_to, dem, Grow, compound, parts_of, node_tree, nodes_tree, graph_tree, on_results, tree_from, tree, IsLabel, LabelsOnce, EachNode}
+use Rattle.graph_meaning.specs.Demand.{Kind, Plain, Whole, Vertex, Net, Network, Cut, Of, waits, all, operands, of_node, leads_to, dem, Grow, compound, steps_of, node_tree, nodes_tree, graph_tree, on_results, tree_from, tree, IsLabel, LabelsOnce, EachNode}
 use Rattle.graph_meaning.proofs.Ranks.{IsRanked, AreRanked}
 
 pub on-results-all : {A : Type 0} (P : Steps → Type 0) → P Unshown → (f : A → Steps) → ((a : A) → P (f a)) → (o : Option A) → P (on_results o f)
@@ -29,7 +29,7 @@ compound-fresh v (SliceStep cs q) r n ne f = (ne, f)
 
 node-fresh : (grow : Grow) (v : Vertex) (k : Kind) (o : Option (List Carried)) (r : Entered) (n : ℕ) → n ≢ v.label → IsFresh n r → IsFresh n (node_tree grow v k o r)
 node-fresh grow v (Plain row shape) o r n ne f = (ne, f)
-node-fresh grow v (Whole form) o r n ne f = compound-fresh v (parts_of grow form o) r n ne f
+node-fresh grow v (Whole form) o r n ne f = compound-fresh v (steps_of grow form o) r n ne f
 
 nodes-fresh : (grow : Grow) (ks : Vertex → Option (List Carried)) (vs : List Vertex) (n : ℕ) → (IsLabel vs n → ⊥) → IsFresh n (nodes_tree grow ks vs)
 nodes-fresh grow ks [] n h = tt
@@ -45,13 +45,13 @@ compound-good v Unshown r g f i = record { distinct = (f, tt, tt, i.distinct); i
 compound-good v (GraphStep t a q) r g f i = record { distinct = (f, g.distinct.0, g.distinct.1, i.distinct); inner = (g.acyclic.0, g.acyclic.1, g.acyclic.2, i.inner) }
 compound-good v (SliceStep cs q) r g f i = record { distinct = (f, tt, g.distinct, i.distinct); inner = (nothing, tt, g.acyclic, i.inner) }
 
-parts-of-good : (grow : Grow) → ((form : Form) (ks : List Carried) (next : Next) → GoodParts (grow form ks next)) → (form : Form) (o : Option (List Carried)) → GoodParts (parts_of grow form o)
+parts-of-good : (grow : Grow) → ((form : Form) (ks : List Carried) (next : Next) → GoodParts (grow form ks next)) → (form : Form) (o : Option (List Carried)) → GoodParts (steps_of grow form o)
 parts-of-good grow h form None = record { distinct = tt; acyclic = tt }
 parts-of-good grow h form (Some ks) = h form ks (next_of (first form ks))
 
 node-good : (grow : Grow) → ((form : Form) (ks : List Carried) (next : Next) → GoodParts (grow form ks next)) → (v : Vertex) (k : Kind) (o : Option (List Carried)) (r : Entered) → IsFresh v.label r → Inner r → Inner (node_tree grow v k o r)
 node-good grow h v (Plain row shape) o r f i = record { distinct = (f, i.distinct); inner = i.inner }
-node-good grow h v (Whole form) o r f i = compound-good v (parts_of grow form o) r (parts-of-good grow h form o) f i
+node-good grow h v (Whole form) o r f i = compound-good v (steps_of grow form o) r (parts-of-good grow h form o) f i
 
 nodes-good : (grow : Grow) → ((form : Form) (ks : List Carried) (next : Next) → GoodParts (grow form ks next)) → (ks : Vertex → Option (List Carried)) (vs : List Vertex) → LabelsOnce vs → Inner (nodes_tree grow ks vs)
 nodes-good grow h ks [] once = record { distinct = tt; inner = tt }
@@ -65,7 +65,7 @@ compound-falls rank v (SliceStep cs q) r h f = (h, f)
 
 node-falls : (grow : Grow) (rank : ℕ → ℕ) (v : Vertex) (k : Kind) (o : Option (List Carried)) (r : Entered) → ((n : ℕ) → IsIn n (waits v) → rank n < rank v.label) → Falls rank r → Falls rank (node_tree grow v k o r)
 node-falls grow rank v (Plain row shape) o r h f = (h, f)
-node-falls grow rank v (Whole form) o r h f = compound-falls rank v (parts_of grow form o) r h f
+node-falls grow rank v (Whole form) o r h f = compound-falls rank v (steps_of grow form o) r h f
 
 nodes-fall : (grow : Grow) (rank : ℕ → ℕ) (ks : Vertex → Option (List Carried)) (vs : List Vertex) → EachNode (λ v. (n : ℕ) → IsIn n (waits v) → rank n < rank v.label) vs → Falls rank (nodes_tree grow ks vs)
 nodes-fall grow rank ks [] h = tt

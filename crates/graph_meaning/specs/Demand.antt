@@ -124,13 +124,13 @@ compound v (GraphStep t inside next) rest = WholeNode v.label (waits v) inside n
 compound v (SliceStep cs next) rest = WholeNode v.label (waits v) NoNode (SliceStep cs next) rest
 
 -- the steps of a node, where its operands are given
-abbrev pub parts_of : Grow → Form → Option (List Carried) → Steps
-parts_of grow form None = Unshown
-parts_of grow form (Some ks) = grow form ks (next_of (first form ks))
+abbrev pub steps_of : Grow → Form → Option (List Carried) → Steps
+steps_of grow form None = Unshown
+steps_of grow form (Some ks) = grow form ks (next_of (first form ks))
 
 abbrev pub node_tree : Grow → Vertex → Kind → Option (List Carried) → Entered → Entered
 node_tree grow v (Plain row shape) ks rest = SimpleNode v.label (waits v) rest
-node_tree grow v (Whole form) ks rest = compound v (parts_of grow form ks) rest
+node_tree grow v (Whole form) ks rest = compound v (steps_of grow form ks) rest
 
 abbrev pub nodes_tree : Grow → (Vertex → Option (List Carried)) → List Vertex → Entered
 nodes_tree grow ks [] = NoNode

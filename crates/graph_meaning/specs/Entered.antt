@@ -45,14 +45,14 @@ abbrev mutual
   Has NoNode i w = ⊥
   Has (SimpleNode l ws rest) i w = ((i ≡ Node l) × (w ≡ Some 1)) ⊎ Has rest i w
   Has (WholeNode l ws first next rest) i w =
-      ((i ≡ Node l) × (w ≡ Some 1)) ⊎ (Within (Has first) l 0 i w ⊎ (PartsHave l 1 next i w ⊎ Has rest i w))
+      ((i ≡ Node l) × (w ≡ Some 1)) ⊎ (Within (Has first) l 0 i w ⊎ (StepsHave l 1 next i w ⊎ Has rest i w))
 
-  pub PartsHave : ℕ → ℕ → Steps → Item → Option ℕ → Type 0
-  PartsHave l k Left i w = (i ≡ Leave l) × (w ≡ Some 0)
-  PartsHave l k Unshown i w = ⊥
-  PartsHave l k (GraphStep t inside next) i w =
-      ((i ≡ Entry t l k) × (w ≡ Some (entry_fires t))) ⊎ (Within (Has inside) l k i w ⊎ PartsHave l (suc k) next i w)
-  PartsHave l k (SliceStep cs next) i w = IsSlice l k 0 cs i w ⊎ PartsHave l (suc k) next i w
+  pub StepsHave : ℕ → ℕ → Steps → Item → Option ℕ → Type 0
+  StepsHave l k Left i w = (i ≡ Leave l) × (w ≡ Some 0)
+  StepsHave l k Unshown i w = ⊥
+  StepsHave l k (GraphStep t inside next) i w =
+      ((i ≡ Entry t l k) × (w ≡ Some (entry_fires t))) ⊎ (Within (Has inside) l k i w ⊎ StepsHave l (suc k) next i w)
+  StepsHave l k (SliceStep cs next) i w = IsSlice l k 0 cs i w ⊎ StepsHave l (suc k) next i w
 
 -- A sum over all items of the tree, of a number for each item and its own firings.
 abbrev pub total_slices : (Item → Option ℕ → ℕ) → ℕ → ℕ → ℕ → List (Option ℕ) → ℕ
@@ -64,14 +64,14 @@ abbrev mutual
   total NoNode φ = 0
   total (SimpleNode l ws rest) φ = φ (Node l) (Some 1) + total rest φ
   total (WholeNode l ws first next rest) φ =
-      φ (Node l) (Some 1) + (total first (λ i. φ (Inside l 0 i)) + (total_parts next l 1 φ + total rest φ))
+      φ (Node l) (Some 1) + (total first (λ i. φ (Inside l 0 i)) + (total_steps next l 1 φ + total rest φ))
 
-  pub total_parts : Steps → ℕ → ℕ → (Item → Option ℕ → ℕ) → ℕ
-  total_parts Left l k φ = φ (Leave l) (Some 0)
-  total_parts Unshown l k φ = 0
-  total_parts (GraphStep t inside next) l k φ =
-      φ (Entry t l k) (Some (entry_fires t)) + (total inside (λ i. φ (Inside l k i)) + total_parts next l (suc k) φ)
-  total_parts (SliceStep cs next) l k φ = total_slices φ l k 0 cs + total_parts next l (suc k) φ
+  pub total_steps : Steps → ℕ → ℕ → (Item → Option ℕ → ℕ) → ℕ
+  total_steps Left l k φ = φ (Leave l) (Some 0)
+  total_steps Unshown l k φ = 0
+  total_steps (GraphStep t inside next) l k φ =
+      φ (Entry t l k) (Some (entry_fires t)) + (total inside (λ i. φ (Inside l k i)) + total_steps next l (suc k) φ)
+  total_steps (SliceStep cs next) l k φ = total_slices φ l k 0 cs + total_steps next l (suc k) φ
 
 -- the firings of the whole tree
 abbrev pub firings : Item → Option ℕ → ℕ
@@ -113,13 +113,13 @@ abbrev mutual
   pub cost : Entered → Option ℕ
   cost NoNode = Some 0
   cost (SimpleNode l ws rest) = plus (Some 1) (cost rest)
-  cost (WholeNode l ws first next rest) = plus (Some 1) (plus (cost first) (plus (parts_cost next) (cost rest)))
+  cost (WholeNode l ws first next rest) = plus (Some 1) (plus (cost first) (plus (steps_cost next) (cost rest)))
 
-  pub parts_cost : Steps → Option ℕ
-  parts_cost Left = Some 0
-  parts_cost Unshown = None
-  parts_cost (GraphStep t inside next) = plus (Some (entry_fires t)) (plus (cost inside) (parts_cost next))
-  parts_cost (SliceStep cs next) = plus (slices_cost cs) (parts_cost next)
+  pub steps_cost : Steps → Option ℕ
+  steps_cost Left = Some 0
+  steps_cost Unshown = None
+  steps_cost (GraphStep t inside next) = plus (Some (entry_fires t)) (plus (cost inside) (steps_cost next))
+  steps_cost (SliceStep cs next) = plus (slices_cost cs) (steps_cost next)
 
 -- the last item of a node of this label
 abbrev pub IsLast : Entered → ℕ → Item → Type 0
@@ -136,8 +136,8 @@ abbrev pub Fed : Entered → List ℕ → Item → Type 0
 Fed g ws j = (n : ℕ) × IsIn n ws × IsLast g n j
 
 -- an item of a part: its entry, or one inside
-abbrev pub OfPart : Item → ℕ → ℕ → Entered → Item → Type 0
-OfPart entry l k inside j = (j ≡ entry) ⊎ ((i : Item) × (w : Option ℕ) × (j ≡ Inside l k i) × Has inside i w)
+abbrev pub OfStep : Item → ℕ → ℕ → Entered → Item → Type 0
+OfStep entry l k inside j = (j ≡ entry) ⊎ ((i : Item) × (w : Option ℕ) × (j ≡ Inside l k i) × Has inside i w)
 
 abbrev pub OfSlices : ℕ → ℕ → List (Option ℕ) → Item → Type 0
 OfSlices l k cs j = (w : Option ℕ) × IsSlice l k 0 cs j w
@@ -155,17 +155,17 @@ abbrev mutual
   After g (WholeNode l ws first next rest) i j =
       ((i ≡ Node l) × Fed g ws j)
       ⊎ (AfterWithin (After first first) (Node l) l 0 i j
-      ⊎ (AfterParts next l 1 (OfPart (Node l) l 0 first) i j ⊎ After g rest i j))
+      ⊎ (AfterSteps next l 1 (OfStep (Node l) l 0 first) i j ⊎ After g rest i j))
 
-  pub AfterParts : Steps → ℕ → ℕ → (Item → Type 0) → Item → Item → Type 0
-  AfterParts Left l k before i j = (i ≡ Leave l) × before j
-  AfterParts Unshown l k before i j = ⊥
-  AfterParts (GraphStep t inside next) l k before i j =
+  pub AfterSteps : Steps → ℕ → ℕ → (Item → Type 0) → Item → Item → Type 0
+  AfterSteps Left l k before i j = (i ≡ Leave l) × before j
+  AfterSteps Unshown l k before i j = ⊥
+  AfterSteps (GraphStep t inside next) l k before i j =
       ((i ≡ Entry t l k) × before j)
       ⊎ (AfterWithin (After inside inside) (Entry t l k) l k i j
-      ⊎ AfterParts next l (suc k) (OfPart (Entry t l k) l k inside) i j)
-  AfterParts (SliceStep cs next) l k before i j =
-      ((r : ℕ) × (i ≡ Slice l k r) × before j) ⊎ AfterParts next l (suc k) (OfSlices l k cs) i j
+      ⊎ AfterSteps next l (suc k) (OfStep (Entry t l k) l k inside) i j)
+  AfterSteps (SliceStep cs next) l k before i j =
+      ((r : ℕ) × (i ≡ Slice l k r) × before j) ⊎ AfterSteps next l (suc k) (OfSlices l k cs) i j
 
 abbrev pub ComesAfter : Entered → Item → Item → Type 0
 ComesAfter f = After f f

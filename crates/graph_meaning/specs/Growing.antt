@@ -13,13 +13,13 @@ mutual
     empty : Grows NoNode NoNode
     simple : {l : ℕ} {ws : List ℕ} {r s : Entered} → Grows r s → Grows (SimpleNode l ws r) (SimpleNode l ws s)
     unknown : {l : ℕ} {ws : List ℕ} {a r s : Entered} {p : Steps} → Grows r s → Grows (WholeNode l ws NoNode Unshown r) (WholeNode l ws a p s)
-    compound : {l : ℕ} {ws : List ℕ} {a b r s : Entered} {p q : Steps} → Grows a b → GrowsParts p q → Grows r s → Grows (WholeNode l ws a p r) (WholeNode l ws b q s)
+    compound : {l : ℕ} {ws : List ℕ} {a b r s : Entered} {p q : Steps} → Grows a b → GrowsSteps p q → Grows r s → Grows (WholeNode l ws a p r) (WholeNode l ws b q s)
 
-  pub data GrowsParts : Steps → Steps → Type 0 where
-    leaves : GrowsParts Left Left
-    deeper : {p : Steps} → GrowsParts Unshown p
-    part : {t : Bool} {a b : Entered} {p q : Steps} → Grows a b → GrowsParts p q → GrowsParts (GraphStep t a p) (GraphStep t b q)
-    slices : {cs ds : List (Option ℕ)} {p q : Steps} → GrowsCosts cs ds → GrowsParts p q → GrowsParts (SliceStep cs p) (SliceStep ds q)
+  pub data GrowsSteps : Steps → Steps → Type 0 where
+    leaves : GrowsSteps Left Left
+    deeper : {p : Steps} → GrowsSteps Unshown p
+    part : {t : Bool} {a b : Entered} {p q : Steps} → Grows a b → GrowsSteps p q → GrowsSteps (GraphStep t a p) (GraphStep t b q)
+    slices : {cs ds : List (Option ℕ)} {p q : Steps} → GrowsCosts cs ds → GrowsSteps p q → GrowsSteps (SliceStep cs p) (SliceStep ds q)
 
 -- the node of this label has its outputs
 abbrev pub OutAt : (ℕ → Bool) → Entered → ℕ → Type 0
@@ -38,17 +38,17 @@ abbrev mutual
   OpenAt out g d (SimpleNode l ws rest) = (Fills out g ws → out l ≡ true) × OpenAt out g d rest
   OpenAt out g zero (WholeNode l ws first next rest) = Unit {0}
   OpenAt out g (suc d) (WholeNode l ws first next rest) =
-      (Fills out g ws → ((o : ℕ → Bool) × OpenAt o first d first) × (IsWhole first → OpenParts d next) × (AreWhole next → out l ≡ true)) × OpenAt out g (suc d) rest
+      (Fills out g ws → ((o : ℕ → Bool) × OpenAt o first d first) × (IsWhole first → OpenSteps d next) × (AreWhole next → out l ≡ true)) × OpenAt out g (suc d) rest
 
-  pub OpenParts : ℕ → Steps → Type 0
-  OpenParts d Left = Unit {0}
-  OpenParts zero Unshown = Unit {0}
-  OpenParts (suc d) Unshown = ⊥
-  OpenParts zero (GraphStep t inside next) = Unit {0}
-  OpenParts (suc d) (GraphStep t inside next) = ((o : ℕ → Bool) × OpenAt o inside d inside) × (IsWhole inside → OpenParts d next)
-  OpenParts zero (SliceStep cs next) = Unit {0}
-  OpenParts (suc d) (SliceStep [] next) = ⊥
-  OpenParts (suc d) (SliceStep (c ∷ cs) next) = all_given (c ∷ cs) → OpenParts d next
+  pub OpenSteps : ℕ → Steps → Type 0
+  OpenSteps d Left = Unit {0}
+  OpenSteps zero Unshown = Unit {0}
+  OpenSteps (suc d) Unshown = ⊥
+  OpenSteps zero (GraphStep t inside next) = Unit {0}
+  OpenSteps (suc d) (GraphStep t inside next) = ((o : ℕ → Bool) × OpenAt o inside d inside) × (IsWhole inside → OpenSteps d next)
+  OpenSteps zero (SliceStep cs next) = Unit {0}
+  OpenSteps (suc d) (SliceStep [] next) = ⊥
+  OpenSteps (suc d) (SliceStep (c ∷ cs) next) = all_given (c ∷ cs) → OpenSteps d next
 
 abbrev pub IsOpenBelow : ℕ → Entered → Type 0
 IsOpenBelow d f = (out : ℕ → Bool) × OpenAt out f d f

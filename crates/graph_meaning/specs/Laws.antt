@@ -1,8 +1,12 @@
 -- The laws of a graph's meaning, of its cost, and of all orders in which it may fire.
 use Rattle.std.specs.Prelude.{◌≡◌, ℕ, ◌≤◌, List, Some, ◌↔◌}
+use Rattle.if1_graph.specs.declared.graph.Unit1.{Unit1}
+use Rattle.if1_graph.specs.Ready.{IsReady}
 use Rattle.graph_meaning.specs.Carried.{Carried}
 use Rattle.graph_meaning.specs.Entered.{cost}
 use Rattle.graph_meaning.specs.Demand.{Network, Cut, IsCut, AreOrderly, dem, tree}
+use Rattle.graph_meaning.specs.Networks.{network}
+use Rattle.graph_meaning.specs.Orders.{AreOrdersRight}
 use Rattle.graph_meaning.specs.Histories.{Run, Cost, IsConfluent, IsNeverStuck}
 use Rattle.graph_meaning.specs.Growing.{Grows, IsExecution}
 
@@ -47,3 +51,16 @@ AreRunsConfluent = (cut : Cut) (u : Network) (g : ℕ) (ins : List Carried) (lim
 
 abbrev pub AreRunsNeverStuck : Type 0
 AreRunsNeverStuck = (cut : Cut) (u : Network) (g : ℕ) (ins : List Carried) (limit : ℕ) → IsCut cut → AreOrderly u → IsNeverStuck (run_of cut u g ins) limit
+
+-- the graphs of a ready unit whose ordering lists close no cycle are such graphs
+abbrev pub AreUnitsOrderly : Type 0
+AreUnitsOrderly = (u : Unit1) → IsReady u → AreOrdersRight u → AreOrderly (network u)
+
+-- the laws for each graph of such a unit, which is entered by its number
+pub record HasOneEnd (cut : Cut) (u : Unit1) (g : ℕ) (ins : List Carried) (limit : ℕ) : Type 0 where
+  pub meant : (c n : ℕ) → cost (tree cut n (network u) g ins) ≡ Some c → (rs : List Carried) × (dem n (network u) g ins ≡ Some rs)
+  pub confluent : IsConfluent (run_of cut (network u) g ins) limit
+  pub never_stuck : IsNeverStuck (run_of cut (network u) g ins) limit
+
+abbrev pub HaveUnitsOneEnd : Type 0
+HaveUnitsOneEnd = (cut : Cut) (u : Unit1) (g : ℕ) (ins : List Carried) (limit : ℕ) → IsCut cut → IsReady u → AreOrdersRight u → HasOneEnd cut u g ins limit

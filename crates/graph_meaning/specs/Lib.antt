@@ -7,3 +7,4 @@ pub mod Histories
 pub mod Laws
 pub mod Networks
 pub mod NodeValues
+pub mod Orders

@@ -1,5 +1,5 @@
 //! The laws of a graph's meaning, of its cost, and of its histories.
-ghost use Rattle.graph_meaning.specs.Laws.{AreValuesStable, AreCostsStable, DoTreesGrow, IsCostTheSum, IsCostOfAnyCut, IsMeantWhereCosted, AreExecutionsConfluent, AreExecutionsNeverStuck, AreRunsConfluent, AreRunsNeverStuck};
+ghost use Rattle.graph_meaning.specs.Laws.{AreValuesStable, AreCostsStable, DoTreesGrow, IsCostTheSum, IsCostOfAnyCut, IsMeantWhereCosted, AreExecutionsConfluent, AreExecutionsNeverStuck, AreRunsConfluent, AreRunsNeverStuck, AreUnitsOrderly, HaveUnitsOneEnd};
 
 /// The results of a graph that one depth gives are given at every greater one.
 pub fn values_are_stable()
@@ -49,4 +49,14 @@ pub fn runs_are_confluent()
 /// The run of a graph without a cycle is never stuck.
 pub fn runs_are_never_stuck()
     ensures { AreRunsNeverStuck }
+{}
+
+/// The graphs of a ready unit whose ordering lists close no cycle have no cycle.
+pub fn ready_units_are_orderly()
+    ensures { AreUnitsOrderly }
+{}
+
+/// The run of each graph of such a unit ends alike in each order of its firings, and is never stuck.
+pub fn ready_units_have_one_end()
+    ensures { HaveUnitsOneEnd }
 {}
