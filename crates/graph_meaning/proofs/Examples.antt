@@ -138,7 +138,7 @@ endless =
       net (vertex 1 (Whole (LoopB 1 2 1 1 1)) [] ∷ []) (Fixed (int 7) ∷ [])
       ∷ net [] (Fixed (int 0) ∷ [])
       ∷ net [] (Fixed (Value (val.Bool true)) ∷ [])
-      ∷ [],
+      ∷ []
     )
 
 endless-means : dem 1 endless 0 [] ≡ Some (int 7 ∷ [])
@@ -157,7 +157,7 @@ choosing =
       ∷ net [] (Port 0 1 ∷ [])
       ∷ net [] (Fixed (int 4) ∷ [])
       ∷ net [] (Fixed (int 5) ∷ [])
-      ∷ [],
+      ∷ []
     )
 
 chooses-five : dem 5 choosing 0 (int 1 ∷ []) ≡ Some (int 5 ∷ [])
@@ -176,7 +176,7 @@ by_tag =
       net (vertex 1 (Whole (TagCase (1 ∷ 2 ∷ []) 1)) (Port 0 1 ∷ []) ∷ []) (Port 1 1 ∷ [])
       ∷ net [] (Fixed (int 0) ∷ [])
       ∷ net [] (Port 0 1 ∷ [])
-      ∷ [],
+      ∷ []
     )
 
 spoiled-union : dem 5 by_tag 0 (err cause.Empty ∷ []) ≡ Some (err cause.Empty ∷ [])
@@ -194,7 +194,7 @@ calling =
     numbered (
       net (vertex 1 (Whole (Call 1)) (Port 0 1 ∷ []) ∷ []) (Port 1 1 ∷ [])
       ∷ net (node 1 (simple.Two two.Plus) (Port 0 1 ∷ Fixed (int 1) ∷ []) ∷ []) (Port 1 1 ∷ [])
-      ∷ [],
+      ∷ []
     )
 
 calls : dem 5 calling 0 (int 6 ∷ []) ≡ Some (int 7 ∷ [])
@@ -213,7 +213,7 @@ spreading =
       ∷ net (node 1 simple.RangeGenerate (Fixed (int 1) ∷ Port 0 1 ∷ []) ∷ []) (Port 1 1 ∷ [])
       ∷ net (node 1 (simple.Two two.Plus) (Port 0 2 ∷ Fixed (int 5) ∷ []) ∷ []) (Port 1 1 ∷ [])
       ∷ net (node 1 (simple.Reduce Free) (Fixed (Name (codes "sum")) ∷ Port 0 3 ∷ []) ∷ []) (Port 1 1 ∷ [])
-      ∷ [],
+      ∷ []
     )
 
 sums : dem 10 spreading 0 (int 3 ∷ []) ≡ Some (int 21 ∷ [])
@@ -249,7 +249,7 @@ pairs =
       (Port 1 1 ∷ Port 2 1 ∷ [])
       ∷ net (node 1 (simple.Two two.Less) (Port 0 3 ∷ Fixed (int 2) ∷ []) ∷ []) (Port 0 4 ∷ Port 1 1 ∷ [])
       ∷ net (node 1 simple.AGather (Fixed (int 1) ∷ Port 0 5 ∷ Port 0 6 ∷ []) ∷ []) (Port 1 1 ∷ [])
-      ∷ [],
+      ∷ []
     )
 
 keeps-one : dem 10 pairs 0 (int 2 ∷ int 3 ∷ []) ≡ Some (Value (val.Arr (bounded (pos 1) (val.Int (pos 2) ∷ []))) ∷ [])

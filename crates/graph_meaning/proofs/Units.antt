@@ -118,7 +118,7 @@ module _ (u : Unit1) (g : Graph) where
   some-label m h = go (node_at (out-Graph g).nodes m) refl h
     where
       go : (o : Option Node) → node_at (out-Graph g).nodes m ≡ o → IsSome o → IsLabel (vertices (out-Graph g).nodes) m
-      go None e s = absurd s
+      go None e s = absurd cc
       go (Some n) e s =
           let x = found-in (λ n. label_of n == m) (out-Graph g).nodes n e in
           subst (IsLabel (vertices (out-Graph g).nodes)) (same-number (label_of n) m x.1) (labelled (out-Graph g).nodes n x.0)
