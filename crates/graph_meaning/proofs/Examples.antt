@@ -1,11 +1,13 @@
 -- The definitions on small graphs: each compound node, its errors, an endless loop, and a ForAll cut in two ways.
-use Rattle.std.proofs.Common.{◌≡◌, ℕ, zero, suc, pos, negsuc, true, false, List, [], ◌∷◌, ◌++◌, Some, None, refl, ap}
+use Rattle.std.proofs.Common.{◌≡◌, ℕ, zero, suc, pos, negsuc, true, false, List, [], ◌∷◌, ◌++◌, Some, None, refl, ap, subst, rules, eqb, Bool, if◌then◌else◌, inl, inr}
 use Rattle.std.specs.Prelude.{codes, get_or}
 use Rattle.flow_value.specs.Bounds.{bounded}
 use Rattle.flow_value.specs.declared.cause.Cause.{Cause}
 use Rattle.flow_value.specs.declared.cause.Cause.TheVariants as cause
 use Rattle.flow_value.specs.declared.value.Val.{Val}
+use Rattle.flow_value.specs.declared.value.Val.TheOpen.{Val-F}
 use Rattle.flow_value.specs.declared.value.Val.TheVariants as val
+use Rattle.flow_value.specs.declared.value.Val.TheViews as values
 use Rattle.flow_value.specs.declared.operation.Scalar1.TheVariants as one
 use Rattle.flow_value.specs.declared.operation.Scalar2.TheVariants as two
 use Rattle.if1_graph.specs.declared.op.Grouping.TheVariants.{Free}
@@ -14,9 +16,12 @@ use Rattle.if1_graph.specs.declared.op.Simple.TheVariants as simple
 use Rattle.graph_meaning.specs.Carried.{Carried, Value, Many, Spoiled, Name}
 use Rattle.graph_meaning.specs.NodeValues.{Shape, op}
 use Rattle.graph_meaning.specs.NodeValues as shape
-use Rattle.graph_meaning.specs.Forms.{Form, Call, Select, TagCase, LoopA, LoopB, ForAll}
-use Rattle.graph_meaning.specs.Entered.{NoNode, SimpleNode, WholeNode, Left, GraphStep, SliceStep, cost}
-use Rattle.graph_meaning.specs.Demand.{Source, Port, Fixed, Kind, Plain, Whole, Vertex, Net, Network, dem, tree, flatten, IsCut}
+use Rattle.graph_meaning.specs.Forms.{Form, Call, Select, TagCase, LoopA, LoopB, ForAll, Chosen, Begins, Skips, next_of, first, arm_in}
+use Rattle.graph_meaning.specs.Entered.{NoNode, SimpleNode, WholeNode, Left, GraphStep, SliceStep, cost, IsIn}
+use Rattle.graph_meaning.specs.Demand.{Source, Port, Fixed, Kind, Plain, Whole, Vertex, Net, Network, data_labels, waits_of, WaitsFor, straight, through, IsOrderly, AreOrderly, leads_to, dem, tree, flatten, IsCut}
+use Rattle.graph_meaning.specs.Histories.{IsConfluent}
+use Rattle.graph_meaning.specs.Laws.{run_of}
+use Rattle.graph_meaning.proofs.Theorems.{runs-confluent}
 
 abbrev int : ℕ → Carried
 int n = Value (val.Int (pos n))
@@ -135,10 +140,10 @@ costs-five = refl
 abbrev endless : Network
 endless =
     numbered (
-      net (vertex 1 (Whole (LoopB 1 2 1 1 1)) [] ∷ []) (Fixed (int 7) ∷ [])
-      ∷ net [] (Fixed (int 0) ∷ [])
-      ∷ net [] (Fixed (Value (val.Bool true)) ∷ [])
-      ∷ []
+    net (vertex 1 (Whole (LoopB 1 2 1 1 1)) [] ∷ []) (Fixed (int 7) ∷ [])
+    ∷ net [] (Fixed (int 0) ∷ [])
+    ∷ net [] (Fixed (Value (val.Bool true)) ∷ [])
+    ∷ []
     )
 
 endless-means : dem 1 endless 0 [] ≡ Some (int 7 ∷ [])
@@ -153,11 +158,11 @@ endless-has-no-cost = refl
 abbrev choosing : Network
 choosing =
     numbered (
-      net (vertex 1 (Whole (Select 1 (2 ∷ 3 ∷ []) 1)) (Port 0 1 ∷ []) ∷ []) (Port 1 1 ∷ [])
-      ∷ net [] (Port 0 1 ∷ [])
-      ∷ net [] (Fixed (int 4) ∷ [])
-      ∷ net [] (Fixed (int 5) ∷ [])
-      ∷ []
+    net (vertex 1 (Whole (Select 1 (2 ∷ 3 ∷ []) 1)) (Port 0 1 ∷ []) ∷ []) (Port 1 1 ∷ [])
+    ∷ net [] (Port 0 1 ∷ [])
+    ∷ net [] (Fixed (int 4) ∷ [])
+    ∷ net [] (Fixed (int 5) ∷ [])
+    ∷ []
     )
 
 chooses-five : dem 5 choosing 0 (int 1 ∷ []) ≡ Some (int 5 ∷ [])
@@ -173,28 +178,35 @@ spoiled-selector = refl
 abbrev by_tag : Network
 by_tag =
     numbered (
-      net (vertex 1 (Whole (TagCase (1 ∷ 2 ∷ []) 1)) (Port 0 1 ∷ []) ∷ []) (Port 1 1 ∷ [])
-      ∷ net [] (Fixed (int 0) ∷ [])
-      ∷ net [] (Port 0 1 ∷ [])
-      ∷ []
+    net (vertex 1 (Whole (TagCase (1 ∷ 2 ∷ []) 1)) (Port 0 1 ∷ []) ∷ []) (Port 1 1 ∷ [])
+    ∷ net [] (Fixed (int 0) ∷ [])
+    ∷ net [] (Port 0 1 ∷ [])
+    ∷ []
     )
 
-spoiled-union : dem 5 by_tag 0 (err cause.Empty ∷ []) ≡ Some (err cause.Empty ∷ [])
-spoiled-union = refl
+abbrev tags : Form
+tags = TagCase (1 ∷ 2 ∷ []) 1
 
-spoiled-union-enters-nothing : tree together 5 by_tag 0 (err cause.Empty ∷ []) ≡ WholeNode 1 [] NoNode Left NoNode
-spoiled-union-enters-nothing = refl
+spoiled-union : (c : Cause) → first tags (err c ∷ []) ≡ Skips (err c ∷ [])
+spoiled-union c = let out : values.out-Val (val.Err c) ≡ Val-F.Err c = search (rules, values.the_lemmas) in ap (arm_in (1 ∷ 2 ∷ []) 1 []) out
 
-tagged : dem 5 by_tag 0 (Value (val.Uni 1 (val.Int (pos 6))) ∷ []) ≡ Some (int 6 ∷ [])
-tagged = refl
+tagged : (v : Val) → first tags (Value (val.Uni 1 v) ∷ []) ≡ Begins 2 (Value v ∷ []) Chosen
+tagged v = let out : values.out-Val (val.Uni 1 v) ≡ Val-F.Uni 1 v = search (rules, values.the_lemmas) in ap (arm_in (1 ∷ 2 ∷ []) 1 []) out
+
+-- what the node gives
+spoiled-union-given : (c : Cause) → leads_to 5 by_tag tags (err c ∷ []) (next_of (first tags (err c ∷ []))) ≡ Some (err c ∷ [])
+spoiled-union-given c = ap (λ f. leads_to 5 by_tag tags (err c ∷ []) (next_of f)) (spoiled-union c)
+
+content-given : (v : Val) → leads_to 5 by_tag tags (Value (val.Uni 1 v) ∷ []) (next_of (first tags (Value (val.Uni 1 v) ∷ []))) ≡ Some (Value v ∷ [])
+content-given v = ap (λ f. leads_to 5 by_tag tags (Value (val.Uni 1 v) ∷ []) (next_of f)) (tagged v)
 
 -- a call of a graph that adds 1
 abbrev calling : Network
 calling =
     numbered (
-      net (vertex 1 (Whole (Call 1)) (Port 0 1 ∷ []) ∷ []) (Port 1 1 ∷ [])
-      ∷ net (node 1 (simple.Two two.Plus) (Port 0 1 ∷ Fixed (int 1) ∷ []) ∷ []) (Port 1 1 ∷ [])
-      ∷ []
+    net (vertex 1 (Whole (Call 1)) (Port 0 1 ∷ []) ∷ []) (Port 1 1 ∷ [])
+    ∷ net (node 1 (simple.Two two.Plus) (Port 0 1 ∷ Fixed (int 1) ∷ []) ∷ []) (Port 1 1 ∷ [])
+    ∷ []
     )
 
 calls : dem 5 calling 0 (int 6 ∷ []) ≡ Some (int 7 ∷ [])
@@ -209,11 +221,11 @@ costs-two = refl
 abbrev spreading : Network
 spreading =
     numbered (
-      net (vertex 1 (Whole (ForAll 1 2 3 1 1)) (Port 0 1 ∷ []) ∷ []) (Port 1 1 ∷ [])
-      ∷ net (node 1 simple.RangeGenerate (Fixed (int 1) ∷ Port 0 1 ∷ []) ∷ []) (Port 1 1 ∷ [])
-      ∷ net (node 1 (simple.Two two.Plus) (Port 0 2 ∷ Fixed (int 5) ∷ []) ∷ []) (Port 1 1 ∷ [])
-      ∷ net (node 1 (simple.Reduce Free) (Fixed (Name (codes "sum")) ∷ Port 0 3 ∷ []) ∷ []) (Port 1 1 ∷ [])
-      ∷ []
+    net (vertex 1 (Whole (ForAll 1 2 3 1 1)) (Port 0 1 ∷ []) ∷ []) (Port 1 1 ∷ [])
+    ∷ net (node 1 simple.RangeGenerate (Fixed (int 1) ∷ Port 0 1 ∷ []) ∷ []) (Port 1 1 ∷ [])
+    ∷ net (node 1 (simple.Two two.Plus) (Port 0 2 ∷ Fixed (int 5) ∷ []) ∷ []) (Port 1 1 ∷ [])
+    ∷ net (node 1 (simple.Reduce Free) (Fixed (Name (codes "sum")) ∷ Port 0 3 ∷ []) ∷ []) (Port 1 1 ∷ [])
+    ∷ []
     )
 
 sums : dem 10 spreading 0 (int 3 ∷ []) ≡ Some (int 21 ∷ [])
@@ -243,13 +255,13 @@ costs-nine-apart = refl
 abbrev pairs : Network
 pairs =
     numbered (
-      net (vertex 1 (Whole (ForAll 1 2 3 2 1)) (Port 0 1 ∷ Port 0 2 ∷ []) ∷ []) (Port 1 1 ∷ [])
-      ∷ net
-      (node 1 simple.RangeGenerate (Fixed (int 1) ∷ Port 0 1 ∷ []) ∷ node 2 simple.RangeGenerate (Fixed (int 2) ∷ Port 0 2 ∷ []) ∷ [])
-      (Port 1 1 ∷ Port 2 1 ∷ [])
-      ∷ net (node 1 (simple.Two two.Less) (Port 0 3 ∷ Fixed (int 2) ∷ []) ∷ []) (Port 0 4 ∷ Port 1 1 ∷ [])
-      ∷ net (node 1 simple.AGather (Fixed (int 1) ∷ Port 0 5 ∷ Port 0 6 ∷ []) ∷ []) (Port 1 1 ∷ [])
-      ∷ []
+    net (vertex 1 (Whole (ForAll 1 2 3 2 1)) (Port 0 1 ∷ Port 0 2 ∷ []) ∷ []) (Port 1 1 ∷ [])
+    ∷ net
+    (node 1 simple.RangeGenerate (Fixed (int 1) ∷ Port 0 1 ∷ []) ∷ node 2 simple.RangeGenerate (Fixed (int 2) ∷ Port 0 2 ∷ []) ∷ [])
+    (Port 1 1 ∷ Port 2 1 ∷ [])
+    ∷ net (node 1 (simple.Two two.Less) (Port 0 3 ∷ Fixed (int 2) ∷ []) ∷ []) (Port 0 4 ∷ Port 1 1 ∷ [])
+    ∷ net (node 1 simple.AGather (Fixed (int 1) ∷ Port 0 5 ∷ Port 0 6 ∷ []) ∷ []) (Port 1 1 ∷ [])
+    ∷ []
     )
 
 keeps-one : dem 10 pairs 0 (int 2 ∷ int 3 ∷ []) ≡ Some (Value (val.Arr (bounded (pos 1) (val.Int (pos 2) ∷ []))) ∷ [])
@@ -260,3 +272,41 @@ lengths-differ = refl
 
 first-of-two-errors : dem 10 pairs 0 (err cause.Zero ∷ err cause.Empty ∷ []) ≡ Some (err cause.Zero ∷ [])
 first-of-two-errors = refl
+
+-- ---- the premises can be met: every history of the counting loop ends alike
+
+no-wait : (k : Kind) (ins : List Source) → data_labels ins ≡ [] → {l m : ℕ} → WaitsFor (vertex 1 k ins ∷ []) l m → ⊥
+no-wait k ins e (straight {l = l} {m = m} i) = go (eqb 1 l) i
+  where
+    go : (b : Bool) → IsIn m (waits_of (if b then Some (vertex 1 k ins) else None)) → ⊥
+    go true i = absurd (subst (λ xs. IsIn m (xs ++ [])) e i)
+    go false i = absurd i
+no-wait k ins e (through a b) = no-wait k ins e a
+
+one-orderly : (k : Kind) (ins : List Source) → data_labels ins ≡ [] → IsOrderly (net (vertex 1 k ins ∷ []) (Port 1 1 ∷ []))
+one-orderly k ins e =
+    record {
+      once = ((λ i. i), tt);
+      named = ((λ n i. absurd (subst (λ xs. IsIn n (xs ++ [])) e i)), tt);
+      results_named = λ n. elim [ inl e ↦ inl e | inr i ↦ absurd i ];
+      acyclic = λ l w. no-wait k ins e w;
+    }
+
+none-waits : {l m : ℕ} → WaitsFor [] l m → ⊥
+none-waits (straight i) = absurd i
+none-waits (through a b) = none-waits a
+
+none-orderly : (results : List Source) → data_labels results ≡ [] → IsOrderly (net [] results)
+none-orderly results e =
+    record { once = tt; named = tt; results_named = λ n i. absurd (subst (IsIn n) e i); acyclic = λ l w. none-waits w }
+
+counting-orderly : AreOrderly counting
+counting-orderly zero = one-orderly (Whole (LoopB 1 2 3 4 1)) (Port 0 1 ∷ []) refl
+counting-orderly (suc zero) = none-orderly (Fixed (int 0) ∷ []) refl
+counting-orderly (suc (suc zero)) = one-orderly (Plain (simple.Two two.Less) shape.Plain) (Port 0 2 ∷ Port 0 1 ∷ []) refl
+counting-orderly (suc (suc (suc zero))) = one-orderly (Plain (simple.Two two.Plus) shape.Plain) (Port 0 2 ∷ Fixed (int 1) ∷ []) refl
+counting-orderly (suc (suc (suc (suc zero)))) = one-orderly (Plain simple.FinalValue shape.Plain) (Port 0 2 ∷ []) refl
+counting-orderly (suc (suc (suc (suc (suc g))))) = none-orderly [] refl
+
+counting-confluent : (limit : ℕ) → IsConfluent (run_of apart counting 0 (int 2 ∷ [])) limit
+counting-confluent limit = runs-confluent apart counting 0 (int 2 ∷ []) limit is-cut-apart counting-orderly

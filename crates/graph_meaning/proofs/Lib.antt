@@ -17,3 +17,4 @@ pub mod Examples
 pub mod Lists
 pub mod Units
 pub mod Ended
+pub mod Unlisted

@@ -6,7 +6,7 @@ use Rattle.graph_meaning.specs.Carried.{Carried}
 use Rattle.graph_meaning.specs.Entered.{cost}
 use Rattle.graph_meaning.specs.Demand.{Network, Cut, IsCut, AreOrderly, dem, tree}
 use Rattle.graph_meaning.specs.Networks.{network}
-use Rattle.graph_meaning.specs.Orders.{AreOrdersRight}
+use Rattle.graph_meaning.specs.Orders.{AreOrdersRight, HasNoLists}
 use Rattle.graph_meaning.specs.Histories.{Run, Cost, IsConfluent, IsNeverStuck}
 use Rattle.graph_meaning.specs.Growing.{Grows, IsExecution}
 
@@ -64,3 +64,7 @@ pub record HasOneEnd (cut : Cut) (u : Unit1) (g : ℕ) (ins : List Carried) (lim
 
 abbrev pub HaveUnitsOneEnd : Type 0
 HaveUnitsOneEnd = (cut : Cut) (u : Unit1) (g : ℕ) (ins : List Carried) (limit : ℕ) → IsCut cut → IsReady u → AreOrdersRight u → HasOneEnd cut u g ins limit
+
+-- without ordering lists a ready unit is such a unit, since no node reaches itself
+abbrev pub AreOrdersRightWithoutLists : Type 0
+AreOrdersRightWithoutLists = (u : Unit1) → IsReady u → HasNoLists u → AreOrdersRight u

@@ -1,5 +1,5 @@
 -- Which nodes of a graph come before which, by its edges and ordering lists.
-use Rattle.std.specs.Prelude.{◌≡◌, ℕ, Some, IsSome, All, Contains, List, []}
+use Rattle.std.specs.Prelude.{◌≡◌, ℕ, List, [], Some, IsSome, All, Contains}
 use Rattle.if1_graph.specs.declared.graph.Graph.{Graph}
 use Rattle.if1_graph.specs.declared.graph.Graph.TheViews.{out-Graph}
 use Rattle.if1_graph.specs.declared.graph.Node.{Node, out-Node}
@@ -20,3 +20,7 @@ pub record IsOrderRight (p : Place) : Type 0 where
 
 abbrev pub AreOrdersRight : Unit1 → Type 0
 AreOrdersRight u = All IsOrderRight (places u)
+
+-- no node has an ordering list
+abbrev pub HasNoLists : Unit1 → Type 0
+HasNoLists u = All (λ p. All (λ n. (out-Node n).before ≡ []) (out-Graph p.graph).nodes) (places u)
