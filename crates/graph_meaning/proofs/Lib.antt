@@ -18,3 +18,5 @@ pub mod Lists
 pub mod Units
 pub mod Ended
 pub mod Unlisted
+pub mod Numbers
+pub mod Outputs

@@ -1,11 +1,19 @@
 -- The laws of a graph's meaning, of its cost, and of all orders in which it may fire.
-use Rattle.std.specs.Prelude.{◌≡◌, ℕ, ◌≤◌, List, Some, ◌↔◌}
+use Rattle.std.specs.Prelude.{◌≡◌, ℕ, ◌≤◌, List, length, Some, Contains, ◌↔◌}
 use Rattle.if1_graph.specs.declared.graph.Unit1.{Unit1}
+use Rattle.if1_graph.specs.declared.op.Simple.{Simple}
+use Rattle.if1_graph.specs.declared.row.Gives.{Gives}
+use Rattle.if1_graph.specs.declared.row.Gives.TheVariants.{One, Pair, Results, AllFields}
+use Rattle.if1_graph.specs.Formed.{IsFormed}
+use Rattle.if1_graph.specs.Rows.{row_of}
 use Rattle.if1_graph.specs.Ready.{IsReady}
+use Rattle.if1_graph.specs.Units.{Place, places, number_of}
 use Rattle.graph_meaning.specs.Carried.{Carried}
+use Rattle.graph_meaning.specs.NodeValues.{Shape, op}
+use Rattle.graph_meaning.specs.NodeValues as shape
 use Rattle.graph_meaning.specs.Entered.{cost}
 use Rattle.graph_meaning.specs.Demand.{Network, Cut, IsCut, AreOrderly, dem, tree}
-use Rattle.graph_meaning.specs.Networks.{network}
+use Rattle.graph_meaning.specs.Networks.{net_of, network}
 use Rattle.graph_meaning.specs.Orders.{AreOrdersRight, HasNoLists}
 use Rattle.graph_meaning.specs.Histories.{Run, Cost, IsConfluent, IsNeverStuck}
 use Rattle.graph_meaning.specs.Growing.{Grows, IsExecution}
@@ -68,3 +76,19 @@ HaveUnitsOneEnd = (cut : Cut) (u : Unit1) (g : ℕ) (ins : List Carried) (limit 
 -- without ordering lists a ready unit is such a unit, since no node reaches itself
 abbrev pub AreOrdersRightWithoutLists : Type 0
 AreOrdersRightWithoutLists = (u : Unit1) → IsReady u → HasNoLists u → AreOrdersRight u
+
+-- in a formed unit the graph of a number is the graph that has it
+abbrev pub AreFoundByNumber : Type 0
+AreFoundByNumber = (u : Unit1) → IsFormed u → (p : Place) → Contains (places u) p → network u (number_of p) ≡ net_of u p.graph
+
+-- how many outputs a row of the table gives
+abbrev pub outputs_by : Gives → Shape → ℕ
+outputs_by (One a) s = 1
+outputs_by (Pair a b) s = 2
+outputs_by Results s = 0
+outputs_by AllFields (shape.Fields n) = n
+outputs_by AllFields _ = 0
+
+-- a simple node other than a call has as many outputs as its row says
+abbrev pub AreOutputsCounted : Type 0
+AreOutputsCounted = (o : Simple) (s : Shape) (cs : List Carried) → length (op o s cs) ≡ outputs_by (row_of o).gives s

@@ -1,5 +1,5 @@
 //! The laws of a graph's meaning, of its cost, and of its histories.
-ghost use Rattle.graph_meaning.specs.Laws.{AreValuesStable, AreCostsStable, DoTreesGrow, IsCostTheSum, IsCostOfAnyCut, IsMeantWhereCosted, AreExecutionsConfluent, AreExecutionsNeverStuck, AreRunsConfluent, AreRunsNeverStuck, AreUnitsOrderly, HaveUnitsOneEnd, AreOrdersRightWithoutLists};
+ghost use Rattle.graph_meaning.specs.Laws.{AreValuesStable, AreCostsStable, DoTreesGrow, IsCostTheSum, IsCostOfAnyCut, IsMeantWhereCosted, AreExecutionsConfluent, AreExecutionsNeverStuck, AreRunsConfluent, AreRunsNeverStuck, AreUnitsOrderly, HaveUnitsOneEnd, AreOrdersRightWithoutLists, AreFoundByNumber, AreOutputsCounted};
 
 /// The results of a graph that one depth gives are given at every greater one.
 pub fn values_are_stable()
@@ -64,4 +64,14 @@ pub fn ready_units_have_one_end()
 /// In a ready unit without ordering lists the order of nodes is right.
 pub fn orders_are_right_without_lists()
     ensures { AreOrdersRightWithoutLists }
+{}
+
+/// In a formed unit the graph of a number is the graph that has it.
+pub fn graphs_are_found_by_number()
+    ensures { AreFoundByNumber }
+{}
+
+/// A simple node other than a call has as many outputs as its row of the table says.
+pub fn outputs_are_counted()
+    ensures { AreOutputsCounted }
 {}
