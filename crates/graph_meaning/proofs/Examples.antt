@@ -82,6 +82,9 @@ by-zero = refl
 spoiled-range : op simple.RangeGenerate shape.Plain (int 1 ∷ err cause.Tag ∷ []) ≡ Spoiled cause.Tag ∷ []
 spoiled-range = refl
 
+spoiled-twice : op simple.RangeGenerate shape.Plain (err cause.Zero ∷ err cause.Tag ∷ []) ≡ Spoiled cause.Zero ∷ []
+spoiled-twice = refl
+
 large-range : op simple.RangeGenerate shape.Plain (int 1 ∷ int 4194305 ∷ []) ≡ Spoiled cause.Size ∷ []
 large-range = refl
 
