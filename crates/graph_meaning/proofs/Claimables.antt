@@ -3,7 +3,7 @@ use Rattle.std.proofs.Common.{◌≡◌, ℕ, zero, suc, ◌<◌, ◌≤◌, Boo
 use native.Mathlib.Decide.{ℕ_discrete}
 use Rattle.graph_meaning.specs.Entered.{Entered, NoNode, SimpleNode, WholeNode, Steps, Left, Unshown, GraphStep, SliceStep, Item, Node, Entry, Slice, Leave, Inside, entry_fires, IsSlice, Has, StepsHave, IsWhole, AreWhole, all_given, IsLast, IsIn, Fed, OfStep, OfSlices, AfterWithin, After, AfterSteps, IsFresh, IsDistinct, AreDistinct, total, total_steps, Falls, InnerAcyclic, AreAcyclic, IsAcyclic}
 use Rattle.graph_meaning.proofs.ItemsOnce.{label_of, AtLeast, pick, fresh-facts, part-facts, PartFacts}
-use Rattle.graph_meaning.specs.Growing.{Grows, simple, unknown, compound, GrowsSteps, leaves, part, slices, OutAt, Fills, OpenAt, OpenSteps, IsOpenBelow}
+use Rattle.graph_meaning.specs.Growing.{Grows, simple, unknown, compound, GrowsSteps, leaves, part, slices, OutAt, OpenAt, OpenSteps, IsOpenBelow}
 use Rattle.graph_meaning.proofs.Growth.{whole-grows, last-grows, fresh-grows, after-parts-facts, after-fresh, costs-whole}
 
 abbrev pub Test : Type 0

@@ -1,6 +1,6 @@
 -- Confluence, and never stuck, of a run whose trees grow with the depth.
 use Rattle.std.proofs.Common.{◌≡◌, ℕ, suc, ◌+◌, ◌<◌, ◌≤◌, Bool, true, false, ◌||◌, [], ◌∷◌, length, Option, Some, None, ◌⊎◌, inl, inr, refl, sym, ap, ◌∙◌, subst, arith}
-use Rattle.graph_meaning.specs.Entered.{Item, Has, ComesAfter, IsWhole, total, all_firings, IsDistinct, IsAcyclic}
+use Rattle.graph_meaning.specs.Entered.{Item, Has, ComesAfter, IsWhole, total, all_firings}
 use Rattle.graph_meaning.specs.Histories.{Run, Exists, OwnFirings, Follows, Cost, Made, OverLimit, NoMemory, EndKind, Results, TurnLimit, OutOfMemory, Event, Claim, Idle, Ended, Finish, History, early, is_slice, is_item, count, is_claimed, is_finished, is_made, Claimable, AllMade, HasEnded, IsOn, MadeWith, Legal, IsSettled, IsConfluent, IsNeverStuck}
 use Rattle.graph_meaning.specs.Growing.{IsExecution}
 use Rattle.graph_meaning.proofs.ItemSums.{total-add, total-mono, total-zero}

@@ -1,5 +1,5 @@
 -- The definitions on small graphs: each compound node, its errors, an endless loop, and a ForAll cut in two ways.
-use Rattle.std.proofs.Common.{◌≡◌, ℕ, zero, suc, pos, negsuc, true, false, List, [], ◌∷◌, ◌++◌, Some, None, refl, ap, subst, rules, eqb, Bool, if◌then◌else◌, inl, inr}
+use Rattle.std.proofs.Common.{◌≡◌, ℕ, zero, suc, pos, true, false, List, [], ◌∷◌, ◌++◌, Some, None, refl, ap, subst, rules, eqb, Bool, if◌then◌else◌, inl, inr}
 use Rattle.std.specs.Prelude.{codes, get_or}
 use Rattle.flow_value.specs.Bounds.{bounded}
 use Rattle.flow_value.specs.declared.cause.Cause.{Cause}
@@ -8,7 +8,6 @@ use Rattle.flow_value.specs.declared.value.Val.{Val}
 use Rattle.flow_value.specs.declared.value.Val.TheOpen.{Val-F}
 use Rattle.flow_value.specs.declared.value.Val.TheVariants as val
 use Rattle.flow_value.specs.declared.value.Val.TheViews as values
-use Rattle.flow_value.specs.declared.operation.Scalar1.TheVariants as one
 use Rattle.flow_value.specs.declared.operation.Scalar2.TheVariants as two
 use Rattle.if1_graph.specs.declared.op.Grouping.TheVariants.{Free}
 use Rattle.if1_graph.specs.declared.op.Simple.{Simple}
@@ -82,6 +81,9 @@ by-zero = refl
 
 spoiled-range : op simple.RangeGenerate shape.Plain (int 1 ∷ err cause.Tag ∷ []) ≡ Spoiled cause.Tag ∷ []
 spoiled-range = refl
+
+spoiled-twice : op simple.RangeGenerate shape.Plain (err cause.Zero ∷ err cause.Tag ∷ []) ≡ Spoiled cause.Zero ∷ []
+spoiled-twice = refl
 
 large-range : op simple.RangeGenerate shape.Plain (int 1 ∷ int 4194305 ∷ []) ≡ Spoiled cause.Size ∷ []
 large-range = refl

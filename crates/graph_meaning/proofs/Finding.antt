@@ -1,5 +1,5 @@
 -- Nodes by their labels.
-use Rattle.std.proofs.Common.{◌≡◌, ℕ, Bool, true, false, List, [], ◌∷◌, Option, Some, inl, inr, refl, sym, ap, ◌∙◌, subst, eqb, T, if◌then◌else◌}
+use Rattle.std.proofs.Common.{◌≡◌, ℕ, Bool, true, false, List, [], ◌∷◌, Some, inl, inr, refl, sym, ap, ◌∙◌, subst, eqb, T, if◌then◌else◌}
 use Rattle.std.proofs.lemmas.Bool.{eq-eqb}
 use Rattle.std.proofs.Math.Facts.{eqb_yes}
 use Rattle.graph_meaning.specs.Demand.{Vertex, at_label, IsLabel, LabelsOnce, EachNode}

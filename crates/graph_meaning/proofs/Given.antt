@@ -1,12 +1,10 @@
 -- Where the nodes that a node waits for have their outputs, its operands are given; so what is open lies deep.
-use Rattle.std.proofs.Common.{◌≡◌, ℕ, zero, suc, ◌-◌, ◌<◌, ◌≤◌, Bool, true, false, List, [], ◌∷◌, ◌++◌, length, map, get_or, Option, Some, None, inl, inr, refl, sym, ap, ◌∙◌, subst, arith, is_some, eqb, T, if◌then◌else◌}
-use Rattle.std.proofs.lemmas.Bool.{eq-eqb}
-use Rattle.std.proofs.Math.Facts.{eqb_yes}
+use Rattle.std.proofs.Common.{◌≡◌, ℕ, zero, suc, ◌-◌, ◌<◌, ◌≤◌, Bool, true, List, [], ◌∷◌, ◌++◌, length, map, get_or, Option, Some, None, inl, inr, refl, ap, ◌∙◌, subst, arith, is_some}
 use Rattle.graph_meaning.specs.Entered.{Entered, Steps, Left, Unshown, GraphStep, SliceStep, IsIn, IsWhole, AreWhole}
 use Rattle.graph_meaning.specs.Carried.{Carried, Unfilled}
 use Rattle.graph_meaning.specs.NodeValues.{op}
 use Rattle.graph_meaning.specs.Forms.{Form, Next, Enter, Iterate, Leave, next_of, first, follow, gather}
-use Rattle.graph_meaning.specs.Demand.{Source, Port, Fixed, Kind, Plain, Whole, Vertex, Net, Network, Cut, Of, at_label, data_labels, waits, and_then, all, outputs, demanded, operands, of_kind, of_node, leads_to, dem, Grow, compound, steps_of, node_tree, nodes_tree, on_results, tree_from, IsLabel, LabelsOnce, EachNode}
+use Rattle.graph_meaning.specs.Demand.{Source, Port, Fixed, Kind, Plain, Whole, Vertex, Net, Network, Cut, Of, at_label, data_labels, waits, and_then, all, outputs, demanded, operands, of_kind, of_node, leads_to, dem, Grow, compound, steps_of, node_tree, nodes_tree, on_results, tree_from, IsLabel, EachNode}
 use Rattle.graph_meaning.proofs.Finding.{label-found, all-found}
 use Rattle.graph_meaning.proofs.Ranks.{IsRanked}
 use Rattle.graph_meaning.proofs.Depths.{outputs-below, demanded-below, all-below}

@@ -1,5 +1,5 @@
 -- A tree of a greater depth: where one leaves something open the other may go on.
-use Rattle.std.proofs.Common.{◌≡◌, ℕ, suc, Bool, List, [], ◌∷◌, Option, Some, None, ◌⊎◌, inl, inr, refl, sym, ap, ◌∙◌, subst, arith}
+use Rattle.std.proofs.Common.{◌≡◌, ℕ, suc, List, [], ◌∷◌, Option, Some, None, ◌⊎◌, inl, inr, refl, sym, ap, ◌∙◌, subst, arith}
 use Rattle.graph_meaning.specs.Entered.{Entered, NoNode, SimpleNode, WholeNode, Steps, Left, Unshown, GraphStep, SliceStep, Item, Node, Entry, Inside, entry_fires, IsSlice, Has, StepsHave, IsWhole, AreWhole, all_given, IsLast, OfStep, OfSlices, AfterWithin, After, AfterSteps, IsFresh}
 use Rattle.graph_meaning.specs.Growing.{Grows, empty, simple, unknown, compound, GrowsSteps, leaves, deeper, part, slices, GrowsCosts, no_cost, open_cost, known_cost}
 use Rattle.graph_meaning.proofs.ItemsOnce.{label_of, AtLeast, weaker}

@@ -1,5 +1,5 @@
 -- What lists contain.
-use Rattle.std.proofs.Common.{◌≡◌, ℕ, zero, suc, ◌+◌, ◌<◌, List, [], ◌∷◌, map, length, Some, None, Option, ◌⊎◌, inl, inr, Contains, arith, refl, sym, ap, subst, ◌∙◌, Bool, true, false, cond, find}
+use Rattle.std.proofs.Common.{◌≡◌, zero, suc, List, [], ◌∷◌, map, Some, Option, ◌⊎◌, inl, inr, Contains, arith, refl, sym, ap, subst, ◌∙◌, Bool, true, false, cond, find}
 use Rattle.std.specs.List.{filter}
 
 pub here : {A : Type 0} (x : A) (xs : List A) → Contains (x ∷ xs) x

@@ -1,5 +1,5 @@
 -- The graphs of a ready unit, whose ordering lists close no cycle, are orderly.
-use Rattle.std.proofs.Common.{◌≡◌, ℕ, zero, suc, ◌≤◌, Bool, true, false, ◌&&◌, List, [], ◌∷◌, ◌++◌, map, drop, find, option_map, Option, Some, None, ◌⊎◌, inl, inr, Contains, All, IsSome, refl, sym, ap, ◌∙◌, subst, arith, eqb, T, cond, if◌then◌else◌, ◌==◌}
+use Rattle.std.proofs.Common.{◌≡◌, ℕ, zero, suc, Bool, true, false, ◌&&◌, List, [], ◌∷◌, ◌++◌, map, drop, find, option_map, Option, Some, None, ◌⊎◌, inl, inr, Contains, All, IsSome, refl, sym, ap, ◌∙◌, subst, arith, eqb, T, cond, if◌then◌else◌, ◌==◌}
 use Rattle.std.proofs.Math.Facts.{eqb_yes}
 use Rattle.std.proofs.lemmas.Bool.{eq-eqb}
 use Rattle.std.proofs.lemmas.List.Elements.{Contains-append_left, All-contains}
@@ -11,16 +11,15 @@ use Rattle.if1_graph.specs.declared.graph.Origin.{Origin}
 use Rattle.if1_graph.specs.declared.graph.Origin.TheVariants as origin
 use Rattle.if1_graph.specs.declared.graph.Unit1.{Unit1}
 use Rattle.if1_graph.specs.declared.row.Want.{Want}
-use Rattle.if1_graph.specs.Cycles.{IsFrom, Feeds}
+use Rattle.if1_graph.specs.Cycles.{IsFrom}
 use Rattle.if1_graph.specs.Formed.{IsOnce, IsNode, IsGraph, want_at}
-use Rattle.if1_graph.specs.Ports.{count_from, IsThere, ArePortsRight}
-use Rattle.if1_graph.specs.Ready.{IsReady}
+use Rattle.if1_graph.specs.Ports.{IsThere, ArePortsRight}
 use Rattle.if1_graph.specs.Units.{label_of, node_at, edges_into, edge_into, width, results, Place, places, number_of, ends}
 use Rattle.graph_meaning.specs.Entered.{IsIn}
 use Rattle.graph_meaning.specs.Forms as form
-use Rattle.graph_meaning.specs.Demand.{Source, Port, Fixed, Kind, Plain, Whole, Vertex, Net, at_label, data_labels, waits, waits_of, WaitsFor, straight, through, IsLabel, LabelsOnce, EachNode, IsOrderly, AreOrderly}
-use Rattle.graph_meaning.specs.Networks.{source_from, source_by, source_at, sources, ins_of, vertex_of, net_of, net_at, nothing, network}
-use Rattle.graph_meaning.specs.Orders.{Precedes, fed, listed, between, IsOrderRight, AreOrdersRight}
+use Rattle.graph_meaning.specs.Demand.{Source, Port, Fixed, Kind, Plain, Whole, Vertex, at_label, data_labels, waits, waits_of, WaitsFor, straight, through, IsLabel, LabelsOnce, EachNode, IsOrderly}
+use Rattle.graph_meaning.specs.Networks.{source_from, source_by, sources, ins_of, vertex_of, net_of, net_at, nothing}
+use Rattle.graph_meaning.specs.Orders.{Precedes, fed, listed, between, IsOrderRight}
 use Rattle.graph_meaning.specs.Laws.{AreUnitsOrderly}
 use Rattle.graph_meaning.proofs.Lists.{here, there, here-or-there, in-none, in-mapped, found-in, in-filter}
 

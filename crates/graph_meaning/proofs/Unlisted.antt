@@ -1,14 +1,13 @@
 -- Without ordering lists what precedes is what reaches.
-use Rattle.std.proofs.Common.{◌≡◌, ℕ, List, [], ◌∷◌, map, Some, Contains, All, refl, sym, ap, subst}
+use Rattle.std.proofs.Common.{◌≡◌, ℕ, [], map, Contains, All, subst}
 use Rattle.std.proofs.lemmas.List.Elements.{Contains-append_right, All-contains, All-contains_itself, All-weaker}
 use Rattle.if1_graph.specs.declared.graph.Graph.{Graph}
 use Rattle.if1_graph.specs.declared.graph.Graph.TheViews.{out-Graph}
 use Rattle.if1_graph.specs.declared.graph.Node.{Node, out-Node}
 use Rattle.if1_graph.specs.declared.graph.Edge.{Edge}
-use Rattle.if1_graph.specs.declared.graph.Unit1.{Unit1}
-use Rattle.if1_graph.specs.Cycles.{Feeds, Reaches, edge, path}
-use Rattle.if1_graph.specs.Ready.{IsReady, IsOrdered}
-use Rattle.if1_graph.specs.Units.{label_of, node_at, Place, places, ends}
+use Rattle.if1_graph.specs.Cycles.{Reaches, edge, path}
+use Rattle.if1_graph.specs.Ready.{IsOrdered}
+use Rattle.if1_graph.specs.Units.{label_of, Place, places, ends}
 use Rattle.std.specs.Prelude.{◌==◌}
 use Rattle.graph_meaning.specs.Orders.{Precedes, fed, listed, between, IsOrderRight}
 use Rattle.graph_meaning.specs.Laws.{AreOrdersRightWithoutLists}

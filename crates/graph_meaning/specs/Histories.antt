@@ -1,10 +1,11 @@
--- Histories of a run: what workers claim and finish, and how a run ends.
+-- Histories of a run: lists of what workers claim and finish, in any order that the items allow, and how a run ends. A
+-- history has its last entry first.
 use Rattle.std.specs.Prelude.{◌≡◌, ℕ, ◌+◌, ◌<◌, ◌≤◌, Bool, true, false, ◌||◌, List, [], ◌∷◌, ◌⊎◌, ◌↔◌, Option, Some}
 use native.Mathlib.Decide.{ℕ_discrete}
 use mathlib.Core.Bool.{Bool-discrete}
 use Rattle.graph_meaning.specs.Entered.{Entered, Item, Node, Entry, Slice, Leave, Inside, item_discrete, entry_fires, Has, ComesAfter, IsWhole, all_firings}
 
--- a run: the tree of what it enters, at each depth
+-- a run, as the trees of what it enters at each depth
 abbrev pub Run : Type 0
 Run = ℕ → Entered
 

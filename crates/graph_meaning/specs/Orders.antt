@@ -1,5 +1,5 @@
 -- Which nodes of a graph come before which, by its edges and ordering lists.
-use Rattle.std.specs.Prelude.{◌≡◌, ℕ, List, [], Some, IsSome, All, Contains}
+use Rattle.std.specs.Prelude.{◌≡◌, ℕ, [], Some, IsSome, All, Contains}
 use Rattle.if1_graph.specs.declared.graph.Graph.{Graph}
 use Rattle.if1_graph.specs.declared.graph.Graph.TheViews.{out-Graph}
 use Rattle.if1_graph.specs.declared.graph.Node.{Node, out-Node}
