@@ -1,5 +1,5 @@
 -- The graphs of a formed unit have numbers of their own, so each is found by its number.
-use Rattle.std.proofs.Common.{◌≡◌, ℕ, zero, suc, ◌+◌, ◌<◌, ◌≤◌, Bool, true, false, List, [], ◌∷◌, ◌++◌, map, take, sum, find, slice_get, Some, None, Option, ◌⊎◌, inl, inr, Contains, All, arith, refl, sym, ap, subst, ◌∙◌, cond, nat_lt, T, eqb, ◌==◌}
+use Rattle.std.proofs.Common.{◌≡◌, ℕ, zero, suc, ◌+◌, ◌<◌, ◌≤◌, Bool, true, false, List, [], ◌∷◌, ◌++◌, map, take, sum, find, slice_get, Some, None, Option, ◌⊎◌, inl, inr, Contains, arith, refl, sym, ap, subst, ◌∙◌, cond, nat_lt, T, ◌==◌}
 use Rattle.std.specs.List.{flat_map, filter}
 use Rattle.std.proofs.lemmas.Bool.{eq-eqb}
 use Rattle.std.proofs.lemmas.List.Elements.{Contains-append_cases, Contains-append_left, Contains-append_right, All-contains}
@@ -7,12 +7,12 @@ use Rattle.std.proofs.lemmas.List.Sums.{sum_by_from}
 use Rattle.std.proofs.Math.Facts.{eqb_yes}
 use Rattle.if1_graph.specs.declared.graph.Graph.{Graph}
 use Rattle.if1_graph.specs.declared.graph.Graph.TheViews.{out-Graph}
-use Rattle.if1_graph.specs.declared.graph.Graph.TheFolds.{fold-Graph, fold-Node, fold_out-Graph, fold_out-Node}
+use Rattle.if1_graph.specs.declared.graph.Graph.TheFolds.{fold-Node, fold_out-Graph, fold_out-Node}
 use Rattle.if1_graph.specs.declared.graph.Node.{Node, out-Node}
 use Rattle.if1_graph.specs.declared.graph.Unit1.{Unit1}
 use Rattle.if1_graph.specs.Formed.{IsOnce, IsGraph, IsFormed}
-use Rattle.if1_graph.specs.Units.{size, sizes, label_of, size_before, graphs_before, IsNumbered, Home, Function, Inside, Place, number_of, each_from, places_of, places, most_levels}
-use Rattle.graph_meaning.specs.Networks.{net_of, net_at, network}
+use Rattle.if1_graph.specs.Units.{size, sizes, label_of, size_before, IsNumbered, Home, Function, Inside, Place, number_of, each_from, places_of, places, most_levels}
+use Rattle.graph_meaning.specs.Networks.{net_of, net_at}
 use Rattle.graph_meaning.specs.Laws.{AreFoundByNumber}
 use Rattle.graph_meaning.proofs.Lists.{here, there, here-or-there, in-none, in-mapped, found-in}
 
