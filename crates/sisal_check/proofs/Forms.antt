@@ -27,8 +27,9 @@ use Rattle.type_rules.specs.declared.head.Head.TheVariants as head
 use Rattle.type_rules.specs.Faults.{IsRule}
 use Rattle.value_names.specs.Names.{Names}
 use Rattle.typing_laws.specs.Bodies.{define_params}
+use Rattle.typing_laws.proofs.Used.{HeadFits}
 use Rattle.typing_laws.proofs.Headed.{array_head, empty_array_head}
-use Rattle.sisal_check.specs.Walked.{IsArrayHead, array_form}
+use Rattle.sisal_check.specs.Walked.{IsArrayHead, IsHeadSpelled}
 use Rattle.typing_laws.specs.Given as by
 use Rattle.typing_laws.specs.Forming.{HasHead, IsHead, IsPlain, IsBuiltIn, fields_of}
 use Rattle.typing_laws.specs.Forming as form
@@ -153,3 +154,22 @@ union_named x tag e y is = subst (λ z. NamesType (tree.Union z tag e) y) (sym (
 pub arrays_head : (g : by.Given) (f : List Form) (x : Option ℕ) (els : Option Elements) (h : Head) → IsArrayHead g x (is_some els) h → IsHead g f (tree.Array x els) h
 arrays_head g f x None h p = subst (λ r. IsHead g f (tree.Array x None) r) (sym p.is) (empty_array_head g f x p.named p.found)
 arrays_head g f x (Some els) h p = subst (λ r. IsHead g f (tree.Array x (Some els)) r) (sym p.is) (array_head g f x p.named els p.found)
+
+-- the names of the fields of a form are spelled
+pub head_fits : (names : List (List ℕ)) (h : Head) → IsHeadSpelled names h → HeadFits names h
+head_fits names (head.ErrorOf n) s = tt
+head_fits names (head.Convert c) s = tt
+head_fits names head.IsError s = tt
+head_fits names (head.IsTag x) s = tt
+head_fits names (head.Prefix o) s = tt
+head_fits names (head.Binary o) s = tt
+head_fits names head.Select s = tt
+head_fits names head.Update s = tt
+head_fits names (head.Field x) s = tt
+head_fits names (head.Replace xs) s = tt
+head_fits names (head.Array x) s = tt
+head_fits names (head.EmptyArray x) s = tt
+head_fits names (head.Stream x) s = tt
+head_fits names (head.Record x xs) s = s
+head_fits names (head.Union n x) s = tt
+head_fits names (head.BuiltIn b) s = tt

@@ -4,7 +4,7 @@ ghost use Rattle.breaking_laws.specs.Refusals.{NotOne};
 ghost use Rattle.sisal_check.specs.Walked.{given_of, parts_of};
 ghost use Rattle.std.specs.Prelude.{IfErr, IfOk, OnOk, [], length, map, ◌++◌, ◌∷◌, ◌≡◌};
 ghost use Rattle.type_rules.specs.Faults.{IsRule};
-ghost use Rattle.typing_laws.specs.Judged.{Adds, AllOnes, AllTyped, IsUsedIn};
+ghost use Rattle.typing_laws.specs.Judged.{Adds, AddsSingle, AllOnes, AllTyped, IsUsedIn};
 
 use crate::state::{Given, Parts, Walk};
 use crate::typed::typed;
@@ -23,6 +23,7 @@ pub(crate) fn one(
     ensures used { OnOk result (IsUsedIn (given_of given.now) walk.old.types walk.new.types) }
     ensures names { OnOk result (walk.new.names ≡ walk.old.names) }
     ensures adds { OnOk result (Adds (parts_of parts.old) (parts_of parts.new) (AllOnes (given_of given.now) walk.new.types walk.old.names (e.now ∷ []))) }
+    ensures single { OnOk result (AddsSingle (parts_of parts.old) (parts_of parts.new)) }
     ensures breaks { IfErr result (IsRule (λ rule at_line. BrokenOne (given_of given.now) walk.old.types walk.old.names e.now rule at_line)) }
 {
     let made = typed(e, given, walk)?;

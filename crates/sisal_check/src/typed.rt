@@ -101,13 +101,17 @@ fn operands(
     ensures breaks { IfErr result (IsRule (λ rule at_line. BrokenForm (given_of given.now) walk.old.types walk.old.names kind.now rule at_line)) }
 {
     match kind {
-        ExprKind::Convert(_, e)
-        | ExprKind::IsError(e)
-        | ExprKind::IsTag(_, e)
-        | ExprKind::Prefix(_, e)
-        | ExprKind::Field(e, _)
-        | ExprKind::Union(_, _, e) => one(e.get(), parts, given, walk),
-        ExprKind::Binary(_, e, f) | ExprKind::Select(e, f) => {
+        ExprKind::Convert(_, e) => one(e.get(), parts, given, walk),
+        ExprKind::IsError(e) => one(e.get(), parts, given, walk),
+        ExprKind::IsTag(_, e) => one(e.get(), parts, given, walk),
+        ExprKind::Prefix(_, e) => one(e.get(), parts, given, walk),
+        ExprKind::Field(e, _) => one(e.get(), parts, given, walk),
+        ExprKind::Union(_, _, e) => one(e.get(), parts, given, walk),
+        ExprKind::Binary(_, e, f) => {
+            one(e.get(), parts, given, walk)?;
+            one(f.get(), parts, given, walk)
+        }
+        ExprKind::Select(e, f) => {
             one(e.get(), parts, given, walk)?;
             one(f.get(), parts, given, walk)
         }
@@ -131,7 +135,9 @@ fn operands(
             has_value(es.as_slice(), before, parts)
         }
         ExprKind::Record(_, vs) => fields(vs.as_slice(), parts, given, walk),
-        _ => Ok(()),
+        ExprKind::Array(_, None) => Ok(()),
+        ExprKind::ErrorOf(_) => Ok(()),
+        _ => Err(TypeFault::NoMemory),
     }
 }
 

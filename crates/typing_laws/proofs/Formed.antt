@@ -198,52 +198,52 @@ made k g s h kind tys a y l ts p =
 
 -- ---- the kinds of expressions
 
-out_convert : (c : Scalar) (e : Expr) → out-ExprKind (tree.Convert c e) ≡ ExprKind-F.Convert c e
+pub out_convert : (c : Scalar) (e : Expr) → out-ExprKind (tree.Convert c e) ≡ ExprKind-F.Convert c e
 out_convert c e = search (rules, kinds.the_lemmas)
 
-out_is_error : (e : Expr) → out-ExprKind (tree.IsError e) ≡ ExprKind-F.IsError e
+pub out_is_error : (e : Expr) → out-ExprKind (tree.IsError e) ≡ ExprKind-F.IsError e
 out_is_error e = search (rules, kinds.the_lemmas)
 
-out_is_tag : (x : ℕ) (e : Expr) → out-ExprKind (tree.IsTag x e) ≡ ExprKind-F.IsTag x e
+pub out_is_tag : (x : ℕ) (e : Expr) → out-ExprKind (tree.IsTag x e) ≡ ExprKind-F.IsTag x e
 out_is_tag x e = search (rules, kinds.the_lemmas)
 
-out_prefix : (o : PrefixOperator) (e : Expr) → out-ExprKind (tree.Prefix o e) ≡ ExprKind-F.Prefix o e
+pub out_prefix : (o : PrefixOperator) (e : Expr) → out-ExprKind (tree.Prefix o e) ≡ ExprKind-F.Prefix o e
 out_prefix o e = search (rules, kinds.the_lemmas)
 
-out_binary : (o : BinaryOperator) (e i : Expr) → out-ExprKind (tree.Binary o e i) ≡ ExprKind-F.Binary o e i
+pub out_binary : (o : BinaryOperator) (e i : Expr) → out-ExprKind (tree.Binary o e i) ≡ ExprKind-F.Binary o e i
 out_binary o e i = search (rules, kinds.the_lemmas)
 
-out_select : (e i : Expr) → out-ExprKind (tree.Select e i) ≡ ExprKind-F.Select e i
+pub out_select : (e i : Expr) → out-ExprKind (tree.Select e i) ≡ ExprKind-F.Select e i
 out_select e i = search (rules, kinds.the_lemmas)
 
-out_update : (e i v : Expr) → out-ExprKind (tree.Update e i v) ≡ ExprKind-F.Update e i v
+pub out_update : (e i v : Expr) → out-ExprKind (tree.Update e i v) ≡ ExprKind-F.Update e i v
 out_update e i v = search (rules, kinds.the_lemmas)
 
-out_field : (e : Expr) (x : ℕ) → out-ExprKind (tree.Field e x) ≡ ExprKind-F.Field e x
+pub out_field : (e : Expr) (x : ℕ) → out-ExprKind (tree.Field e x) ≡ ExprKind-F.Field e x
 out_field e x = search (rules, kinds.the_lemmas)
 
-out_replace : (e : Expr) (vs : List FieldValue) → out-ExprKind (tree.Replace e vs) ≡ ExprKind-F.Replace e vs
+pub out_replace : (e : Expr) (vs : List FieldValue) → out-ExprKind (tree.Replace e vs) ≡ ExprKind-F.Replace e vs
 out_replace e vs = search (rules, kinds.the_lemmas)
 
-out_a_record : (x : Option ℕ) (vs : List FieldValue) → out-ExprKind (tree.Record x vs) ≡ ExprKind-F.Record x vs
+pub out_a_record : (x : Option ℕ) (vs : List FieldValue) → out-ExprKind (tree.Record x vs) ≡ ExprKind-F.Record x vs
 out_a_record x vs = search (rules, kinds.the_lemmas)
 
-out_union : (x tag : ℕ) (e : Expr) → out-ExprKind (tree.Union x tag e) ≡ ExprKind-F.Union x tag e
+pub out_union : (x tag : ℕ) (e : Expr) → out-ExprKind (tree.Union x tag e) ≡ ExprKind-F.Union x tag e
 out_union x tag e = search (rules, kinds.the_lemmas)
 
-out_error_of : (w : Written) → out-ExprKind (tree.ErrorOf w) ≡ ExprKind-F.ErrorOf w
+pub out_error_of : (w : Written) → out-ExprKind (tree.ErrorOf w) ≡ ExprKind-F.ErrorOf w
 out_error_of w = search (rules, kinds.the_lemmas)
 
-out_stream : (x : Option ℕ) (es : List Expr) → out-ExprKind (tree.Stream x es) ≡ ExprKind-F.Stream x es
+pub out_stream : (x : Option ℕ) (es : List Expr) → out-ExprKind (tree.Stream x es) ≡ ExprKind-F.Stream x es
 out_stream x es = search (rules, kinds.the_lemmas)
 
-out_array : (x : Option ℕ) (els : Elements) → out-ExprKind (tree.Array x (Some els)) ≡ ExprKind-F.Array x (Some els)
+pub out_array : (x : Option ℕ) (els : Elements) → out-ExprKind (tree.Array x (Some els)) ≡ ExprKind-F.Array x (Some els)
 out_array x els = search (rules, kinds.the_lemmas)
 
-out_empty_array : (x : Option ℕ) → out-ExprKind (tree.Array x None) ≡ ExprKind-F.Array x None
+pub out_empty_array : (x : Option ℕ) → out-ExprKind (tree.Array x None) ≡ ExprKind-F.Array x None
 out_empty_array x = search (rules, kinds.the_lemmas)
 
-out_elements : (els : Elements) → roll-Elements (record { lower = (out-Elements els).lower; values = (out-Elements els).values }) ≡ els
+pub out_elements : (els : Elements) → roll-Elements (record { lower = (out-Elements els).lower; values = (out-Elements els).values }) ≡ els
 out_elements els = search (rules, kinds.the_lemmas)
 
 -- ---- all of them

@@ -19,3 +19,4 @@ pub mod Kept
 pub mod Tagged
 pub mod Rows
 pub mod Used
+pub mod Walking

@@ -157,6 +157,13 @@ pub record Adds (old new : Parts) (more : List TypedExpr → List ℕ → Type 0
   pub is_types : new.types ≡ old.types ++ types
   pub holds : more exprs types
 
+-- parts with one more expression behind them, which has one value
+pub record AddsSingle (old new : Parts) : Type 0 where
+  pub expr : TypedExpr
+  pub type : ℕ
+  pub exprs : new.exprs ≡ old.exprs ++ (expr ∷ [])
+  pub types : new.types ≡ old.types ++ (type ∷ [])
+
 -- the number of the type that a written type denotes
 pub record IsDenoted (g : Given) (forms : List Form) (w : Written) (n : ℕ) : Type 0 where
   pub holds : (k : Known) → Agrees g forms k → (a : Ty) × denotes_in g k w a × IsNumber k.forms k.spellings n a
