@@ -1,6 +1,6 @@
 -- Lists that are cut where something is refused.
 use Rattle.std.proofs.Common.{◌≡◌, ℕ, zero, suc, ◌+◌, ◌<◌, ◌≤◌, List, [], ◌∷◌, ◌++◌, slice_index_or, take, drop, length, Option, Some, None, get_or, slice_get, refl, sym, ap, subst, ◌∙◌, arith, inl, inr, ◌⊎◌}
-use Rattle.std.proofs.Common.{Result, Err, Unit, IfErr, map}
+use Rattle.std.proofs.Common.{Result, Err, IfErr, map}
 use Rattle.std.proofs.lemmas.Option.{slice_get-get_or}
 use Rattle.std.proofs.lemmas.List.{append_assoc, take-append-drop, length-map}
 use Rattle.std.proofs.lemmas.Grind.{flat_map-append}
