@@ -1,6 +1,10 @@
 -- The results of a function that break a rule, or are of other types than its header says.
-use Rattle.std.proofs.Common.{ℕ, List, [], ◌∷◌, slice_range, refl, sym, subst}
+use Rattle.std.proofs.Common.{◌≡◌, ℕ, List, [], ◌∷◌, slice_range, refl, sym, subst}
 use Rattle.flow_value.specs.declared.ty.Ty.{Ty}
+use Rattle.type_table.specs.declared.form.Form.{Form}
+use Rattle.type_table.specs.Tables.{IsTable}
+use Rattle.sisal_tree.specs.declared.expr.Expr.{Expr}
+use Rattle.typed_tree.specs.declared.expr.TypedExpr.{TypedExpr}
 use Rattle.sisal_grammar.specs.Placed.{placed}
 use Rattle.typed_tree.specs.Scopes as scopes
 use Rattle.typed_tree.specs.Types.{AreNumbers}
@@ -13,12 +17,13 @@ use Rattle.typed_tree.specs.Faults.{BreaksUnit}
 use Rattle.typed_tree.specs.Written.{Denotes, Misnames}
 use Rattle.value_names.specs.Names.{Names}
 use Rattle.value_names.specs.Scopes.{define, no_names}
-use Rattle.typing_laws.specs.Given.{Header}
-use Rattle.typing_laws.specs.Judged.{IsSignature, Stands, denotes_in}
+use Rattle.typing_laws.specs.Given.{Header, Given}
+use Rattle.typing_laws.specs.Judged.{IsUsedIn, IsSignature, Stands, AllTyped, denotes_in}
 use Rattle.typing_laws.specs.Bodies.{define_params, parameters_in}
 use Rattle.typing_laws.proofs.Entering.{stands_with}
-use Rattle.breaking_laws.specs.Broken.{misnames_in}
-use Rattle.breaking_laws.specs.FormLaws.{inside, other, BodyLaw}
+use Rattle.breaking_laws.specs.Broken.{misnames_in, BrokenIn, BreaksInAt}
+use Rattle.breaking_laws.specs.FormLaws.{BreaksBodyAt, inside, other, BrokenBody, BodyLaw}
+use Rattle.breaking_laws.proofs.FPassing.{reach_later, reach_more, reach_here}
 use Rattle.breaking_laws.proofs.FTables.{known_of}
 use Rattle.breaking_laws.proofs.FCalls.{same_numbers}
 
@@ -49,3 +54,15 @@ body_breaks u forms ds d g h es rule line tokens declared there is whole said (o
     (faults.other_results forms declared there is
     (subst (λ l. AreTyped k (λ w a. Denotes u.tokens.names d.types (slice_range (placed 0 l) w.from w.to) a) (units.parameters d.signature) es p.exprs z.tys) tokens z.typed)
     (λ e. p.other (same_numbers k (known_of g forms k whole.agrees) p.types h.results z.tys d.signature.results z.number said.results e))))
+
+-- ---- by number
+
+pub body_inside : (g : Given) (f : List Form) (names : Names) (h : Header) (l : ℕ) (es : List Expr) (rule line : ℕ) → names ≡ parameters_in h → BrokenIn g f names es rule line → BrokenBody g f h l es rule line
+body_inside g f names h l es rule line is p =
+    reach_more g f (BreaksInAt g (parameters_in h) es rule line) (BreaksBodyAt g h l es rule line) (λ forms q. inside q) (subst (λ n. BrokenIn g f n es rule line) is p)
+
+pub other_results_break : (g : Given) (f0 f1 : List Form) (names : Names) (h : Header) (l : ℕ) (es : List Expr) (ts : List TypedExpr) (ns : List ℕ) → IsUsedIn g f0 f1 → IsTable f1 → names ≡ parameters_in h
+    → AllTyped g f1 names es ts ns → (ns ≡ h.results → ⊥) → BrokenBody g f0 h l es 13 l
+other_results_break g f0 f1 names h l es ts ns used table is typed differ =
+    reach_later g f0 f1 (BreaksBodyAt g h l es 13 l) used
+    (reach_here g f1 (BreaksBodyAt g h l es 13 l) table (other refl refl (record { exprs = ts; types = ns; typed = subst (λ n. AllTyped g f1 n es ts ns) is typed; other = differ })))

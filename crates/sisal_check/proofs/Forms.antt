@@ -31,13 +31,14 @@ use Rattle.typing_laws.proofs.Used.{HeadFits}
 use Rattle.typing_laws.proofs.Headed.{array_head, empty_array_head}
 use Rattle.sisal_check.specs.Walked.{IsArrayHead, IsHeadSpelled}
 use Rattle.typing_laws.specs.Given as by
+use Rattle.typing_laws.specs.Judged.{IsUsedIn}
 use Rattle.typing_laws.specs.Forming.{HasHead, IsHead, IsPlain, IsBuiltIn, fields_of}
 use Rattle.typing_laws.specs.Forming as form
-use Rattle.breaking_laws.specs.Broken.{Broken}
+use Rattle.breaking_laws.specs.Broken.{Broken, BrokenOne, BrokenIn, BrokenField, BrokenForm}
 use Rattle.breaking_laws.specs.Refusals.{IsUnnamed, IsNoBuiltIn}
-use Rattle.breaking_laws.specs.FormLaws.{NamesType}
+use Rattle.breaking_laws.specs.FormLaws.{NamesType, IsOperand, AreElementsOf, AreFieldsOf}
 use Rattle.breaking_laws.specs.FormLaws as part
-use Rattle.breaking_laws.proofs.FParts.{no_type_breaks}
+use Rattle.breaking_laws.proofs.FParts.{no_type_breaks, operand_breaks, elements_break, fields_break}
 
 -- ---- faults
 
@@ -173,3 +174,21 @@ head_fits names (head.Stream x) s = tt
 head_fits names (head.Record x xs) s = s
 head_fits names (head.Union n x) s = tt
 head_fits names (head.BuiltIn b) s = tt
+
+-- ---- operands
+
+module _ (g : by.Given) (f0 f1 : List Form) (names inner : Names) (kind k : ExprKind) (rule line : ℕ) (used : IsUsedIn g f0 f1) (same : inner ≡ names) (is : kind ≡ k) where
+  pub operand_fault : (e x : Expr) → IsOperand k e → x ≡ e → BrokenOne g f1 inner x rule line → BrokenForm g f0 names kind rule line
+  operand_fault e x of at_e q =
+      subst (λ r. BrokenForm g f0 names r rule line) (sym is)
+      (operand_breaks g f0 f1 names k e rule line used of (subst (λ m. BrokenOne g f1 m e rule line) same (subst (λ y. BrokenOne g f1 inner y rule line) at_e q)))
+
+  pub elements_fault : (es xs : List Expr) → AreElementsOf k es → xs ≡ es → BrokenIn g f1 inner xs rule line → BrokenForm g f0 names kind rule line
+  elements_fault es xs of at_es q =
+      subst (λ r. BrokenForm g f0 names r rule line) (sym is)
+      (elements_break g f0 f1 names k es rule line used of (subst (λ m. BrokenIn g f1 m es rule line) same (subst (λ y. BrokenIn g f1 inner y rule line) at_es q)))
+
+  pub fields_fault : (vs xs : List FieldValue) → AreFieldsOf k vs → xs ≡ vs → BrokenField g f1 inner xs rule line → BrokenForm g f0 names kind rule line
+  fields_fault vs xs of at_vs q =
+      subst (λ r. BrokenForm g f0 names r rule line) (sym is)
+      (fields_break g f0 f1 names k vs rule line used of (subst (λ m. BrokenField g f1 m vs rule line) same (subst (λ y. BrokenField g f1 inner y rule line) at_vs q)))

@@ -115,12 +115,7 @@ fn each_arm(
 
 /// The results of an arm, in which the content is in force where it has a name.
 #[cycle(walk)]
-fn one_arm(
-    arm: &Arm,
-    done: &mut Arms,
-    given: &Given<'_>,
-    walk: &mut Walk,
-) -> Result<(), TypeFault>
+fn one_arm(arm: &Arm, done: &mut Arms, given: &Given<'_>, walk: &mut Walk) -> Result<(), TypeFault>
     ensures used { OnOk result (IsUsedIn (given_of given.now) walk.old.types walk.new.types) }
     ensures names { OnOk result (walk.new.names ≡ walk.old.names) }
     ensures adds { OnOk result (AddsArms (given_of given.now) walk.old.types walk.new.types walk.old.names (arm.now ∷ []) (arms_of done.old) (arms_of done.new)) }

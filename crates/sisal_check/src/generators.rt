@@ -200,12 +200,7 @@ fn goes_over(
 }
 
 /// What a generator over an array or a stream goes over, and the type of its elements.
-fn elements(
-    ty: u32,
-    has_index: bool,
-    line: u32,
-    types: &Types,
-) -> Result<(Source, u32), TypeFault>
+fn elements(ty: u32, has_index: bool, line: u32, types: &Types) -> Result<(Source, u32), TypeFault>
     ensures element { IfOk result (λ r. IsElement types.now ty has_index r.0 r.1) }
     ensures breaks { IfErr result (IsRule (λ rule at_line. (rule ≡ 22) × (at_line ≡ line) × (sequence_at types.now ty ≡ None))) }
 {

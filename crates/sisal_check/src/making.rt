@@ -52,11 +52,7 @@ pub(crate) fn at_line<T>(line: u32, made: Result<T, Refused>) -> Result<T, TypeF
 }
 
 /// An expression in parentheses, which has the values of the one inside.
-pub(crate) fn group(
-    line: u32,
-    inner: TypedExpr,
-    given: &Given<'_>,
-) -> Result<TypedExpr, TypeFault>
+pub(crate) fn group(line: u32, inner: TypedExpr, given: &Given<'_>) -> Result<TypedExpr, TypeFault>
     ensures is { IfOk result (λ t. t ≡ with line inner.types (TypedKind.Group (inner ∷ []))) }
     ensures breaks { IfErr result (IsRule (λ rule at_line. Never rule at_line)) }
 {

@@ -8,12 +8,15 @@ use Rattle.sisal_check.proofs.Forms.{differ, alike}
 use Rattle.sisal_check.proofs.calls.call_of.Goals as goal
 
 pub returns-then-ne-clause-breaks : goal.returns-then-ne-clause-breaks
-returns-then-ne-clause-breaks c =
-    (refl, refl, record {
-      header = header_of c.in-Some.function.now;
-      there = slice_get-map header_of c.args.given.now.functions.now c.args.number ∙ ap (option_map header_of) (sym c.item_at.ensures ∙ ap option_copied c.in-Some.is);
-      other = λ e. differ c.as_slice.result.now c.as_slice-2.result.now c.if-ne.ensures (c.as_slice.ensures ∙ e ∙ sym c.as_slice-2.ensures);
-    })
+returns-then-ne-clause-breaks c = (
+  refl,
+  refl,
+  record {
+    header = header_of c.in-Some.function.now;
+    there = slice_get-map header_of c.args.given.now.functions.now c.args.number ∙ ap (option_map header_of) (sym c.item_at.ensures ∙ ap option_copied c.in-Some.is);
+    other = λ e. differ c.as_slice.result.now c.as_slice-2.result.now c.if-ne.ensures (c.as_slice.ensures ∙ e ∙ sym c.as_slice-2.ensures);
+  },
+)
 
 pub returns-clause-calls : goal.returns-clause-calls
 returns-clause-calls c = record {
