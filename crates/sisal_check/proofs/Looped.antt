@@ -57,9 +57,9 @@ pub deep_on : (g : Given) (f0 f1 : List Form) (line : ℕ) (cs : List Clause) (n
     → (now ≡ true → (was ≡ true) ⊎ ((h : Given) (groups from : ℕ) → BrokenMade h f1 (suc groups) from (c ∷ []) (n ∷ []) 4 from))
     → (was ≡ true → (groups : ℕ) → BrokenMade g f0 (suc groups) line cs ns 4 line) → now ≡ true → (groups : ℕ) → BrokenMade g f0 (suc groups) line cs ns 4 line
 deep_on g f0 f1 line cs ns i c n was now used here numbered fold before e groups = elim (fold e) [
-    | inl h ↦ before h groups
-    | inr p ↦ one_made_refused g f0 f1 (suc groups) line cs ns i c n 4 line used here numbered (p g groups line)
-  ]
+  | inl h ↦ before h groups
+  | inr p ↦ one_made_refused g f0 f1 (suc groups) line cs ns i c n 4 line used here numbered (p g groups line)
+]
 
 -- ---- loops over groups
 

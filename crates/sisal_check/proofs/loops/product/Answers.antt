@@ -22,14 +22,14 @@ returns-clause-used c =
 pub returns-clause-crossed : goal.returns-clause-crossed
 returns-clause-crossed c =
     if_ok_weaker c.crossed.result (λ t p.
-        is_product (given_of c.args.given.now) c.args.walk.now.types c.over.new.walk.types c.crossed.new.walk.types c.args.line c.args.cs.now (map group_of c.args.goes) (map group_of c.pop.new.self) (group_of c.in-Some.last)
-        c.args.defined.exprs c.args.defined.types (parts_of c.args.values) c.in_ok-inner.inner t c.in_ok-inner.ensures.used.grows (groups_end c.args.goes c.pop.new.self c.in-Some.last c.in-Some.ensures)
-        c.in_ok-inner.ensures.over p)
+    is_product (given_of c.args.given.now) c.args.walk.now.types c.over.new.walk.types c.crossed.new.walk.types c.args.line c.args.cs.now (map group_of c.args.goes) (map group_of c.pop.new.self) (group_of c.in-Some.last)
+    c.args.defined.exprs c.args.defined.types (parts_of c.args.values) c.in_ok-inner.inner t c.in_ok-inner.ensures.used.grows (groups_end c.args.goes c.pop.new.self c.in-Some.last c.in-Some.ensures)
+    c.in_ok-inner.ensures.over p)
     c.crossed.ensures.crossed
 
 pub returns-clause-breaks : goal.returns-clause-breaks
 returns-clause-breaks c =
     faults_weaker c.crossed.result _ _ (λ rule line q.
-        breaks_more (given_of c.args.given.now) c.args.walk.now.types c.over.new.walk.types c.args.line c.args.cs.now _ (length c.args.goes) (length c.pop.new.self) c.args.values.types c.in_ok-inner.inner.types rule line
-        c.in_ok-inner.ensures.used (many_end c.args.goes c.pop.new.self c.in-Some.last c.in-Some.ensures) c.in_ok-inner.ensures.makes q)
+    breaks_more (given_of c.args.given.now) c.args.walk.now.types c.over.new.walk.types c.args.line c.args.cs.now _ (length c.args.goes) (length c.pop.new.self) c.args.values.types c.in_ok-inner.inner.types rule line
+    c.in_ok-inner.ensures.used (many_end c.args.goes c.pop.new.self c.in-Some.last c.in-Some.ensures) c.in_ok-inner.ensures.makes q)
     c.crossed.ensures.breaks
