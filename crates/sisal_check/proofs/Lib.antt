@@ -1,6 +1,7 @@
 mod Depths
 mod Whole
 pub mod Forms
+pub mod Functions
 pub mod Defined
 pub mod Turned
 pub mod Parts
