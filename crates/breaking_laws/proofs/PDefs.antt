@@ -214,7 +214,7 @@ declared_refused g f0 f1 names turn at x w n m used table written denoted differ
 
 -- ---- loop names
 
-newest_append : {T : Type 0} (x : ℕ) (loop outer : List (ℕ × T)) (v : T) → newest x loop ≡ Some v → newest x (loop ++ outer) ≡ Some v
+pub newest_append : {T : Type 0} (x : ℕ) (loop outer : List (ℕ × T)) (v : T) → newest x loop ≡ Some v → newest x (loop ++ outer) ≡ Some v
 newest_append x [] outer v e = absurd cc
 newest_append x (n ∷ loop) outer v e = by (nat_eq x n.0) (newest_append x loop outer v) e
   where
@@ -222,7 +222,7 @@ newest_append x (n ∷ loop) outer v e = by (nat_eq x n.0) (newest_append x loop
     by true rest e = e
     by false rest e = rest e
 
-newest_outside : {T : Type 0} (x : ℕ) (loop outer : List (ℕ × T)) → newest x loop ≡ None → newest x (loop ++ outer) ≡ newest x outer
+pub newest_outside : {T : Type 0} (x : ℕ) (loop outer : List (ℕ × T)) → newest x loop ≡ None → newest x (loop ++ outer) ≡ newest x outer
 newest_outside x [] outer e = refl
 newest_outside x (n ∷ loop) outer e = by (nat_eq x n.0) (newest_outside x loop outer) e
   where
@@ -230,7 +230,7 @@ newest_outside x (n ∷ loop) outer e = by (nat_eq x n.0) (newest_outside x loop
     by true rest e = absurd cc
     by false rest e = rest e
 
-below_newest : (first x : ℕ) (olds : List (ℕ × Value)) (v : Value) → AreBelow first olds → newest x olds ≡ Some v → v.level < first
+pub below_newest : (first x : ℕ) (olds : List (ℕ × Value)) (v : Value) → AreBelow first olds → newest x olds ≡ Some v → v.level < first
 below_newest first x [] v p e = absurd cc
 below_newest first x (o ∷ olds) v p e = by (nat_eq x o.0) (below_newest first x olds v p.1) e
   where
@@ -239,7 +239,7 @@ below_newest first x (o ∷ olds) v p e = by (nat_eq x o.0) (below_newest first 
     by false rest e = rest e
 
 -- what is a name of the loop is found in it
-loop_found : (first x : ℕ) (loop : List (ℕ × Value)) (s : Names) (v : Value) → IsInTurn first loop s → loop_value first (newest x s.olds) ≡ Some v → newest x loop ≡ Some v
+pub loop_found : (first x : ℕ) (loop : List (ℕ × Value)) (s : Names) (v : Value) → IsInTurn first loop s → loop_value first (newest x s.olds) ≡ Some v → newest x loop ≡ Some v
 loop_found first x loop s v turned e = by (newest x loop) refl
   where
     kept : (u : Value) (b : Bool) → (if b then None else Some u) ≡ Some v → u ≡ v

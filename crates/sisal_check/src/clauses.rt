@@ -1,11 +1,12 @@
 //! Clauses of loops: SISAL Language Reference Manual 1.2, `returns`.
 ghost use Rattle.breaking_laws.specs.Parts.{BrokenMade, BrokenValues, EndsFalse};
 ghost use Rattle.sisal_check.specs.Walked.{folds_of, given_of, parts_of};
-ghost use Rattle.std.specs.Prelude.{IfErr, IfOk, OnOk, [], false, suc, true, ℕ, ◌++◌, ◌∷◌, ◌≡◌, ◌⊎◌};
+ghost use Rattle.std.specs.Prelude.{IfErr, IfOk, OnOk, [], false, suc, true, ℕ, ◌++◌, ◌∷◌, ◌≡◌, ◌≢◌, ◌⊎◌};
 ghost use Rattle.type_rules.specs.Faults.{IsRule};
 ghost use Rattle.typing_laws.specs.Judged.{Adds, IsUsedIn};
 ghost use Rattle.typing_laws.specs.Looping.{AllMade, AllValues, FoldAdded, mask_of};
 ghost use Rattle.typing_laws.specs.Given.{Given as LawGiven};
+ghost use Rattle.type_rules.specs.declared.fault.Refused.TheVariants as Refused;
 
 use crate::lists::one;
 use crate::state::{Given, Parts, Walk};
@@ -14,6 +15,9 @@ use sisal_tree::Clause;
 use type_rules::{Made, Refused, TypeFault, clause};
 use type_table::BOOLEAN;
 use typed_tree::ClauseForm;
+
+// The rule of types that are too deep.
+const DEEP: u8 = 4;
 
 /// What clauses make of values.
 #[derive(Drop)]
@@ -110,8 +114,10 @@ pub(crate) fn made_of(
         types: Seq::new(given.alloc),
         is_deep: false,
     };
-    for (c, value) in cs.iter().zip(values) {
-        fold(c, *value, is_masked, &mut made, walk)?;
+    let mut place = 0;
+    while place < cs.len() && place < values.len() {
+        fold(&cs[place], values[place], is_masked, &mut made, walk)?;
+        place += 1;
     }
     if made.is_deep {
         return Err(TypeFault::Rule { rule: 4, line });
@@ -134,11 +140,29 @@ fn fold(
     ensures deep { OnOk result (made.new.is_deep ≡ true → (made.old.is_deep ≡ true) ⊎ ((g : LawGiven) (groups from : ℕ) → BrokenMade g walk.old.types (suc groups) from (c.now ∷ []) (value ∷ []) 4 from)) }
 {
     let mask = mask_of(c, is_masked);
+    walk.types.holds();
     match clause(&mut walk.types, c.kind, mask, value) {
-        Ok(kept) => keep(kept, made)?,
-        Err(Refused::Rule(4)) => made.is_deep = true,
-        Err(refused) => return Err(refused.at(c.line)),
+        Ok(kept) => {
+            keep(kept, made)?;
+            Ok(())
+        }
+        Err(refused) => refuse(refused, c.line, made),
     }
+}
+
+/// A clause on a line that is refused; of too deep a type only a note is kept, since a later
+/// clause may take no values of the type.
+fn refuse(refused: Refused, line: u32, made: &mut Folds) -> Result<(), TypeFault>
+    ensures deep { OnOk result ((refused ≡ Refused.Rule 4) × (made.new.is_deep ≡ true)) }
+    ensures breaks { IfErr result (IsRule (λ rule at_line. (refused ≡ Refused.Rule rule) × (rule ≢ 4) × (at_line ≡ line))) }
+{
+    let Refused::Rule(rule) = refused else {
+        return Err(TypeFault::NoMemory);
+    };
+    if rule != DEEP {
+        return Err(TypeFault::Rule { rule, line });
+    }
+    made.is_deep = true;
     Ok(())
 }
 

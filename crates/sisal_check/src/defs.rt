@@ -128,6 +128,7 @@ fn enter(
 {
     let Parts { exprs, types } = values;
     let line = line_of(targets)?;
+    walk.types.holds();
     if types.len() != targets.len() {
         return Err(TypeFault::Rule { rule: 14, line });
     }
@@ -165,9 +166,11 @@ fn suit(
     ensures kept { OnOk result (KeepsTurn turn walk.old.names (names_in targets.now) types.now) }
     ensures breaks { IfErr result (IsRule (λ rule at_line. BrokenTargets (given_of given.now) walk.old.types walk.old.names turn line targets.now types.now rule at_line)) }
 {
-    for (target, ty) in targets.iter().zip(types) {
-        has_type(*target, *ty, line, given, walk)?;
-        keeps_type(*target, *ty, line, turn, walk)?;
+    let mut place = 0;
+    while place < targets.len() && place < types.len() {
+        has_type(targets[place], types[place], line, given, walk)?;
+        keeps_type(targets[place], types[place], line, turn, walk)?;
+        place += 1;
     }
     Ok(())
 }
@@ -188,6 +191,7 @@ fn has_type(
     let Some(written) = target.ty else {
         return Ok(());
     };
+    walk.types.holds();
     let declared = denoted(
         given.alloc,
         given.tokens,
@@ -196,6 +200,7 @@ fn has_type(
         given.known,
         &mut walk.types,
     )?;
+    walk.types.holds();
     if declared != ty {
         return Err(TypeFault::Rule { rule: 14, line });
     }
@@ -216,6 +221,7 @@ fn keeps_type(
     let Some(first) = turn else {
         return Ok(());
     };
+    walk.types.holds();
     match walk.names.loop_value(target.name.name, first) {
         Some(before) => is_kept(before.ty, ty, line),
         None => Ok(()),
