@@ -30,7 +30,7 @@ struct LentOutcome {
     steps: usize,
 }
 
-/// LentOutcomes, and the steps that they took.
+/// Operands, and the steps that they took.
 #[derive(Drop)]
 struct LentOutcomes {
     slots: Seq<Slot>,
