@@ -1,6 +1,7 @@
 -- The items of a unit are declared one by one.
-use Rattle.std.proofs.Common.{◌≡◌, ◌≤◌, ℕ, suc, ◌+◌, ◌-◌, Bool, true, false, cond, List, [], ◌∷◌, ◌++◌, drop, length, slice_range, None, refl, sym, ap, subst, ◌∙◌, arith, append_assoc}
-use Rattle.std.proofs.lemmas.List.{append-nil}
+use Rattle.std.proofs.Common.{◌≡◌, ◌≤◌, ℕ, suc, ◌+◌, ◌-◌, Bool, true, false, not, cond, List, [], ◌∷◌, ◌++◌, map, drop, length, slice_range, None, refl, sym, ap, subst, ◌∙◌, arith, append_assoc}
+use Rattle.std.proofs.lemmas.List.{append-nil, map-append}
+use Rattle.std.proofs.lemmas.List.Elements.{filter-append}
 use Rattle.name_scope.specs.Newest.{newest}
 use Rattle.flow_value.specs.declared.ty.Ty.{Ty}
 use Rattle.type_table.specs.declared.form.Form.{Form}
@@ -18,13 +19,16 @@ use Rattle.sisal_grammar.specs.Placed.{placed}
 use Rattle.typed_tree.specs.Types.{IsNumber}
 use Rattle.typed_tree.specs.Written.{Denotes}
 use Rattle.typed_tree.specs.Units.{is_given, Declared, given, Declares, no_item, a_type, a_function}
+use Rattle.typed_tree.specs.Faults.{BreaksItems, after_type, after_function}
 use Rattle.unit_types.specs.declared.header.Signature.{Signature}
-use Rattle.unit_types.specs.Headings.{given_as}
-use Rattle.unit_types.specs.Headers.{Says, IsSaid, AreSaid, IsDeclaring}
+use Rattle.unit_types.specs.declared.declaring.Announced.{Announced}
+use Rattle.unit_types.specs.Headings.{given_as, announced_as}
+use Rattle.unit_types.specs.Headers.{Says, IsSaid, AreSaid, forwards, AreAnnounced, IsDeclaring, AreItems}
 use Rattle.unit_types.specs.Rests.{AreKnown, AreTokensSpelled, AreStanding, IsGrown, IsUsed, HasNames}
 use Rattle.unit_types.proofs.Reading.{known_grown, names_later}
 use Rattle.unit_types.proofs.Headers.{numbers_grown}
-use Rattle.unit_types.proofs.Naming.{none_known, all_known, basic_stands}
+use Rattle.unit_types.proofs.Known.{none_known}
+use Rattle.unit_types.proofs.Naming.{all_known, basic_stands}
 
 -- ---- what is said stays said
 
@@ -92,25 +96,57 @@ said_here : (u : tree.Unit) (forms : List Form) (known : List (ℕ × ℕ)) (s :
 said_here u forms known s d true h = (h, tt)
 said_here u forms known s d false h = tt
 
+-- ---- functions that are announced
+
+announced_grown : (u : tree.Unit) (old new : List Form) (known : List (ℕ × ℕ)) (ps : List Announced) (ds : List Declared) → IsGrown old new → AreAnnounced u old known ps ds → AreAnnounced u new known ps ds
+announced_grown u old new known ps ds g h = record { said = said_grown u old new known (map (λ a. a.signature) ps) ds g h.said; lines = h.lines }
+
+announced_longer : (u : tree.Unit) (forms : List Form) (n : ℕ × ℕ) (known : List (ℕ × ℕ)) (ps : List Announced) (ds : List Declared) → AreAnnounced u forms known ps ds → AreAnnounced u forms (n ∷ known) ps ds
+announced_longer u forms n known ps ds h = record { said = said_longer u forms n known (map (λ a. a.signature) ps) ds h.said; lines = h.lines }
+
+announced_append : (u : tree.Unit) (forms : List Form) (known : List (ℕ × ℕ)) (ps qs : List Announced) (ds es : List Declared) → AreAnnounced u forms known ps ds → AreAnnounced u forms known qs es
+    → AreAnnounced u forms known (ps ++ qs) (ds ++ es)
+announced_append u forms known ps qs ds es h k = record {
+  said = subst (λ l. AreSaid u forms known l (ds ++ es)) (sym (map-append (λ a. a.signature) ps qs))
+      (said_append u forms known (map (λ a. a.signature) ps) (map (λ a. a.signature) qs) ds es h.said k.said);
+  lines = map-append (λ a. a.line) ps qs ∙ (λ i. h.lines i ++ k.lines i) ∙ sym (map-append (λ d. d.function.header.name.line) ds es);
+}
+
+announced_as_is : (f : FunDef) (a : Announced) → announced_as f.kind a ≡ cond (not (is_given f)) (a ∷ []) []
+announced_as_is f a = by f.line f.header f.kind
+  where
+    by : (l : ℕ) (h : Header) (k : FunKind) → announced_as k a ≡ cond (not (is_given (record { line = l; header = h; kind = k }))) (a ∷ []) []
+    by l h fun.Forward = refl
+    by l h fun.Global = refl
+    by l h (fun.Defined es) = refl
+
+announced_here : (u : tree.Unit) (forms : List Form) (known : List (ℕ × ℕ)) (a : Announced) (d : Declared) (b : Bool) → a.line ≡ d.function.header.name.line → IsSaid u forms known a.signature d
+    → AreAnnounced u forms known (cond b (a ∷ []) []) (cond b (d ∷ []) [])
+announced_here u forms known a d true l h = record { said = (h, tt); lines = ap (λ n. n ∷ []) l }
+announced_here u forms known a d false l h = record { said = tt; lines = refl }
+
 -- ---- items
 
 module _ (u : tree.Unit) (items : List Item) (tokens : List Token) (is : u.tokens.list ≡ tokens) (h : AreTokensSpelled u.tokens.names tokens) where
-  pub declares_first : (forms : List Form) (known : List (ℕ × ℕ)) (functions : List Signature) → forms ≡ basic_forms → known ≡ [] → functions ≡ [] → IsDeclaring u items 0 forms known functions
-  declares_first forms known functions e n f = record {
+  pub declares_first : (forms : List Form) (known : List (ℕ × ℕ)) (functions : List Signature) (announced : List Announced) → forms ≡ basic_forms → known ≡ [] → functions ≡ [] → announced ≡ []
+      → IsDeclaring u items 0 forms known functions announced
+  declares_first forms known functions announced e n f a = record {
     types = [];
     names = record { standing = subst (AreStanding u.tokens.names) (sym e) (basic_stands u.tokens.names); named = subst (λ l. AreKnown forms u.tokens.names l []) (sym n) tt };
     done = [];
     said = subst (λ l. AreSaid u forms known l []) (sym f) tt;
+    forward = subst (λ l. AreAnnounced u forms known l []) (sym a) (record { said = tt; lines = refl });
     leads = λ ds d. d;
+    breaks = λ rule line b. b;
   }
 
-  pub declares_type : (i : ℕ) (d : TypeDef) (old new : List Form) (named later : List (ℕ × ℕ)) (functions : List Signature) (known k : ℕ) → drop i items ≡ item.Alias d ∷ drop (i + 1) items
+  pub declares_type : (i : ℕ) (d : TypeDef) (old new : List Form) (named later : List (ℕ × ℕ)) (functions : List Signature) (announced : List Announced) (known k : ℕ) → drop i items ≡ item.Alias d ∷ drop (i + 1) items
       → known ≡ length named → IsUsed tokens old new
       → ((sp : List (List ℕ)) (types : List (ℕ × Ty)) → AreTokensSpelled sp tokens → AreStanding sp old → AreKnown old sp (drop (length named - known) named) types
       → (a : Ty) × Denotes sp types (slice_range (placed 0 tokens) d.ty.from d.ty.to) a × IsNumber new sp k a)
       → newest d.name named ≡ None → later ≡ (d.name, k) ∷ named
-      → IsDeclaring u items i old named functions → IsDeclaring u items (i + 1) new later functions
-  declares_type i d old new named later functions known k e count used denotes absent adds r =
+      → IsDeclaring u items i old named functions announced → IsDeclaring u items (i + 1) new later functions announced
+  declares_type i d old new named later functions announced known k e count used denotes absent adds r =
       let sp = u.tokens.names in
       let a : (a : Ty) × Denotes sp r.types (slice_range (placed 0 tokens) d.ty.from d.ty.to) a × IsNumber new sp k a
       = denotes sp r.types h r.names.standing (subst (λ l. AreKnown old sp l r.types) (sym (all_known named known count)) r.names.named) in
@@ -121,14 +157,17 @@ module _ (u : tree.Unit) (items : List Item) (tokens : List Token) (is : u.token
         names = record { standing = m.standing; named = subst (λ l. AreKnown new sp l ((d.name, a.0) ∷ r.types)) (sym adds) (refl, a.2, m.named) };
         done = r.done;
         said = subst (λ l. AreSaid u new l functions (given r.done)) (sym adds) (said_longer u new (d.name, k) named functions (given r.done) (said_grown u old new named functions (given r.done) used.grown r.said));
+        forward = subst (λ l. AreAnnounced u new l announced (forwards r.done)) (sym adds)
+            (announced_longer u new (d.name, k) named announced (forwards r.done) (announced_grown u old new named announced (forwards r.done) used.grown r.forward));
         leads = λ ds q. r.leads ds (subst (λ l. Declares u r.types l ds) (sym e) (a_type here (none_known old sp d.name named r.types r.names.named absent) q));
+        breaks = λ rule line b. r.breaks rule line (subst (λ l. BreaksItems u r.types l rule line) (sym e) (after_type here (none_known old sp d.name named r.types r.names.named absent) b));
       }
 
-  pub declares_function : (i : ℕ) (f : FunDef) (old new : List Form) (named : List (ℕ × ℕ)) (functions more : List Signature) (s : Signature) → drop i items ≡ item.Function f ∷ drop (i + 1) items
+  pub declares_function : (i : ℕ) (f : FunDef) (old new : List Form) (named : List (ℕ × ℕ)) (functions more : List Signature) (announced later : List Announced) (s : Signature) → drop i items ≡ item.Function f ∷ drop (i + 1) items
       → IsUsed tokens old new → ((types : List (ℕ × Ty)) → HasNames u.tokens.names old named types → Says u types new f.header s)
-      → s.line ≡ f.line → s.known ≡ length named → more ≡ functions ++ given_as f.kind s
-      → IsDeclaring u items i old named functions → IsDeclaring u items (i + 1) new named more
-  declares_function i f old new named functions more s e used says line known adds r =
+      → s.line ≡ f.line → s.known ≡ length named → more ≡ functions ++ given_as f.kind s → later ≡ announced ++ announced_as f.kind (record { line = f.header.name.line; signature = s })
+      → IsDeclaring u items i old named functions announced → IsDeclaring u items (i + 1) new named more later
+  declares_function i f old new named functions more announced later s e used says line known adds announces r =
       let sp = u.tokens.names in
       let t : Says u r.types new f.header s = says r.types r.names in
       let m : HasNames sp new named r.types = names_later tokens old new sp named r.types used h r.names in
@@ -145,10 +184,17 @@ module _ (u : tree.Unit) (items : List Item) (tokens : List Token) (is : u.token
       let before : AreSaid u new named functions (given r.done) = said_grown u old new named functions (given r.done) used.grown r.said in
       let whole : AreSaid u new named (functions ++ cond (is_given f) (s ∷ []) []) (given r.done ++ given (d ∷ []))
       = said_append u new named functions (cond (is_given f) (s ∷ []) []) (given r.done) (given (d ∷ [])) before (said_here u new named s d (is_given f) here) in
+      let a : Announced = record { line = f.header.name.line; signature = s } in
+      let heralds : AreAnnounced u new named (announced ++ cond (not (is_given f)) (a ∷ []) []) (forwards r.done ++ forwards (d ∷ []))
+      = announced_append u new named announced (cond (not (is_given f)) (a ∷ []) []) (forwards r.done) (forwards (d ∷ []))
+      (announced_grown u old new named announced (forwards r.done) used.grown r.forward) (announced_here u new named a d (not (is_given f)) refl here) in
       record {
         types = r.types;
         names = m;
         done = r.done ++ d ∷ [];
+        forward = subst (λ l. AreAnnounced u new named l (forwards (r.done ++ d ∷ []))) (sym (announces ∙ ap (λ l. announced ++ l) (announced_as_is f a)))
+            (subst (AreAnnounced u new named (announced ++ cond (not (is_given f)) (a ∷ []) [])) (sym (filter-append (λ d. not (is_given d.function)) r.done (d ∷ []))) heralds);
+        breaks = λ rule line b. r.breaks rule line (subst (λ l. BreaksItems u r.types l rule line) (sym e) (after_function b));
         said = subst (λ l. AreSaid u new named l (given (r.done ++ d ∷ []))) (sym (adds ∙ ap (λ l. functions ++ l) (given_as_is f s)))
             (subst (AreSaid u new named (functions ++ cond (is_given f) (s ∷ []) [])) (sym (given_append r.done d)) whole);
         leads = λ ds q. subst (Declares u [] items) (sym (append_assoc r.done (d ∷ []) ds))
@@ -156,24 +202,19 @@ module _ (u : tree.Unit) (items : List Item) (tokens : List Token) (is : u.token
       }
 
   -- all items
-  pub declares_all : (i : ℕ) (forms : List Form) (known : List (ℕ × ℕ)) (functions : List Signature) → drop i items ≡ [] → IsDeclaring u items i forms known functions
-      → (ds : List Declared) × Declares u [] items ds × AreSaid u forms known functions (given ds)
-  declares_all i forms known functions e r =
-      (r.done, subst (Declares u [] items) (append-nil r.done) (r.leads [] (subst (λ l. Declares u r.types l []) (sym e) no_item)), r.said)
+  pub declares_all : (i : ℕ) (forms : List Form) (known : List (ℕ × ℕ)) (functions : List Signature) (announced : List Announced) → drop i items ≡ [] → IsDeclaring u items i forms known functions announced
+      → AreItems u items forms known functions announced
+  declares_all i forms known functions announced e r = record {
+    types = r.types;
+    names = r.names;
+    done = r.done;
+    declares = subst (Declares u [] items) (append-nil r.done) (r.leads [] (subst (λ l. Declares u r.types l []) (sym e) no_item));
+    said = r.said;
+    forward = r.forward;
+  }
 
 -- the same of a table and of lists that are the same
-pub declaring_as : {u : tree.Unit} {items : List Item} {n : ℕ} {forms table : List Form} {known named : List (ℕ × ℕ)} {functions : List Signature} → table ≡ forms → named ≡ known
-    → IsDeclaring u items n forms known functions → IsDeclaring u items n table named functions
-declaring_as {u} {items} {n} {forms} {table} {known} {named} {functions} a b r =
-    subst (λ x. IsDeclaring u items n x named functions) (sym a) (subst (λ x. IsDeclaring u items n forms x functions) (sym b) r)
-
-pub declares_moved : (u : tree.Unit) (tokens : List Token) (items : List Item) (forms table : List Form) (known named : List (ℕ × ℕ)) (functions more : List Signature)
-    → tokens ≡ u.tokens.list → items ≡ u.items → table ≡ forms → named ≡ known → more ≡ functions
-    → ((v : tree.Unit) → v.tokens.list ≡ tokens → AreTokensSpelled v.tokens.names tokens → (ds : List Declared) × Declares v [] items ds × AreSaid v forms known functions (given ds))
-    → AreTokensSpelled u.tokens.names u.tokens.list → (ds : List Declared) × Declares u [] u.items ds × AreSaid u table named more (given ds)
-declares_moved u tokens items forms table known named functions more t i f n m h s =
-    let r : (ds : List Declared) × Declares u [] items ds × AreSaid u forms known functions (given ds) = h u (sym t) (subst (AreTokensSpelled u.tokens.names) (sym t) s) in (
-      r.0,
-      subst (λ l. Declares u [] l r.0) i r.1,
-      subst (λ l. AreSaid u l named more (given r.0)) (sym f) (subst (λ l. AreSaid u forms l more (given r.0)) (sym n) (subst (λ l. AreSaid u forms known l (given r.0)) (sym m) r.2)),
-    )
+pub declaring_as : {u : tree.Unit} {items : List Item} {n : ℕ} {forms table : List Form} {known named : List (ℕ × ℕ)} {functions : List Signature} {announced : List Announced} → table ≡ forms → named ≡ known
+    → IsDeclaring u items n forms known functions announced → IsDeclaring u items n table named functions announced
+declaring_as {u} {items} {n} {forms} {table} {known} {named} {functions} {announced} a b r =
+    subst (λ x. IsDeclaring u items n x named functions announced) (sym a) (subst (λ x. IsDeclaring u items n forms x functions announced) (sym b) r)

@@ -1,5 +1,5 @@
 -- Facts on lists.
-use Rattle.std.proofs.Common.{ℕ, zero, suc, ◌≡◌, ◌<◌, ◌≤◌, refl, All, List, [], ◌∷◌, length, arith, Result, Ok, Err, IfOk, OnOk, drop, get_or, drop-cons, add-one, ◌+◌, ap, sym, ◌∙◌}
+use Rattle.std.proofs.Common.{ℕ, zero, suc, ◌≡◌, ◌<◌, ◌≤◌, refl, All, List, [], ◌∷◌, length, arith, Result, Ok, Err, IfOk, IfErr, OnOk, drop, get_or, drop-cons, add-one, ◌+◌, ap, sym, ◌∙◌}
 
 pub all_first : (P : ℕ → Type 0) (x : ℕ) (xs : List ℕ) → P x → All P xs → All P (x ∷ xs)
 all_first P x xs h hs zero d within = h
@@ -31,6 +31,14 @@ pub on_ok_from : {T E P : Type 0} (r : Result T E) → P → OnOk r P
 on_ok_from (Ok x) h = h
 on_ok_from (Err e) h = tt
 
+pub both_ok : {T E P Q R : Type 0} (r : Result T E) → (P → Q → R) → OnOk r P → OnOk r Q → OnOk r R
+both_ok (Ok x) f p q = f p q
+both_ok (Err e) f p q = tt
+
 -- the item that a loop is at
 pub cut_at : {A : Type 0} (xs : List A) (i : ℕ) (x : A) → i < length xs → x ≡ get_or xs i x → drop i xs ≡ x ∷ drop (i + 1) xs
 cut_at xs i x within is = cut xs i x within ∙ ap (λ y. y ∷ drop (i + 1) xs) (sym is)
+
+pub if_err_weaker : {T E : Type 0} {P Q : E → Type 0} (r : Result T E) → ((e : E) → P e → Q e) → IfErr r P → IfErr r Q
+if_err_weaker (Ok x) f h = tt
+if_err_weaker (Err e) f h = f e h

@@ -1,5 +1,5 @@
 -- The names of types, item by item.
-use Rattle.std.proofs.Common.{◌≡◌, ℕ, zero, suc, ◌+◌, ◌-◌, Bool, true, false, List, [], ◌∷◌, drop, length, slice_range, Some, None, nat_eq, if◌then◌else◌, refl, sym, ap, subst, arith}
+use Rattle.std.proofs.Common.{◌≡◌, ◌<◌, All, ℕ, zero, suc, ◌+◌, ◌-◌, List, [], ◌∷◌, drop, length, slice_range, None, refl, sym, ap, subst, arith}
 use Rattle.name_scope.specs.Newest.{newest}
 use Rattle.flow_value.specs.declared.ty.Ty.{Ty}
 use Rattle.flow_value.specs.declared.ty.Ty.TheVariants as ty
@@ -13,19 +13,9 @@ use Rattle.sisal_tree.specs.declared.unit.Item.TheVariants as item
 use Rattle.sisal_grammar.specs.Placed.{placed}
 use Rattle.typed_tree.specs.Types.{IsNumber, boolean, character, integer, null, array}
 use Rattle.typed_tree.specs.Written.{Denotes}
-use Rattle.unit_types.specs.Rests.{AreKnown, AreTokensSpelled, AreStanding, IsUsed, HasNames, Names, no_item, a_type, a_function, IsNamed, AreNamed}
+use Rattle.unit_types.specs.Rests.{HasEachOnce, AreKnown, AreTokensSpelled, AreStanding, IsUsed, HasNames, Names, no_item, a_type, a_function, IsNamed, AreNamed}
+use Rattle.unit_types.proofs.Known.{none_known}
 use Rattle.unit_types.proofs.Reading.{names_later}
-
--- a name without a number has no type
-pub none_known : (forms : List Form) (sp : List (List ℕ)) (x : ℕ) (ns : List (ℕ × ℕ)) (ts : List (ℕ × Ty)) → AreKnown forms sp ns ts → newest x ns ≡ None → newest x ts ≡ None
-none_known forms sp x [] [] h e = refl
-none_known forms sp x [] (t ∷ ts) h e = absurd h
-none_known forms sp x (n ∷ ns) [] h e = absurd h
-none_known forms sp x (n ∷ ns) (t ∷ ts) h e = subst (λ y. (if nat_eq x y then Some t.1 else newest x ts) ≡ None) h.0 (by (nat_eq x n.0) e (none_known forms sp x ns ts h.2))
-  where
-    by : (b : Bool) → (if b then Some n.1 else newest x ns) ≡ None → (newest x ns ≡ None → newest x ts ≡ None) → (if b then Some t.1 else newest x ts) ≡ None
-    by true e rest = cc
-    by false e rest = rest e
 
 pub all_known : (ns : List (ℕ × ℕ)) (known : ℕ) → known ≡ length ns → drop (length ns - known) ns ≡ ns
 all_known ns known e = let z : length ns - known ≡ 0 = omega arith in ap (λ k. drop k ns) z
@@ -57,13 +47,24 @@ names_function tokens f old new named used sp types h n = record {
 
 -- ---- all items
 
+basic_stand : (sp : List (List ℕ)) (n : ℕ) → n < length basic_forms → (t : Ty) × IsNumber basic_forms sp n t
+basic_stand sp zero below = (ty.Bool, boolean refl)
+basic_stand sp (suc zero) below = (ty.Char, character refl)
+basic_stand sp (suc (suc zero)) below = (ty.Int, integer refl)
+basic_stand sp (suc (suc (suc zero))) below = (ty.Null, null refl)
+basic_stand sp (suc (suc (suc (suc zero)))) below = (ty.Arr ty.Char, array {m = 1} refl (character refl))
+basic_stand sp (suc (suc (suc (suc (suc n))))) below = absurd (omega arith)
+
+basic_once : All HasEachOnce basic_forms
+basic_once zero d below = tt
+basic_once (suc zero) d below = tt
+basic_once (suc (suc zero)) d below = tt
+basic_once (suc (suc (suc zero))) d below = tt
+basic_once (suc (suc (suc (suc zero)))) d below = tt
+basic_once (suc (suc (suc (suc (suc n))))) d below = absurd (omega arith)
+
 pub basic_stands : (sp : List (List ℕ)) → AreStanding sp basic_forms
-basic_stands sp zero below = (ty.Bool, boolean refl)
-basic_stands sp (suc zero) below = (ty.Char, character refl)
-basic_stands sp (suc (suc zero)) below = (ty.Int, integer refl)
-basic_stands sp (suc (suc (suc zero))) below = (ty.Null, null refl)
-basic_stands sp (suc (suc (suc (suc zero)))) below = (ty.Arr ty.Char, array {m = 1} refl (character refl))
-basic_stands sp (suc (suc (suc (suc (suc n))))) below = absurd (omega arith)
+basic_stands sp = record { stands = basic_stand sp; once = basic_once }
 
 pub named_first : (tokens : List Token) (items : List Item) (forms : List Form) (known : List (ℕ × ℕ)) → forms ≡ basic_forms → known ≡ [] → (sp : List (List ℕ)) → AreNamed sp tokens items 0 forms known
 named_first tokens items forms known e n sp = record {

@@ -51,6 +51,12 @@ owned_more name sp numbers old new x (Err v) e f n o = tt
 some_is : {A : Type 0} {x y : A} → Some x ≡ Some y → x ≡ y
 some_is h = cc
 
+-- a name beside which something stands in a table
+pub built_name : {B : Type 0} (table : List (List ℕ × B)) (spellings : List (List ℕ)) (x : ℕ) (s : List ℕ) (o : Option B) (b : Bool) → Some s ≡ slice_get spellings x → o ≡ beside s table → b ≡ is_some o → b ≡ true
+    → (spelling : List ℕ) × (slice_get spellings x ≡ Some spelling) × ((v : B) × (beside spelling table ≡ Some v))
+built_name table spellings x s None b there is some holds = absurd (true≢false (sym holds ∙ some))
+built_name table spellings x s (Some v) b there is some holds = (s, sym there, (v, sym is))
+
 -- a name beside which nothing stands in a table
 pub own_name : {B : Type 0} (table : List (List ℕ × B)) (spellings : List (List ℕ)) (x : ℕ) (s : List ℕ) (o : Option B) (b : Bool) → Some s ≡ slice_get spellings x → o ≡ beside s table → b ≡ is_some o → b ≡ false
     → (spelling : List ℕ) → slice_get spellings x ≡ Some spelling → beside spelling table ≡ None

@@ -7,13 +7,15 @@ use Rattle.flow_value.specs.declared.ty.Ty.{Ty}
 use Rattle.type_table.specs.declared.form.Form.{Form}
 use Rattle.type_table.specs.Tables.{IsTable}
 use Rattle.sisal_lex.specs.declared.token.Token.{Token}
+use Rattle.sisal_grammar.specs.declared.value.Placed.{Placed}
 use Rattle.sisal_grammar.specs.Placed.{placed}
 use Rattle.typed_tree.specs.Types.{IsNumber}
-use Rattle.typed_tree.specs.Written.{Denotes}
+use Rattle.typed_tree.specs.Written.{Denotes, Misnames}
 use Rattle.unit_types.specs.declared.open.Open.{Open}
 use Rattle.unit_types.specs.declared.open.Next.{Next}
 use Rattle.unit_types.specs.declared.open.Next.TheVariants as next
-use Rattle.unit_types.specs.Rests.{IsLater, IsGrown, AreKnown, IsKindSpelled, AreTokensSpelled, AreStanding, TypeComes, Behind, Follows, Leads, Reads, IsReading, IsUsed, HasNames}
+use Rattle.unit_types.specs.Rests.{at_place, IsLater, IsGrown, AreKnown, IsKindSpelled, AreTokensSpelled, AreStanding, IsUsed, HasNames}
+use Rattle.unit_types.specs.Reached.{BehindNumber, Stands, Leads, Refuses, Reads, ReadsFault, IsReading}
 use Rattle.unit_types.proofs.Standing.{one_type, number_later}
 
 pub begin_reading : (known : List (ℕ × ℕ)) (old : List Form) (tokens : List Token) → IsReading known old old tokens 0 next.Type []
@@ -21,9 +23,7 @@ begin_reading known old tokens = record {
   grown = record { more = []; is = sym (append-nil old) };
   spelled = λ sp h. tt;
   standing = λ sp h s. s;
-  follows = λ sp tys forms l h k n a f.
-      let e : n + 0 ≡ n = omega arith in
-      subst (λ p. TypeComes sp tys (Behind sp tys forms []) (placed p tokens) a) e f;
+  reaches = λ sp tys forms l h k n. let e : n + 0 ≡ n = omega arith in ([], ap (λ p. placed p tokens) (sym e), refl);
 }
 
 kind_at : (sp : List (List ℕ)) (tokens : List Token) (i : ℕ) (t : Token) (rest : List Token) → AreTokensSpelled sp tokens → drop i tokens ≡ t ∷ rest → IsKindSpelled sp t.kind
@@ -38,17 +38,29 @@ later_before old now forms g l = record {
   table = l.table;
 }
 
+pub known_later : (old more : List Form) (sp : List (List ℕ)) (ns : List (ℕ × ℕ)) (ts : List (ℕ × Ty)) → AreKnown old sp ns ts → AreKnown (old ++ more) sp ns ts
+known_later old more sp [] [] h = tt
+known_later old more sp [] (t ∷ ts) h = absurd h
+known_later old more sp (n ∷ ns) [] h = absurd h
+known_later old more sp (n ∷ ns) (t ∷ ts) h = (h.0, number_later old more sp h.1, known_later old more sp ns ts h.2)
+
+pub known_grown : (old new : List Form) (sp : List (List ℕ)) (ns : List (ℕ × ℕ)) (ts : List (ℕ × Ty)) → IsGrown old new → AreKnown old sp ns ts → AreKnown new sp ns ts
+known_grown old new sp ns ts g h = subst (λ f. AreKnown f sp ns ts) (sym g.is) (known_later old g.more sp ns ts h)
+
 pub go_on_reading : (known : List (ℕ × ℕ)) (old now new : List Form) (tokens : List Token) (i : ℕ) (here later : Next) (os rest : List Open) (t : Token) → drop i tokens ≡ t ∷ drop (i + 1) tokens
     → IsReading known old now tokens i here os → Leads known now new here os t later rest → IsReading known old new tokens (i + 1) later rest
 go_on_reading known old now new tokens i here later os rest t e r l = record {
   grown = record { more = r.grown.more ++ l.grown.more; is = l.grown.is ∙ ap (λ x. x ++ l.grown.more) r.grown.is ∙ append_assoc old r.grown.more l.grown.more };
   spelled = λ sp h. l.spelled sp (kind_at sp tokens i t (drop (i + 1) tokens) h e) (r.spelled sp h);
   standing = λ sp h s. l.standing sp (r.spelled sp h) (r.standing sp h s);
-  follows = λ sp tys forms lt h k n a f.
-      let p : n + (i + 1) ≡ n + i + 1 = omega arith in
-      let g : Follows sp tys forms later rest (placed (n + i + 1) (drop (i + 1) tokens)) a = subst (λ q. Follows sp tys forms later rest (placed q (drop (i + 1) tokens)) a) p f in
-      let w : Follows sp tys forms here os (placed (n + i) (t ∷ drop (i + 1) tokens)) a = l.follows sp tys forms lt (r.spelled sp h) k (n + i) (placed (n + i + 1) (drop (i + 1) tokens)) a g in
-      r.follows sp tys forms (later_before now new forms l.grown lt) h k n a (subst (λ l. Follows sp tys forms here os (placed (n + i) l) a) (sym e) w);
+  reaches = λ sp tys forms lt h k n.
+      let b : (ts : List Placed) × (placed n tokens ≡ ts ++ placed (n + i) (drop i tokens)) × Stands sp tys forms here os ts = r.reaches sp tys forms (later_before now new forms l.grown lt) h k n in
+      let p : n + i + 1 ≡ n + (i + 1) = omega arith in (
+        b.0 ++ at_place (n + i) t ∷ [],
+        b.1 ∙ ap (λ x. b.0 ++ placed (n + i) x) e ∙ sym (append_assoc b.0 (at_place (n + i) t ∷ []) (placed (n + i + 1) (drop (i + 1) tokens)))
+            ∙ ap (λ q. (b.0 ++ at_place (n + i) t ∷ []) ++ placed q (drop (i + 1) tokens)) p,
+        l.reaches sp tys forms lt (r.spelled sp h) k (n + i) b.0 b.2,
+      );
 }
 
 pub end_reading : (known : List (ℕ × ℕ)) (old now : List Form) (tokens : List Token) (i k : ℕ) (later : Next) (os : List Open) → IsReading known old now tokens i later os → drop i tokens ≡ []
@@ -57,15 +69,22 @@ end_reading known old now tokens i k later os r e is none there = record {
   grown = r.grown;
   there = there;
   standing = r.standing;
-  denotes = λ sp tys table h known_now n a stands.
+  denotes = λ sp tys forms l h known_now n a stands.
+      let b : (ts : List Placed) × (placed n tokens ≡ ts ++ placed (n + i) (drop i tokens)) × Stands sp tys forms later os ts = r.reaches sp tys forms l h known_now n in
+      let whole : placed n tokens ≡ b.0 = b.1 ∙ ap (λ x. b.0 ++ placed (n + i) x) e ∙ append-nil b.0 in
+      let f : BehindNumber sp tys forms [] k b.0 = subst (λ o. Stands sp tys forms (next.After k) o b.0) none (subst (λ x. Stands sp tys forms x os b.0) is b.2) in
+      subst (λ l. Denotes sp tys l a) (sym whole) (subst (Denotes sp tys b.0) (one_type forms sp stands f.type f.stands) f.is);
+}
+
+-- a token at which the reader stops
+pub stop_reading : (known : List (ℕ × ℕ)) (old now : List Form) (tokens : List Token) (i : ℕ) (here : Next) (os : List Open) (t : Token) (rule line : ℕ) → drop i tokens ≡ t ∷ drop (i + 1) tokens → IsTable now
+    → IsReading known old now tokens i here os → Refuses known now here os t rule line → ReadsFault known old tokens rule line
+stop_reading known old now tokens i here os t rule line e table r f = record {
+  misnames = λ sp tys h k n.
       let l : IsLater now now = record { more = []; grown = sym (append-nil now); table = table } in
-      let f : Follows sp tys now (next.After k) [] (placed (n + i) []) a = λ b q. (refl, one_type now sp stands b q) in
-      let g : Follows sp tys now later os (placed (n + i) (drop i tokens)) a =
-      subst (λ o. Follows sp tys now later o (placed (n + i) (drop i tokens)) a) (sym none)
-      (subst (λ x. Follows sp tys now x [] (placed (n + i) (drop i tokens)) a) (sym is) (subst (λ l. Follows sp tys now (next.After k) [] (placed (n + i) l) a) (sym e) f)) in
-      let c : TypeComes sp tys (Behind sp tys now []) (placed n tokens) a = r.follows sp tys now l h known_now n a g in
-      let whole : placed n tokens ≡ c.inner = c.whole ∙ ap (λ l. c.inner ++ l) c.goes_on.0 ∙ append-nil c.inner in
-      subst (λ l. Denotes sp tys l a) (sym whole) (subst (Denotes sp tys c.inner) c.goes_on.1 c.is);
+      let known_now : AreKnown now sp known tys = known_grown old now sp known tys r.grown k in
+      let b : (ts : List Placed) × (placed n tokens ≡ ts ++ placed (n + i) (drop i tokens)) × Stands sp tys now here os ts = r.reaches sp tys now l h known_now n in
+      subst (λ l. Misnames sp tys l rule line) (sym (b.1 ∙ ap (λ x. b.0 ++ placed (n + i) x) e)) (f.misnames sp tys table (r.spelled sp h) known_now (n + i) b.0 (placed (n + i + 1) (drop (i + 1) tokens)) b.2);
 }
 
 -- ---- a range of tokens
@@ -98,23 +117,18 @@ spelled_take sp (suc i) (t ∷ ts) h = (h.0, spelled_take sp i ts h.1)
 spelled_range : (sp : List (List ℕ)) (from to : ℕ) (ts : List Token) → AreTokensSpelled sp ts → AreTokensSpelled sp (slice_range ts from to)
 spelled_range sp from to ts h = spelled_take sp (to - from) (drop from ts) (spelled_drop sp from ts h)
 
-pub known_later : (old more : List Form) (sp : List (List ℕ)) (ns : List (ℕ × ℕ)) (ts : List (ℕ × Ty)) → AreKnown old sp ns ts → AreKnown (old ++ more) sp ns ts
-known_later old more sp [] [] h = tt
-known_later old more sp [] (t ∷ ts) h = absurd h
-known_later old more sp (n ∷ ns) [] h = absurd h
-known_later old more sp (n ∷ ns) (t ∷ ts) h = (h.0, number_later old more sp h.1, known_later old more sp ns ts h.2)
-
-pub known_grown : (old new : List Form) (sp : List (List ℕ)) (ns : List (ℕ × ℕ)) (ts : List (ℕ × Ty)) → IsGrown old new → AreKnown old sp ns ts → AreKnown new sp ns ts
-known_grown old new sp ns ts g h = subst (λ f. AreKnown f sp ns ts) (sym g.is) (known_later old g.more sp ns ts h)
-
 -- what a range of tokens denotes
-pub range_denotes : (known : List (ℕ × ℕ)) (old new : List Form) (tokens : List Token) (from to k : ℕ) → Reads known old new (slice_range tokens from to) k → IsTable new
-    → (sp : List (List ℕ)) (tys : List (ℕ × Ty)) → AreTokensSpelled sp tokens → AreStanding sp old → AreKnown old sp known tys
-    → (a : Ty) × Denotes sp tys (slice_range (placed 0 tokens) from to) a × IsNumber new sp k a
-range_denotes known old new tokens from to k r table sp tys h s kn =
-    let spelled : AreTokensSpelled sp (slice_range tokens from to) = spelled_range sp from to tokens h in
-    let t : (a : Ty) × IsNumber new sp k a = r.standing sp spelled s k r.there in
-    (t.0, subst (λ l. Denotes sp tys l t.0) (sym (placed_range from to tokens)) (r.denotes sp tys table spelled (known_grown old new sp known tys r.grown kn) from t.0 t.1), t.1)
+pub range_denotes : (known : List (ℕ × ℕ)) (old new : List Form) (tokens : List Token) (from to k : ℕ) → Reads known old new (slice_range tokens from to) k
+    → (sp : List (List ℕ)) (tys : List (ℕ × Ty)) (forms : List Form) → IsLater new forms → AreTokensSpelled sp tokens → AreKnown forms sp known tys
+    → (a : Ty) → IsNumber forms sp k a → Denotes sp tys (slice_range (placed 0 tokens) from to) a
+range_denotes known old new tokens from to k r sp tys forms l h kn a stands =
+    subst (λ l. Denotes sp tys l a) (sym (placed_range from to tokens)) (r.denotes sp tys forms l (spelled_range sp from to tokens h) kn from a stands)
+
+-- and what it breaks
+pub range_misnames : (known : List (ℕ × ℕ)) (old : List Form) (tokens : List Token) (from to rule line : ℕ) → ReadsFault known old (slice_range tokens from to) rule line
+    → (sp : List (List ℕ)) (tys : List (ℕ × Ty)) → AreTokensSpelled sp tokens → AreKnown old sp known tys → Misnames sp tys (slice_range (placed 0 tokens) from to) rule line
+range_misnames known old tokens from to rule line r sp tys h kn =
+    subst (λ l. Misnames sp tys l rule line) (sym (placed_range from to tokens)) (r.misnames sp tys (spelled_range sp from to tokens h) kn from)
 
 pub range_uses : (known : List (ℕ × ℕ)) (old new : List Form) (tokens : List Token) (from to k : ℕ) → Reads known old new (slice_range tokens from to) k → IsUsed tokens old new
 range_uses known old new tokens from to k r = record {
@@ -136,3 +150,14 @@ used_again tokens old now new a b = record {
 pub names_later : (tokens : List Token) (old new : List Form) (sp : List (List ℕ)) (ns : List (ℕ × ℕ)) (ts : List (ℕ × Ty)) → IsUsed tokens old new → AreTokensSpelled sp tokens
     → HasNames sp old ns ts → HasNames sp new ns ts
 names_later tokens old new sp ns ts u h k = record { standing = u.standing sp h k.standing; named = known_grown old new sp ns ts u.grown k.named }
+
+-- the type that is denoted, at the table that is left
+pub denoted_here : (known : List (ℕ × ℕ)) (old new : List Form) (tokens : List Token) (from to k : ℕ) → IsUsed tokens old new → k < length new → IsTable new
+    → ((sp : List (List ℕ)) (tys : List (ℕ × Ty)) (forms : List Form) → IsLater new forms → AreTokensSpelled sp tokens → AreKnown forms sp known tys
+    → (a : Ty) → IsNumber forms sp k a → Denotes sp tys (slice_range (placed 0 tokens) from to) a)
+    → (sp : List (List ℕ)) (tys : List (ℕ × Ty)) → AreTokensSpelled sp tokens → AreStanding sp old → AreKnown old sp known tys
+    → (a : Ty) × Denotes sp tys (slice_range (placed 0 tokens) from to) a × IsNumber new sp k a
+denoted_here known old new tokens from to k used there table denotes sp tys h s kn =
+    let t : (a : Ty) × IsNumber new sp k a = (used.standing sp h s).stands k there in
+    let l : IsLater new new = record { more = []; grown = sym (append-nil new); table = table } in
+    (t.0, denotes sp tys new l h (known_grown old new sp known tys used.grown kn) t.0 t.1, t.1)

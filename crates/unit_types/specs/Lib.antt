@@ -1,5 +1,6 @@
 pub mod Placing
 pub mod Headings
 pub mod Rests
+pub mod Reached
 pub mod Headers
 pub mod Faults

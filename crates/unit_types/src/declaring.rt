@@ -1,15 +1,19 @@
 //! Type definitions and headers of a unit.
-ghost use Rattle.std.specs.Prelude.{◌≡◌, ◌+◌, ℕ, List, drop, ◌++◌, [], ◌∷◌, map, length, All, Some, true, false, None, slice_get, IfErr, IfOk, IfSome, OnOk};
+ghost use Rattle.std.specs.Prelude.{◌≡◌, ◌≢◌, ◌+◌, ℕ, List, drop, ◌++◌, [], ◌∷◌, map, length, All, Some, true, false, None, slice_get, IfErr, IfOk, IfSome, OnOk};
+ghost use Rattle.std.specs.Option.{option_copied};
 ghost use Rattle.name_scope.specs.Newest.{newest};
 ghost use Rattle.flow_value.specs.declared.ty.Ty.{Ty};
-ghost use Rattle.type_table.specs.Tables.{basic_forms};
+ghost use Rattle.type_rules.specs.declared.fault.TypeFault.TheVariants as fault;
+ghost use Rattle.type_rules.specs.Faults.{IsRule};
+ghost use Rattle.type_rules.specs.Typed.{AreSpelledOnce};
+ghost use Rattle.type_table.specs.Tables.{basic_forms, IsTable};
 ghost use Rattle.unit_types.specs.Rests.{AreTokensSpelled, HasNames, Names, IsNamed};
 ghost use Rattle.sisal_tree.specs.declared.unit.Item.{Item};
 ghost use Rattle.sisal_tree.specs.declared.unit.Unit as tree;
-ghost use Rattle.typed_tree.specs.Units.{Declared as UnitFunction, AreDeclared, Declares, given};
-ghost use Rattle.unit_types.specs.Headers.{AreSaid, IsDeclaring};
-ghost use Rattle.unit_types.specs.Faults.{IsUnitRule};
-ghost use Rattle.unit_types.specs.Headings.{heading_of, heading_in, has_body, given_functions, given_by, given_as, numbering, IsOwnName, IsFree, AreOwn};
+ghost use Rattle.typed_tree.specs.Faults.{BreaksUnit};
+ghost use Rattle.unit_types.specs.Headers.{IsOf, IsDeclaring, BreaksAt, AreItems, IsDeclared};
+ghost use Rattle.unit_types.specs.Faults.{IsUnitRule, fault_of, IsFault};
+ghost use Rattle.unit_types.specs.Headings.{heading_of, heading_in, has_body, given_functions, given_by, given_as, announced_as, numbering, IsOwnName, IsBuiltName, IsFree, IsTaken, AreOwn, HasNoBody, IsUndefined, IsKept, IsBroken, HasSame, function_at};
 
 use crate::fault::{UnitFault, numbered};
 use crate::header::{Signature, signature_of};
@@ -77,10 +81,11 @@ pub fn declare(alloc: Global, unit: &Unit) -> Result<Declared, TypeFault>
         → (types : List (ℕ × Ty)) × Names texts unit.now.tokens.list [] unit.now.items types × HasNames texts d.types d.named types) }
     ensures rule { IfErr result IsUnitRule }
     // The functions of the unit are declared, each once, and these are the ones that are given, with the types of their parameters and results.
-    ensures declares { IfOk result (λ d. AreTokensSpelled unit.now.tokens.names unit.now.tokens.list
-        → (ds : List UnitFunction) × AreDeclared unit.now ds × AreSaid unit.now d.types d.named d.functions (given ds)) }
+    ensures declares { IfOk result (λ d. AreTokensSpelled unit.now.tokens.names unit.now.tokens.list → IsDeclared unit.now d.types d.named d.functions d.defines) }
     // No two functions have one name, and none has that of a call that is built in.
     ensures own { IfOk result (λ d. AreOwn unit.now.tokens.names (map (λ s. s.name) d.functions)) }
+    // A rule that is named is broken on the line, where each name is spelled in its own way.
+    ensures breaks { IfErr result (IsRule (λ rule line. AreTokensSpelled unit.now.tokens.names unit.now.tokens.list → AreSpelledOnce unit.now.tokens.names → BreaksUnit unit.now rule line)) }
 {
     match declare_unit(alloc, unit) {
         Ok(declared) => Ok(declared),
@@ -100,10 +105,11 @@ fn declare_unit(alloc: Global, unit: &Unit) -> Result<Declared, UnitFault>
     ensures names { IfOk result (λ d. (texts : List (List ℕ)) → AreTokensSpelled texts unit.now.tokens.list
         → (types : List (ℕ × Ty)) × Names texts unit.now.tokens.list [] unit.now.items types × HasNames texts d.types d.named types) }
     // The functions of the unit are declared, each once, and these are the ones that are given, with the types of their parameters and results.
-    ensures declares { IfOk result (λ d. AreTokensSpelled unit.now.tokens.names unit.now.tokens.list
-        → (ds : List UnitFunction) × AreDeclared unit.now ds × AreSaid unit.now d.types d.named d.functions (given ds)) }
+    ensures declares { IfOk result (λ d. AreTokensSpelled unit.now.tokens.names unit.now.tokens.list → IsDeclared unit.now d.types d.named d.functions d.defines) }
     // No two functions have one name, and none has that of a call that is built in.
     ensures own { IfOk result (λ d. AreOwn unit.now.tokens.names (map (λ s. s.name) d.functions)) }
+    // A rule that is named is broken on the line, where each name is spelled in its own way.
+    ensures breaks { IfErr result (IsFault (λ rule line. AreTokensSpelled unit.now.tokens.names unit.now.tokens.list → AreSpelledOnce unit.now.tokens.names → BreaksUnit unit.now rule line)) }
 {
     let tokens = unit.tokens.list.as_slice();
     let spellings = unit.tokens.names.as_slice();
@@ -124,14 +130,16 @@ fn declare_all(
     ensures bodies { IfOk result (λ d. d.bodies ≡ map (λ f. has_body f.kind) (given_functions items.now)) }
     ensures numbers { IfOk result (λ d. d.numbers ≡ numbering 0 [] (map (λ s. s.name) d.functions)) }
     ensures names { IfOk result (λ d. (texts : List (List ℕ)) → AreTokensSpelled texts tokens.now → (types : List (ℕ × Ty)) × Names texts tokens.now [] items.now types × HasNames texts d.types d.named types) }
-    ensures declares { IfOk result (λ d. (u : tree.Unit) → u.tokens.list ≡ tokens.now → AreTokensSpelled u.tokens.names tokens.now
-        → (ds : List UnitFunction) × Declares u [] items.now ds × AreSaid u d.types d.named d.functions (given ds)) }
+    ensures declares { IfOk result (λ d. (u : tree.Unit) → u.tokens.list ≡ tokens.now → AreTokensSpelled u.tokens.names tokens.now → AreItems u items.now d.types d.named d.functions d.announced) }
     ensures own { IfOk result (λ d. AreOwn spellings.now (map (λ s. s.name) d.functions)) }
+    ensures table { IfOk result (λ d. IsTable d.types) }
+    ensures breaks { IfErr result (IsFault (λ rule line. (u : tree.Unit) → IsOf tokens.now spellings.now u → u.items ≡ items.now → BreaksUnit u rule line)) }
 {
     let mut declaring = nothing_declared(alloc)?;
     for item in items {
         declare_item(alloc, tokens, spellings, item, &mut declaring)?;
     }
+    declaring.types.holds();
     Ok(declaring)
 }
 
@@ -141,6 +149,7 @@ fn nothing_declared(alloc: Global) -> Result<Declaring, NoMemory>
     ensures numbers { IfOk result (λ d. d.numbers ≡ []) }
     ensures types { IfOk result (λ d. d.types ≡ basic_forms) }
     ensures named { IfOk result (λ d. d.named ≡ []) }
+    ensures announced { IfOk result (λ d. d.announced ≡ []) }
 {
     Ok(Declaring {
         types: Types::new(alloc)?,
@@ -189,7 +198,8 @@ fn declare_item(
     ensures names { OnOk result ((texts : List (List ℕ)) (types : List (ℕ × Ty)) → AreTokensSpelled texts tokens.now → HasNames texts declaring.old.types declaring.old.named types
         → IsNamed texts tokens.now types item.now declaring.new.types declaring.new.named) }
     ensures declares { OnOk result ((u : tree.Unit) (items : List Item) (n : ℕ) → u.tokens.list ≡ tokens.now → AreTokensSpelled u.tokens.names tokens.now → drop n items ≡ item.now ∷ drop (n + 1) items
-        → IsDeclaring u items n declaring.old.types declaring.old.named declaring.old.functions → IsDeclaring u items (n + 1) declaring.new.types declaring.new.named declaring.new.functions) }
+        → IsDeclaring u items n declaring.old.types declaring.old.named declaring.old.functions declaring.old.announced → IsDeclaring u items (n + 1) declaring.new.types declaring.new.named declaring.new.functions declaring.new.announced) }
+    ensures breaks { declaring.old.numbers ≡ numbering 0 [] (map (λ s. s.name) declaring.old.functions) → IfErr result (IsFault (BreaksAt tokens.now spellings.now item.now declaring.old.types declaring.old.named declaring.old.functions declaring.old.announced)) }
     ensures own { declaring.old.numbers ≡ numbering 0 [] (map (λ s. s.name) declaring.old.functions) → AreOwn spellings.now (map (λ s. s.name) declaring.old.functions)
         → OnOk result (AreOwn spellings.now (map (λ s. s.name) declaring.new.functions)) }
 {
@@ -214,7 +224,8 @@ fn declare_type(
     ensures names { OnOk result ((texts : List (List ℕ)) (types : List (ℕ × Ty)) → AreTokensSpelled texts tokens.now → HasNames texts declaring.old.types declaring.old.named types
         → IsNamed texts tokens.now types (Item.Alias definition.now) declaring.new.types declaring.new.named) }
     ensures declares { OnOk result ((u : tree.Unit) (items : List Item) (n : ℕ) → u.tokens.list ≡ tokens.now → AreTokensSpelled u.tokens.names tokens.now → drop n items ≡ Item.Alias definition.now ∷ drop (n + 1) items
-        → IsDeclaring u items n declaring.old.types declaring.old.named declaring.old.functions → IsDeclaring u items (n + 1) declaring.new.types declaring.new.named declaring.new.functions) }
+        → IsDeclaring u items n declaring.old.types declaring.old.named declaring.old.functions declaring.old.announced → IsDeclaring u items (n + 1) declaring.new.types declaring.new.named declaring.new.functions declaring.new.announced) }
+    ensures breaks { IfErr result (IsFault (λ rule line. (spellings : List (List ℕ)) → BreaksAt tokens.now spellings (Item.Alias definition.now) declaring.old.types declaring.old.named declaring.old.functions declaring.old.announced rule line)) }
 {
     let known = declaring.named.count()?;
     let ty = type_of(
@@ -245,7 +256,8 @@ fn declare_function(
     ensures names { OnOk result ((texts : List (List ℕ)) (types : List (ℕ × Ty)) → AreTokensSpelled texts tokens.now → HasNames texts declaring.old.types declaring.old.named types
         → IsNamed texts tokens.now types (Item.Function function.now) declaring.new.types declaring.new.named) }
     ensures declares { OnOk result ((u : tree.Unit) (items : List Item) (n : ℕ) → u.tokens.list ≡ tokens.now → AreTokensSpelled u.tokens.names tokens.now → drop n items ≡ Item.Function function.now ∷ drop (n + 1) items
-        → IsDeclaring u items n declaring.old.types declaring.old.named declaring.old.functions → IsDeclaring u items (n + 1) declaring.new.types declaring.new.named declaring.new.functions) }
+        → IsDeclaring u items n declaring.old.types declaring.old.named declaring.old.functions declaring.old.announced → IsDeclaring u items (n + 1) declaring.new.types declaring.new.named declaring.new.functions declaring.new.announced) }
+    ensures breaks { declaring.old.numbers ≡ numbering 0 [] (map (λ s. s.name) declaring.old.functions) → IfErr result (IsFault (BreaksAt tokens.now spellings.now (Item.Function function.now) declaring.old.types declaring.old.named declaring.old.functions declaring.old.announced)) }
     ensures own { declaring.old.numbers ≡ numbering 0 [] (map (λ s. s.name) declaring.old.functions) → AreOwn spellings.now (map (λ s. s.name) declaring.old.functions)
         → OnOk result (AreOwn spellings.now (map (λ s. s.name) declaring.new.functions)) }
 {
@@ -274,6 +286,8 @@ fn declare_signature(
     ensures numbers { declaring.old.numbers ≡ numbering 0 [] (map (λ s. s.name) declaring.old.functions) → OnOk result (declaring.new.numbers ≡ numbering 0 [] (map (λ s. s.name) declaring.new.functions)) }
     ensures types { declaring.new.types ≡ declaring.old.types }
     ensures named { declaring.new.named ≡ declaring.old.named }
+    ensures announced { OnOk result (declaring.new.announced ≡ declaring.old.announced ++ announced_as kind.now (record { line = line; signature = signature })) }
+    ensures taken { IfErr result (IsFault (λ rule at. (rule ≡ 6) × (at ≡ line) × (given_as kind.now signature ≡ signature ∷ []) × IsTaken spellings.now declaring.old.numbers signature.name)) }
     ensures own { declaring.old.numbers ≡ numbering 0 [] (map (λ s. s.name) declaring.old.functions) → AreOwn spellings.now (map (λ s. s.name) declaring.old.functions)
         → OnOk result (AreOwn spellings.now (map (λ s. s.name) declaring.new.functions)) }
 {
@@ -291,6 +305,8 @@ fn announce(line: u32, signature: Signature, declaring: &mut Declaring) -> Resul
     ensures numbers { declaring.new.numbers ≡ declaring.old.numbers }
     ensures types { declaring.new.types ≡ declaring.old.types }
     ensures named { declaring.new.named ≡ declaring.old.named }
+    ensures announced { OnOk result (declaring.new.announced ≡ declaring.old.announced ++ record { line = line; signature = signature } ∷ []) }
+    ensures none { IfErr result (λ e. fault_of e ≡ fault.NoMemory) }
 {
     declaring.announced.add(Announced { line, signature })?;
     Ok(())
@@ -310,6 +326,8 @@ fn give(
     ensures numbers { OnOk result (declaring.new.numbers ≡ (signature.name, length declaring.old.functions) ∷ declaring.old.numbers) }
     ensures types { declaring.new.types ≡ declaring.old.types }
     ensures named { declaring.new.named ≡ declaring.old.named }
+    ensures announced { declaring.new.announced ≡ declaring.old.announced }
+    ensures taken { IfErr result (IsFault (λ rule at. (rule ≡ 6) × (at ≡ line) × IsTaken spellings.now declaring.old.numbers signature.name)) }
     ensures free { OnOk result (IsFree spellings.now declaring.old.numbers signature.name) }
 {
     let name = signature.name;
@@ -325,7 +343,8 @@ fn give(
 
 /// Whether no function of these numbers has the name, nor is it a call that is built in.
 fn is_free(spellings: &[Name], name: u32, numbers: &Scope<u32>) -> bool
-    ensures { result ≡ true → IsFree spellings.now numbers.now name }
+    ensures free { result ≡ true → IsFree spellings.now numbers.now name }
+    ensures taken { result ≡ false → IsTaken spellings.now numbers.now name }
 {
     if is_built_in(spellings, name) {
         return false;
@@ -334,7 +353,8 @@ fn is_free(spellings: &[Name], name: u32, numbers: &Scope<u32>) -> bool
 }
 
 fn is_built_in(spellings: &[Name], name: u32) -> bool
-    ensures { result ≡ false → IsOwnName spellings.now name }
+    ensures own { result ≡ false → IsOwnName spellings.now name }
+    ensures built { result ≡ true → IsBuiltName spellings.now name }
 {
     match item_at(spellings, name as usize) {
         Some(spelling) => built_in_named(spelling.as_slice()).is_some(),
@@ -346,6 +366,7 @@ fn is_built_in(spellings: &[Name], name: u32) -> bool
 fn defined(alloc: Global, names: &[Named], declaring: &Declaring) -> Result<Numbers, UnitFault>
     ensures named { declaring.now.numbers ≡ numbering 0 [] (map (λ s. s.name) declaring.now.functions) → IfOk result (λ ks. map (λ k. slice_get (map (λ s. s.name) declaring.now.functions) k) ks ≡ map (λ n. Some n.name) names.now) }
     ensures bodies { IfOk result (λ ks. All (λ k. slice_get declaring.now.bodies k ≡ Some true) ks) }
+    ensures none { IfErr result (IsFault (λ rule line. (rule ≡ 7) × IsUndefined declaring.now.numbers declaring.now.bodies names.now line)) }
 {
     let mut defines = Seq::new(alloc);
     for named in names {
@@ -359,6 +380,7 @@ fn defined(alloc: Global, names: &[Named], declaring: &Declaring) -> Result<Numb
 fn definition_of(named: Named, declaring: &Declaring) -> Result<u32, UnitFault>
     ensures named { declaring.now.numbers ≡ numbering 0 [] (map (λ s. s.name) declaring.now.functions) → IfOk result (λ k. slice_get (map (λ s. s.name) declaring.now.functions) k ≡ Some named.name) }
     ensures body { IfOk result (λ k. slice_get declaring.now.bodies k ≡ Some true) }
+    ensures none { IfErr result (IsFault (λ rule line. (rule ≡ 7) × (line ≡ named.line) × HasNoBody declaring.now.numbers declaring.now.bodies named.name)) }
 {
     match number_with_body(named.name, declaring) {
         Some(number) => Ok(number),
@@ -370,6 +392,7 @@ fn definition_of(named: Named, declaring: &Declaring) -> Result<u32, UnitFault>
 fn number_with_body(name: u32, declaring: &Declaring) -> Option<u32>
     ensures number { IfSome result (λ k. newest name declaring.now.numbers ≡ Some k) }
     ensures body { IfSome result (λ k. slice_get declaring.now.bodies k ≡ Some true) }
+    ensures none { result ≡ None → HasNoBody declaring.now.numbers declaring.now.bodies name }
 {
     let number = declaring.numbers.find(name)?;
     if is_true_at(declaring.bodies.as_slice(), number) {
@@ -380,7 +403,8 @@ fn number_with_body(name: u32, declaring: &Declaring) -> Option<u32>
 }
 
 fn is_true_at(flags: &[bool], place: u32) -> bool
-    ensures { result ≡ true → slice_get flags.now place ≡ Some true }
+    ensures there { result ≡ true → slice_get flags.now place ≡ Some true }
+    ensures not { result ≡ false → slice_get flags.now place ≢ Some true }
 {
     match item_at(flags, place as usize) {
         Some(flag) => *flag,
@@ -390,14 +414,20 @@ fn is_true_at(flags: &[bool], place: u32) -> bool
 
 /// Whether each header behind `forward` is that of a function that is given: rule 7 where there is
 /// no function of its name, 6 where that one has another header.
-fn are_given(declaring: &Declaring) -> Result<(), UnitFault> {
+fn are_given(declaring: &Declaring) -> Result<(), UnitFault>
+    ensures kept { OnOk result (All (λ a. IsKept declaring.now.numbers declaring.now.functions a.signature) declaring.now.announced) }
+    ensures broken { IfErr result (IsFault (IsBroken declaring.now.numbers declaring.now.functions declaring.now.announced)) }
+{
     for announced in declaring.announced.as_slice() {
         is_given(announced, declaring)?;
     }
     Ok(())
 }
 
-fn is_given(announced: &Announced, declaring: &Declaring) -> Result<(), UnitFault> {
+fn is_given(announced: &Announced, declaring: &Declaring) -> Result<(), UnitFault>
+    ensures kept { OnOk result (IsKept declaring.now.numbers declaring.now.functions announced.now.signature) }
+    ensures broken { IfErr result (IsFault (IsBroken declaring.now.numbers declaring.now.functions (announced.now ∷ []))) }
+{
     let line = announced.line;
     match function_named(announced.signature.name, declaring) {
         Some(function) => {
@@ -411,7 +441,9 @@ fn is_given(announced: &Announced, declaring: &Declaring) -> Result<(), UnitFaul
     }
 }
 
-fn function_named(name: u32, declaring: &Declaring) -> Option<&Signature> {
+fn function_named(name: u32, declaring: &Declaring) -> Option<&Signature>
+    ensures { option_copied result ≡ function_at declaring.now.functions (newest name declaring.now.numbers) }
+{
     match declaring.numbers.find(name) {
         Some(number) => item_at(declaring.functions.as_slice(), number as usize),
         None => None,
@@ -419,7 +451,10 @@ fn function_named(name: u32, declaring: &Declaring) -> Option<&Signature> {
 }
 
 /// Whether two headers have the same parameters and the same types.
-fn is_same(one: &Signature, other: &Signature) -> bool {
+fn is_same(one: &Signature, other: &Signature) -> bool
+    ensures same { result ≡ true → HasSame one.now other.now }
+    ensures not { result ≡ false → HasSame one.now other.now → ⊥ }
+{
     one.parameters.as_slice() == other.parameters.as_slice()
         && one.params.as_slice() == other.params.as_slice()
         && one.results.as_slice() == other.results.as_slice()

@@ -1,6 +1,6 @@
 //! What the types and headers of a unit break.
 ghost use Rattle.std.specs.Prelude.{◌≡◌};
-ghost use Rattle.unit_types.specs.Faults.{IsUnitRule};
+ghost use Rattle.unit_types.specs.Faults.{IsUnitRule, fault_of};
 ghost use Rattle.unit_types.specs.declared.fault.UnitFault.TheVariants as fault;
 
 use flow_value::NoMemory;
@@ -39,7 +39,8 @@ impl From<NoMemory> for UnitFault {
 
 /// The fault with the number of its rule.
 pub fn numbered(fault: UnitFault) -> TypeFault
-    ensures { IsUnitRule result }
+    ensures rule { IsUnitRule result }
+    ensures is { result ≡ fault_of fault }
 {
     match fault {
         UnitFault::TwoTypes(line) => TypeFault::Rule { rule: 1, line },

@@ -1,9 +1,14 @@
 //! Headers of functions.
-ghost use Rattle.std.specs.Prelude.{◌≡◌, ◌-◌, ◌++◌, ℕ, List, [], map, drop, length, IfOk, OnOk};
+ghost use Rattle.std.specs.Prelude.{◌≡◌, ◌-◌, ◌++◌, ℕ, List, [], map, flat_map, drop, length, Contains, IfErr, IfOk, OnOk};
+ghost use Rattle.typed_tree.specs.Breaks.{IsTwice};
+ghost use Rattle.typed_tree.specs.Faults.{misnames, BreaksHeader};
 ghost use Rattle.typed_tree.specs.Typing.{names_of};
 ghost use Rattle.flow_value.specs.declared.ty.Ty.{Ty};
+ghost use Rattle.sisal_tree.specs.declared.unit.Field.{Field};
 ghost use Rattle.sisal_tree.specs.declared.unit.Unit as tree;
+ghost use Rattle.sisal_tree.specs.declared.unit.Written.{Written};
 ghost use Rattle.typed_tree.specs.Scopes.{AreDistinct};
+ghost use Rattle.unit_types.specs.Faults.{IsFault};
 ghost use Rattle.unit_types.specs.Headers.{AreParams, AreResults, Says};
 ghost use Rattle.unit_types.specs.Rests.{AreTokensSpelled, HasNames, IsUsed};
 ghost use Rattle.unit_types.specs.Headings.{parameters_of, heading_in};
@@ -50,6 +55,8 @@ pub fn signature_of(
     ensures used { OnOk result (IsUsed tokens.now types.old types.new) }
     ensures says { IfOk result (λ s. (u : tree.Unit) (known_types : List (ℕ × Ty)) → u.tokens.list ≡ tokens.now → AreTokensSpelled u.tokens.names tokens.now
         → HasNames u.tokens.names types.old named.now known_types → Says u known_types types.new header.now s) }
+    ensures breaks { IfErr result (IsFault (λ rule at. (u : tree.Unit) (known_types : List (ℕ × Ty)) → u.tokens.list ≡ tokens.now → AreTokensSpelled u.tokens.names tokens.now
+        → HasNames u.tokens.names types.old named.now known_types → BreaksHeader u known_types header.now rule at)) }
 {
     let known = named.count()?;
     let fields = header.params.as_slice();
@@ -70,7 +77,8 @@ pub fn signature_of(
 
 /// Whether no parameter stands twice: else rule 8.
 fn are_distinct(alloc: Global, fields: &[Field]) -> Result<(), UnitFault>
-    ensures { OnOk result (AreDistinct (parameters_of fields.now)) }
+    ensures distinct { OnOk result (AreDistinct (parameters_of fields.now)) }
+    ensures twice { IfErr result (IsFault (λ rule line. (rule ≡ 8) × IsTwice (flat_map (λ f. f.names) fields.now) line)) }
 {
     let mut seen = NameSet::new(alloc);
     for field in fields {
@@ -114,6 +122,8 @@ fn params_in(
     ensures used { OnOk result (IsUsed tokens.now types.old types.new) }
     ensures params { IfOk result (λ ns. (u : tree.Unit) (known_types : List (ℕ × Ty)) → u.tokens.list ≡ tokens.now → AreTokensSpelled u.tokens.names tokens.now
         → HasNames u.tokens.names types.old (drop (length named.now - known) named.now) known_types → AreParams u known_types types.new fields.now ns) }
+    ensures breaks { IfErr result (IsFault (λ rule line. (u : tree.Unit) (known_types : List (ℕ × Ty)) → u.tokens.list ≡ tokens.now → AreTokensSpelled u.tokens.names tokens.now
+        → HasNames u.tokens.names types.old (drop (length named.now - known) named.now) known_types → (f : Field) × Contains fields.now f × misnames u known_types f.ty rule line)) }
 {
     let mut params = Seq::new(alloc);
     for field in fields {
@@ -144,6 +154,8 @@ fn results_in(
     ensures used { OnOk result (IsUsed tokens.now types.old types.new) }
     ensures results { IfOk result (λ ns. (u : tree.Unit) (known_types : List (ℕ × Ty)) → u.tokens.list ≡ tokens.now → AreTokensSpelled u.tokens.names tokens.now
         → HasNames u.tokens.names types.old (drop (length named.now - known) named.now) known_types → AreResults u known_types types.new written.now ns) }
+    ensures breaks { IfErr result (IsFault (λ rule line. (u : tree.Unit) (known_types : List (ℕ × Ty)) → u.tokens.list ≡ tokens.now → AreTokensSpelled u.tokens.names tokens.now
+        → HasNames u.tokens.names types.old (drop (length named.now - known) named.now) known_types → (w : Written) × Contains written.now w × misnames u known_types w rule line)) }
 {
     let mut results = Seq::new(alloc);
     for ty in written {

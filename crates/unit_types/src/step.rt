@@ -1,11 +1,13 @@
 //! A token of a written type.
-ghost use Rattle.std.specs.Prelude.{◌≡◌, ◌-◌, ◌++◌, ℕ, List, [], ◌∷◌, length, drop, Some, IfSome, IfOk, OnOk};
+ghost use Rattle.std.specs.Prelude.{◌≡◌, ◌-◌, ◌++◌, ℕ, List, [], ◌∷◌, length, drop, Some, IfSome, IfOk, IfErr, OnOk};
 ghost use Rattle.type_table.specs.declared.form.Form.{Form};
 ghost use Rattle.sisal_lex.specs.declared.token.Token.{Token};
 ghost use Rattle.typed_tree.specs.Scopes.{AreDistinct};
 ghost use Rattle.unit_types.specs.declared.open.Open.{Open};
 ghost use Rattle.unit_types.specs.declared.open.Members.{Members};
-ghost use Rattle.unit_types.specs.Rests.{Leads, IsMade, word_of, begun, opened_by, inside_of, no_members, with_name, with_group, members_with, sequence_form, members_form};
+ghost use Rattle.unit_types.specs.Faults.{IsFault, IsReal, IsUnknown, IsDeep, IsMemberTwice};
+ghost use Rattle.unit_types.specs.Reached.{Leads, Refuses};
+ghost use Rattle.unit_types.specs.Rests.{IsMade, word_of, begun, opened_by, inside_of, no_members, with_name, with_group, members_with, sequence_form, members_form};
 
 use crate::fault::UnitFault;
 use crate::form::number;
@@ -29,7 +31,8 @@ pub fn step(
     known: u32,
     types: &mut Types,
 ) -> Result<Next, UnitFault>
-    ensures { IfOk result (λ later. Leads (drop (length named.now - known) named.now) types.old types.new next stack.old token.now later stack.new) }
+    ensures leads { IfOk result (λ later. Leads (drop (length named.now - known) named.now) types.old types.new next stack.old token.now later stack.new) }
+    ensures refuses { IfErr result (IsFault (Refuses (drop (length named.now - known) named.now) types.old next stack.old token.now)) }
 {
     match next {
         Next::Type => begin(token, named, known),
@@ -43,7 +46,8 @@ pub fn step(
 
 /// The first token of a type.
 fn begin(token: &Token, named: &TypeNames, known: u32) -> Result<Next, UnitFault>
-    ensures { IfOk result (λ later. (forms : List Form) (os : List Open) → Leads (drop (length named.now - known) named.now) forms forms Next.Type os token.now later os) }
+    ensures leads { IfOk result (λ later. (forms : List Form) (os : List Open) → Leads (drop (length named.now - known) named.now) forms forms Next.Type os token.now later os) }
+    ensures refuses { IfErr result (IsFault (λ rule line. (forms : List Form) (os : List Open) → Refuses (drop (length named.now - known) named.now) forms Next.Type os token.now rule line)) }
 {
     match &token.kind {
         Kind::Word(word) => begin_by_word(*word, token.line),
@@ -53,7 +57,8 @@ fn begin(token: &Token, named: &TypeNames, known: u32) -> Result<Next, UnitFault
 }
 
 fn begin_by_word(word: Word, line: u32) -> Result<Next, UnitFault>
-    ensures { IfOk result (λ later. (known : List (ℕ × ℕ)) (forms : List Form) (os : List Open) (t : Token) → t.kind ≡ Kind.Word word → t.line ≡ line → Leads known forms forms Next.Type os t later os) }
+    ensures leads { IfOk result (λ later. (known : List (ℕ × ℕ)) (forms : List Form) (os : List Open) (t : Token) → t.kind ≡ Kind.Word word → t.line ≡ line → Leads known forms forms Next.Type os t later os) }
+    ensures refuses { IfErr result (IsFault (λ rule l. (known : List (ℕ × ℕ)) (forms : List Form) (os : List Open) (t : Token) → t.kind ≡ Kind.Word word → t.line ≡ line → Refuses known forms Next.Type os t rule l)) }
 {
     match first_of(word) {
         Some(first) => begin_by(first, line),
@@ -82,7 +87,8 @@ fn first_of(word: Word) -> Option<First>
 
 /// What comes behind the first word of a type: rule 3 where it is real.
 fn begin_by(first: First, line: u32) -> Result<Next, UnitFault>
-    ensures { IfOk result (λ later. begun first line ≡ Some later) }
+    ensures begun { IfOk result (λ later. begun first line ≡ Some later) }
+    ensures real { IfErr result (IsFault (IsReal first line)) }
 {
     match first {
         First::Boolean => Ok(Next::After(BOOLEAN)),
@@ -95,7 +101,8 @@ fn begin_by(first: First, line: u32) -> Result<Next, UnitFault>
 }
 
 fn begin_by_name(name: u32, line: u32, named: &TypeNames, known: u32) -> Result<Next, UnitFault>
-    ensures { IfOk result (λ later. (forms : List Form) (os : List Open) (t : Token) → t.kind ≡ Kind.Id name → Leads (drop (length named.now - known) named.now) forms forms Next.Type os t later os) }
+    ensures leads { IfOk result (λ later. (forms : List Form) (os : List Open) (t : Token) → t.kind ≡ Kind.Id name → Leads (drop (length named.now - known) named.now) forms forms Next.Type os t later os) }
+    ensures unknown { IfErr result (IsFault (IsUnknown (drop (length named.now - known) named.now) name line)) }
 {
     match named.find(name, known) {
         Some(ty) => Ok(Next::After(ty)),
@@ -111,7 +118,8 @@ fn enter(
     line: u32,
     stack: &mut Back<Open>,
 ) -> Result<Next, UnitFault>
-    ensures { IfOk result (λ later. (known : List (ℕ × ℕ)) (forms : List Form) → Leads known forms forms (Next.Bracket opener line) stack.old token.now later stack.new) }
+    ensures leads { IfOk result (λ later. (known : List (ℕ × ℕ)) (forms : List Form) → Leads known forms forms (Next.Bracket opener line) stack.old token.now later stack.new) }
+    ensures memory { IfErr result (λ e. e ≡ UnitFault.NoMemory) }
 {
     match sign_of(token) {
         Some(Sign::SOpenBracket) => {
@@ -164,6 +172,7 @@ fn inside(opener: Opener) -> Next
 fn add_name(token: &Token, stack: &mut Back<Open>) -> Result<Next, UnitFault>
     ensures name { IfOk result (λ later. (known : List (ℕ × ℕ)) (forms : List Form) → Leads known forms forms Next.Name stack.old token.now later stack.new) }
     ensures behind { IfOk result (λ later. (known : List (ℕ × ℕ)) (forms : List Form) → Leads known forms forms Next.AfterSemicolon stack.old token.now later stack.new) }
+    ensures memory { IfErr result (λ e. e ≡ UnitFault.NoMemory) }
 {
     match &token.kind {
         Kind::Id(name) => {
@@ -210,7 +219,8 @@ fn innermost(stack: &mut Back<Open>) -> Result<Members, NoMemory>
 
 /// What stands behind a name of a member.
 fn after_name(token: &Token, stack: &mut Back<Open>, types: &mut Types) -> Result<Next, UnitFault>
-    ensures { IfOk result (λ later. (known : List (ℕ × ℕ)) → Leads known types.old types.new Next.AfterName stack.old token.now later stack.new) }
+    ensures leads { IfOk result (λ later. (known : List (ℕ × ℕ)) → Leads known types.old types.new Next.AfterName stack.old token.now later stack.new) }
+    ensures refuses { IfErr result (IsFault (λ rule line. (known : List (ℕ × ℕ)) → Refuses known types.old Next.AfterName stack.old token.now rule line)) }
 {
     match sign_of(token) {
         Some(Sign::SComma) => Ok(Next::Name),
@@ -222,7 +232,8 @@ fn after_name(token: &Token, stack: &mut Back<Open>, types: &mut Types) -> Resul
 
 /// Tags without a type have the type `null`.
 fn without_type(sign: Sign, stack: &mut Back<Open>, types: &mut Types) -> Result<Next, UnitFault>
-    ensures { IfOk result (λ later. (known : List (ℕ × ℕ)) (t : Token) → t.kind ≡ Kind.Sign sign → Leads known types.old types.new Next.AfterName stack.old t later stack.new) }
+    ensures leads { IfOk result (λ later. (known : List (ℕ × ℕ)) (t : Token) → t.kind ≡ Kind.Sign sign → Leads known types.old types.new Next.AfterName stack.old t later stack.new) }
+    ensures refuses { IfErr result (IsFault (λ rule line. (known : List (ℕ × ℕ)) (t : Token) → t.kind ≡ Kind.Sign sign → Refuses known types.old Next.AfterName stack.old t rule line)) }
 {
     let members = innermost(stack)?;
     if members.is_union {
@@ -239,7 +250,8 @@ fn after_type(
     stack: &mut Back<Open>,
     types: &mut Types,
 ) -> Result<Next, UnitFault>
-    ensures { IfOk result (λ later. (known : List (ℕ × ℕ)) → Leads known types.old types.new (Next.After ty) stack.old token.now later stack.new) }
+    ensures leads { IfOk result (λ later. (known : List (ℕ × ℕ)) → Leads known types.old types.new (Next.After ty) stack.old token.now later stack.new) }
+    ensures refuses { IfErr result (IsFault (λ rule line. (known : List (ℕ × ℕ)) → Refuses known types.old (Next.After ty) stack.old token.now rule line)) }
 {
     match sign_of(token) {
         Some(sign) => end_type(sign, ty, stack, types),
@@ -253,7 +265,8 @@ fn end_type(
     stack: &mut Back<Open>,
     types: &mut Types,
 ) -> Result<Next, UnitFault>
-    ensures { IfOk result (λ later. (known : List (ℕ × ℕ)) (t : Token) → t.kind ≡ Kind.Sign sign → Leads known types.old types.new (Next.After ty) stack.old t later stack.new) }
+    ensures leads { IfOk result (λ later. (known : List (ℕ × ℕ)) (t : Token) → t.kind ≡ Kind.Sign sign → Leads known types.old types.new (Next.After ty) stack.old t later stack.new) }
+    ensures refuses { IfErr result (IsFault (λ rule line. (known : List (ℕ × ℕ)) (t : Token) → t.kind ≡ Kind.Sign sign → Refuses known types.old (Next.After ty) stack.old t rule line)) }
 {
     match stack.pop() {
         Some(innermost) => end_type_in(sign, ty, innermost, stack, types),
@@ -269,7 +282,8 @@ fn end_type_in(
     stack: &mut Back<Open>,
     types: &mut Types,
 ) -> Result<Next, UnitFault>
-    ensures { IfOk result (λ later. (known : List (ℕ × ℕ)) (t : Token) → t.kind ≡ Kind.Sign sign → Leads known types.old types.new (Next.After ty) (innermost ∷ stack.old) t later stack.new) }
+    ensures leads { IfOk result (λ later. (known : List (ℕ × ℕ)) (t : Token) → t.kind ≡ Kind.Sign sign → Leads known types.old types.new (Next.After ty) (innermost ∷ stack.old) t later stack.new) }
+    ensures refuses { IfErr result (IsFault (λ rule line. (known : List (ℕ × ℕ)) (t : Token) → t.kind ≡ Kind.Sign sign → Refuses known types.old (Next.After ty) (innermost ∷ stack.old) t rule line)) }
 {
     match innermost {
         Open::Sequence(sequence) => close_sequence(sign, ty, sequence, types),
@@ -283,7 +297,8 @@ fn close_sequence(
     sequence: Sequence,
     types: &mut Types,
 ) -> Result<Next, UnitFault>
-    ensures { IfOk result (λ later. (known : List (ℕ × ℕ)) (os : List Open) (t : Token) → t.kind ≡ Kind.Sign sign → Leads known types.old types.new (Next.After ty) (Open.Sequence sequence ∷ os) t later os) }
+    ensures leads { IfOk result (λ later. (known : List (ℕ × ℕ)) (os : List Open) (t : Token) → t.kind ≡ Kind.Sign sign → Leads known types.old types.new (Next.After ty) (Open.Sequence sequence ∷ os) t later os) }
+    ensures refuses { IfErr result (IsFault (λ rule line. (known : List (ℕ × ℕ)) (os : List Open) (t : Token) → t.kind ≡ Kind.Sign sign → Refuses known types.old (Next.After ty) (Open.Sequence sequence ∷ os) t rule line)) }
 {
     match sign {
         Sign::SCloseBracket => made(sequence_form(sequence.is_stream, ty), sequence.line, types),
@@ -309,7 +324,8 @@ fn end_group(
     stack: &mut Back<Open>,
     types: &mut Types,
 ) -> Result<Next, UnitFault>
-    ensures { IfOk result (λ later. (known : List (ℕ × ℕ)) (t : Token) → t.kind ≡ Kind.Sign sign → Leads known types.old types.new (Next.After ty) (Open.Members members ∷ stack.old) t later stack.new) }
+    ensures leads { IfOk result (λ later. (known : List (ℕ × ℕ)) (t : Token) → t.kind ≡ Kind.Sign sign → Leads known types.old types.new (Next.After ty) (Open.Members members ∷ stack.old) t later stack.new) }
+    ensures refuses { IfErr result (IsFault (λ rule line. (known : List (ℕ × ℕ)) (t : Token) → t.kind ≡ Kind.Sign sign → Refuses known types.old (Next.After ty) (Open.Members members ∷ stack.old) t rule line)) }
 {
     let grouped = with_group(members, ty)?;
     match sign {
@@ -322,6 +338,7 @@ fn end_group(
 fn keep_open(members: Members, stack: &mut Back<Open>) -> Result<Next, UnitFault>
     ensures later { IfOk result (λ later. later ≡ Next.AfterSemicolon) }
     ensures stack { OnOk result (stack.new ≡ Open.Members members ∷ stack.old) }
+    ensures memory { IfErr result (λ e. e ≡ UnitFault.NoMemory) }
 {
     stack.push(Open::Members(members))?;
     Ok(Next::AfterSemicolon)
@@ -329,7 +346,8 @@ fn keep_open(members: Members, stack: &mut Back<Open>) -> Result<Next, UnitFault
 
 /// The members with those of the group, of this type: rule 5 where a name stands twice.
 fn with_group(members: Members, ty: u32) -> Result<Members, UnitFault>
-    ensures { IfOk result (λ m. m ≡ with_group members ty) }
+    ensures grouped { IfOk result (λ m. m ≡ with_group members ty) }
+    ensures twice { IfErr result (IsFault (IsMemberTwice members)) }
 {
     let Members {
         line,
@@ -369,7 +387,8 @@ fn after_semicolon(
     stack: &mut Back<Open>,
     types: &mut Types,
 ) -> Result<Next, UnitFault>
-    ensures { IfOk result (λ later. (known : List (ℕ × ℕ)) → Leads known types.old types.new Next.AfterSemicolon stack.old token.now later stack.new) }
+    ensures leads { IfOk result (λ later. (known : List (ℕ × ℕ)) → Leads known types.old types.new Next.AfterSemicolon stack.old token.now later stack.new) }
+    ensures refuses { IfErr result (IsFault (λ rule line. (known : List (ℕ × ℕ)) → Refuses known types.old Next.AfterSemicolon stack.old token.now rule line)) }
 {
     match sign_of(token) {
         Some(Sign::SCloseBracket) => {
@@ -384,6 +403,7 @@ fn after_semicolon(
 fn close_members(members: Members, types: &mut Types) -> Result<Next, UnitFault>
     ensures made { IfOk result (λ later. IsMade types.old types.new (members_form members.is_union members.members) later) }
     ensures distinct { AreDistinct members.names }
+    ensures deep { IfErr result (IsFault (IsDeep types.old (members_form members.is_union members.members) members.line)) }
 {
     let Members {
         line,
@@ -408,7 +428,8 @@ fn members_form(is_union: bool, members: Seq<Member>) -> Form
 
 /// The type of a form: rule 4, on the line of its word, where it is deeper than 64.
 fn made(form: Form, line: u32, types: &mut Types) -> Result<Next, UnitFault>
-    ensures { IfOk result (λ later. IsMade types.old types.new form later) }
+    ensures made { IfOk result (λ later. IsMade types.old types.new form later) }
+    ensures deep { IfErr result (IsFault (IsDeep types.old form line)) }
 {
     match number(types, form)? {
         Some(ty) => Ok(Next::After(ty)),

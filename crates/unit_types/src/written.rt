@@ -4,9 +4,12 @@ ghost use Rattle.flow_value.specs.declared.ty.Ty.{Ty};
 ghost use Rattle.type_table.specs.Tables.{IsTable};
 ghost use Rattle.sisal_grammar.specs.Placed.{placed};
 ghost use Rattle.typed_tree.specs.Types.{IsNumber};
-ghost use Rattle.typed_tree.specs.Written.{Denotes};
-ghost use Rattle.unit_types.specs.Faults.{IsUnitRule};
-ghost use Rattle.unit_types.specs.Rests.{AreKnown, AreTokensSpelled, AreStanding, IsUsed, Reads};
+ghost use Rattle.type_table.specs.declared.form.Form.{Form};
+ghost use Rattle.typed_tree.specs.Written.{Denotes, Misnames};
+ghost use Rattle.type_rules.specs.Faults.{IsRule};
+ghost use Rattle.unit_types.specs.Faults.{IsUnitRule, IsFault};
+ghost use Rattle.unit_types.specs.Reached.{Reads, ReadsFault};
+ghost use Rattle.unit_types.specs.Rests.{AreKnown, AreTokensSpelled, IsLater, IsUsed};
 
 use crate::fault::{UnitFault, numbered};
 use crate::open::{Next, Open};
@@ -34,10 +37,15 @@ pub fn denoted(
     // The table grows, and each of its numbers stands for a type if it did before.
     ensures used { OnOk result (IsUsed tokens.now types.old types.new) }
     ensures there { IfOk result (λ k. k < length types.new) }
-    // The type of this number is what the tokens denote, where the names of the text are spelled so, and the names of types are those of these types.
-    ensures denotes { IfOk result (λ k. (spellings : List (List ℕ)) (known_types : List (ℕ × Ty)) → AreTokensSpelled spellings tokens.now → AreStanding spellings types.old
+    ensures table { OnOk result (IsTable types.new) }
+    // In this table and each later one the type of this number is what the tokens denote, where the names of the text are spelled so, and the names of types are those of these types.
+    ensures denotes { IfOk result (λ k. (spellings : List (List ℕ)) (known_types : List (ℕ × Ty)) (forms : List Form) → IsLater types.new forms → AreTokensSpelled spellings tokens.now
+        → AreKnown forms spellings (drop (length named.now - known) named.now) known_types
+        → (a : Ty) → IsNumber forms spellings k a → Denotes spellings known_types (slice_range (placed 0 tokens.now) written.from written.to) a) }
+    // The tokens break the rule that is named, on its line.
+    ensures misnames { IfErr result (IsRule (λ rule line. (spellings : List (List ℕ)) (known_types : List (ℕ × Ty)) → AreTokensSpelled spellings tokens.now
         → AreKnown types.old spellings (drop (length named.now - known) named.now) known_types
-        → (a : Ty) × Denotes spellings known_types (slice_range (placed 0 tokens.now) written.from written.to) a × IsNumber types.new spellings k a) }
+        → Misnames spellings known_types (slice_range (placed 0 tokens.now) written.from written.to) rule line)) }
     ensures rule { IfErr result IsUnitRule }
 {
     match type_of(alloc, tokens, written, named, known, types) {
@@ -58,10 +66,15 @@ pub fn type_of(
     // The table grows, and each of its numbers stands for a type if it did before.
     ensures used { OnOk result (IsUsed tokens.now types.old types.new) }
     ensures there { IfOk result (λ k. k < length types.new) }
-    // The type of this number is what the tokens denote, where the names of the text are spelled so, and the names of types are those of these types.
-    ensures denotes { IfOk result (λ k. (spellings : List (List ℕ)) (known_types : List (ℕ × Ty)) → AreTokensSpelled spellings tokens.now → AreStanding spellings types.old
+    ensures table { OnOk result (IsTable types.new) }
+    // In this table and each later one the type of this number is what the tokens denote, where the names of the text are spelled so, and the names of types are those of these types.
+    ensures denotes { IfOk result (λ k. (spellings : List (List ℕ)) (known_types : List (ℕ × Ty)) (forms : List Form) → IsLater types.new forms → AreTokensSpelled spellings tokens.now
+        → AreKnown forms spellings (drop (length named.now - known) named.now) known_types
+        → (a : Ty) → IsNumber forms spellings k a → Denotes spellings known_types (slice_range (placed 0 tokens.now) written.from written.to) a) }
+    // The tokens break the rule that is named, on its line.
+    ensures misnames { IfErr result (IsFault (λ rule line. (spellings : List (List ℕ)) (known_types : List (ℕ × Ty)) → AreTokensSpelled spellings tokens.now
         → AreKnown types.old spellings (drop (length named.now - known) named.now) known_types
-        → (a : Ty) × Denotes spellings known_types (slice_range (placed 0 tokens.now) written.from written.to) a × IsNumber types.new spellings k a) }
+        → Misnames spellings known_types (slice_range (placed 0 tokens.now) written.from written.to) rule line)) }
 {
     let from = written.from as usize;
     let to = written.to as usize;
@@ -81,10 +94,12 @@ fn read(
 ) -> Result<u32, UnitFault>
     ensures reads { IfOk result (λ k. Reads (drop (length named.now - known) named.now) types.old types.new tokens.now k) }
     ensures table { OnOk result (IsTable types.new) }
+    ensures fault { IfErr result (IsFault (ReadsFault (drop (length named.now - known) named.now) types.old tokens.now)) }
 {
     let mut stack = Back::new(alloc);
     let mut next = Next::Type;
     for token in tokens {
+        types.holds();
         next = step(alloc, token, next, &mut stack, named, known, types)?;
     }
     types.holds();
@@ -96,6 +111,7 @@ fn whole(next: Next, stack: Back<Open>, types: &Types) -> Result<u32, UnitFault>
     ensures next { IfOk result (λ k. next ≡ Next.After k) }
     ensures closed { OnOk result (stack ≡ []) }
     ensures there { IfOk result (λ k. k < length types.now) }
+    ensures memory { IfErr result (λ e. e ≡ UnitFault.NoMemory) }
 {
     match next {
         Next::After(ty) if (ty as usize) < types.len() => {

@@ -1,7 +1,7 @@
 use Rattle.std.proofs.Common.{◌≡◌, ◌++◌, [], ℕ, List, map, drop}
 use Rattle.unit_types.specs.Headings.{heading_of, heading_in, has_body, given_functions, numbering, AreOwn}
 use Rattle.sisal_tree.specs.declared.unit.Unit as tree
-use Rattle.unit_types.specs.Headers.{IsDeclaring}
+use Rattle.unit_types.specs.Headers.{IsDeclaring, AreGiven}
 use Rattle.unit_types.specs.Rests.{AreTokensSpelled, AreNamed}
 use Rattle.unit_types.proofs.declaring.declare_all.Given as goal
 
@@ -13,5 +13,6 @@ invariant-loop-item l = record {
   numbers : l.declaring.numbers ≡ numbering 0 [] (map (λ s. s.name) l.declaring.functions);
   own : AreOwn l.spellings (map (λ s. s.name) l.declaring.functions);
   names : (spellings : List (List ℕ)) → AreTokensSpelled spellings l.tokens → AreNamed spellings l.tokens l.items l.item-index l.declaring.types l.declaring.named;
-  declares : (u : tree.Unit) → u.tokens.list ≡ l.tokens → AreTokensSpelled u.tokens.names l.tokens → IsDeclaring u l.items l.item-index l.declaring.types l.declaring.named l.declaring.functions;
+  declares : (u : tree.Unit) → u.tokens.list ≡ l.tokens → AreTokensSpelled u.tokens.names l.tokens → IsDeclaring u l.items l.item-index l.declaring.types l.declaring.named l.declaring.functions l.declaring.announced;
+  given : AreGiven l.items l.item-index l.declaring.functions;
 }

@@ -1,7 +1,7 @@
 use Rattle.std.proofs.Common.{drop, length, ◌-◌}
-use Rattle.unit_types.specs.Rests.{IsReading}
+use Rattle.unit_types.specs.Reached.{IsReading}
 use Rattle.unit_types.proofs.written.read.Given as goal
 
--- what may come behind the tokens that are read makes a type of all
+-- the tokens so far are read
 abbrev pub invariant-loop-token : goal.invariant-loop-token
 invariant-loop-token l = IsReading (drop (length l.named - l.known) l.named) l.fn.types l.types l.tokens l.token-index l.next l.stack

@@ -1,6 +1,7 @@
 use Rattle.std.proofs.Common.{drop, length, ◌-◌}
-use Rattle.unit_types.proofs.Lists.{if_ok_weaker, if_ok_both}
-use Rattle.unit_types.proofs.Reading.{range_denotes, range_uses}
+use Rattle.unit_types.proofs.Lists.{if_ok_weaker}
+use Rattle.unit_types.proofs.Faults.{faults_weaker}
+use Rattle.unit_types.proofs.Reading.{range_denotes, range_uses, range_misnames}
 use Rattle.unit_types.proofs.written.type_of.Goals as goal
 
 pub returns-clause-used : goal.returns-clause-used
@@ -12,7 +13,11 @@ pub returns-clause-there : goal.returns-clause-there
 returns-clause-there c = if_ok_weaker c.read.result (λ k r. r.there) c.read.ensures.reads
 
 pub returns-clause-denotes : goal.returns-clause-denotes
-returns-clause-denotes c = if_ok_both c.read.result
-    (λ k r table spellings types h s kn. range_denotes (drop (length c.args.named.now - c.args.known) c.args.named.now) c.args.types.now c.read.new.types c.args.tokens.now
-    c.args.written.from c.args.written.to k r table spellings types h s kn)
-    c.read.ensures.reads c.read.ensures.table
+returns-clause-denotes c = if_ok_weaker c.read.result
+    (λ k r. range_denotes (drop (length c.args.named.now - c.args.known) c.args.named.now) c.args.types.now c.read.new.types c.args.tokens.now c.args.written.from c.args.written.to k r)
+    c.read.ensures.reads
+
+pub returns-clause-misnames : goal.returns-clause-misnames
+returns-clause-misnames c = faults_weaker c.read.result
+    (λ rule line r. range_misnames (drop (length c.args.named.now - c.args.known) c.args.named.now) c.args.types.now c.args.tokens.now c.args.written.from c.args.written.to rule line r)
+    c.read.ensures.fault
