@@ -2,8 +2,9 @@
 ghost use Rattle.breaking_laws.specs.Broken.{Broken, BrokenForm};
 ghost use Rattle.breaking_laws.specs.Refusals.{HasElements, Never};
 ghost use Rattle.sisal_check.specs.Walked.{given_of, parts_of};
+ghost use Rattle.sisal_tree.specs.declared.expr.ExprKind.TheVariants as tree;
 ghost use Rattle.sisal_tree.specs.declared.expr.ExprKind.TheViews.{out-ExprKind};
-ghost use Rattle.std.specs.Prelude.{IfErr, IfOk, OnOk, [], length, ◌<◌, ◌≡◌};
+ghost use Rattle.std.specs.Prelude.{IfErr, IfOk, OnOk, Option, Some, [], length, ℕ, ◌<◌, ◌≡◌};
 ghost use Rattle.type_rules.specs.Faults.{IsRule};
 ghost use Rattle.typed_tree.specs.Typing.{at};
 ghost use Rattle.typing_laws.specs.Forming.{Operands};
@@ -18,7 +19,7 @@ use crate::lists::{all, fields, many, one, only};
 use crate::loops::looped;
 use crate::making::{finish, group, if_else, let_in};
 use crate::state::{Given, Parts, Walk};
-use sisal_tree::{Expr, ExprKind};
+use sisal_tree::{Elements, Expr, ExprKind};
 use type_rules::TypeFault;
 use typed_tree::TypedExpr;
 
@@ -124,21 +125,38 @@ fn operands(
             one(e.get(), parts, given, walk)?;
             fields(vs.as_slice(), parts, given, walk)
         }
-        ExprKind::Array(_, Some(elements)) => {
-            one(elements.lower.get(), parts, given, walk)?;
-            many(elements.values.as_slice(), parts, given, walk)?;
-            has_element(parts)
-        }
+        ExprKind::Array(_, elements) => match elements {
+            Some(elements) => elements_of(elements, parts, given, walk),
+            None => Ok(()),
+        },
         ExprKind::Stream(_, es) => {
             let before = parts.types.len();
             many(es.as_slice(), parts, given, walk)?;
             has_value(es.as_slice(), before, parts)
         }
         ExprKind::Record(_, vs) => fields(vs.as_slice(), parts, given, walk),
-        ExprKind::Array(_, None) => Ok(()),
         ExprKind::ErrorOf(_) => Ok(()),
         _ => Err(TypeFault::NoMemory),
     }
+}
+
+/// Types the lower bound of an array and its elements in order.
+#[cycle(walk)]
+fn elements_of(
+    elements: &Elements,
+    parts: &mut Parts,
+    given: &Given<'_>,
+    walk: &mut Walk,
+) -> Result<(), TypeFault>
+    ensures used { OnOk result (IsUsedIn (given_of given.now) walk.old.types walk.new.types) }
+    ensures names { OnOk result (walk.new.names ≡ walk.old.names) }
+    ensures adds { OnOk result ((x : Option ℕ) → Adds (parts_of parts.old) (parts_of parts.new) (Operands (given_of given.now) walk.new.types walk.old.names (tree.Array x (Some elements.now)))) }
+    ensures elements { OnOk result (1 < length parts.new.types) }
+    ensures breaks { IfErr result (IsRule (λ rule at_line. (x : Option ℕ) → BrokenForm (given_of given.now) walk.old.types walk.old.names (tree.Array x (Some elements.now)) rule at_line)) }
+{
+    one(elements.lower.get(), parts, given, walk)?;
+    many(elements.values.as_slice(), parts, given, walk)?;
+    has_element(parts)
 }
 
 /// An array has some element behind its lower bound; what has none, as no text has, is refused as

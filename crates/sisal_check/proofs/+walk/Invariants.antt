@@ -69,6 +69,9 @@ decreases-turns::turn_of l = 4 * goal.size-turns::turn_of l + 0
 abbrev pub decreases-typed::applied : goal.decreases-typed::applied
 decreases-typed::applied l = 4 * goal.size-typed::applied l + 1
 
+abbrev pub decreases-typed::elements_of : goal.decreases-typed::elements_of
+decreases-typed::elements_of l = 4 * goal.size-typed::elements_of l + 0
+
 abbrev pub decreases-typed::operands : goal.decreases-typed::operands
 decreases-typed::operands l = 4 * goal.size-typed::operands l + 0
 
