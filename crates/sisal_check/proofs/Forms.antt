@@ -4,7 +4,7 @@ use Rattle.std.specs.Prelude.{IfNone, if◌then◌else◌}
 use Rattle.std.specs.Option.{option_copied}
 use Rattle.std.specs.Str.{bytes_eq}
 use Rattle.std.proofs.lemmas.Slice.Eq.{bytes_eq-Decides}
-use Rattle.std.proofs.lemmas.List.{drop_all}
+use Rattle.std.proofs.lemmas.List.{append-nil, drop_all}
 use Rattle.std.proofs.lemmas.Option.{same_Some, slice_get_within}
 use Rattle.sisal_lex.specs.Words.{beside}
 use Rattle.type_table.specs.declared.form.Form.{Form}
@@ -14,9 +14,11 @@ use Rattle.sisal_tree.specs.declared.expr.Elements.{Elements}
 use Rattle.sisal_tree.specs.declared.expr.Expr.{Expr}
 use Rattle.sisal_tree.specs.declared.expr.ExprKind.{ExprKind}
 use Rattle.sisal_tree.specs.declared.expr.ExprKind.TheVariants as tree
+use Rattle.sisal_tree.specs.declared.expr.ExprKind.TheViews.{out-ExprKind}
 use Rattle.sisal_tree.specs.declared.expr.FieldValue.{FieldValue}
 use Rattle.sisal_tree.specs.declared.expr.PrefixOperator.{PrefixOperator}
 use Rattle.sisal_tree.specs.declared.expr.Scalar.{Scalar}
+use Rattle.sisal_tree.specs.declared.unit.Written.{Written}
 use Rattle.typed_tree.specs.declared.built_in.BuiltIn.{BuiltIn}
 use Rattle.typed_tree.specs.BuiltIns.{built_ins}
 use Rattle.typed_tree.specs.Typing.{at}
@@ -28,11 +30,12 @@ use Rattle.type_rules.specs.Faults.{IsRule}
 use Rattle.value_names.specs.Names.{Names}
 use Rattle.typing_laws.specs.Bodies.{define_params}
 use Rattle.typing_laws.proofs.Used.{HeadFits}
+use Rattle.typing_laws.proofs.Formed.{out_empty_array, out_error_of}
 use Rattle.typing_laws.proofs.Headed.{array_head, empty_array_head}
 use Rattle.sisal_check.specs.Walked.{IsArrayHead, IsHeadSpelled}
 use Rattle.typing_laws.specs.Given as by
-use Rattle.typing_laws.specs.Judged.{IsUsedIn}
-use Rattle.typing_laws.specs.Forming.{HasHead, IsHead, IsPlain, IsBuiltIn, fields_of}
+use Rattle.typing_laws.specs.Judged.{Adds, IsUsedIn}
+use Rattle.typing_laws.specs.Forming.{HasHead, IsHead, IsPlain, IsBuiltIn, Operands, OperandsIn, fields_of}
 use Rattle.typing_laws.specs.Forming as form
 use Rattle.breaking_laws.specs.Broken.{Broken, BrokenOne, BrokenIn, BrokenField, BrokenForm}
 use Rattle.breaking_laws.specs.Refusals.{IsUnnamed, IsNoBuiltIn}
@@ -192,3 +195,19 @@ module _ (g : by.Given) (f0 f1 : List Form) (names inner : Names) (kind k : Expr
   fields_fault vs xs of at_vs q =
       subst (λ r. BrokenForm g f0 names r rule line) (sym is)
       (fields_break g f0 f1 names k vs rule line used of (subst (λ m. BrokenField g f1 m vs rule line) same (subst (λ y. BrokenField g f1 inner y rule line) at_vs q)))
+
+-- forms without operands
+no_operands : (g : by.Given) (f : List Form) (names : Names) (kind : ExprKind) (p : by.Parts) → OperandsIn g f names (out-ExprKind kind) [] [] → Adds p p (Operands g f names kind)
+no_operands g f names kind p none = record {
+  exprs = [];
+  types = [];
+  is_exprs = sym (append-nil p.exprs);
+  is_types = sym (append-nil p.types);
+  holds = record { is = none };
+}
+
+pub no_elements : (g : by.Given) (f : List Form) (names : Names) (x : Option ℕ) (p : by.Parts) → Adds p p (Operands g f names (tree.Array x None))
+no_elements g f names x p = no_operands g f names (tree.Array x None) p (subst (λ l. OperandsIn g f names l [] []) (sym (out_empty_array x)) (refl, refl))
+
+pub no_error_operands : (g : by.Given) (f : List Form) (names : Names) (w : Written) (p : by.Parts) → Adds p p (Operands g f names (tree.ErrorOf w))
+no_error_operands g f names w p = no_operands g f names (tree.ErrorOf w) p (subst (λ l. OperandsIn g f names l [] []) (sym (out_error_of w)) (refl, refl))

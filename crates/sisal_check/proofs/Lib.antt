@@ -1,7 +1,9 @@
 mod Depths
 mod Whole
 pub mod Forms
+pub mod Functions
 pub mod Defined
 pub mod Turned
 pub mod Parts
 pub mod Looped
+mod Tops

@@ -43,11 +43,12 @@ pub names_behind : (gs : List Generator) (i : ℕ) (g : Generator) (old new more
     → old ++ ((out-Generator g).name ∷ index_names (out-Generator g).at (out-Generator g).name.line) ≡ new ++ more → (rest : List Named) × (generators_in gs ≡ new ++ rest)
 names_behind gs i g old new more lt is before e =
     let one : List Named = (out-Generator g).name ∷ index_in (out-Generator g).name.line (out-Generator g).at in
-    let same : old ++ one ≡ new ++ more = ap (λ l. old ++ ((out-Generator g).name ∷ l)) (sym (index_same (out-Generator g).name.line (out-Generator g).at)) ∙ e in
-    (more ++ generators_in (drop (i + 1) gs),
-    ap generators_in (sym (whole_at gs i g lt is)) ∙ flat_map-append (λ g. (out-Generator g).name ∷ index_in (out-Generator g).name.line (out-Generator g).at) (take i gs) (g ∷ drop (i + 1) gs)
-    ∙ ap (λ l. l ++ (one ++ generators_in (drop (i + 1) gs))) (sym before) ∙ sym (append_assoc old one (generators_in (drop (i + 1) gs))) ∙ ap (λ l. l ++ generators_in (drop (i + 1) gs)) same
-    ∙ append_assoc new more (generators_in (drop (i + 1) gs)))
+    let same : old ++ one ≡ new ++ more = ap (λ l. old ++ ((out-Generator g).name ∷ l)) (sym (index_same (out-Generator g).name.line (out-Generator g).at)) ∙ e in (
+      more ++ generators_in (drop (i + 1) gs),
+      ap generators_in (sym (whole_at gs i g lt is)) ∙ flat_map-append (λ g. (out-Generator g).name ∷ index_in (out-Generator g).name.line (out-Generator g).at) (take i gs) (g ∷ drop (i + 1) gs)
+          ∙ ap (λ l. l ++ (one ++ generators_in (drop (i + 1) gs))) (sym before) ∙ sym (append_assoc old one (generators_in (drop (i + 1) gs))) ∙ ap (λ l. l ++ generators_in (drop (i + 1) gs)) same
+          ∙ append_assoc new more (generators_in (drop (i + 1) gs)),
+    )
 
 -- a list of one
 pub one_item : (xs : List ℕ) → 1 ≤ length xs → length xs < 2 → xs ≡ slice_index_or xs 0 0 ∷ []
@@ -61,11 +62,11 @@ pub group_fails : (g : Given) (f0 f1 : List Form) (names now : Names) (gs : List
     → old ++ ((out-Generator one).name ∷ index_names (out-Generator one).at (out-Generator one).name.line) ≡ new ++ more
     → IfErr gone (IsRule (λ r l. BrokenGenerator g f1 now one r l)) → (StandsTwice new rule line) ⊎ (gone ≡ Err (fault.Rule rule line)) → BrokenGroup g f0 names gs rule line
 group_fails g f0 f1 names now gs i one old new more gone rule line used table same lt is before e breaks q = elim q [
-    | inl twice ↦ let rest = names_behind gs i one old new more lt is before e in group_twice g f0 f1 names gs new rest.0 rule line used table rest.1 twice
-    | inr err ↦
-        one_generator_refused g f0 f1 names gs one rule line used (i, lt, sym is)
-        (subst (λ m. BrokenGenerator g f1 m one rule line) same (subst (λ r. IfErr r (IsRule (λ r l. BrokenGenerator g f1 now one r l))) err breaks))
-  ]
+  | inl twice ↦ let rest = names_behind gs i one old new more lt is before e in group_twice g f0 f1 names gs new rest.0 rule line used table rest.1 twice
+  | inr err ↦
+      one_generator_refused g f0 f1 names gs one rule line used (i, lt, sym is)
+      (subst (λ m. BrokenGenerator g f1 m one rule line) same (subst (λ r. IfErr r (IsRule (λ r l. BrokenGenerator g f1 now one r l))) err breaks))
+]
 
 -- as many groups are typed as stand there
 many_groups : (g : Given) (f : List Form) (names after : Names) (gs : List (List Generator)) (ms : List by.Group) → GroupsTyped g f names gs ms after → length ms ≡ length gs

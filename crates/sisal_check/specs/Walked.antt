@@ -1,14 +1,18 @@
 -- What the walk over a function's body is given, and what it makes on its way, as the laws of typing have it.
-use Rattle.std.specs.Prelude.{◌≡◌, ℕ, ◌-◌, ◌<◌, List, ◌++◌, drop, length, map, Bool, true, false, All, Option, None}
+use Rattle.std.specs.Prelude.{◌≡◌, ℕ, ◌-◌, ◌<◌, List, [], ◌∷◌, ◌++◌, drop, length, map, slice_get, Bool, true, false, All, Option, Some, None}
 use Rattle.type_table.specs.declared.form.Form.{Form}
 use Rattle.sisal_tree.specs.declared.expr.Clause.{Clause}
 use Rattle.sisal_tree.specs.declared.expr.Def.{Def}
 use Rattle.sisal_tree.specs.declared.expr.Generator.{Generator}
 use Rattle.sisal_tree.specs.declared.expr.Expr.{Expr}
+use Rattle.sisal_tree.specs.declared.unit.FunDef.{FunDef}
+use Rattle.sisal_tree.specs.declared.unit.FunKind.{FunKind}
+use Rattle.sisal_tree.specs.declared.unit.FunKind.TheVariants as fun
 use Rattle.sisal_tree.specs.declared.unit.Written.{Written}
 use Rattle.typed_tree.specs.declared.expr.Source.{Source}
 use Rattle.typed_tree.specs.declared.expr.TypedExpr.{TypedExpr}
 use Rattle.typed_tree.specs.declared.expr.TypedKind.TheVariants as typed
+use Rattle.typed_tree.specs.declared.program.Function.{Function}
 use Rattle.typed_tree.specs.Scopes.{AreDistinct, targets}
 use Rattle.typed_tree.specs.Typing.{with}
 use Rattle.type_rules.specs.declared.head.Head.{Head}
@@ -22,6 +26,7 @@ use Rattle.typing_laws.specs.Defining.{AllDefined}
 use Rattle.typing_laws.specs.Forming.{AreFound}
 use Rattle.typing_laws.specs.Judged.{AllTyped, IsDenoted}
 use Rattle.typing_laws.specs.Looping.{AllValues, AllMade, GroupsTyped, IsCrossed, initial_of}
+use Rattle.breaking_laws.specs.FormLaws.{BrokenBody}
 use Rattle.sisal_check.specs.declared.state.Given.{Given}
 use Rattle.sisal_check.specs.declared.state.Parts.{Parts}
 use Rattle.sisal_check.specs.declared.defs.Defined.{Defined}
@@ -127,3 +132,29 @@ pub record IsBody (g : by.Given) (forms : List Form) (h : by.Header) (es : List 
   pub types : List ℕ
   pub typed : AllTyped g forms (parameters_in h) es ts types
   pub results : types ≡ h.results
+
+-- what a function of this kind gives, of this header
+pub data IsBodyOf (g : by.Given) (forms : List Form) (h : by.Header) : FunKind → Option (List TypedExpr) → Type 0 where
+  global : IsBodyOf g forms h fun.Global None
+  defined : {es : List Expr} {ts : List TypedExpr} → IsBody g forms h es ts → IsBodyOf g forms h (fun.Defined es) (Some ts)
+
+-- functions of these kinds, of the first of these headers
+pub data AreBodies (g : Given) (forms : List Form) : List FunKind → List Signature → List Function → Type 0 where
+  no_body : {headers : List Signature} → AreBodies g forms [] headers []
+  a_body : {kind : FunKind} {s : Signature} {f : Function} {kinds : List FunKind} {headers : List Signature} {fs : List Function}
+      → IsBodyOf (given_behind s.known g) forms (header_of s) kind f.body → AreBodies g forms kinds headers fs → AreBodies g forms (kind ∷ kinds) (s ∷ headers) (f ∷ fs)
+
+-- the results of a function of this kind, of the header of a place, break a rule
+pub record IsBrokenAt (g : Given) (old : List Form) (kind : FunKind) (place rule line : ℕ) : Type 0 where
+  pub header : Signature
+  pub exprs : List Expr
+  pub is : kind ≡ fun.Defined exprs
+  pub there : slice_get g.functions.now place ≡ Some header
+  pub breaks : BrokenBody (given_behind header.known g) old (header_of header) header.line exprs rule line
+
+-- those of one of these functions
+pub record IsBrokenAmong (g : Given) (old : List Form) (fs : List FunDef) (rule line : ℕ) : Type 0 where
+  pub function : FunDef
+  pub place : ℕ
+  pub there : slice_get fs place ≡ Some function
+  pub breaks : IsBrokenAt g old function.kind place rule line

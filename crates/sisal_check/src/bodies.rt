@@ -1,7 +1,14 @@
 //! Functions.
+ghost use Rattle.breaking_laws.specs.FormLaws.{BrokenBody};
+ghost use Rattle.breaking_laws.specs.Refusals.{Never};
 ghost use Rattle.sisal_check.specs.Headed.{HaveFirst, is_defined};
-ghost use Rattle.sisal_check.specs.Walked.{IsBody, given_behind, header_of};
-ghost use Rattle.std.specs.Prelude.{IfOk, OnOk, Some, [], is_some, length, map, slice_get, ◌++◌, ◌∷◌, ◌≡◌};
+ghost use Rattle.sisal_check.specs.Walked.{AreBodies, IsBody, IsBrokenAmong, IsBrokenAt, given_behind, given_of, header_of};
+ghost use Rattle.sisal_tree.specs.declared.unit.FunDef.{FunDef};
+ghost use Rattle.sisal_tree.specs.declared.unit.FunKind.{FunKind as Kind};
+ghost use Rattle.sisal_tree.specs.declared.unit.FunKind.TheVariants as fun;
+ghost use Rattle.std.specs.Prelude.{IfErr, IfOk, List, OnOk, Some, [], is_some, length, map, slice_get, ◌++◌, ◌∷◌, ◌≡◌};
+ghost use Rattle.type_rules.specs.Faults.{IsRule};
+ghost use Rattle.typed_tree.specs.declared.program.Function.{Function as IsFunction};
 ghost use Rattle.typing_laws.specs.Bodies.{define_params};
 ghost use Rattle.typing_laws.specs.Judged.{IsUsedIn};
 ghost use Rattle.unit_types.specs.Headings.{given_as, given_by, given_functions, has_body};
@@ -24,6 +31,10 @@ pub(crate) fn functions(
 ) -> Result<Seq<Function>, TypeFault>
     ensures heads { IfOk result (λ fs. HaveFirst given.now.functions.now fs) }
     ensures bodies { IfOk result (λ fs. map is_defined fs ≡ map (λ f. has_body f.kind) (given_functions items.now)) }
+    ensures used { OnOk result (IsUsedIn (given_of given.now) walk.old.types walk.new.types) }
+    ensures names { OnOk result (walk.new.names ≡ walk.old.names) }
+    ensures typed { walk.old.names ≡ no_names → IfOk result (λ fs. AreBodies given.now walk.new.types (map (λ f. f.kind) (given_functions items.now)) given.now.functions.now fs) }
+    ensures breaks { walk.old.names ≡ no_names → IfErr result (IsRule (λ rule at_line. IsBrokenAmong given.now walk.old.types (given_functions items.now) rule at_line)) }
 {
     let mut all = Seq::new(given.alloc);
     for item in items {
@@ -41,6 +52,10 @@ fn add_item(
 ) -> Result<(), TypeFault>
     ensures heads { HaveFirst given.now.functions.now all.old → OnOk result (HaveFirst given.now.functions.now all.new) }
     ensures bodies { OnOk result (map is_defined all.new ≡ map is_defined all.old ++ map (λ f. has_body f.kind) (given_by item.now)) }
+    ensures used { OnOk result (IsUsedIn (given_of given.now) walk.old.types walk.new.types) }
+    ensures names { OnOk result (walk.new.names ≡ walk.old.names) }
+    ensures typed { walk.old.names ≡ no_names → (kinds : List Kind) → AreBodies given.now walk.old.types kinds given.now.functions.now all.old → OnOk result (AreBodies given.now walk.new.types (kinds ++ map (λ f. f.kind) (given_by item.now)) given.now.functions.now all.new) }
+    ensures breaks { walk.old.names ≡ no_names → IfErr result (IsRule (λ rule at_line. (f : FunDef) × (given_by item.now ≡ f ∷ []) × IsBrokenAt given.now walk.old.types f.kind (length all.old) rule at_line)) }
 {
     match item {
         Item::Alias(_) => Ok(()),
@@ -57,6 +72,10 @@ fn add_function(
 ) -> Result<(), TypeFault>
     ensures heads { HaveFirst given.now.functions.now all.old → OnOk result (HaveFirst given.now.functions.now all.new) }
     ensures bodies { OnOk result (map is_defined all.new ≡ map is_defined all.old ++ given_as kind.now (has_body kind.now)) }
+    ensures used { OnOk result (IsUsedIn (given_of given.now) walk.old.types walk.new.types) }
+    ensures names { OnOk result (walk.new.names ≡ walk.old.names) }
+    ensures typed { walk.old.names ≡ no_names → (kinds : List Kind) → AreBodies given.now walk.old.types kinds given.now.functions.now all.old → OnOk result (AreBodies given.now walk.new.types (kinds ++ given_as kind.now kind.now) given.now.functions.now all.new) }
+    ensures breaks { walk.old.names ≡ no_names → IfErr result (IsRule (λ rule at_line. IsBrokenAt given.now walk.old.types kind.now (length all.old) rule at_line)) }
 {
     let Some(header) = item_at(given.functions, all.len()) else {
         return unless_given(kind);
@@ -73,7 +92,8 @@ fn add_function(
 
 /// Only a function that is `forward` has no header among those of the program.
 fn unless_given(kind: &FunKind) -> Result<(), TypeFault>
-    ensures { OnOk result (given_as kind.now (has_body kind.now) ≡ []) }
+    ensures forward { OnOk result (kind.now ≡ fun.Forward) }
+    ensures breaks { IfErr result (IsRule (λ rule at_line. Never rule at_line)) }
 {
     match kind {
         FunKind::Forward => Ok(()),
@@ -90,6 +110,8 @@ fn add(
 ) -> Result<(), TypeFault>
     ensures heads { slice_get given.now.functions.now (length all.old) ≡ Some header.now → HaveFirst given.now.functions.now all.old → OnOk result (HaveFirst given.now.functions.now all.new) }
     ensures bodies { OnOk result (map is_defined all.new ≡ map is_defined all.old ++ is_some body ∷ []) }
+    ensures adds { OnOk result ((f : IsFunction) × (f.body ≡ body) × (all.new ≡ all.old ++ f ∷ [])) }
+    ensures breaks { IfErr result (IsRule (λ rule at_line. Never rule at_line)) }
 {
     all.add(Function {
         line: header.line,
@@ -113,6 +135,7 @@ fn body(
     ensures used { OnOk result (IsUsedIn (given_behind header.now.known given.now) walk.old.types walk.new.types) }
     ensures names { OnOk result (walk.new.names ≡ walk.old.names) }
     ensures typed { walk.old.names ≡ no_names → IfOk result (λ ts. IsBody (given_behind header.now.known given.now) walk.new.types (header_of header.now) es.now ts) }
+    ensures breaks { walk.old.names ≡ no_names → IfErr result (IsRule (λ rule at_line. BrokenBody (given_behind header.now.known given.now) walk.old.types (header_of header.now) header.now.line es.now rule at_line)) }
 {
     let outer = walk.names.mark();
     parameters(
@@ -131,6 +154,7 @@ fn body(
     };
     let Parts { exprs, types } = all(es, &inside, walk)?;
     walk.names.leave(outer);
+    walk.types.holds();
     if types.as_slice() != header.results.as_slice() {
         return Err(TypeFault::Rule {
             rule: 13,
