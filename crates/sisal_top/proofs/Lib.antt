@@ -1,5 +1,6 @@
 pub mod Fronts
 pub mod Graphs
+pub mod Lexed
 pub mod Makes
 pub mod Names
 pub mod Refusing

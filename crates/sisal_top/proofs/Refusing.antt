@@ -11,9 +11,16 @@ use Rattle.sisal_lex.specs.declared.token.Tokens.{Tokens}
 use Rattle.sisal_parse.specs.Faults.{DepthFault, SyntaxFault}
 use Rattle.sisal_parse.specs.declared.fault.ParseFault.{ParseFault}
 use Rattle.sisal_parse.specs.declared.fault.ParseFault.TheVariants as parser
-use Rattle.sisal_top.specs.Program.{AskToRead, ReadsText}
-use Rattle.sisal_top.specs.Refusals.{IsCause, IsReply, IsUnread, Means}
-use Rattle.sisal_top.specs.Status.{of_parser, of_words}
+use Rattle.sisal_tree.specs.declared.unit.Unit as tree
+use Rattle.type_rules.specs.Faults.{IsRule}
+use Rattle.type_rules.specs.declared.fault.TypeFault.{TypeFault}
+use Rattle.type_rules.specs.declared.fault.TypeFault.TheVariants as checker
+use Rattle.typed_tree.specs.Faults.{BreaksUnit}
+use Rattle.sisal_check.specs.Texts.{IsText}
+use Rattle.sisal_top.specs.Program.{AskToRead, IsUnitOf, ReadsText}
+use Rattle.sisal_top.specs.Refusals.{IsCause, IsNoProgram, IsReply, IsUnread, Means}
+use Rattle.sisal_top.specs.Status.{of_checker, of_parser, of_words}
+use Rattle.sisal_top.proofs.Lexed.{is_text}
 use Rattle.sisal_top.specs.declared.status.Status.{Status}
 use Rattle.sisal_top.specs.declared.status.Status.TheVariants as status
 
@@ -61,3 +68,10 @@ parser_cause bytes tokens f (Ok x) lexed syntax deep is = tt
 parser_cause bytes tokens parser.NoMemory (Err s) lexed syntax deep is = inl is
 parser_cause bytes tokens (parser.Syntax number line) (Err s) lexed syntax deep is = subst (IsCause bytes) (sym is) (inr (inr (tokens, lexed, syntax)))
 parser_cause bytes tokens (parser.TooDeep line) (Err s) lexed syntax deep is = subst (IsCause bytes) (sym is) (inr (inr (tokens, lexed, deep)))
+
+-- a fault of the checker is one of the unit
+pub checker_cause : {X : Type 0} (u : tree.Unit) (f : TypeFault) (r : Result X Status) → IsRule (λ rule line. IsText u → BreaksUnit u rule line) f → IsErrAnd r (λ s. s ≡ of_checker f)
+    → IfErr r (λ s. (bytes : List ℕ) → IsUnitOf bytes u → IsNoProgram bytes s)
+checker_cause u f (Ok x) breaks is = tt
+checker_cause u checker.NoMemory (Err s) breaks is = λ bytes unit. inl (inl is)
+checker_cause u (checker.Rule rule line) (Err s) breaks is = λ bytes unit. subst (IsNoProgram bytes) (sym is) (inr (record { unit = u; is = unit; breaks = breaks (is_text bytes u unit) }))

@@ -7,8 +7,8 @@ use Rattle.mean_call.specs.declared.fault.Refusal.TheVariants as refusal
 use Rattle.run_words.specs.Words.{IsCommand, HasFault}
 use Rattle.run_words.specs.declared.command.Command.{Command}
 use Rattle.run_words.specs.declared.command.Command.TheVariants as command
-use Rattle.sisal_top.specs.Outputs.{Prints, PrintsMeaning, HasTypeFault, HasNoMeaning}
-use Rattle.sisal_top.specs.Program.{IsPlain, IsRefused, IsNotBuilt, ReadsText}
+use Rattle.sisal_top.specs.Outputs.{Prints, PrintsMeaning, HasTypeFault, HasNoMeaning, IsNotYet}
+use Rattle.sisal_top.specs.Program.{IsPlain, IsRefused, ReadsText}
 use Rattle.sisal_top.specs.Texts.{help_text, version_text}
 use Rattle.sisal_top.specs.declared.status.Status.{Status}
 use Rattle.sisal_top.specs.declared.status.Status.TheVariants as status
@@ -25,7 +25,7 @@ Asks command.Version bytes printed = printed ≡ version_text
 
 -- which commands and texts are not built yet
 abbrev pub IsLater : Command → List ℕ → Type 0
-IsLater (command.Run set) bytes = IsPlain set → IsNotBuilt bytes
+IsLater (command.Run set) bytes = IsPlain set → IsNotYet bytes
 IsLater command.Compile bytes = Unit {0}
 IsLater command.If1 bytes = Unit {0}
 IsLater (command.Mean set) bytes = ⊥
@@ -33,10 +33,9 @@ IsLater (command.Gen n) bytes = ⊥
 IsLater command.Help bytes = ⊥
 IsLater command.Version bytes = ⊥
 
--- the command is `mean`, and the text has a type fault
-abbrev pub IsUntyped : Command → List ℕ → Type 0
-IsUntyped (command.Mean set) bytes = HasTypeFault bytes
-IsUntyped _ bytes = ⊥
+-- the command reads the text, which breaks this typing rule on this line
+abbrev pub IsUntyped : Command → List ℕ → ℕ → ℕ → Type 0
+IsUntyped c bytes rule line = ReadsText c × HasTypeFault bytes rule line
 
 -- the command is `mean`, and this is why the text gives no values
 abbrev pub IsStopped : Command → List ℕ → Refusal → Type 0
@@ -49,7 +48,7 @@ abbrev pub Replies : Command → List ℕ → Result (List ℕ) Status → Type 
 Replies c bytes (Ok printed) = Asks c bytes printed
 Replies c bytes (Err (status.Syntax f)) = ReadsText c × IsRefused bytes (status.Syntax f)
 Replies c bytes (Err status.TooLong) = ReadsText c × IsRefused bytes status.TooLong
-Replies c bytes (Err (status.Typing rule line)) = IsUntyped c bytes
+Replies c bytes (Err (status.Typing rule line)) = IsUntyped c bytes rule line
 Replies c bytes (Err (status.Unlinked name)) = IsStopped c bytes (refusal.Unlinked name)
 Replies c bytes (Err (status.Argument f)) = IsStopped c bytes (refusal.Argument f)
 Replies c bytes (Err status.TurnLimit) = IsStopped c bytes refusal.TurnLimit

@@ -1,7 +1,7 @@
 -- Results and refusals inside the call.
 use Rattle.std.specs.Prelude.{◌≡◌, ℕ, List, ◌⊎◌, Result, Ok, Err}
-use Rattle.sisal_top.specs.Outputs.{Prints, HasTypeFault}
-use Rattle.sisal_top.specs.Program.{IsNotBuilt, IsRefused}
+use Rattle.sisal_top.specs.Outputs.{Prints, HasTypeFault, IsNotYet}
+use Rattle.sisal_top.specs.Program.{IsRefused}
 use Rattle.sisal_top.specs.declared.status.Status.{Status}
 use Rattle.sisal_top.specs.declared.status.Status.TheVariants as status
 
@@ -27,7 +27,8 @@ abbrev pub Means : List ℕ → Result (List ℕ) Status → Type 0
 Means bytes (Ok printed) = Prints bytes printed
 Means bytes (Err (status.Syntax f)) = IsRefused bytes (status.Syntax f)
 Means bytes (Err status.TooLong) = IsRefused bytes status.TooLong
-Means bytes (Err status.Later) = IsNotBuilt bytes
+Means bytes (Err (status.Typing rule line)) = HasTypeFault bytes rule line
+Means bytes (Err status.Later) = IsNotYet bytes
 Means bytes (Err status.NoMemory) = Unit {0}
 Means bytes (Err _) = ⊥
 
@@ -38,7 +39,7 @@ Reads bytes r = Means bytes r
 
 -- the unit has a type fault with this status
 abbrev pub IsTypeFault : List ℕ → Status → Type 0
-IsTypeFault bytes (status.Typing rule line) = HasTypeFault bytes
+IsTypeFault bytes (status.Typing rule line) = HasTypeFault bytes rule line
 IsTypeFault bytes _ = ⊥
 
 -- want of memory, a fault of the bytes, or a type fault

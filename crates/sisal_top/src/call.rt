@@ -55,7 +55,7 @@ fn read<S: Source>(alloc: Global, text: &mut S) -> Result<Text, Status>
     }
 }
 
-/// What the program that a text is prints.
+/// What the program that a text is prints, if it is of the first form.
 fn output(alloc: Global, bytes: &[u8]) -> Result<Text, Status>
     ensures { Means bytes.now result }
 {

@@ -1,5 +1,6 @@
 //! From the bytes of a text to its trees.
-ghost use Rattle.std.specs.Prelude.{◌≡◌, IfOk, IfErr, IfSome, Ok, None};
+ghost use Rattle.std.specs.Prelude.{◌≡◌, ℕ, List, IfOk, IfErr, IfSome, OnOk, Ok, None};
+ghost use Rattle.typed_tree.specs.declared.program.Program as whole;
 ghost use Rattle.sisal_top.specs.Outputs.{HasProgram};
 ghost use Rattle.sisal_top.specs.Program.{IsNotBuilt, IsText, IsUnitOf};
 ghost use Rattle.sisal_top.specs.Refusals.{IsCause, IsNoProgram};
@@ -24,15 +25,17 @@ fn unit_of(alloc: Global, text: &[u8]) -> Result<Unit, Status>
     Ok(unit)
 }
 
-/// The results of the program that a text is, or none exactly where it is a unit and no program of
-/// the first form.
+/// The results of the program that a text is, or none exactly where it is a program of another form
+/// than the first.
 pub fn trees(alloc: Global, text: &[u8]) -> Result<Option<Seq<Expr>>, Status>
     ensures found { IfOk result (λ read. IfSome read (IsText text.now)) }
     ensures none { result ≡ Ok None → IsNotBuilt text.now }
-    ensures refused { IfErr result (IsCause text.now) }
+    ensures typed { OnOk result ((program : whole.Program) × HasProgram text.now program) }
+    ensures refused { IfErr result (IsNoProgram text.now) }
 {
     let unit = unit_of(alloc, text)?;
     let read = first_form(alloc, &unit)?;
+    program_of(alloc, unit)?;
     Ok(read)
 }
 
@@ -42,6 +45,15 @@ pub fn typed(alloc: Global, text: &[u8]) -> Result<Program, Status>
     ensures refused { IfErr result (IsNoProgram text.now) }
 {
     let unit = unit_of(alloc, text)?;
+    let program = program_of(alloc, unit)?;
+    Ok(program)
+}
+
+/// The typed program of a unit.
+fn program_of(alloc: Global, unit: Unit) -> Result<Program, Status>
+    ensures program { IfOk result (λ program. (bytes : List ℕ) → IsUnitOf bytes unit → HasProgram bytes program) }
+    ensures refused { IfErr result (λ s. (bytes : List ℕ) → IsUnitOf bytes unit → IsNoProgram bytes s) }
+{
     let program = check(alloc, unit)?;
     Ok(program)
 }

@@ -30,7 +30,7 @@ pub meaning_is : (n : ℕ) (p : Program) (e : TypedExpr) (env : List Val) → me
 meaning_is n p e env = ap (λ g. g env) (fold-roll-TypedExpr (ℕ → Gives) Gives (kind_gives n (calls n p)) expr_gives (record { line = e.line; types = e.types; kind = e.kind }))
 
 -- a kind, from the kinds of its parts
-layer_is : (n : ℕ) (p : Program) (x : TypedKind-F TypedKind TypedExpr) (k : ℕ) (env : List Val)
+pub layer_is : (n : ℕ) (p : Program) (x : TypedKind-F TypedKind TypedExpr) (k : ℕ) (env : List Val)
     → kind_meaning n p (roll-TypedKind x) k env ≡ kind_gives n (calls n p) (map-TypedKind TypedKind TypedExpr (ℕ → Gives) Gives (kind_meaning n p) (meaning n p) x) k env
 layer_is n p x k env = ap (λ g. g k env) (fold-roll-TypedKind (ℕ → Gives) Gives (kind_gives n (calls n p)) expr_gives x)
 

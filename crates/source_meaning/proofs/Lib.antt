@@ -1,9 +1,13 @@
 pub mod AddedRows
+pub mod AtOnce
 pub mod Begins
 pub mod Depths
+pub mod Descents
 pub mod Follows
+pub mod Forward
 pub mod Grows
 pub mod Laws
+pub mod Over
 pub mod Parts
 pub mod Renewals
 pub mod Rests

@@ -34,12 +34,12 @@ module _ {X : Type 0} where
       ]
 
   -- a list of two parts, the second of which is empty where the first is not full
-  take_back : (m : ℕ) (xs l : List X) → (length xs < m → l ≡ []) → take m (take m xs ++ l) ≡ take m xs
+  pub take_back : (m : ℕ) (xs l : List X) → (length xs < m → l ≡ []) → take m (take m xs ++ l) ≡ take m xs
   take_back zero xs l h = refl
   take_back (suc m) [] l h = ap (take (suc m)) (h (omega arith))
   take_back (suc m) (x ∷ xs) l h = ap (λ k. x ∷ k) (take_back m xs l (λ lt. h (omega arith)))
 
-  drop_back : (m : ℕ) (xs l : List X) → (length xs < m → l ≡ []) → drop m (take m xs ++ l) ≡ l
+  pub drop_back : (m : ℕ) (xs l : List X) → (length xs < m → l ≡ []) → drop m (take m xs ++ l) ≡ l
   drop_back zero xs l h = refl
   drop_back (suc m) [] l h = ap (drop (suc m)) (h (omega arith)) ∙ sym (h (omega arith))
   drop_back (suc m) (x ∷ xs) l h = drop_back m xs l (λ lt. h (omega arith))

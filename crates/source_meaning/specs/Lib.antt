@@ -5,3 +5,4 @@ pub mod Sources
 pub mod Rows
 pub mod Meaning
 pub mod Pending
+pub mod Descents

@@ -8,6 +8,7 @@ ghost use Rattle.source_meaning.specs.Slots.{given_values};
 use crate::rows::no_rows;
 use crate::slots::Given;
 use crate::state::{After, Round, State, Turned, Walked, Work};
+use crate::strides::is_direct_turn;
 use crate::words::{constant_value, value_at};
 use flow_value::{NoMemory, Seq};
 use std::alloc::Global;
@@ -118,6 +119,7 @@ fn begin_loop<'a>(
         mark,
         height: mark,
         is_tested: parts.form.is_first,
+        is_direct: is_direct_turn(parts),
         clauses,
     };
     state.define(alloc, After::Start(round), &[], first.as_slice())?;

@@ -1,7 +1,10 @@
 //! The values of a function.
-ghost use Rattle.std.specs.Prelude.{◌≡◌, ℕ, ◌<◌, ◌≤◌, List, IfOk, IfErr, IfSome, Some, None, Ok};
+ghost use Rattle.std.specs.Prelude.{◌≡◌, ℕ, ◌+◌, ◌<◌, ◌≤◌, List, IfOk, IfErr, IfSome, Some, None, Ok};
 ghost use Rattle.flow_value.specs.declared.value.Val.{Val};
-ghost use Rattle.source_meaning.specs.Meaning.{calls};
+ghost use Rattle.source_meaning.specs.Meaning.{Members, calls};
+ghost use Rattle.source_meaning.specs.Descents.{turns_to, turns_down};
+ghost use Rattle.typed_tree.specs.declared.expr.TypedExpr.{TypedExpr};
+ghost use Rattle.typed_tree.specs.declared.expr.Turns.{Turns};
 ghost use Rattle.typed_tree.specs.declared.program.Function.{Function};
 
 use crate::finish::enter;
@@ -87,4 +90,11 @@ pub fn mean(
 pub fn depths_agree()
     ensures greater { (p : List Function) (f : ℕ) (vs : List Val) (n m : ℕ) (r : List Val × ℕ) → n ≤ m → calls n p f vs ≡ Some r → calls m p f vs ≡ Some r }
     ensures one_value { (p : List Function) (f : ℕ) (vs : List Val) (n m : ℕ) (r s : List Val × ℕ) → calls n p f vs ≡ Some r → calls m p f vs ≡ Some s → r ≡ s }
+{}
+
+/// Turns of a loop whose parts go one depth less at each turn give what turns give whose parts all
+/// go to one depth, and the other way round: so it does not matter which of them bounds a loop.
+pub fn turns_agree()
+    ensures falls { (p : List Function) (t : Turns) (test : List TypedExpr) (defs : List (List TypedExpr)) (env l : List Val) (n : ℕ) (r : Members × ℕ) → turns_down n p t test defs env l ≡ Some r → turns_to n n p t test defs env l ≡ Some r }
+    ensures rises { (p : List Function) (t : Turns) (test : List TypedExpr) (defs : List (List TypedExpr)) (env l : List Val) (n depth : ℕ) (r : Members × ℕ) → turns_to n depth p t test defs env l ≡ Some r → turns_down (n + depth) p t test defs env l ≡ Some r }
 {}

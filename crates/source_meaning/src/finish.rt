@@ -6,7 +6,7 @@ ghost use Rattle.source_meaning.specs.Meaning.{meaning, definitions, results_of,
 ghost use Rattle.source_meaning.specs.Pending.{Program, rest, load, weight, whole, before, fuel, StartsFull};
 ghost use Rattle.source_meaning.specs.Slots.{given_values};
 
-use crate::loops::{begin_round, collect, end_place, end_turn, renew};
+use crate::loops::{collect, end_place, end_turn, renew, start_round};
 use crate::slots::Given;
 use crate::state::{After, Going, State};
 use crate::words::{Test, failed, test_of};
@@ -265,8 +265,8 @@ pub fn finish<'a>(
             Ok(going)
         }
         After::Start(round) => {
-            begin_round(alloc, state, round)?;
-            Ok(Going::On)
+            let going = start_round(alloc, limit, state, round)?;
+            Ok(going)
         }
         After::Kept(round) => {
             let going = collect(alloc, limit, state, round, values)?;

@@ -2,8 +2,10 @@
 //! language in `specs/`, and an evaluator that computes them.
 #![tactic(auto)]
 
+mod ahead;
 mod begin;
 mod budget;
+mod direct;
 mod evaluator;
 mod finish;
 mod loops;
@@ -12,6 +14,7 @@ mod rows;
 mod slots;
 mod sources;
 mod state;
+mod strides;
 mod words;
 
-pub use evaluator::{Found, MeanFault, depths_agree, mean};
+pub use evaluator::{Found, MeanFault, depths_agree, mean, turns_agree};

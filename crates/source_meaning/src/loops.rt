@@ -1,22 +1,120 @@
 //! Loops.
-ghost use Rattle.std.specs.Prelude.{◌≡◌, ℕ, ◌+◌, ◌<◌, ◌≤◌, [], ◌∷◌, ◌++◌, OnOk, IfOk, take, drop, length, slice_get, slice_set, unwrap_or, MatchOption};
+ghost use Rattle.std.specs.Prelude.{◌≡◌, ℕ, ◌+◌, ◌<◌, ◌≤◌, [], ◌∷◌, ◌++◌, OnOk, IfOk, IfSome, None, take, drop, length, slice_get, slice_set, unwrap_or, MatchOption};
 ghost use Rattle.source_meaning.specs.Timed.{andthen, plus, Moves, Passes};
 ghost use Rattle.source_meaning.specs.Words.{goes_on, test_of};
 ghost use Rattle.source_meaning.specs.Slots.{slot_values, given_values};
 ghost use Rattle.source_meaning.specs.Meaning.{over, renew as renewed_names};
-ghost use Rattle.source_meaning.specs.Pending.{Program, rest, load, whole, before, fuel, walked_body, walk, spanned, tested, ended};
+ghost use Rattle.source_meaning.specs.Pending.{Program, Rest, rest, load, whole, before, fuel, walked_body, walk, spanned, tested, ended};
 
+use crate::direct::sum;
 use crate::finish::give_failed;
 use crate::rows::{add_row, made, no_rows};
 use crate::slots::{Given, Slot, add_values};
 use crate::sources::{Places, lower_of, names_at, places_of};
 use crate::state::{After, Going, Round, State, Turned, Walk, Walked};
+use crate::strides::{direct_before, direct_place, direct_turn, is_direct_body};
 use crate::words::{Test, goes_on, test_of};
 use flow_value::{Items, NoMemory, Seq, Val, item_at};
 use std::alloc::Global;
 
-/// Begins the next place of a loop, or ends the loop.
+/// What came of a place whose values were looked for at once.
+#[derive(Clone, Copy, Debug, PartialEq, Eq)]
+enum Passed {
+    /// It is done.
+    Done,
+    /// Its values do not come at once.
+    Pending,
+    /// The limit is reached.
+    Limit,
+}
+
+/// Does a place of a loop, if its values come at once.
+fn pass<'a>(
+    alloc: Global,
+    limit: u64,
+    state: &mut State<'a>,
+    walked: &mut Walk<'a>,
+) -> Result<Passed, NoMemory>
+    requires { 0 < walked.old.left }
+    ensures done { IfOk result (λ g. g ≡ Passed.Done → (n : ℕ) (p : Program) (k : Rest) → plus state.old.steps (walk n p walked.old k state.old.names walked.old.clauses.items) ≡ plus state.new.steps (walk n p walked.new k state.new.names walked.new.clauses.items)) }
+    ensures left { IfOk result (λ g. g ≡ Passed.Done → walked.new.left < walked.old.left) }
+    ensures pending { IfOk result (λ g. g ≡ Passed.Pending → (walked.new ≡ walked.old) × (state.new.steps ≡ state.old.steps)) }
+    ensures limit { IfOk result (λ g. g ≡ Passed.Limit → (p : Program) (k : ℕ → Rest) → Passes limit (λ n. plus state.old.steps (walk n p walked.old (k n) state.old.names walked.old.clauses.items))) }
+    ensures names { IfOk result (λ g. state.new.names ≡ state.old.names) }
+    ensures frames { state.new.frames.items ≡ state.old.frames.items }
+    ensures steps { state.old.steps ≤ state.new.steps }
+    ensures bound { state.old.steps ≤ limit → state.new.steps ≤ limit }
+{
+    let place = walked.count.saturating_sub(walked.left);
+    let bounds = walked.bounds.as_slice();
+    let Some(row) = direct_place(alloc, walked.parts, bounds, place, &mut state.names)? else {
+        return Ok(Passed::Pending);
+    };
+    let Some(steps) = sum(1, row.steps) else {
+        return Ok(Passed::Pending);
+    };
+    if !state.count(limit, steps) {
+        return Ok(Passed::Limit);
+    }
+    add_row(
+        walked.parts.form.clauses.as_slice(),
+        &mut walked.clauses,
+        row.values,
+    )?;
+    walked.left -= 1;
+    Ok(Passed::Done)
+}
+
+/// Does the places of a loop whose values come at once; none where the limit is reached.
+fn stride<'a>(
+    alloc: Global,
+    limit: u64,
+    state: &mut State<'a>,
+    walked: Walk<'a>,
+) -> Result<Option<Walk<'a>>, NoMemory>
+    ensures same { IfOk result (λ o. IfSome o (λ w. (n : ℕ) (p : Program) (k : Rest) → plus state.old.steps (walk n p walked.entry k state.old.names walked.entry.clauses.items) ≡ plus state.new.steps (walk n p w k state.new.names w.clauses.items))) }
+    ensures limit { IfOk result (λ o. o ≡ None → (p : Program) (k : ℕ → Rest) → Passes limit (λ n. plus state.old.steps (walk n p walked.entry (k n) state.old.names walked.entry.clauses.items))) }
+    ensures names { IfOk result (λ o. state.new.names ≡ state.old.names) }
+    ensures frames { state.new.frames.items ≡ state.old.frames.items }
+    ensures steps { state.old.steps ≤ state.new.steps }
+    ensures bound { state.old.steps ≤ limit → state.new.steps ≤ limit }
+{
+    let mut walked = walked;
+    let mut is_direct = walked.is_direct;
+    while is_direct && walked.left > 0 {
+        match pass(alloc, limit, state, &mut walked)? {
+            Passed::Done => {}
+            Passed::Pending => is_direct = false,
+            Passed::Limit => return Ok(None),
+        }
+    }
+    Ok(Some(walked))
+}
+
+/// Goes on with a loop: does the places whose values come at once, and then begins the next place
+/// or ends the loop.
 fn iterate<'a>(
+    alloc: Global,
+    limit: u64,
+    state: &mut State<'a>,
+    walked: Walk<'a>,
+) -> Result<Going, NoMemory>
+    ensures same { IfOk result (λ g. g ≡ Going.On → (n : ℕ) (p : Program) → plus state.old.steps (walk n p walked.entry (rest n p state.old.frames.items) state.old.names walked.entry.clauses.items) ≡ whole n p state.new.steps state.new.frames.items state.new.names (given_values state.new.given)) }
+    ensures limit { IfOk result (λ g. g ≡ Going.Limit → (p : Program) → Passes limit (λ n. plus state.old.steps (walk n p walked.entry (rest n p state.old.frames.items) state.old.names walked.entry.clauses.items))) }
+    ensures fuel { IfOk result (λ g. g ≡ Going.On → fuel limit state.new.steps state.new.frames.items < fuel limit state.old.steps state.old.frames.items + 1) }
+    ensures bound { IfOk result (λ g. state.old.steps ≤ limit → state.new.steps ≤ limit) }
+{
+    match stride(alloc, limit, state, walked)? {
+        Some(walked) => {
+            let going = next_place(alloc, limit, state, walked)?;
+            Ok(going)
+        }
+        None => Ok(Going::Limit),
+    }
+}
+
+/// Begins the next place of a loop, or ends the loop.
+fn next_place<'a>(
     alloc: Global,
     limit: u64,
     state: &mut State<'a>,
@@ -159,6 +257,7 @@ fn begin_walk<'a>(
         mark: 0,
         count,
         left: count,
+        is_direct: is_direct_body(parts),
         clauses,
     };
     let going = iterate(alloc, limit, state, walk)?;
@@ -187,6 +286,93 @@ pub fn end_place<'a>(
     )?;
     let going = iterate(alloc, limit, state, walked)?;
     Ok(going)
+}
+
+/// Does a turn of a loop, with the values of the clauses and the test before it, if all of it comes
+/// at once and the test has the loop go on.
+fn turn_over<'a>(
+    alloc: Global,
+    limit: u64,
+    state: &mut State<'a>,
+    round: &mut Round<'a>,
+) -> Result<Passed, NoMemory>
+    ensures done { IfOk result (λ g. g ≡ Passed.Done → (p : Program) → Moves (λ n. before n p state.old.steps state.old.frames.items state.old.names (After.Start round.old) []) (λ n. before n p state.new.steps state.new.frames.items state.new.names (After.Start round.new) [])) }
+    ensures later { IfOk result (λ g. g ≡ Passed.Done → state.old.steps < state.new.steps) }
+    ensures pending { IfOk result (λ g. g ≡ Passed.Pending → (round.new ≡ round.old) × ((state.new.steps ≡ state.old.steps) × (state.new.names ≡ state.old.names))) }
+    ensures limit { IfOk result (λ g. g ≡ Passed.Limit → (p : Program) → Passes limit (λ n. before n p state.old.steps state.old.frames.items state.old.names (After.Start round.old) [])) }
+    ensures frames { state.new.frames.items ≡ state.old.frames.items }
+    ensures steps { state.old.steps ≤ state.new.steps }
+    ensures bound { state.old.steps ≤ limit → state.new.steps ≤ limit }
+{
+    let height = state.names.len();
+    if !round.is_direct || !round.is_tested || round.mark > height {
+        return Ok(Passed::Pending);
+    }
+    let parts = round.parts;
+    let Some(row) = direct_before(alloc, parts, state.names.as_slice())? else {
+        return Ok(Passed::Pending);
+    };
+    let Some(steps) = direct_turn(alloc, parts, row.steps, &mut state.names)? else {
+        return Ok(Passed::Pending);
+    };
+    if !state.count(limit, steps) {
+        return Ok(Passed::Limit);
+    }
+    add_row(
+        parts.form.clauses.as_slice(),
+        &mut round.clauses,
+        row.values,
+    )?;
+    let renewed = parts.form.renewed.as_slice();
+    renew_names(&mut state.names, round.mark, height, renewed);
+    Ok(Passed::Done)
+}
+
+/// Does the turns of a loop that come at once; none where the limit is reached.
+fn turns_over<'a>(
+    alloc: Global,
+    limit: u64,
+    state: &mut State<'a>,
+    round: Round<'a>,
+) -> Result<Option<Round<'a>>, NoMemory>
+    ensures moves { IfOk result (λ o. IfSome o (λ r. (p : Program) → Moves (λ n. before n p state.old.steps state.old.frames.items state.old.names (After.Start round.entry) []) (λ n. before n p state.new.steps state.new.frames.items state.new.names (After.Start r) []))) }
+    ensures limit { IfOk result (λ o. o ≡ None → (p : Program) → Passes limit (λ n. before n p state.old.steps state.old.frames.items state.old.names (After.Start round.entry) [])) }
+    ensures frames { state.new.frames.items ≡ state.old.frames.items }
+    ensures steps { state.old.steps ≤ state.new.steps }
+    ensures bound { state.old.steps ≤ limit → state.new.steps ≤ limit }
+{
+    let mut round = round;
+    let mut is_direct = true;
+    while is_direct && state.steps <= limit {
+        match turn_over(alloc, limit, state, &mut round)? {
+            Passed::Done => {}
+            Passed::Pending => is_direct = false,
+            Passed::Limit => return Ok(None),
+        }
+    }
+    Ok(Some(round))
+}
+
+/// Begins a `for initial` whose loop names are in force: does the turns that come at once, and then
+/// has the values of the clauses evaluated before the next one.
+pub fn start_round<'a>(
+    alloc: Global,
+    limit: u64,
+    state: &mut State<'a>,
+    round: Round<'a>,
+) -> Result<Going, NoMemory>
+    ensures moves { IfOk result (λ g. g ≡ Going.On → (p : Program) → Moves (λ n. before n p state.old.steps state.old.frames.items state.old.names (After.Start round.entry) []) (λ n. whole n p state.new.steps state.new.frames.items state.new.names (given_values state.new.given))) }
+    ensures limit { IfOk result (λ g. g ≡ Going.Limit → (p : Program) → Passes limit (λ n. before n p state.old.steps state.old.frames.items state.old.names (After.Start round.entry) [])) }
+    ensures fuel { IfOk result (λ g. g ≡ Going.On → fuel limit state.new.steps state.new.frames.items < fuel limit state.old.steps state.old.frames.items + 3) }
+    ensures bound { IfOk result (λ g. state.old.steps ≤ limit → state.new.steps ≤ limit) }
+{
+    match turns_over(alloc, limit, state, round)? {
+        Some(round) => {
+            begin_round(alloc, state, round)?;
+            Ok(Going::On)
+        }
+        None => Ok(Going::Limit),
+    }
 }
 
 /// Has the values of the clauses evaluated before a turn of a loop.

@@ -334,12 +334,13 @@ module _ (k : Known) (denotes : Written → Ty → Type 0) where
       a_mask : {s : Scope} {is_unless : Bool} {e : Expr} {t : TypedExpr} → Types s e t (ty.Bool ∷ [])
           → IsMask s (Some (record { is_unless = is_unless; test = e })) (t ∷ [])
 
-    -- the arms of a `tagcase`, each with its tags, whose contents are of one type; the content is in force where it has a name
+    -- the arms of a `tagcase`, each with its tags, one at least, whose contents are of one type; the content is in force where
+    -- it has a name
     pub data AreArms : Scope → Option ℕ → List Member → List Ty → List Arm → List (List TypedExpr) → List (List ℕ) → Type 0 where
       no_arm : {s : Scope} {x : Option ℕ} {ms : List Member} {tys : List Ty} → AreArms s x ms tys [] [] []
       an_arm : {s : Scope} {x : Option ℕ} {ms : List Member} {tys : List Ty} (l : ℕ) (content : Ty) (names : List Named) {es : List Expr} {ts : List TypedExpr}
           {arms : List Arm} {typed_arms : List (List TypedExpr)} {tags : List (List ℕ)}
-          → All (λ tag. IsTag k ms tag content) (names_of names) → AreTyped (with_content x content s) es ts tys
+          → (names ≡ [] → ⊥) → All (λ tag. IsTag k ms tag content) (names_of names) → AreTyped (with_content x content s) es ts tys
           → AreArms s x ms tys arms typed_arms tags
           → AreArms s x ms tys (roll-Arm (record { line = l; tags = names; results = es }) ∷ arms) (ts ∷ typed_arms) (names_of names ∷ tags)
 

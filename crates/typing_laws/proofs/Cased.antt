@@ -24,6 +24,7 @@ use Rattle.typed_tree.specs.Scopes.{AreDistinct}
 use Rattle.typed_tree.specs.Types.{Member, IsNumber, AreMembers, no_member, a_member}
 use Rattle.typed_tree.specs.Typing as rule
 use Rattle.typed_tree.specs.Typing.{Known, Number, Types, AreTyped, AreArms, IsTag, IsChoice, AreChoices, Chooses, AreAllNamed, with_content, named_arms, names_of, at, with}
+use Rattle.std.proofs.Common.{Result}
 use Rattle.type_rules.specs.Applies.{Grows}
 use Rattle.type_rules.specs.Arms.{are_all_named, number_or, numbered, gives_arm}
 use Rattle.type_rules.specs.Parts.{part_if, tag_part, tags_part, tag_at}
@@ -73,13 +74,13 @@ pub rolled_arm : (a : Arm) → roll-Arm (record { line = (out-Arm a).line; tags 
 rolled_arm a = search (rules, kinds.the_lemmas)
 
 arms_append : (k : Known) (denotes : Written → Ty → Type 0) (s : scopes.Scope) (x : Option ℕ) (ms : List Member) (tys : List Ty) (arms : List Arm) (results : List (List TypedExpr)) (tags : List (List ℕ))
-    (a : Arm) (content : Ty) (ts : List TypedExpr) → AreArms k denotes s x ms tys arms results tags → All (λ tag. IsTag k ms tag content) (names_of (out-Arm a).tags)
+    (a : Arm) (content : Ty) (ts : List TypedExpr) → AreArms k denotes s x ms tys arms results tags → ((out-Arm a).tags ≡ [] → ⊥) → All (λ tag. IsTag k ms tag content) (names_of (out-Arm a).tags)
     → AreTyped k denotes (with_content x content s) (out-Arm a).results ts tys
     → AreArms k denotes s x ms tys (arms ++ (a ∷ [])) (results ++ (ts ∷ [])) (tags ++ (names_of (out-Arm a).tags ∷ []))
-arms_append k denotes s x ms tys _ _ _ a content ts rule.no_arm p q =
-    subst (λ b. AreArms k denotes s x ms tys (b ∷ []) (ts ∷ []) (names_of (out-Arm a).tags ∷ [])) (rolled_arm a) (rule.an_arm (out-Arm a).line content (out-Arm a).tags p q rule.no_arm)
-arms_append k denotes s x ms tys _ _ _ a content ts (rule.an_arm l c names {es = es} {ts = us} {arms = arms} {typed_arms = results} {tags = tags} t u r) p q =
-    rule.an_arm l c names t u (arms_append k denotes s x ms tys arms results tags a content ts r p q)
+arms_append k denotes s x ms tys _ _ _ a content ts rule.no_arm some p q =
+    subst (λ b. AreArms k denotes s x ms tys (b ∷ []) (ts ∷ []) (names_of (out-Arm a).tags ∷ [])) (rolled_arm a) (rule.an_arm (out-Arm a).line content (out-Arm a).tags some p q rule.no_arm)
+arms_append k denotes s x ms tys _ _ _ a content ts (rule.an_arm l c names {es = es} {ts = us} {arms = arms} {typed_arms = results} {tags = tags} o t u r) some p q =
+    rule.an_arm l c names o t u (arms_append k denotes s x ms tys arms results tags a content ts r some p q)
 
 pub content_stands : (k : Known) (x : Option ℕ) (n : ℕ) (a : Ty) (names : Names) (s : scopes.Scope) → Stands k names s → IsNumber k.forms k.spellings n a → Stands k (named_content x n names) (with_content x a s)
 content_stands k None n a names s st p = st
@@ -121,6 +122,16 @@ arms_begin g f names x subject done b = record {
     none_some : (ns : List ℕ) → None ≡ Some ns → ⊥
     none_some ns e = cc
 
+abbrev content_in : Result (Option ℕ × List (Option ℕ)) ℕ → Option ℕ
+content_in (Ok r) = r.0
+content_in _ = None
+
+-- an arm whose content is known has a tag
+some_tag : (f0 : List Form) (union arm line : ℕ) (chosen : List (Option ℕ)) (tags : List Named) (content : ℕ) (after : List (Option ℕ)) → gives_arm f0 union arm line None chosen tags ≡ Ok (Some content, after)
+    → tags ≡ [] → ⊥
+some_tag f0 union arm line chosen [] content after e none = let same : None ≡ Some content = ap content_in e in cc
+some_tag f0 union arm line chosen (t ∷ tags) content after e none = cc
+
 pub arm_typed : (g : Given) (f0 f1 : List Form) (names inner : Names) (union : ℕ) (arms : List Arm) (a : Arm) (ts : List TypedExpr) (ns : List ℕ) (old mid new : Arms) → Grows f0 f1
     → ArmsTyped g f0 names union arms old → EntersArm f0 (out-Arm a).line (out-Arm a).tags old mid names inner → AllTyped g f1 inner (out-Arm a).results ts ns → Keeps ts ns mid new
     → ArmsTyped g f1 names union (arms ++ (a ∷ [])) new
@@ -156,7 +167,7 @@ arm_typed g f0 f1 names inner union arms a ts ns old mid new grows p enters resu
             subst (λ n. AreArms k (denotes_in g k) s n ms tys (arms ++ (a ∷ [])) new.results (tags_in (arms ++ (a ∷ [])))) (sym (keeps.name ∙ enters.name))
             (subst (λ l. AreArms k (denotes_in g k) s old.name ms tys (arms ++ (a ∷ [])) l (tags_in (arms ++ (a ∷ [])))) (sym (keeps.results ∙ ap (λ l. l ++ (ts ∷ [])) enters.results))
             (subst (λ l. AreArms k (denotes_in g k) s old.name ms tys (arms ++ (a ∷ [])) (old.results ++ (ts ∷ [])) l) (sym (tags_append arms a))
-            (arms_append k (denotes_in g k) s old.name ms tys arms old.results (tags_in arms) a content ts (q.typed tys w.0) tags (subst (λ l. AreTyped k (denotes_in g k) (with_content old.name content s) (out-Arm a).results ts l) w.1 r.typed))));
+            (arms_append k (denotes_in g k) s old.name ms tys arms old.results (tags_in arms) a content ts (q.typed tys w.0) (some_tag f0 union (length (tags_in arms)) (out-Arm a).line old.chosen (out-Arm a).tags enters.content mid.chosen given) tags (subst (λ l. AreTyped k (denotes_in g k) (with_content old.name content s) (out-Arm a).results ts l) w.1 r.typed))));
       };
 }
   where

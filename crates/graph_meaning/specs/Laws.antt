@@ -1,0 +1,94 @@
+-- The laws of a graph's meaning, of its cost, and of all orders in which it may fire.
+use Rattle.std.specs.Prelude.{◌≡◌, ℕ, ◌≤◌, List, length, Some, Contains, ◌↔◌}
+use Rattle.if1_graph.specs.declared.graph.Unit1.{Unit1}
+use Rattle.if1_graph.specs.declared.op.Simple.{Simple}
+use Rattle.if1_graph.specs.declared.row.Gives.{Gives}
+use Rattle.if1_graph.specs.declared.row.Gives.TheVariants.{One, Pair, Results, AllFields}
+use Rattle.if1_graph.specs.Formed.{IsFormed}
+use Rattle.if1_graph.specs.Rows.{row_of}
+use Rattle.if1_graph.specs.Ready.{IsReady}
+use Rattle.if1_graph.specs.Units.{Place, places, number_of}
+use Rattle.graph_meaning.specs.Carried.{Carried}
+use Rattle.graph_meaning.specs.NodeValues.{Shape, op}
+use Rattle.graph_meaning.specs.NodeValues as shape
+use Rattle.graph_meaning.specs.Entered.{cost}
+use Rattle.graph_meaning.specs.Demand.{Network, Cut, IsCut, AreOrderly, dem, tree}
+use Rattle.graph_meaning.specs.Networks.{net_of, network}
+use Rattle.graph_meaning.specs.Orders.{AreOrdersRight, HasNoLists}
+use Rattle.graph_meaning.specs.Histories.{Run, Cost, IsConfluent, IsNeverStuck}
+use Rattle.graph_meaning.specs.Growing.{Grows, IsExecution}
+
+-- the run of a graph on its inputs, where `cut` cuts the iterations of each ForAll into slices
+abbrev pub run_of : Cut → Network → ℕ → List Carried → Run
+run_of cut u g ins n = tree cut n u g ins
+
+-- the results that one depth gives are given at every greater one
+abbrev pub AreValuesStable : Type 0
+AreValuesStable = (u : Network) (g : ℕ) (ins rs : List Carried) (n m : ℕ) → n ≤ m → dem n u g ins ≡ Some rs → dem m u g ins ≡ Some rs
+
+-- so is the cost
+abbrev pub AreCostsStable : Type 0
+AreCostsStable = (cut : Cut) (u : Network) (g : ℕ) (ins : List Carried) (c n m : ℕ) → n ≤ m → cost (tree cut n u g ins) ≡ Some c → cost (tree cut m u g ins) ≡ Some c
+
+-- the tree of a greater depth shows what that of a smaller one shows, and maybe more
+abbrev pub DoTreesGrow : Type 0
+DoTreesGrow = (cut : Cut) (u : Network) (g : ℕ) (ins : List Carried) (n m : ℕ) → n ≤ m → Grows (tree cut n u g ins) (tree cut m u g ins)
+
+-- the cost is the sum of the firings of all items of a whole tree
+abbrev pub IsCostTheSum : Type 0
+IsCostTheSum = (cut : Cut) (u : Network) (g : ℕ) (ins : List Carried) (c : ℕ) → Cost (run_of cut u g ins) c ↔ ((n : ℕ) × (cost (tree cut n u g ins) ≡ Some c))
+
+-- it is the same however the iterations are cut into slices
+abbrev pub IsCostOfAnyCut : Type 0
+IsCostOfAnyCut = (cut other : Cut) (u : Network) (g : ℕ) (ins : List Carried) (n : ℕ) → IsCut cut → IsCut other → cost (tree cut n u g ins) ≡ cost (tree other n u g ins)
+
+-- in graphs without a cycle, where the cost is defined the results are too
+abbrev pub IsMeantWhereCosted : Type 0
+IsMeantWhereCosted = (cut : Cut) (u : Network) (g : ℕ) (ins : List Carried) (c n : ℕ) → IsCut cut → AreOrderly u → cost (tree cut n u g ins) ≡ Some c → (rs : List Carried) × (dem n u g ins ≡ Some rs)
+
+-- every legal complete history of every execution ends alike, and none is stuck
+abbrev pub AreExecutionsConfluent : Type 0
+AreExecutionsConfluent = (run : Run) (limit : ℕ) → IsExecution run → IsConfluent run limit
+
+abbrev pub AreExecutionsNeverStuck : Type 0
+AreExecutionsNeverStuck = (run : Run) (limit : ℕ) → IsExecution run → IsNeverStuck run limit
+
+-- so it is with every graph without a cycle, on every inputs, with every limit and every cut
+abbrev pub AreRunsConfluent : Type 0
+AreRunsConfluent = (cut : Cut) (u : Network) (g : ℕ) (ins : List Carried) (limit : ℕ) → IsCut cut → AreOrderly u → IsConfluent (run_of cut u g ins) limit
+
+abbrev pub AreRunsNeverStuck : Type 0
+AreRunsNeverStuck = (cut : Cut) (u : Network) (g : ℕ) (ins : List Carried) (limit : ℕ) → IsCut cut → AreOrderly u → IsNeverStuck (run_of cut u g ins) limit
+
+-- the graphs of a ready unit whose ordering lists close no cycle are such graphs
+abbrev pub AreUnitsOrderly : Type 0
+AreUnitsOrderly = (u : Unit1) → IsReady u → AreOrdersRight u → AreOrderly (network u)
+
+-- the laws for each graph of such a unit, which is entered by its number
+pub record HasOneEnd (cut : Cut) (u : Unit1) (g : ℕ) (ins : List Carried) (limit : ℕ) : Type 0 where
+  pub meant : (c n : ℕ) → cost (tree cut n (network u) g ins) ≡ Some c → (rs : List Carried) × (dem n (network u) g ins ≡ Some rs)
+  pub confluent : IsConfluent (run_of cut (network u) g ins) limit
+  pub never_stuck : IsNeverStuck (run_of cut (network u) g ins) limit
+
+abbrev pub HaveUnitsOneEnd : Type 0
+HaveUnitsOneEnd = (cut : Cut) (u : Unit1) (g : ℕ) (ins : List Carried) (limit : ℕ) → IsCut cut → IsReady u → AreOrdersRight u → HasOneEnd cut u g ins limit
+
+-- without ordering lists a ready unit is such a unit, since no node reaches itself
+abbrev pub AreOrdersRightWithoutLists : Type 0
+AreOrdersRightWithoutLists = (u : Unit1) → IsReady u → HasNoLists u → AreOrdersRight u
+
+-- in a formed unit the graph of a number is the graph that has it
+abbrev pub AreFoundByNumber : Type 0
+AreFoundByNumber = (u : Unit1) → IsFormed u → (p : Place) → Contains (places u) p → network u (number_of p) ≡ net_of u p.graph
+
+-- how many outputs a row of the table gives
+abbrev pub outputs_by : Gives → Shape → ℕ
+outputs_by (One a) s = 1
+outputs_by (Pair a b) s = 2
+outputs_by Results s = 0
+outputs_by AllFields (shape.Fields n) = n
+outputs_by AllFields _ = 0
+
+-- a simple node other than a call has as many outputs as its row says
+abbrev pub AreOutputsCounted : Type 0
+AreOutputsCounted = (o : Simple) (s : Shape) (cs : List Carried) → length (op o s cs) ≡ outputs_by (row_of o).gives s

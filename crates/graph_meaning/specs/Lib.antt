@@ -1,0 +1,10 @@
+pub mod Carried
+pub mod Demand
+pub mod Entered
+pub mod Forms
+pub mod Growing
+pub mod Histories
+pub mod Laws
+pub mod Networks
+pub mod NodeValues
+pub mod Orders

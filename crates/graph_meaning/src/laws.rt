@@ -1,0 +1,77 @@
+//! The laws of a graph's meaning, of its cost, and of its histories.
+ghost use Rattle.graph_meaning.specs.Laws.{AreValuesStable, AreCostsStable, DoTreesGrow, IsCostTheSum, IsCostOfAnyCut, IsMeantWhereCosted, AreExecutionsConfluent, AreExecutionsNeverStuck, AreRunsConfluent, AreRunsNeverStuck, AreUnitsOrderly, HaveUnitsOneEnd, AreOrdersRightWithoutLists, AreFoundByNumber, AreOutputsCounted};
+
+/// The results of a graph that one depth gives are given at every greater one.
+pub fn values_are_stable()
+    ensures { AreValuesStable }
+{}
+
+/// The cost that one depth gives is given at every greater one.
+pub fn costs_are_stable()
+    ensures { AreCostsStable }
+{}
+
+/// The tree of entered graphs at a greater depth shows what that of a smaller one shows.
+pub fn trees_grow()
+    ensures { DoTreesGrow }
+{}
+
+/// The cost is the sum of the firings of all items of the tree.
+pub fn the_cost_is_the_sum()
+    ensures { IsCostTheSum }
+{}
+
+/// The cost is the same however iterations are cut into slices.
+pub fn the_cost_is_of_any_cut()
+    ensures { IsCostOfAnyCut }
+{}
+
+/// In graphs without a cycle, where the cost is defined the results are given.
+pub fn values_are_given_where_the_cost_is()
+    ensures { IsMeantWhereCosted }
+{}
+
+/// Every legal complete history of an execution ends alike, unless memory is wanting.
+pub fn executions_are_confluent()
+    ensures { AreExecutionsConfluent }
+{}
+
+/// While an execution has not ended and nothing claimed is unfinished, some item can be claimed.
+pub fn executions_are_never_stuck()
+    ensures { AreExecutionsNeverStuck }
+{}
+
+/// The run of a graph without a cycle ends alike in each order of its firings.
+pub fn runs_are_confluent()
+    ensures { AreRunsConfluent }
+{}
+
+/// The run of a graph without a cycle is never stuck.
+pub fn runs_are_never_stuck()
+    ensures { AreRunsNeverStuck }
+{}
+
+/// The graphs of a ready unit whose ordering lists close no cycle have no cycle.
+pub fn ready_units_are_orderly()
+    ensures { AreUnitsOrderly }
+{}
+
+/// The run of each graph of such a unit ends alike in each order of its firings, and is never stuck.
+pub fn ready_units_have_one_end()
+    ensures { HaveUnitsOneEnd }
+{}
+
+/// In a ready unit without ordering lists the order of nodes is right.
+pub fn orders_are_right_without_lists()
+    ensures { AreOrdersRightWithoutLists }
+{}
+
+/// In a formed unit the graph of a number is the graph that has it.
+pub fn graphs_are_found_by_number()
+    ensures { AreFoundByNumber }
+{}
+
+/// A simple node other than a call has as many outputs as its row of the table says.
+pub fn outputs_are_counted()
+    ensures { AreOutputsCounted }
+{}
