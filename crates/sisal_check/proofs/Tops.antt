@@ -41,7 +41,7 @@ use Rattle.sisal_check.specs.declared.state.Given.{Given}
 use Rattle.sisal_check.specs.Headed.{Head, head_at, head_in}
 use Rattle.sisal_check.specs.Texts.{IsText}
 use Rattle.sisal_check.specs.Walked as walked
-use Rattle.sisal_check.specs.Walked.{header_of, given_behind, IsBodyOf, AreBodies, no_body, a_body, IsBrokenAt, IsBrokenAmong}
+use Rattle.sisal_check.specs.Walked.{header_of, given_behind, given_of, IsBodyOf, AreBodies, no_body, a_body, IsBrokenAt, IsBrokenAmong}
 
 -- ---- what is said of functions is so in a larger table
 
@@ -219,3 +219,18 @@ module _ (u : tree.Unit) (f0 : List Form) (named numbers : List (ℕ × ℕ)) (h
       let kind : slice_get (map (λ d. d.function.kind) (given d.functions)) b.place ≡ Some (fun.Defined at.exprs) =
       ap (λ l. slice_get l b.place) kinds ∙ map_at (λ f. f.kind) (given_functions u.items) b.place b.function b.there ∙ ap Some at.is in
       broken_at u d.functions headers named numbers f1 r.is_table (standing_at f1 r.used.standing) text said numbered distinct g same_given d.declares s at.exprs b.place rule line there kind r.holds
+
+-- the same, of the items that the walk goes over
+pub program_of : {g : Given} (f1 : List Form) (items : List Item) (fs : List Function) → AreBodies g f1 (map (λ f. f.kind) (given_functions items)) g.functions.now fs
+    → (u : tree.Unit) (f0 : List Form) (named numbers : List (ℕ × ℕ)) (headers : List Numbered) (defines : List ℕ) → IsGivenOf g u named numbers headers → IsDeclared u f0 named headers defines → IsText u
+    → numbers ≡ numbering 0 [] (map (λ s. s.name) headers) → AreDistinct (map (λ s. s.name) headers) → items ≡ u.items → IsUsedIn (given_of g) f0 f1 → IsTable f1 → map head_at fs ≡ map head_in headers
+    → IsTyped u (record { names = u.tokens.names; types = f1; functions = fs; defines = defines })
+program_of {g} f1 items fs bodies u f0 named numbers headers defines is d text numbered distinct same used table heads =
+    is_program u f0 named numbers headers defines g is d text numbered distinct f1 fs g.known used table
+    (subst (λ l. AreBodies g f1 (map (λ f. f.kind) (given_functions l)) headers fs) same (subst (λ l. AreBodies g f1 (map (λ f. f.kind) (given_functions items)) l fs) is.functions bodies)) heads
+
+pub unit_breaks : {g : Given} (rule line : ℕ) (items : List Item) (f0 : List Form) → IsBrokenAmong g f0 (given_functions items) rule line
+    → (u : tree.Unit) (named numbers : List (ℕ × ℕ)) (headers : List Numbered) (defines : List ℕ) → IsGivenOf g u named numbers headers → IsDeclared u f0 named headers defines → IsText u
+    → numbers ≡ numbering 0 [] (map (λ s. s.name) headers) → AreDistinct (map (λ s. s.name) headers) → items ≡ u.items → BreaksUnit u rule line
+unit_breaks {g} rule line items f0 b u named numbers headers defines is d text numbered distinct same =
+    breaks_unit u f0 named numbers headers defines g is d text numbered distinct rule line (subst (λ l. IsBrokenAmong g f0 (given_functions l) rule line) same b)
