@@ -1,6 +1,6 @@
 -- The functions of a program one after another: what they give, and what they break.
 use Rattle.std.proofs.Common.{◌≡◌, ℕ, zero, suc, List, [], ◌∷◌, ◌++◌, length, map, take, drop, slice_get, Option, Some, None, refl, sym, ap, subst, ◌∙◌, append_assoc}
-use Rattle.std.proofs.lemmas.List.{length-map}
+use Rattle.std.proofs.lemmas.List.{append-nil, length-map, map-append}
 use Rattle.type_table.specs.declared.form.Form.{Form}
 use Rattle.sisal_tree.specs.declared.expr.Expr.{Expr}
 use Rattle.sisal_tree.specs.declared.unit.FunDef.{FunDef}
@@ -93,6 +93,11 @@ given_append [] ys = refl
 given_append (x ∷ xs) ys =
     given_cons x (xs ++ ys) ∙ ap (λ l. given_by x ++ l) (given_append xs ys) ∙ sym (append_assoc (given_by x) (given_functions xs) (given_functions ys))
     ∙ ap (λ l. l ++ given_functions ys) (sym (given_cons x xs))
+
+pub kinds_more : (before : List Item) (x : Item) → map (λ f. f.kind) (given_functions before) ++ map (λ f. f.kind) (given_by x) ≡ map (λ f. f.kind) (given_functions (before ++ x ∷ []))
+kinds_more before x =
+    sym (map-append (λ f. f.kind) (given_functions before) (given_by x))
+    ∙ ap (map (λ f. f.kind)) (sym (given_append before (x ∷ []) ∙ ap (λ l. given_functions before ++ l) (given_cons x [] ∙ append-nil (given_by x))))
 
 behind : {A : Type 0} (xs : List A) (y : A) (ys : List A) → slice_get (xs ++ y ∷ ys) (length xs) ≡ Some y
 behind [] y ys = refl
