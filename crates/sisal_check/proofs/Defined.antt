@@ -2,7 +2,8 @@
 use Rattle.std.proofs.Common.{◌≡◌, ℕ, zero, suc, ◌+◌, ◌<◌, ◌≤◌, ltb, Bool, true, false, nat_eq, List, [], ◌∷◌, ◌++◌, drop, length, get_or, slice_get, Option, Some, None, refl, sym, ap, subst, ◌∙◌, arith}
 use Rattle.std.specs.Prelude.{if◌then◌else◌}
 use Rattle.std.proofs.lemmas.Bool.{ltb-true}
-use Rattle.std.proofs.lemmas.Option.{same_Some}
+use Rattle.std.proofs.lemmas.List.{drop_all}
+use Rattle.std.proofs.lemmas.Option.{same_Some, slice_get_within, slice_get-get_or}
 use Rattle.name_scope.specs.Newest.{newest}
 use Rattle.type_table.specs.declared.form.Form.{Form}
 use Rattle.sisal_tree.specs.declared.unit.Named.{Named}
@@ -20,8 +21,8 @@ use Rattle.type_table.specs.Tables.{IsTable}
 use Rattle.type_rules.proofs.Lists.{cut}
 use Rattle.typing_laws.specs.Turns.{IsInTurn, loop_names}
 use Rattle.typing_laws.specs.Defining.{IsDeclaredAs, AreDeclaredAs, IsKept, AreKept, KeepsTurn}
-use Rattle.typing_laws.proofs.Later.{denoted_later}
-use Rattle.breaking_laws.proofs.PDefs.{newest_append, newest_outside, loop_found, retyped_refused, one_target_refused}
+use Rattle.typing_laws.proofs.Later.{denoted_later, grows_on}
+use Rattle.breaking_laws.proofs.PDefs.{newest_append, newest_outside, loop_found, retyped_refused, one_target_refused, count_refused}
 
 -- ---- declared types
 
@@ -101,15 +102,41 @@ pub target_fails : (g : Given) (f0 f1 : List Form) (names now : Names) (turn : O
 target_fails g f0 f1 names now turn at xs ns i x n rule line used same here numbered p =
     one_target_refused g f0 f1 names turn at xs ns i x n rule line used here numbered (subst (λ m. BrokenTargets g f1 m turn at (x ∷ []) (n ∷ []) rule line) same p)
 
+pub count_fails : (g : Given) (f : List Form) (names : Names) (turn : Option ℕ) (at from : ℕ) (xs : List Target) (ns : List ℕ) → IsTable f → at ≡ from → (length ns ≡ length xs → ⊥)
+    → BrokenTargets g f names turn from xs ns 14 at
+count_fails g f names turn at from xs ns table same differ = subst (λ l. BrokenTargets g f names turn from xs ns 14 l) (sym same) (count_refused g f names turn from xs ns table differ)
+
 -- ---- one more target
 
-pub declared_more : (g : Given) (f : List Form) (xs : List Target) (ns : List ℕ) (i : ℕ) (x : Target) (n : ℕ) → i < length xs → x ≡ get_or xs i x → i < length ns → n ≡ get_or ns i n → IsDeclaredAs g f x.ty n
-    → AreDeclaredAs g f (drop (i + 1) xs) (drop (i + 1) ns) → AreDeclaredAs g f (drop i xs) (drop i ns)
-declared_more g f xs ns i x n lx ix ln is p q =
-    subst (λ l. AreDeclaredAs g f l (drop i ns)) (sym (cut xs i x x lx ix)) (subst (λ l. AreDeclaredAs g f (x ∷ drop (i + 1) xs) l) (sym (cut ns i n n ln is)) (p, q))
+-- the item at a place, and those behind it
+pub cut_at : {A : Type 0} (xs : List A) (i : ℕ) (x : A) → slice_get xs i ≡ Some x → drop i xs ≡ x ∷ drop (i + 1) xs
+cut_at xs i x here =
+    let within : i < length xs = slice_get_within xs i x here in
+    cut xs i x x within (same_Some x (get_or xs i x) (sym here ∙ slice_get-get_or xs i x within))
 
-pub kept_more : (turn : Option ℕ) (names : Names) (xs : List Target) (ns : List ℕ) (i : ℕ) (x : Target) (n : ℕ) → i < length xs → x ≡ get_or xs i x → i < length ns → n ≡ get_or ns i n
-    → KeepsTurn turn names (x.name.name ∷ []) (n ∷ []) → KeepsTurn turn names (names_in (drop (i + 1) xs)) (drop (i + 1) ns) → KeepsTurn turn names (names_in (drop i xs)) (drop i ns)
-kept_more turn names xs ns i x n lx ix ln is p q =
-    subst (λ l. KeepsTurn turn names (names_in l) (drop i ns)) (sym (cut xs i x x lx ix)) (subst (λ l. KeepsTurn turn names (names_in (x ∷ drop (i + 1) xs)) l) (sym (cut ns i n n ln is))
-    (keeps_both turn names x.name.name n (names_in (drop (i + 1) xs)) (drop (i + 1) ns) p q))
+pub declared_on : (g : Given) (f1 f2 : List Form) (xs : List Target) (ns : List ℕ) (i : ℕ) (x : Target) (n : ℕ) → IsUsedIn g f1 f2 → slice_get xs i ≡ Some x → slice_get ns i ≡ Some n → IsDeclaredAs g f2 x.ty n
+    → ((t : List Form) → Grows f1 t → AreDeclaredAs g t (drop i xs) (drop i ns) → AreDeclaredAs g t xs ns)
+    → (t : List Form) → Grows f2 t → AreDeclaredAs g t (drop (i + 1) xs) (drop (i + 1) ns) → AreDeclaredAs g t xs ns
+declared_on g f1 f2 xs ns i x n used here numbered p all t grows q =
+    all t (grows_on f1 f2 t used.grows grows)
+    (subst (λ l. AreDeclaredAs g t l (drop i ns)) (sym (cut_at xs i x here))
+    (subst (λ l. AreDeclaredAs g t (x ∷ drop (i + 1) xs) l) (sym (cut_at ns i n numbered)) (declared_later g f2 t x.ty n grows p, q)))
+
+pub kept_on : (turn : Option ℕ) (names now : Names) (xs : List Target) (ns : List ℕ) (i : ℕ) (x : Target) (n : ℕ) → now ≡ names → slice_get xs i ≡ Some x → slice_get ns i ≡ Some n
+    → KeepsTurn turn now (x.name.name ∷ []) (n ∷ []) → (KeepsTurn turn names (names_in (drop i xs)) (drop i ns) → KeepsTurn turn names (names_in xs) ns)
+    → KeepsTurn turn names (names_in (drop (i + 1) xs)) (drop (i + 1) ns) → KeepsTurn turn names (names_in xs) ns
+kept_on turn names now xs ns i x n same here numbered p all q =
+    all (subst (λ l. KeepsTurn turn names (names_in l) (drop i ns)) (sym (cut_at xs i x here))
+    (subst (λ l. KeepsTurn turn names (names_in (x ∷ drop (i + 1) xs)) l) (sym (cut_at ns i n numbered))
+    (keeps_both turn names x.name.name n (names_in (drop (i + 1) xs)) (drop (i + 1) ns) (subst (λ m. KeepsTurn turn m (x.name.name ∷ []) (n ∷ [])) same p) q)))
+
+-- ---- no more targets, or values
+
+pub declared_all : (g : Given) (f : List Form) (xs : List Target) (ns : List ℕ) (i : ℕ) → length xs ≤ i → AreDeclaredAs g f (drop i xs) (drop i ns)
+declared_all g f xs ns i done = subst (λ l. AreDeclaredAs g f l (drop i ns)) (sym (drop_all i xs done)) tt
+
+pub declared_out : (g : Given) (f : List Form) (xs : List Target) (ns : List ℕ) (i : ℕ) → length ns ≤ i → AreDeclaredAs g f (drop i xs) (drop i ns)
+declared_out g f xs ns i done = subst (λ l. AreDeclaredAs g f (drop i xs) l) (sym (drop_all i ns done)) (none_declared g f (drop i xs))
+
+pub kept_out : (turn : Option ℕ) (names : Names) (xs : List Target) (ns : List ℕ) (i : ℕ) → length ns ≤ i → KeepsTurn turn names (names_in (drop i xs)) (drop i ns)
+kept_out turn names xs ns i done = subst (λ l. KeepsTurn turn names (names_in (drop i xs)) l) (sym (drop_all i ns done)) (keeps_none turn names (names_in (drop i xs)))

@@ -6,3 +6,4 @@ pub mod Defined
 pub mod Turned
 pub mod Parts
 pub mod Looped
+mod Tops

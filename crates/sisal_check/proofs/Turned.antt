@@ -75,3 +75,16 @@ renewed_is first loop_xs ts all [] s below = refl
 renewed_is first loop_xs ts all (x ∷ xs) s below =
     ap (λ o. place_from first o ∷ map (λ t. place_in_loop first t.name (in_turn (loop_names first loop_xs ts) all s)) xs) (loop_is first loop_xs ts s.olds x.name below)
     ∙ ap (λ l. place_from first (newest x.name (loop_names first loop_xs ts)) ∷ l) (renewed_is first loop_xs ts all xs s below)
+
+-- ---- the beginning of a turn
+
+pub begun : (first : ℕ) (loop_xs loop_ys xs ys : List Named) (ts us : List ℕ) (old new : Names) → new ≡ not_yet first ys (under_old first loop_ys us old) → loop_ys ≡ loop_xs → us ≡ ts → ys ≡ xs
+    → new ≡ not_yet first xs (under_old first loop_xs ts old)
+begun first loop_xs loop_ys xs ys ts us old new e p q r =
+    e ∙ ap (λ l. not_yet first ys (under_old first l us old)) p ∙ ap (λ l. not_yet first ys (under_old first loop_xs l old)) q ∙ ap (λ l. not_yet first l (under_old first loop_xs ts old)) r
+
+pub places_are : (first : ℕ) (loop_xs xs ys : List Named) (ts : List ℕ) (old new : Names) (places : List (Option ℕ)) → new ≡ not_yet first xs (under_old first loop_xs ts old) → ys ≡ xs
+    → places ≡ map (λ t. place_in_loop first t.name new) ys → AreBelow first old.olds → places ≡ renewals first (loop_names first loop_xs ts) xs
+places_are first loop_xs xs ys ts old new places is same e below =
+    e ∙ ap (λ s. map (λ t. place_in_loop first t.name s) ys) (is ∙ begun_is first loop_xs ts xs old below) ∙ ap (map (λ t. place_in_loop first t.name (in_turn (loop_names first loop_xs ts) xs old))) same
+    ∙ renewed_is first loop_xs ts xs xs old below

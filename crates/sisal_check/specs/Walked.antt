@@ -20,6 +20,7 @@ use Rattle.type_rules.specs.declared.head.Head.TheVariants as head
 use Rattle.unit_types.specs.declared.header.Signature.{Signature}
 use Rattle.value_names.specs.Names.{Names}
 use Rattle.typing_laws.specs.Given as by
+use Rattle.breaking_laws.specs.Parts.{Differs}
 use Rattle.typing_laws.specs.Bodies.{parameters_in}
 use Rattle.typing_laws.specs.Defining.{AllDefined}
 use Rattle.typing_laws.specs.Forming.{AreFound}
@@ -114,6 +115,15 @@ pub record IsInitial (forms : List Form) (line : ℕ) (cs : List Clause) (starte
   pub folds : by.Folds
   pub made : AllMade forms cs true values.types folds
   pub is : t ≡ initial_of line started turned values.exprs folds
+
+-- ---- `tagcase`
+
+-- results of `otherwise` that differ from those of the first arm, where the arms are not even any more
+pub record DiffersIn (g : by.Given) (forms : List Form) (names : Names) (es : List Expr) (old new : by.Arms) : Type 0 where
+  pub exprs : List TypedExpr
+  pub types : List ℕ
+  pub typed : AllTyped g forms names es exprs types
+  pub differs : Differs types old new
 
 -- ---- functions
 

@@ -2,7 +2,7 @@
 ghost use Rattle.breaking_laws.specs.Broken.{Broken, BrokenIn};
 ghost use Rattle.breaking_laws.specs.Parts.{AddsResults, BrokenArms, Differs, IsNoArm, IsNoUnion};
 ghost use Rattle.breaking_laws.specs.Refusals.{Never};
-ghost use Rattle.sisal_check.specs.Walked.{arms_of, given_of, parts_of};
+ghost use Rattle.sisal_check.specs.Walked.{DiffersIn, arms_of, given_of, parts_of};
 ghost use Rattle.std.specs.Prelude.{IfErr, IfOk, OnOk, [], false, true, ◌∷◌, ◌≡◌};
 ghost use Rattle.type_rules.specs.Arms.{are_all_named};
 ghost use Rattle.type_rules.specs.Faults.{IsRule};
@@ -141,6 +141,7 @@ fn last(es: &[Expr], done: &mut Arms, given: &Given<'_>, walk: &mut Walk) -> Res
     ensures used { OnOk result (IsUsedIn (given_of given.now) walk.old.types walk.new.types) }
     ensures names { OnOk result (walk.new.names ≡ walk.old.names) }
     ensures adds { OnOk result (AddsLast (given_of given.now) walk.new.types walk.old.names es.now (arms_of done.old) (arms_of done.new)) }
+    ensures uneven { OnOk result (DiffersIn (given_of given.now) walk.new.types walk.old.names es.now (arms_of done.old) (arms_of done.new)) }
     ensures breaks { IfErr result (IsRule (λ rule at_line. BrokenIn (given_of given.now) walk.old.types walk.old.names es.now rule at_line)) }
 {
     let results = all(es, given, walk)?;

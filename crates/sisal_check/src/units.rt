@@ -1,6 +1,9 @@
 //! Units.
-ghost use Rattle.sisal_check.specs.Checked.{Checked};
-ghost use Rattle.std.specs.Prelude.{IfOk};
+ghost use Rattle.std.specs.Prelude.{IfErr, IfOk};
+ghost use Rattle.sisal_check.specs.Texts.{IsText};
+ghost use Rattle.type_rules.specs.Faults.{IsRule};
+ghost use Rattle.typed_tree.specs.Faults.{BreaksUnit};
+ghost use Rattle.typed_tree.specs.Units.{IsTyped};
 
 use crate::bodies::functions;
 use crate::state::{Given, Walk};
@@ -14,7 +17,8 @@ use value_names::InForce;
 /// The typed program of a unit, or the first rule that it breaks with the line: SISAL Language
 /// Reference Manual 1.2, types, scope and programs.
 pub fn check(alloc: Global, unit: Unit) -> Result<Program, TypeFault>
-    ensures checked { IfOk result (λ p. Checked unit p) }
+    ensures typed { IfOk result (λ p. IsText unit → IsTyped unit p) }
+    ensures breaks { IfErr result (IsRule (λ rule line. IsText unit → BreaksUnit unit rule line)) }
 {
     let Declared {
         types,
@@ -38,6 +42,7 @@ pub fn check(alloc: Global, unit: Unit) -> Result<Program, TypeFault>
         known: 0,
     };
     let functions = functions(items.as_slice(), &given, &mut walk)?;
+    walk.types.holds();
     Ok(Program {
         names: tokens.names,
         types: walk.types,

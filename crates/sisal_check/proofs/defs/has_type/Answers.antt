@@ -11,8 +11,8 @@ pub returns-in_err-declared-clause-breaks : goal.returns-in_err-declared-clause-
 returns-in_err-declared-clause-breaks c =
     passed_on c.from_residual.result c.in_err-declared.field-0.0 c.from_residual.ensures.1 _ _
     (λ rule line q. λ turn.
-        misnamed_target (given_of c.args.given.now) c.args.walk.now.types c.args.walk.now.names turn c.args.line c.args.target c.in-Some.written c.args.ty rule line c.in-Some.is
-        (written_misnamed (given_of c.args.given.now) c.args.walk.now.types c.in-Some.written rule line c.holds.ensures q))
+    misnamed_target (given_of c.args.given.now) c.args.walk.now.types c.args.walk.now.names turn c.args.line c.args.target c.in-Some.written c.args.ty rule line c.in-Some.is
+    (written_misnamed (given_of c.args.given.now) c.args.walk.now.types c.in-Some.written rule line c.holds.ensures q))
     c.in_err-declared.ensures.misnames
 
 pub returns-then-declared-ty-clause-breaks : goal.returns-then-declared-ty-clause-breaks

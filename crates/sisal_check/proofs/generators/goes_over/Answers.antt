@@ -1,5 +1,5 @@
 use Rattle.std.proofs.Common.{arith}
-use Rattle.std.proofs.lemmas.Result.{IfOk-weaker}
+use Rattle.unit_types.proofs.Lists.{if_ok_weaker}
 use Rattle.breaking_laws.specs.Parts.{no_elements}
 use Rattle.typing_laws.specs.Looping.{over_elements}
 use Rattle.sisal_check.proofs.Parts.{one_item}
@@ -7,7 +7,7 @@ use Rattle.sisal_check.proofs.Forms.{faults_weaker}
 use Rattle.sisal_check.proofs.generators.goes_over.Goals as goal
 
 pub returns-in-len1-clause-over : goal.returns-in-len1-clause-over
-returns-in-len1-clause-over c = IfOk-weaker c.elements.result (λ r p. over_elements _ (one_item c.args.bounds.now c.in-len1.len_at_least c.in-len1.len_below) p) c.elements.ensures.element
+returns-in-len1-clause-over c = if_ok_weaker c.elements.result (λ r p. over_elements _ (one_item c.args.bounds.now c.in-len1.len_at_least c.in-len1.len_below) p) c.elements.ensures.element
 
 pub returns-in-len1-clause-breaks : goal.returns-in-len1-clause-breaks
 returns-in-len1-clause-breaks c =

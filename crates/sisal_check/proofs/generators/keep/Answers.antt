@@ -17,9 +17,10 @@ returns-in_err-add-2-clause-front c =
     (c.args.name ∷ index_names c.args.at c.args.name.line, ap (λ l. l ++ (c.args.name ∷ index_names c.args.at c.args.name.line)) (sym c.in_err-add-2.ensures.err))
 
 pub returns-in_err-add-3-clause-front : goal.returns-in_err-add-3-clause-front
-returns-in_err-add-3-clause-front c =
-    (index_names c.args.at c.args.name.line,
-    sym (append_assoc c.args.made.now.names (c.args.name ∷ []) (index_names c.args.at c.args.name.line)) ∙ ap (λ l. l ++ index_names c.args.at c.args.name.line) (sym c.in_ok-add-2.ensures.ok))
+returns-in_err-add-3-clause-front c = (
+  index_names c.args.at c.args.name.line,
+  sym (append_assoc c.args.made.now.names (c.args.name ∷ []) (index_names c.args.at c.args.name.line)) ∙ ap (λ l. l ++ index_names c.args.at c.args.name.line) (sym c.in_ok-add-2.ensures.ok),
+)
 
 pub returns-clause-keeps : goal.returns-clause-keeps
 returns-clause-keeps c = record {
