@@ -1,14 +1,28 @@
-use Rattle.std.proofs.Common.{◌≡◌, ◌+◌, ◌∷◌, ◌++◌, map, drop, take, ap, subst, ◌∙◌}
+use Rattle.std.proofs.Common.{◌≡◌, ◌+◌, [], ◌∷◌, ◌++◌, map, drop, take, refl, sym, ap, subst, ◌∙◌}
 use Rattle.unit_types.specs.Headings.{has_body, given_by, given_functions}
 use Rattle.unit_types.proofs.Lists.{cut_at}
 use Rattle.unit_types.proofs.Given.{more_given}
-use Rattle.typing_laws.proofs.Later.{used_on}
+use Rattle.typing_laws.proofs.Later.{used_on, used_same}
 use Rattle.typing_laws.proofs.Walking.{taken}
-use Rattle.sisal_check.specs.Headed.{is_defined}
-use Rattle.sisal_check.specs.Walked.{AreBodies, given_of}
+use Rattle.sisal_check.specs.Headed.{HaveFirst, is_defined}
+use Rattle.sisal_check.specs.Walked.{AreBodies, no_body, given_of}
 use Rattle.sisal_check.proofs.Forms.{passed_on}
 use Rattle.sisal_check.proofs.Functions.{broken_next, kinds_more}
 use Rattle.sisal_check.proofs.bodies.functions.Goals as goal
+
+pub loop-item-init : goal.loop-item-init
+loop-item-init c =
+    let g = c.args.given.now in
+    let headers = g.functions.now in
+    let all = map (λ f. has_body f.kind) (given_functions c.args.items.now) in
+    let none = sym c.new-all.ensures in
+    record {
+      heads = subst (λ l. HaveFirst headers l) none refl;
+      bodies = subst (λ l. map is_defined l ++ all ≡ all) none refl;
+      used = used_same (given_of g) c.args.walk.now.types;
+      names = refl;
+      typed = λ no. subst (λ l. AreBodies g c.args.walk.now.types [] headers l) none no_body;
+    }
 
 pub loop-item-preserved : goal.loop-item-preserved
 loop-item-preserved c =
@@ -41,6 +55,3 @@ returns-in_err-add_item-clause-breaks c = λ none.
     passed_on c.from_residual.result c.in_err-add_item.field-0.0 c.from_residual.ensures.1 _ _
     (λ rule line q. broken_next c.args.given.now c.args.walk.now.types c.loop-item.walk.types items i x (drop (i + 1) items) q.0 c.loop-item.all rule line kept.used
     (cut_at items i x c.loop-item-test.true c.item-item.is) (kept.typed none) q.1 q.2) (c.in_err-add_item.ensures.breaks (kept.names ∙ none))
-
-pub loop-item-init : goal.loop-item-init
-loop-item-init c = ?
