@@ -1,5 +1,5 @@
 -- The functions of a program one after another: what they give, and what they break.
-use Rattle.std.proofs.Common.{◌≡◌, ℕ, zero, suc, List, [], ◌∷◌, ◌++◌, length, map, take, drop, slice_get, Option, Some, None, refl, sym, ap, subst, ◌∙◌, append_assoc}
+use Rattle.std.proofs.Common.{◌≡◌, ℕ, zero, suc, List, [], ◌∷◌, ◌++◌, length, map, take, drop, slice_get, Option, Some, refl, sym, ap, subst, ◌∙◌, append_assoc}
 use Rattle.std.proofs.lemmas.List.{append-nil, length-map, map-append}
 use Rattle.type_table.specs.declared.form.Form.{Form}
 use Rattle.sisal_tree.specs.declared.expr.Expr.{Expr}
@@ -17,17 +17,17 @@ use Rattle.unit_types.proofs.Given.{given_cons}
 use Rattle.value_names.specs.declared.in_force.Mark.{Mark}
 use Rattle.value_names.specs.declared.value.Meaning.TheVariants as means
 use Rattle.value_names.specs.Names.{Names}
-use Rattle.value_names.specs.Scopes.{define, left, mark_of, no_names}
+use Rattle.value_names.specs.Scopes.{define, left, mark_of}
 use Rattle.typing_laws.specs.Given as by
 use Rattle.typing_laws.specs.Bodies.{define_params, parameters_in}
-use Rattle.typing_laws.specs.Judged.{AllTyped, IsAbove, IsUsedIn}
+use Rattle.typing_laws.specs.Judged.{IsAbove, IsUsedIn}
 use Rattle.typing_laws.proofs.Entering.{above_on, same_above}
 use Rattle.typing_laws.proofs.Later.{all_later}
 use Rattle.typing_laws.proofs.Walking.{let_left}
 use Rattle.breaking_laws.specs.FormLaws.{BreaksBodyAt}
 use Rattle.breaking_laws.proofs.FPassing.{reach_later}
 use Rattle.sisal_check.specs.declared.state.Given.{Given}
-use Rattle.sisal_check.specs.Walked.{IsBody, IsBodyOf, global, defined, AreBodies, no_body, a_body, IsBrokenAt, IsBrokenAmong, given_behind, given_of, header_of}
+use Rattle.sisal_check.specs.Walked.{IsBodyOf, global, defined, AreBodies, no_body, a_body, IsBrokenAt, IsBrokenAmong, given_behind, given_of, header_of}
 
 -- ---- parameters
 
