@@ -49,7 +49,8 @@ said_on : (u : tree.Unit) (f0 f1 : List Form) (named : List (ℕ × ℕ)) → Is
 said_on u f0 f1 named grown [] [] p = tt
 said_on u f0 f1 named grown [] (d ∷ ds) p = absurd p
 said_on u f0 f1 named grown (s ∷ ss) [] p = absurd p
-said_on u f0 f1 named grown (s ∷ ss) (d ∷ ds) p = (record {
+said_on u f0 f1 named grown (s ∷ ss) (d ∷ ds) p = (
+  record {
     line = p.0.line;
     name = p.0.name;
     parameters = p.0.parameters;
@@ -57,7 +58,9 @@ said_on u f0 f1 named grown (s ∷ ss) (d ∷ ds) p = (record {
     results = numbers_grown f0 f1 u.tokens.names s.results d.signature.results grown p.0.results;
     within = p.0.within;
     types = known_grown f0 f1 u.tokens.names (drop (length named - s.known) named) d.types grown p.0.types;
-  }, said_on u f0 f1 named grown ss ds p.1)
+  },
+  said_on u f0 f1 named grown ss ds p.1,
+)
 
 -- the function of a header
 pub record SaidAt (u : tree.Unit) (forms : List Form) (named : List (ℕ × ℕ)) (ds : List Declared) (i : ℕ) (s : Numbered) : Type 0 where
@@ -112,9 +115,11 @@ module _ (u : tree.Unit) (ds : List Declared) (headers : List Numbered) (named n
     once = text.once;
     functions = signatures_of d.types headers (given ds) said;
     numbers = record { each = λ x n e. let q = named_by (λ s. s.name) headers numbers numbered x n e in record { header = header_of q.0; there = map_at header_of headers n q.0 q.1; named = q.2 } };
-    all = record { each = λ n h e.
-        let q = map_has header_of headers n h e in
-        subst (λ y. newest y.name numbers ≡ Some n) q.2 (number_of (λ s. s.name) headers numbers numbered distinct n q.0 q.1) };
+    all = record {
+      each = λ n h e.
+          let q = map_has header_of headers n h e in
+          subst (λ y. newest y.name numbers ≡ Some n) q.2 (number_of (λ s. s.name) headers numbers numbered distinct n q.0 q.1);
+    };
   }
 
   -- ---- a program

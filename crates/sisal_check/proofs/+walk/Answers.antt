@@ -65,7 +65,6 @@ generators::groups-one_group-requires t c =
     among_groups the_size c.args.gs.now c.loop-g.g-index c.g-item.result c.loop-g-test.true c.g-item.is in
     (omega (arith, below, c.decreases), tt)
 
-
 pub cases::each_arm-returns-in_err-one_arm-clause-breaks : goal.cases::each_arm-returns-in_err-one_arm-clause-breaks
 cases::each_arm-returns-in_err-one_arm-clause-breaks t c =
     let g = given_of c.args.given.now in
@@ -334,7 +333,7 @@ pub defs::def-returns-in_err-values-clause-breaks : goal.defs::def-returns-in_er
 defs::def-returns-in_err-values-clause-breaks t c =
     passed_on c.from_residual.result c.in_err-values.field-0.0 c.from_residual.ensures.1 _ _
     (λ rule line q. values_refused (given_of c.args.given.now) c.args.walk.now.types c.args.walk.now.names c.args.turn c.args.d.now rule line
-        (subst (λ es. BrokenIn (given_of c.args.given.now) c.args.walk.now.types c.args.walk.now.names es rule line) c.as_slice.ensures q)) c.in_err-values.ensures.breaks
+    (subst (λ es. BrokenIn (given_of c.args.given.now) c.args.walk.now.types c.args.walk.now.names es rule line) c.as_slice.ensures q)) c.in_err-values.ensures.breaks
 
 pub defs::def-returns-clause-adds : goal.defs::def-returns-clause-adds
 defs::def-returns-clause-adds t c =
