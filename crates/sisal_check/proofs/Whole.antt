@@ -1,13 +1,11 @@
 -- The functions of a program have the headers of the unit, one after another.
-use Rattle.std.proofs.Common.{◌≡◌, ℕ, zero, suc, ◌+◌, ◌≤◌, true, List, [], ◌∷◌, ◌++◌, length, map, take, slice_get, Some, All, refl, sym, ap, subst, ◌∙◌, arith}
+use Rattle.std.proofs.Common.{◌≡◌, ℕ, zero, suc, ◌+◌, ◌≤◌, List, [], ◌∷◌, ◌++◌, length, map, take, slice_get, Some, sym, ap, ◌∙◌, arith}
 use Rattle.std.proofs.lemmas.List.{length-append, length-map, map-append, take_all}
 use Rattle.sisal_tree.specs.declared.unit.Item.{Item}
-use Rattle.sisal_tree.specs.declared.unit.Unit as tree
 use Rattle.typed_tree.specs.declared.program.Function.{Function}
-use Rattle.typed_tree.specs.declared.program.Program.{Program}
 use Rattle.unit_types.specs.declared.header.Signature.{Signature}
 use Rattle.unit_types.specs.Headings.{heading_of, heading_in, has_body, given_functions}
-use Rattle.sisal_check.specs.Headed.{Head, head_in, head_at, heading, heading_at, is_defined, HaveFirst}
+use Rattle.sisal_check.specs.Headed.{head_in, head_at, is_defined, HaveFirst}
 
 take_next : {A B : Type 0} (f : A → B) (xs : List A) (n : ℕ) (x : A) → slice_get xs n ≡ Some x → take (suc n) (map f xs) ≡ take n (map f xs) ++ f x ∷ []
 take_next f [] n x h = cc
@@ -27,14 +25,6 @@ first_more headers fs gs f s at is e h =
     ∙ sym (take_next head_in headers (length fs) s at) ∙ ap (λ k. take k (map head_in headers)) (sym n)
 
 -- ---- the whole program
-
-twice : {A B C : Type 0} (g : B → C) (f : A → B) (xs : List A) → map g (map f xs) ≡ map (λ x. g (f x)) xs
-twice g f [] = refl
-twice g f (x ∷ xs) = ap (λ l. g (f x) ∷ l) (twice g f xs)
-
--- what is the same of two lists is so through any function of it
-through : {A B C D : Type 0} (g : C → D) (f : A → C) (h : B → C) (xs : List A) (ys : List B) → map f xs ≡ map h ys → map (λ x. g (f x)) xs ≡ map (λ y. g (h y)) ys
-through g f h xs ys e = sym (twice g f xs) ∙ ap (map g) e ∙ twice g h ys
 
 -- functions that have the first headers have all of them, where they are as many
 pub have_all : (items : List Item) (headers : List Signature) (fs : List Function) → HaveFirst headers fs → map is_defined fs ≡ map (λ f. has_body f.kind) (given_functions items)
