@@ -1,6 +1,6 @@
 -- The functions of a program one after another: what they give, and what they break.
-use Rattle.std.proofs.Common.{◌≡◌, ℕ, zero, suc, List, [], ◌∷◌, ◌++◌, length, map, take, drop, slice_get, Option, Some, None, refl, sym, ap, subst, ◌∙◌, append_assoc}
-use Rattle.std.proofs.lemmas.List.{length-map}
+use Rattle.std.proofs.Common.{◌≡◌, ℕ, zero, suc, List, [], ◌∷◌, ◌++◌, length, map, take, drop, slice_get, Option, Some, refl, sym, ap, subst, ◌∙◌, append_assoc}
+use Rattle.std.proofs.lemmas.List.{append-nil, length-map, map-append}
 use Rattle.type_table.specs.declared.form.Form.{Form}
 use Rattle.sisal_tree.specs.declared.expr.Expr.{Expr}
 use Rattle.sisal_tree.specs.declared.unit.FunDef.{FunDef}
@@ -17,17 +17,17 @@ use Rattle.unit_types.proofs.Given.{given_cons}
 use Rattle.value_names.specs.declared.in_force.Mark.{Mark}
 use Rattle.value_names.specs.declared.value.Meaning.TheVariants as means
 use Rattle.value_names.specs.Names.{Names}
-use Rattle.value_names.specs.Scopes.{define, left, mark_of, no_names}
+use Rattle.value_names.specs.Scopes.{define, left, mark_of}
 use Rattle.typing_laws.specs.Given as by
 use Rattle.typing_laws.specs.Bodies.{define_params, parameters_in}
-use Rattle.typing_laws.specs.Judged.{AllTyped, IsAbove, IsUsedIn}
+use Rattle.typing_laws.specs.Judged.{IsAbove, IsUsedIn}
 use Rattle.typing_laws.proofs.Entering.{above_on, same_above}
 use Rattle.typing_laws.proofs.Later.{all_later}
 use Rattle.typing_laws.proofs.Walking.{let_left}
 use Rattle.breaking_laws.specs.FormLaws.{BreaksBodyAt}
 use Rattle.breaking_laws.proofs.FPassing.{reach_later}
 use Rattle.sisal_check.specs.declared.state.Given.{Given}
-use Rattle.sisal_check.specs.Walked.{IsBody, IsBodyOf, global, defined, AreBodies, no_body, a_body, IsBrokenAt, IsBrokenAmong, given_behind, given_of, header_of}
+use Rattle.sisal_check.specs.Walked.{IsBodyOf, global, defined, AreBodies, no_body, a_body, IsBrokenAt, IsBrokenAmong, given_behind, given_of, header_of}
 
 -- ---- parameters
 
@@ -93,6 +93,11 @@ given_append [] ys = refl
 given_append (x ∷ xs) ys =
     given_cons x (xs ++ ys) ∙ ap (λ l. given_by x ++ l) (given_append xs ys) ∙ sym (append_assoc (given_by x) (given_functions xs) (given_functions ys))
     ∙ ap (λ l. l ++ given_functions ys) (sym (given_cons x xs))
+
+pub kinds_more : (before : List Item) (x : Item) → map (λ f. f.kind) (given_functions before) ++ map (λ f. f.kind) (given_by x) ≡ map (λ f. f.kind) (given_functions (before ++ x ∷ []))
+kinds_more before x =
+    sym (map-append (λ f. f.kind) (given_functions before) (given_by x))
+    ∙ ap (map (λ f. f.kind)) (sym (given_append before (x ∷ []) ∙ ap (λ l. given_functions before ++ l) (given_cons x [] ∙ append-nil (given_by x))))
 
 behind : {A : Type 0} (xs : List A) (y : A) (ys : List A) → slice_get (xs ++ y ∷ ys) (length xs) ≡ Some y
 behind [] y ys = refl

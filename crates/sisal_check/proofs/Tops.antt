@@ -31,7 +31,7 @@ use Rattle.unit_types.proofs.Numbered.{named_by, number_of}
 use Rattle.unit_types.proofs.Places.{at_place, filter_has, map_at, map_has, map_filter, map_twice}
 use Rattle.unit_types.proofs.Reading.{known_grown}
 use Rattle.typing_laws.specs.Given as by
-use Rattle.typing_laws.specs.Judged.{Agrees, AreSignatures, IsSignature}
+use Rattle.typing_laws.specs.Judged.{Agrees, AreSignatures, IsSignature, IsUsedIn}
 use Rattle.typing_laws.proofs.Bodied.{body_typed}
 use Rattle.typing_laws.proofs.Later.{grows_same}
 use Rattle.breaking_laws.specs.Broken.{IsWhole}
@@ -41,7 +41,7 @@ use Rattle.sisal_check.specs.declared.state.Given.{Given}
 use Rattle.sisal_check.specs.Headed.{Head, head_at, head_in}
 use Rattle.sisal_check.specs.Texts.{IsText}
 use Rattle.sisal_check.specs.Walked as walked
-use Rattle.sisal_check.specs.Walked.{header_of, given_behind, IsBodyOf, AreBodies, no_body, a_body, IsBrokenAt, IsBrokenAmong}
+use Rattle.sisal_check.specs.Walked.{header_of, given_behind, given_of, IsBodyOf, AreBodies, no_body, a_body, IsBrokenAt, IsBrokenAmong}
 
 -- ---- what is said of functions is so in a larger table
 
@@ -49,7 +49,8 @@ said_on : (u : tree.Unit) (f0 f1 : List Form) (named : List (ℕ × ℕ)) → Is
 said_on u f0 f1 named grown [] [] p = tt
 said_on u f0 f1 named grown [] (d ∷ ds) p = absurd p
 said_on u f0 f1 named grown (s ∷ ss) [] p = absurd p
-said_on u f0 f1 named grown (s ∷ ss) (d ∷ ds) p = (record {
+said_on u f0 f1 named grown (s ∷ ss) (d ∷ ds) p = (
+  record {
     line = p.0.line;
     name = p.0.name;
     parameters = p.0.parameters;
@@ -57,7 +58,9 @@ said_on u f0 f1 named grown (s ∷ ss) (d ∷ ds) p = (record {
     results = numbers_grown f0 f1 u.tokens.names s.results d.signature.results grown p.0.results;
     within = p.0.within;
     types = known_grown f0 f1 u.tokens.names (drop (length named - s.known) named) d.types grown p.0.types;
-  }, said_on u f0 f1 named grown ss ds p.1)
+  },
+  said_on u f0 f1 named grown ss ds p.1,
+)
 
 -- the function of a header
 pub record SaidAt (u : tree.Unit) (forms : List Form) (named : List (ℕ × ℕ)) (ds : List Declared) (i : ℕ) (s : Numbered) : Type 0 where
@@ -112,9 +115,11 @@ module _ (u : tree.Unit) (ds : List Declared) (headers : List Numbered) (named n
     once = text.once;
     functions = signatures_of d.types headers (given ds) said;
     numbers = record { each = λ x n e. let q = named_by (λ s. s.name) headers numbers numbered x n e in record { header = header_of q.0; there = map_at header_of headers n q.0 q.1; named = q.2 } };
-    all = record { each = λ n h e.
-        let q = map_has header_of headers n h e in
-        subst (λ y. newest y.name numbers ≡ Some n) q.2 (number_of (λ s. s.name) headers numbers numbered distinct n q.0 q.1) };
+    all = record {
+      each = λ n h e.
+          let q = map_has header_of headers n h e in
+          subst (λ y. newest y.name numbers ≡ Some n) q.2 (number_of (λ s. s.name) headers numbers numbered distinct n q.0 q.1);
+    };
   }
 
   -- ---- a program
@@ -165,43 +170,72 @@ module _ (u : tree.Unit) (ds : List Declared) (headers : List Numbered) (named n
 
 -- ---- the whole
 
-pub is_program : (u : tree.Unit) (f0 f1 : List Form) (named numbers : List (ℕ × ℕ)) (headers : List Numbered) (defines : List ℕ) (fs : List Function) (g : Given) (d : IsDeclared u f0 named headers defines) → IsText u
-    → Grows f0 f1 → (AreTokensSpelled u.tokens.names u.tokens.list → AreStanding u.tokens.names f0 → AreStanding u.tokens.names f1) → IsTable f1
-    → numbers ≡ numbering 0 [] (map (λ s. s.name) headers) → AreDistinct (map (λ s. s.name) headers)
-    → ((s : Numbered) → given_behind s.known g ≡ record { tokens = u.tokens.list; spellings = u.tokens.names; named = drop (length named - s.known) named; functions = map header_of headers; numbers = numbers })
-    → AreBodies g f1 (map (λ f. f.kind) (given_functions u.items)) headers fs → map head_at fs ≡ map head_in headers
-    → IsTyped u (record { names = u.tokens.names; types = f1; functions = fs; defines = defines })
-is_program u f0 f1 named numbers headers defines fs g d text grows stands table numbered distinct same bodies heads =
-    let ds = d.functions in
-    let grown : IsGrown f0 f1 = record { more = grows.0; is = grows.1 } in
-    let said = said_on u f0 f1 named grown headers (given ds) d.said in
-    let kinds : map (λ d. d.function.kind) (given ds) ≡ map (λ f. f.kind) (given_functions u.items) =
-    sym (map_twice (λ f. f.kind) (λ d. d.function) (given ds)) ∙ ap (map (λ f. f.kind)) (given_of_unit u u.items ds d.declares.declares) in
-    record {
-      declared = ds;
-      declares = d.declares;
-      forward = d.forward;
-      names = refl;
-      functions = all_of u ds headers named numbers f1 table (stands text.spelled d.standing) text said numbered distinct g same (map (λ f. f.kind) (given_functions u.items)) headers fs (given ds) bodies kinds said heads;
-      defines = d.defined;
-    }
+-- what the walk is given is of the unit and of what its items declare
+pub record IsGivenOf (g : Given) (u : tree.Unit) (named numbers : List (ℕ × ℕ)) (headers : List Numbered) : Type 0 where
+  pub tokens : g.tokens.now ≡ u.tokens.list
+  pub spellings : g.spellings.now ≡ u.tokens.names
+  pub named_by : g.named.now ≡ named
+  pub functions : g.functions.now ≡ headers
+  pub numbers_by : g.numbers.now ≡ numbers
 
-pub breaks_unit : (u : tree.Unit) (f0 : List Form) (named numbers : List (ℕ × ℕ)) (headers : List Numbered) (defines : List ℕ) (g : Given) (d : IsDeclared u f0 named headers defines) → IsText u
-    → numbers ≡ numbering 0 [] (map (λ s. s.name) headers) → AreDistinct (map (λ s. s.name) headers) → g.functions.now ≡ headers
-    → ((s : Numbered) → given_behind s.known g ≡ record { tokens = u.tokens.list; spellings = u.tokens.names; named = drop (length named - s.known) named; functions = map header_of headers; numbers = numbers })
-    → (rule line : ℕ) → IsBrokenAmong g f0 (given_functions u.items) rule line → BreaksUnit u rule line
-breaks_unit u f0 named numbers headers defines g d text numbered distinct listed same rule line b =
-    let ds = d.functions in
-    let at = b.breaks in
-    let r = at.breaks in
-    let f1 = r.table in
-    let s = at.header in
-    let grown : IsGrown f0 f1 = record { more = r.used.grows.0; is = r.used.grows.1 } in
-    let said = said_on u f0 f1 named grown headers (given ds) d.said in
-    let spelled : AreTokensSpelled (given_behind s.known g).spellings (given_behind s.known g).tokens = subst (λ h. AreTokensSpelled h.spellings h.tokens) (sym (same s)) text.spelled in
-    let standing : AreStanding u.tokens.names f1 = subst (λ h. AreStanding h.spellings f1) (same s) (r.used.standing spelled (subst (λ h. AreStanding h.spellings f0) (sym (same s)) d.standing)) in
-    let there : slice_get headers b.place ≡ Some s = subst (λ l. slice_get l b.place ≡ Some s) listed at.there in
-    let kind : slice_get (map (λ d. d.function.kind) (given ds)) b.place ≡ Some (fun.Defined at.exprs) =
-    ap (λ l. slice_get l b.place) (sym (map_twice (λ f. f.kind) (λ d. d.function) (given ds)) ∙ ap (map (λ f. f.kind)) (given_of_unit u u.items ds d.declares.declares))
-    ∙ map_at (λ f. f.kind) (given_functions u.items) b.place b.function b.there ∙ ap Some at.is in
-    broken_at u ds headers named numbers f1 r.is_table standing text said numbered distinct g same d.declares s at.exprs b.place rule line there kind r.holds
+module _ (u : tree.Unit) (f0 : List Form) (named numbers : List (ℕ × ℕ)) (headers : List Numbered) (defines : List ℕ) (g : Given) (is : IsGivenOf g u named numbers headers) (d : IsDeclared u f0 named headers defines) (text : IsText u)
+    (numbered : numbers ≡ numbering 0 [] (map (λ s. s.name) headers)) (distinct : AreDistinct (map (λ s. s.name) headers)) where
+  same_given : (s : Numbered) → given_behind s.known g ≡ record { tokens = u.tokens.list; spellings = u.tokens.names; named = drop (length named - s.known) named; functions = map header_of headers; numbers = numbers }
+  same_given s = λ i. record {
+    tokens = is.tokens i;
+    spellings = is.spellings i;
+    named = drop (length (is.named_by i) - s.known) (is.named_by i);
+    functions = map header_of (is.functions i);
+    numbers = is.numbers_by i;
+  }
+
+  spelled : AreTokensSpelled g.spellings.now g.tokens.now
+  spelled = subst (λ l. AreTokensSpelled l g.tokens.now) (sym is.spellings) (subst (λ l. AreTokensSpelled u.tokens.names l) (sym is.tokens) text.spelled)
+
+  standing_at : (f1 : List Form) → (AreTokensSpelled g.spellings.now g.tokens.now → AreStanding g.spellings.now f0 → AreStanding g.spellings.now f1) → AreStanding u.tokens.names f1
+  standing_at f1 stands = subst (λ l. AreStanding l f1) is.spellings (stands spelled (subst (λ l. AreStanding l f0) (sym is.spellings) d.standing))
+
+  kinds : map (λ d. d.function.kind) (given d.functions) ≡ map (λ f. f.kind) (given_functions u.items)
+  kinds = sym (map_twice (λ f. f.kind) (λ d. d.function) (given d.functions)) ∙ ap (map (λ f. f.kind)) (given_of_unit u u.items d.functions d.declares.declares)
+
+  pub is_program : (f1 : List Form) (fs : List Function) (k : ℕ) → IsUsedIn (given_behind k g) f0 f1 → IsTable f1 → AreBodies g f1 (map (λ f. f.kind) (given_functions u.items)) headers fs → map head_at fs ≡ map head_in headers
+      → IsTyped u (record { names = u.tokens.names; types = f1; functions = fs; defines = defines })
+  is_program f1 fs k used table bodies heads =
+      let grown : IsGrown f0 f1 = record { more = used.grows.0; is = used.grows.1 } in
+      let said = said_on u f0 f1 named grown headers (given d.functions) d.said in
+      record {
+        declared = d.functions;
+        declares = d.declares;
+        forward = d.forward;
+        names = refl;
+        functions = all_of u d.functions headers named numbers f1 table (standing_at f1 used.standing) text said numbered distinct g same_given (map (λ f. f.kind) (given_functions u.items)) headers fs (given d.functions) bodies kinds said heads;
+        defines = d.defined;
+      }
+
+  pub breaks_unit : (rule line : ℕ) → IsBrokenAmong g f0 (given_functions u.items) rule line → BreaksUnit u rule line
+  breaks_unit rule line b =
+      let at = b.breaks in
+      let r = at.breaks in
+      let f1 = r.table in
+      let s = at.header in
+      let grown : IsGrown f0 f1 = record { more = r.used.grows.0; is = r.used.grows.1 } in
+      let said = said_on u f0 f1 named grown headers (given d.functions) d.said in
+      let there : slice_get headers b.place ≡ Some s = subst (λ l. slice_get l b.place ≡ Some s) is.functions at.there in
+      let kind : slice_get (map (λ d. d.function.kind) (given d.functions)) b.place ≡ Some (fun.Defined at.exprs) =
+      ap (λ l. slice_get l b.place) kinds ∙ map_at (λ f. f.kind) (given_functions u.items) b.place b.function b.there ∙ ap Some at.is in
+      broken_at u d.functions headers named numbers f1 r.is_table (standing_at f1 r.used.standing) text said numbered distinct g same_given d.declares s at.exprs b.place rule line there kind r.holds
+
+-- the same, of the items that the walk goes over
+pub program_of : {g : Given} (f1 : List Form) (items : List Item) (fs : List Function) → AreBodies g f1 (map (λ f. f.kind) (given_functions items)) g.functions.now fs
+    → (u : tree.Unit) (f0 : List Form) (named numbers : List (ℕ × ℕ)) (headers : List Numbered) (defines : List ℕ) → IsGivenOf g u named numbers headers → IsDeclared u f0 named headers defines → IsText u
+    → numbers ≡ numbering 0 [] (map (λ s. s.name) headers) → AreDistinct (map (λ s. s.name) headers) → items ≡ u.items → IsUsedIn (given_of g) f0 f1 → IsTable f1 → map head_at fs ≡ map head_in headers
+    → IsTyped u (record { names = u.tokens.names; types = f1; functions = fs; defines = defines })
+program_of {g} f1 items fs bodies u f0 named numbers headers defines is d text numbered distinct same used table heads =
+    is_program u f0 named numbers headers defines g is d text numbered distinct f1 fs g.known used table
+    (subst (λ l. AreBodies g f1 (map (λ f. f.kind) (given_functions l)) headers fs) same (subst (λ l. AreBodies g f1 (map (λ f. f.kind) (given_functions items)) l fs) is.functions bodies)) heads
+
+pub unit_breaks : {g : Given} (rule line : ℕ) (items : List Item) (f0 : List Form) → IsBrokenAmong g f0 (given_functions items) rule line
+    → (u : tree.Unit) (named numbers : List (ℕ × ℕ)) (headers : List Numbered) (defines : List ℕ) → IsGivenOf g u named numbers headers → IsDeclared u f0 named headers defines → IsText u
+    → numbers ≡ numbering 0 [] (map (λ s. s.name) headers) → AreDistinct (map (λ s. s.name) headers) → items ≡ u.items → BreaksUnit u rule line
+unit_breaks {g} rule line items f0 b u named numbers headers defines is d text numbered distinct same =
+    breaks_unit u f0 named numbers headers defines g is d text numbered distinct rule line (subst (λ l. IsBrokenAmong g f0 (given_functions l) rule line) same b)

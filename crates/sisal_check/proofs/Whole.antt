@@ -1,14 +1,11 @@
 -- The functions of a program have the headers of the unit, one after another.
-use Rattle.std.proofs.Common.{◌≡◌, ℕ, zero, suc, ◌+◌, ◌≤◌, true, List, [], ◌∷◌, ◌++◌, length, map, take, slice_get, Some, All, refl, sym, ap, subst, ◌∙◌, arith}
+use Rattle.std.proofs.Common.{◌≡◌, ℕ, zero, suc, ◌+◌, ◌≤◌, List, [], ◌∷◌, ◌++◌, length, map, take, slice_get, Some, sym, ap, ◌∙◌, arith}
 use Rattle.std.proofs.lemmas.List.{length-append, length-map, map-append, take_all}
 use Rattle.sisal_tree.specs.declared.unit.Item.{Item}
-use Rattle.sisal_tree.specs.declared.unit.Unit as tree
 use Rattle.typed_tree.specs.declared.program.Function.{Function}
-use Rattle.typed_tree.specs.declared.program.Program.{Program}
 use Rattle.unit_types.specs.declared.header.Signature.{Signature}
 use Rattle.unit_types.specs.Headings.{heading_of, heading_in, has_body, given_functions}
-use Rattle.sisal_check.specs.Headed.{Head, head_in, head_at, heading, heading_at, is_defined, HaveFirst}
-use Rattle.sisal_check.specs.Checked.{Checked}
+use Rattle.sisal_check.specs.Headed.{head_in, head_at, is_defined, HaveFirst}
 
 take_next : {A B : Type 0} (f : A → B) (xs : List A) (n : ℕ) (x : A) → slice_get xs n ≡ Some x → take (suc n) (map f xs) ≡ take n (map f xs) ++ f x ∷ []
 take_next f [] n x h = cc
@@ -29,14 +26,6 @@ first_more headers fs gs f s at is e h =
 
 -- ---- the whole program
 
-twice : {A B C : Type 0} (g : B → C) (f : A → B) (xs : List A) → map g (map f xs) ≡ map (λ x. g (f x)) xs
-twice g f [] = refl
-twice g f (x ∷ xs) = ap (λ l. g (f x) ∷ l) (twice g f xs)
-
--- what is the same of two lists is so through any function of it
-through : {A B C D : Type 0} (g : C → D) (f : A → C) (h : B → C) (xs : List A) (ys : List B) → map f xs ≡ map h ys → map (λ x. g (f x)) xs ≡ map (λ y. g (h y)) ys
-through g f h xs ys e = sym (twice g f xs) ∙ ap (map g) e ∙ twice g h ys
-
 -- functions that have the first headers have all of them, where they are as many
 pub have_all : (items : List Item) (headers : List Signature) (fs : List Function) → HaveFirst headers fs → map is_defined fs ≡ map (λ f. has_body f.kind) (given_functions items)
     → map heading_in headers ≡ map heading_of (given_functions items) → map head_at fs ≡ map head_in headers
@@ -45,17 +34,3 @@ have_all items headers fs h b e =
     ∙ sym (length-map (given_functions items) heading_of) ∙ sym (ap length e) ∙ length-map headers heading_in in
     let n : length (map head_in headers) ≤ length fs = omega (arith, m, length-map headers head_in) in
     h ∙ take_all (length fs) (map head_in headers) n
-
-pub checked : (u : tree.Unit) (p : Program) (headers : List Signature) → p.names ≡ u.tokens.names → HaveFirst headers p.functions
-    → map is_defined p.functions ≡ map (λ f. has_body f.kind) (given_functions u.items) → map heading_in headers ≡ map heading_of (given_functions u.items)
-    → map (λ k. slice_get (map (λ s. s.name) headers) k) p.defines ≡ map (λ n. Some n.name) u.defines
-    → All (λ k. slice_get (map (λ f. has_body f.kind) (given_functions u.items)) k ≡ Some true) p.defines → Checked u p
-checked u p headers names first bodies headings defines defined =
-    let e : map head_at p.functions ≡ map head_in headers = have_all u.items headers p.functions first bodies headings in
-    record {
-      names = names;
-      functions = through heading head_at head_in p.functions headers e ∙ headings;
-      bodies = bodies;
-      defines = subst (λ l. map (λ k. slice_get l k) p.defines ≡ map (λ n. Some n.name) u.defines) (sym (through (λ h. h.name) head_at head_in p.functions headers e)) defines;
-      defined = subst (λ l. All (λ k. slice_get l k ≡ Some true) p.defines) (sym bodies) defined;
-    }

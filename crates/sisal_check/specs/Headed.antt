@@ -2,7 +2,6 @@
 use Rattle.std.specs.Prelude.{◌≡◌, ℕ, List, map, take, length, Bool, is_some}
 use Rattle.typed_tree.specs.declared.program.Function.{Function}
 use Rattle.unit_types.specs.declared.header.Signature.{Signature}
-use Rattle.unit_types.specs.Headings.{Heading}
 
 -- the line, the name and the parameters of a function, with their types and those of its results
 pub record Head : Type 0 where
@@ -17,13 +16,6 @@ head_in s = record { line = s.line; name = s.name; parameters = s.parameters; pa
 
 abbrev pub head_at : Function → Head
 head_at f = record { line = f.line; name = f.name; parameters = f.parameters; params = f.params; results = f.results }
-
--- the same without types
-abbrev pub heading : Head → Heading
-heading h = record { line = h.line; name = h.name; parameters = h.parameters }
-
-abbrev pub heading_at : Function → Heading
-heading_at f = record { line = f.line; name = f.name; parameters = f.parameters }
 
 -- whether a function has its body in the program
 abbrev pub is_defined : Function → Bool

@@ -1,4 +1,3 @@
 pub mod Headed
-pub mod Checked
 pub mod Walked
 pub mod Texts

@@ -9,7 +9,6 @@ use Rattle.sisal_tree.specs.declared.unit.FunDef.{FunDef}
 use Rattle.sisal_tree.specs.declared.unit.FunKind.{FunKind}
 use Rattle.sisal_tree.specs.declared.unit.FunKind.TheVariants as fun
 use Rattle.sisal_tree.specs.declared.unit.Written.{Written}
-use Rattle.typed_tree.specs.declared.expr.Source.{Source}
 use Rattle.typed_tree.specs.declared.expr.TypedExpr.{TypedExpr}
 use Rattle.typed_tree.specs.declared.expr.TypedKind.TheVariants as typed
 use Rattle.typed_tree.specs.declared.program.Function.{Function}

@@ -8,7 +8,7 @@ ghost use Rattle.sisal_tree.specs.declared.unit.FunKind.{FunKind as Kind};
 ghost use Rattle.sisal_tree.specs.declared.unit.FunKind.TheVariants as fun;
 ghost use Rattle.std.specs.Prelude.{IfErr, IfOk, List, OnOk, Some, [], is_some, length, map, slice_get, ◌++◌, ◌∷◌, ◌≡◌};
 ghost use Rattle.type_rules.specs.Faults.{IsRule};
-ghost use Rattle.typed_tree.specs.declared.program.Function.{Function as IsFunction};
+ghost use Rattle.typed_tree.specs.declared.program.Function.{Function as TypedFunction};
 ghost use Rattle.typing_laws.specs.Bodies.{define_params};
 ghost use Rattle.typing_laws.specs.Judged.{IsUsedIn};
 ghost use Rattle.unit_types.specs.Headings.{given_as, given_by, given_functions, has_body};
@@ -110,7 +110,7 @@ fn add(
 ) -> Result<(), TypeFault>
     ensures heads { slice_get given.now.functions.now (length all.old) ≡ Some header.now → HaveFirst given.now.functions.now all.old → OnOk result (HaveFirst given.now.functions.now all.new) }
     ensures bodies { OnOk result (map is_defined all.new ≡ map is_defined all.old ++ is_some body ∷ []) }
-    ensures adds { OnOk result ((f : IsFunction) × (f.body ≡ body) × (all.new ≡ all.old ++ f ∷ [])) }
+    ensures adds { OnOk result ((f : TypedFunction) × (f.body ≡ body) × (all.new ≡ all.old ++ f ∷ [])) }
     ensures breaks { IfErr result (IsRule (λ rule at_line. Never rule at_line)) }
 {
     all.add(Function {

@@ -1,17 +1,27 @@
-use Rattle.std.proofs.Common.{◌≡◌, map, refl, subst, ◌∙◌}
+use Rattle.std.proofs.Common.{◌≡◌, map, refl, subst, ap, ◌∙◌}
 use Rattle.unit_types.specs.Headings.{has_body, given_functions}
-use Rattle.sisal_check.specs.Headed.{HaveFirst, is_defined}
-use Rattle.sisal_check.proofs.Whole.{checked}
+use Rattle.sisal_check.specs.Headed.{HaveFirst, head_at, head_in}
+use Rattle.sisal_check.proofs.Forms.{passed_on}
+use Rattle.sisal_check.proofs.Tops.{program_of, unit_breaks}
+use Rattle.sisal_check.proofs.Whole.{have_all}
 use Rattle.sisal_check.proofs.units.check.Goals as goal
 
-pub returns : goal.returns
-returns c =
+pub returns-in_err-functions-clause-breaks : goal.returns-in_err-functions-clause-breaks
+returns-in_err-functions-clause-breaks c =
+    let u = c.args.unit in
+    let d = c.in_ok-types.field-0 in
+    passed_on c.from_residual-in_err-functions.result c.in_err-functions.field-0.0 c.from_residual-in_err-functions.ensures.1 _ _
+    (λ rule line q text. unit_breaks rule line c.as_slice-4.result.now d.types q u d.named d.numbers d.functions d.defines
+    (record { tokens = c.as_slice.ensures; spellings = c.as_slice-2.ensures; named_by = refl; functions = c.as_slice-3.ensures; numbers_by = refl })
+    (c.in_ok-types.ensures.declares text.spelled) text c.in_ok-types.ensures.numbers c.in_ok-types.ensures.own.distinct c.as_slice-4.ensures) (c.in_err-functions.ensures.breaks c.new.ensures)
+
+pub returns-clause-typed : goal.returns-clause-typed
+returns-clause-typed c = λ text.
     let u = c.args.unit in
     let d = c.in_ok-types.field-0 in
     let fs = c.in_ok-functions.functions in
-    record {
-      checked = checked u (record { names = u.tokens.names; types = c.functions.new.walk.types; functions = fs; defines = d.defines }) d.functions refl
-          (subst (λ l. HaveFirst l fs) c.as_slice-3.ensures c.in_ok-functions.ensures.heads)
-          (c.in_ok-functions.ensures.bodies ∙ (λ i. map (λ f. has_body f.kind) (given_functions (c.as_slice-4.ensures i))))
-          c.in_ok-types.ensures.functions c.in_ok-types.ensures.named c.in_ok-types.ensures.bodies;
-    }
+    let heads : map head_at fs ≡ map head_in d.functions = have_all u.items d.functions fs (subst (λ l. HaveFirst l fs) c.as_slice-3.ensures c.in_ok-functions.ensures.heads)
+    (c.in_ok-functions.ensures.bodies ∙ ap (λ l. map (λ f. has_body f.kind) (given_functions l)) c.as_slice-4.ensures) c.in_ok-types.ensures.functions in
+    program_of c.functions.new.walk.types c.as_slice-4.result.now fs (c.in_ok-functions.ensures.typed c.new.ensures) u d.types d.named d.numbers d.functions d.defines
+    (record { tokens = c.as_slice.ensures; spellings = c.as_slice-2.ensures; named_by = refl; functions = c.as_slice-3.ensures; numbers_by = refl })
+    (c.in_ok-types.ensures.declares text.spelled) text c.in_ok-types.ensures.numbers c.in_ok-types.ensures.own.distinct c.as_slice-4.ensures c.in_ok-functions.ensures.used c.holds.ensures heads
