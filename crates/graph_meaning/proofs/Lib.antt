@@ -20,3 +20,5 @@ pub mod Ended
 pub mod Unlisted
 pub mod Numbers
 pub mod Outputs
+pub mod PlainValues
+pub mod Settled

@@ -15,6 +15,7 @@ use Rattle.graph_meaning.specs.Entered.{cost}
 use Rattle.graph_meaning.specs.Demand.{Network, Cut, IsCut, AreOrderly, dem, tree}
 use Rattle.graph_meaning.specs.Networks.{net_of, network}
 use Rattle.graph_meaning.specs.Orders.{AreOrdersRight, HasNoLists}
+use Rattle.graph_meaning.specs.Plain.{Means}
 use Rattle.graph_meaning.specs.Histories.{Run, Cost, IsConfluent, IsNeverStuck}
 use Rattle.graph_meaning.specs.Growing.{Grows, IsExecution}
 
@@ -92,3 +93,11 @@ outputs_by AllFields _ = 0
 -- a simple node other than a call has as many outputs as its row says
 abbrev pub AreOutputsCounted : Type 0
 AreOutputsCounted = (o : Simple) (s : Shape) (cs : List Carried) → length (op o s cs) ≡ outputs_by (row_of o).gives s
+
+-- Some depth of calls and turns gives these results exactly where some depth of steps does. Nothing is asked of the graphs.
+abbrev pub AreDepthsOfOneMeaning : Type 0
+AreDepthsOfOneMeaning = (u : Network) (g : ℕ) (ins rs : List Carried) → ((n : ℕ) × Means u n g ins rs) ↔ ((m : ℕ) × (dem m u g ins ≡ Some rs))
+
+-- no two depths of calls and turns give different results
+abbrev pub IsMeaningOne : Type 0
+IsMeaningOne = (u : Network) (g : ℕ) (ins rs other : List Carried) (n m : ℕ) → Means u n g ins rs → Means u m g ins other → rs ≡ other

@@ -8,3 +8,4 @@ pub mod Laws
 pub mod Networks
 pub mod NodeValues
 pub mod Orders
+pub mod Plain

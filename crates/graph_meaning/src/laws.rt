@@ -1,5 +1,5 @@
 //! The laws of a graph's meaning, of its cost, and of its histories.
-ghost use Rattle.graph_meaning.specs.Laws.{AreValuesStable, AreCostsStable, DoTreesGrow, IsCostTheSum, IsCostOfAnyCut, IsMeantWhereCosted, AreExecutionsConfluent, AreExecutionsNeverStuck, AreRunsConfluent, AreRunsNeverStuck, AreUnitsOrderly, HaveUnitsOneEnd, AreOrdersRightWithoutLists, AreFoundByNumber, AreOutputsCounted};
+ghost use Rattle.graph_meaning.specs.Laws.{AreValuesStable, AreCostsStable, DoTreesGrow, IsCostTheSum, IsCostOfAnyCut, IsMeantWhereCosted, AreExecutionsConfluent, AreExecutionsNeverStuck, AreRunsConfluent, AreRunsNeverStuck, AreUnitsOrderly, HaveUnitsOneEnd, AreOrdersRightWithoutLists, AreFoundByNumber, AreOutputsCounted, AreDepthsOfOneMeaning, IsMeaningOne};
 
 /// The results of a graph that one depth gives are given at every greater one.
 pub fn values_are_stable()
@@ -74,4 +74,14 @@ pub fn graphs_are_found_by_number()
 /// A simple node other than a call has as many outputs as its row of the table says.
 pub fn outputs_are_counted()
     ensures { AreOutputsCounted }
+{}
+
+/// Some depth of calls and turns gives the results of a graph exactly where some depth of steps does.
+pub fn depths_have_one_meaning()
+    ensures { AreDepthsOfOneMeaning }
+{}
+
+/// No two depths of calls and turns give different results.
+pub fn the_meaning_is_one()
+    ensures { IsMeaningOne }
 {}
