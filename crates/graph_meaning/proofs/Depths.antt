@@ -41,7 +41,7 @@ demanded-below of of' h vs ins (suc far) (suc far') le (Port (suc l) p) =
     (outputs-below of of' h (demanded of vs ins far) (demanded of' vs ins far') (demanded-below of of' h vs ins far far' (omega (arith, le))) (at_label vs (suc l)))
     (λ os b e. e)
 
-operands-below : (of of' : Of) → OfBelow of of' → (g : Net) (ins : List Carried) (os : List Source) → Below (operands of g ins os) (operands of' g ins os)
+pub operands-below : (of of' : Of) → OfBelow of of' → (g : Net) (ins : List Carried) (os : List Source) → Below (operands of g ins os) (operands of' g ins os)
 operands-below of of' h g ins os =
     all-below (demanded of g.nodes ins (length g.nodes)) (demanded of' g.nodes ins (length g.nodes)) (demanded-below of of' h g.nodes ins (length g.nodes) (length g.nodes) (omega arith)) os
 

@@ -21,4 +21,5 @@ pub mod Unlisted
 pub mod Numbers
 pub mod Outputs
 pub mod PlainValues
+pub mod PlainCosts
 pub mod Settled

@@ -15,7 +15,7 @@ use Rattle.graph_meaning.specs.Entered.{cost}
 use Rattle.graph_meaning.specs.Demand.{Network, Cut, IsCut, AreOrderly, dem, tree}
 use Rattle.graph_meaning.specs.Networks.{net_of, network}
 use Rattle.graph_meaning.specs.Orders.{AreOrdersRight, HasNoLists}
-use Rattle.graph_meaning.specs.Plain.{Means}
+use Rattle.graph_meaning.specs.Plain.{Means, Costs}
 use Rattle.graph_meaning.specs.Histories.{Run, Cost, IsConfluent, IsNeverStuck}
 use Rattle.graph_meaning.specs.Growing.{Grows, IsExecution}
 
@@ -101,3 +101,7 @@ AreDepthsOfOneMeaning = (u : Network) (g : ℕ) (ins rs : List Carried) → ((n 
 -- no two depths of calls and turns give different results
 abbrev pub IsMeaningOne : Type 0
 IsMeaningOne = (u : Network) (g : ℕ) (ins rs other : List Carried) (n m : ℕ) → Means u n g ins rs → Means u m g ins other → rs ≡ other
+
+-- some depth of calls and turns gives this cost exactly where some depth of steps does
+abbrev pub AreDepthsOfOneCost : Type 0
+AreDepthsOfOneCost = (cut : Cut) (u : Network) (g : ℕ) (ins : List Carried) (c : ℕ) → IsCut cut → ((n : ℕ) × Costs u n g ins c) ↔ ((m : ℕ) × (cost (tree cut m u g ins) ≡ Some c))
