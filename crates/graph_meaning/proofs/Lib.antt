@@ -22,4 +22,5 @@ pub mod Numbers
 pub mod Outputs
 pub mod PlainValues
 pub mod PlainCosts
+pub mod PlainDepths
 pub mod Settled

@@ -19,7 +19,7 @@ append-none [] = refl
 append-none (r ∷ rows) = ap (λ x. r ∷ x) (append-none rows)
 
 is-one-cut : IsCut one
-is-one-cut = record { joins = λ rows. append-none rows; some = λ row rows. (row ∷ rows, [], refl); }
+is-one-cut = record { joins = λ rows. append-none rows; some = λ row rows. (row ∷ rows, [], refl) }
 
 some-same : (a b : ℕ) → Some a ≡ Some b → a ≡ b
 some-same a b e = cc
@@ -82,9 +82,13 @@ module _ (u : Network) (m : ℕ) (h : FiresFrom u m) (n : ℕ) (le : m ≤ n) wh
   whole-fires g ins v form (Some ks) k rest c e =
       let p = steps_of (tree_from one m u) form (Some ks) in
       let x = plus-both (Some 1) (plus (steps_cost p) (cost rest)) c (sym (compound-cost v p rest (begins-no-turn u m form ks (first form ks))) ∙ e) in
-      let y = plus-both (steps_cost p) (cost rest) x.1 x.3 in
-      (y.0, y.1, of_whole n g ins form v.ins ks y.0 (operands-stand u m n le g ins v.ins ks k) (h n le form ks (next_of (first form ks)) y.0 y.2), y.3,
-        omega (arith, some-same 1 x.0 x.2, x.4, y.4))
+      let y = plus-both (steps_cost p) (cost rest) x.1 x.3 in (
+        y.0,
+        y.1,
+        of_whole n g ins form v.ins ks y.0 (operands-stand u m n le g ins v.ins ks k) (h n le form ks (next_of (first form ks)) y.0 y.2),
+        y.3,
+        omega (arith, some-same 1 x.0 x.2, x.4, y.4),
+      )
 
   node-fires : (g : ℕ) (ins : List Carried) (v : Vertex) (k : Kind) (rest : Entered) (c : ℕ) → cost (node_tree (tree_from one m u) v k (known-of u m g ins v.ins) rest) ≡ Some c
       → (a d : ℕ) × InnerFires u n g ins k v.ins a × (cost rest ≡ Some d) × (1 + (a + d) ≡ c)
@@ -142,7 +146,7 @@ later-fires u (suc m) n le form ks (Iterate g row rows ms) c e =
     let f : slice ≡ Some x.0 = sym (none-plus slice) ∙ x.2 in
     let r = results-cost lists (λ rs. tree_from one m u form ks (gather form ks ms rs)) x.1 x.3 in
     subst (LaterFires u n form ks (Iterate g row rows ms)) x.4
-      (of_iterations n form ks g row rows ms r.0 x.0 x.1 (rows-fire u m (later-fires u m) n w g (row ∷ rows) x.0 f) (rows-stand u m n w g (row ∷ rows) r.0 r.1) (later-fires u m n w form ks (gather form ks ms r.0) x.1 r.2))
+    (of_iterations n form ks g row rows ms r.0 x.0 x.1 (rows-fire u m (later-fires u m) n w g (row ∷ rows) x.0 f) (rows-stand u m n w g (row ∷ rows) r.0 r.1) (later-fires u m n w form ks (gather form ks ms r.0) x.1 r.2))
 
 -- ---- the cost at a depth of calls and turns is that of some tree of steps, and of all deeper ones
 
@@ -170,13 +174,15 @@ module _ (u : Network) where
   of-simple-from g ins kind os h = (0, λ k le v rest d e. h k v rest ∙ (ap (plus (Some 1)) e ∙ ap Some (omega arith)))
 
   of-whole-from : (g : ℕ) (ins : List Carried) (form : Form) (os : List Source) (ks : List Carried) (c : ℕ) → (m : ℕ) × (known-of u m g ins os ≡ Some ks) → LaterFrom form ks (next_of (first form ks)) c → InnerFrom g ins (Whole form) os c
-  of-whole-from g ins form os ks c a b =
-      (a.0 + b.0, λ k le v rest d e.
+  of-whole-from g ins form os ks c a b = (
+    a.0 + b.0,
+    λ k le v rest d e.
         let p = steps_of (tree_from one k u) form (Some ks) in
         let f = operands-on g ins os ks a.0 k (omega (arith, le)) a.1 in
         ap (λ o. cost (compound v (steps_of (tree_from one k u) form o) rest)) f
         ∙ (compound-cost v p rest (begins-no-turn u k form ks (first form ks))
-        ∙ ap (plus (Some 1)) (plus-these (steps_cost p) (cost rest) c d (b.1 k (omega (arith, le))) e)))
+        ∙ ap (plus (Some 1)) (plus-these (steps_cost p) (cost rest) c d (b.1 k (omega (arith, le))) e)),
+  )
 
   of-graph-from : (form : Form) (ks : List Carried) (t : Bool) (g : ℕ) (ins : List Carried) (stage : Stage) (ms : List Carried) (c d : ℕ)
       → NodesFrom g ins (u g).nodes c → (m : ℕ) × (known-of u m g ins (u g).results ≡ Some ms) → LaterFrom form ks (follow form ks stage ms) d → LaterFrom form ks (Enter t g ins stage) (entry_fires t + (c + d))
@@ -203,10 +209,12 @@ module _ (u : Network) where
           plus-these (plus slice (Some 0)) (steps_cost (on_results (all (map (λ ins. dem k u g ins) (row ∷ rows))) next)) c d (none-plus slice ∙ a.1 k (omega (arith, le))) f
 
   of-row-from : (g : ℕ) (ins : List Carried) (rows : List (List Carried)) (c d : ℕ) → NodesFrom g ins (u g).nodes c → RowsFrom g rows d → RowsFrom g (ins ∷ rows) (1 + (c + d))
-  of-row-from g ins rows c d a b =
-      (a.0 + b.0, λ k le.
+  of-row-from g ins rows c d a b = (
+    a.0 + b.0,
+    λ k le.
         plus-these (plus (Some 1) (cost (nodes-of u k g ins (u g).nodes))) (slice_cost (λ ins. nodes-of u k g ins (u g).nodes) rows) (1 + c) d
-        (ap (plus (Some 1)) (a.1 k (omega (arith, le)))) (b.1 k (omega (arith, le))) ∙ ap Some (omega arith))
+        (ap (plus (Some 1)) (a.1 k (omega (arith, le)))) (b.1 k (omega (arith, le))) ∙ ap Some (omega arith),
+  )
 
   mutual
     nodes-from : (n g : ℕ) (ins : List Carried) (vs : List Vertex) (c : ℕ) → NodesFire u n g ins vs c → NodesFrom g ins vs c

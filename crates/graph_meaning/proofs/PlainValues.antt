@@ -123,18 +123,24 @@ module _ (u : Network) where
   output-at g ins l p v ks rs f a b =
       let m = a.0 + b.0 in
       let x = all-raised g ins a.0 m a.1 a.1 (omega arith) (omega arith) v.ins ks a.2 in
-      let y = node-below b.0 m (omega arith) u v ks rs b.1 in
-      (m, suc a.1, ap (λ o. and_then o (λ os. Some (get_or os (p - 1) Unfilled)))
-        (ap (outputs (demanded (of_at m) (u g).nodes ins a.1) (of_at m)) f ∙ (ap (λ o. and_then o (of_at m v)) x ∙ y)))
+      let y = node-below b.0 m (omega arith) u v ks rs b.1 in (
+        m,
+        suc a.1,
+        ap (λ o. and_then o (λ os. Some (get_or os (p - 1) Unfilled)))
+            (ap (outputs (demanded (of_at m) (u g).nodes ins a.1) (of_at m)) f ∙ (ap (λ o. and_then o (of_at m v)) x ∙ y)),
+      )
 
   port-at : (g : ℕ) (ins : List Carried) (o : Source) (os : List Source) (c : Carried) (cs : List Carried) → CarriedAt g ins o c → AllCarriedAt g ins os cs → AllCarriedAt g ins (o ∷ os) (c ∷ cs)
   port-at g ins o os c cs a b =
       let m = a.0 + b.0 in
       let far = a.1 + b.1 in
       let x = one-raised g ins a.0 m a.1 far (omega arith) (omega arith) o c a.2 in
-      let y = all-raised g ins b.0 m b.1 far (omega arith) (omega arith) os cs b.2 in
-      (m, far, ap (λ x. and_then x (λ c. and_then (all (map (demanded (of_at m) (u g).nodes ins far) os)) (λ rest. Some (c ∷ rest)))) x
-        ∙ ap (λ x. and_then x (λ rest. Some (c ∷ rest))) y)
+      let y = all-raised g ins b.0 m b.1 far (omega arith) (omega arith) os cs b.2 in (
+        m,
+        far,
+        ap (λ x. and_then x (λ c. and_then (all (map (demanded (of_at m) (u g).nodes ins far) os)) (λ rest. Some (c ∷ rest)))) x
+            ∙ ap (λ x. and_then x (λ rest. Some (c ∷ rest))) y,
+      )
 
   -- edges end within the graph
   closed : (g : ℕ) (ins : List Carried) (os : List Source) (cs : List Carried) → AllCarriedAt g ins os cs → (m : ℕ) × (operands (of_at m) (u g) ins os ≡ Some cs)

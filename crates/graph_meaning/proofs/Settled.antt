@@ -154,6 +154,7 @@ module _ (of : Of) (vs : List Vertex) (ins : List Carried) where
     where
       no : false ≡ true → ⊥
       no e = cc
+
       go : (o : Option (List Carried)) → O 0 (suc l) ≡ o → IsIn (suc l) (labels vs) ⊎ (at_label vs (suc l) ≡ None) → Below (D 1 (Port (suc l) p)) None
       go None e i = λ b f. absurd (never b (sym (ap (λ x. and_then x (λ os. Some (get_or os (p - 1) Unfilled))) e) ∙ f))
         where
@@ -168,6 +169,7 @@ module _ (of : Of) (vs : List Vertex) (ins : List Carried) where
     where
       no : false ≡ true → ⊥
       no e = cc
+
       go : (passing (λ l. false) (labels vs) < passing (given 0) (labels vs)) ⊎ Same (λ l. false) (given 0) (labels vs) → (0 < passing (given 0) (labels vs)) ⊎ ((j : ℕ) × (j ≤ 0) × IsSettled j)
       go (inl less) = inl (omega (arith, less))
       go (inr same) = inr (0, omega arith, none-settled same)

@@ -1,5 +1,5 @@
 -- The laws of a graph's meaning, of its cost, and of all orders in which it may fire.
-use Rattle.std.specs.Prelude.{◌≡◌, ℕ, ◌≤◌, List, length, Some, Contains, ◌↔◌}
+use Rattle.std.specs.Prelude.{◌≡◌, ℕ, Bool, false, ◌≤◌, List, length, Some, Contains, ◌↔◌}
 use Rattle.if1_graph.specs.declared.graph.Unit1.{Unit1}
 use Rattle.if1_graph.specs.declared.op.Simple.{Simple}
 use Rattle.if1_graph.specs.declared.row.Gives.{Gives}
@@ -11,11 +11,12 @@ use Rattle.if1_graph.specs.Units.{Place, places, number_of}
 use Rattle.graph_meaning.specs.Carried.{Carried}
 use Rattle.graph_meaning.specs.NodeValues.{Shape, op}
 use Rattle.graph_meaning.specs.NodeValues as shape
+use Rattle.graph_meaning.specs.Forms.{Form, Stage, Enter}
 use Rattle.graph_meaning.specs.Entered.{cost}
 use Rattle.graph_meaning.specs.Demand.{Network, Cut, IsCut, AreOrderly, dem, tree}
 use Rattle.graph_meaning.specs.Networks.{net_of, network}
 use Rattle.graph_meaning.specs.Orders.{AreOrdersRight, HasNoLists}
-use Rattle.graph_meaning.specs.Plain.{Means, Costs}
+use Rattle.graph_meaning.specs.Plain.{is_deeper, Leads, Means, Costs}
 use Rattle.graph_meaning.specs.Histories.{Run, Cost, IsConfluent, IsNeverStuck}
 use Rattle.graph_meaning.specs.Growing.{Grows, IsExecution}
 
@@ -97,6 +98,14 @@ AreOutputsCounted = (o : Simple) (s : Shape) (cs : List Carried) → length (op 
 -- Some depth of calls and turns gives these results exactly where some depth of steps does. Nothing is asked of the graphs.
 abbrev pub AreDepthsOfOneMeaning : Type 0
 AreDepthsOfOneMeaning = (u : Network) (g : ℕ) (ins rs : List Carried) → ((n : ℕ) × Means u n g ins rs) ↔ ((m : ℕ) × (dem m u g ins ≡ Some rs))
+
+-- what a depth of calls and turns gives, every greater one gives
+abbrev pub IsMeaningStable : Type 0
+IsMeaningStable = (u : Network) (g : ℕ) (ins rs : List Carried) (n m : ℕ) → n ≤ m → Means u n g ins rs → Means u m g ins rs
+
+-- at depth 0 no node enters a called graph or a turn
+abbrev pub IsNothingCalledAtZero : Type 0
+IsNothingCalledAtZero = (u : Network) (form : Form) (ks : List Carried) (turn : Bool) (g : ℕ) (ins : List Carried) (stage : Stage) (rs : List Carried) → Leads u 0 form ks (Enter turn g ins stage) rs → is_deeper form turn ≡ false
 
 -- no two depths of calls and turns give different results
 abbrev pub IsMeaningOne : Type 0

@@ -1,5 +1,5 @@
 //! The laws of a graph's meaning, of its cost, and of its histories.
-ghost use Rattle.graph_meaning.specs.Laws.{AreValuesStable, AreCostsStable, DoTreesGrow, IsCostTheSum, IsCostOfAnyCut, IsMeantWhereCosted, AreExecutionsConfluent, AreExecutionsNeverStuck, AreRunsConfluent, AreRunsNeverStuck, AreUnitsOrderly, HaveUnitsOneEnd, AreOrdersRightWithoutLists, AreFoundByNumber, AreOutputsCounted, AreDepthsOfOneMeaning, IsMeaningOne, AreDepthsOfOneCost};
+ghost use Rattle.graph_meaning.specs.Laws.{AreValuesStable, AreCostsStable, DoTreesGrow, IsCostTheSum, IsCostOfAnyCut, IsMeantWhereCosted, AreExecutionsConfluent, AreExecutionsNeverStuck, AreRunsConfluent, AreRunsNeverStuck, AreUnitsOrderly, HaveUnitsOneEnd, AreOrdersRightWithoutLists, AreFoundByNumber, AreOutputsCounted, AreDepthsOfOneMeaning, IsMeaningOne, AreDepthsOfOneCost, IsMeaningStable, IsNothingCalledAtZero};
 
 /// The results of a graph that one depth gives are given at every greater one.
 pub fn values_are_stable()
@@ -89,4 +89,14 @@ pub fn the_meaning_is_one()
 /// Some depth of calls and turns gives the cost of a graph exactly where some depth of steps does.
 pub fn depths_have_one_cost()
     ensures { AreDepthsOfOneCost }
+{}
+
+/// What a depth of calls and turns gives, every greater one gives.
+pub fn the_meaning_is_stable()
+    ensures { IsMeaningStable }
+{}
+
+/// At depth 0 no node enters a called graph or a turn.
+pub fn nothing_is_called_at_depth_zero()
+    ensures { IsNothingCalledAtZero }
 {}
