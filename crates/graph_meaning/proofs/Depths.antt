@@ -20,7 +20,7 @@ all-below f g h [] = λ b e. e
 all-below f g h (x ∷ xs) =
     then-below (f x) (g x) _ _ (h x) (λ a. then-below (all (map f xs)) (all (map g xs)) _ _ (all-below f g h xs) (λ r b e. e))
 
-of-kind-below : (r r' : Rest) → ((f : Form) (ks : List Carried) (next : Next) → Below (r f ks next) (r' f ks next)) → (k : Kind) (ks : List Carried) → Below (of_kind r k ks) (of_kind r' k ks)
+pub of-kind-below : (r r' : Rest) → ((f : Form) (ks : List Carried) (next : Next) → Below (r f ks next) (r' f ks next)) → (k : Kind) (ks : List Carried) → Below (of_kind r k ks) (of_kind r' k ks)
 of-kind-below r r' h (Plain row shape) ks = λ b e. e
 of-kind-below r r' h (Whole form) ks = h form ks (next_of (first form ks))
 

@@ -24,3 +24,5 @@ pub mod PlainValues
 pub mod PlainCosts
 pub mod PlainDepths
 pub mod Settled
+pub mod Sums
+pub mod SumsOnce

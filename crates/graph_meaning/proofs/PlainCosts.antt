@@ -11,14 +11,14 @@ use Rattle.graph_meaning.proofs.PlainValues.{operands-stand, rows-stand, operand
 use Rattle.graph_meaning.proofs.Slicing.{same-cost}
 
 -- all iterations of a ForAll in one slice
-abbrev one : Cut
+abbrev pub one : Cut
 one rows = rows ∷ []
 
 append-none : (rows : List (List Carried)) → rows ++ [] ≡ rows
 append-none [] = refl
 append-none (r ∷ rows) = ap (λ x. r ∷ x) (append-none rows)
 
-is-one-cut : IsCut one
+pub is-one-cut : IsCut one
 is-one-cut = record { joins = λ rows. append-none rows; some = λ row rows. (row ∷ rows, [], refl) }
 
 some-same : (a b : ℕ) → Some a ≡ Some b → a ≡ b
@@ -217,7 +217,7 @@ module _ (u : Network) where
   )
 
   mutual
-    nodes-from : (n g : ℕ) (ins : List Carried) (vs : List Vertex) (c : ℕ) → NodesFire u n g ins vs c → NodesFrom g ins vs c
+    pub nodes-from : (n g : ℕ) (ins : List Carried) (vs : List Vertex) (c : ℕ) → NodesFire u n g ins vs c → NodesFrom g ins vs c
     nodes-from _ _ _ _ _ (no_node n g ins) = (0, λ k le. refl)
     nodes-from _ _ _ _ _ (a_node n g ins v vs c d a b) = a-node-from g ins v vs c d (inner-from n g ins v.kind v.ins c a) (nodes-from n g ins vs d b)
 

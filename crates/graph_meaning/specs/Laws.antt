@@ -17,6 +17,7 @@ use Rattle.graph_meaning.specs.Demand.{Network, Cut, IsCut, AreOrderly, dem, tre
 use Rattle.graph_meaning.specs.Networks.{net_of, network}
 use Rattle.graph_meaning.specs.Orders.{AreOrdersRight, HasNoLists}
 use Rattle.graph_meaning.specs.Plain.{is_deeper, Leads, Means, Costs}
+use Rattle.graph_meaning.specs.Storage.{Weights, GraphAdds, Storage, Copies, Writes}
 use Rattle.graph_meaning.specs.Histories.{Run, Cost, IsConfluent, IsNeverStuck}
 use Rattle.graph_meaning.specs.Growing.{Grows, IsExecution}
 
@@ -114,3 +115,20 @@ IsMeaningOne = (u : Network) (g : ℕ) (ins rs other : List Carried) (n m : ℕ)
 -- some depth of calls and turns gives this cost exactly where some depth of steps does
 abbrev pub AreDepthsOfOneCost : Type 0
 AreDepthsOfOneCost = (cut : Cut) (u : Network) (g : ℕ) (ins : List Carried) (c : ℕ) → IsCut cut → ((n : ℕ) × Costs u n g ins c) ↔ ((m : ℕ) × (cost (tree cut m u g ins) ≡ Some c))
+
+-- in graphs without a cycle, where the cost is defined each sum by its recursion is
+abbrev pub AreSumsDefined : Type 0
+AreSumsDefined = (u : Network) (w : Weights) (g : ℕ) (ins : List Carried) (c n : ℕ) → AreOrderly u → Costs u n g ins c → (m : ℕ) × (s : ℕ) × GraphAdds u w m g ins s
+
+-- so there are copies and writes
+abbrev pub AreCopiesDefined : Type 0
+AreCopiesDefined = (storage : Storage) (u : Network) (g : ℕ) (ins : List Carried) (c n : ℕ) → AreOrderly u → Costs u n g ins c
+    → ((m : ℕ) × (copied : ℕ) × Copies storage u m g ins copied) × ((m : ℕ) × (written : ℕ) × Writes storage u m g ins written)
+
+-- no two depths give different sums
+abbrev pub IsSumOne : Type 0
+IsSumOne = (u : Network) (w : Weights) (g : ℕ) (ins : List Carried) (n m s t : ℕ) → GraphAdds u w n g ins s → GraphAdds u w m g ins t → s ≡ t
+
+-- nor different costs
+abbrev pub IsCostOne : Type 0
+IsCostOne = (u : Network) (g : ℕ) (ins : List Carried) (n m c d : ℕ) → Costs u n g ins c → Costs u m g ins d → c ≡ d

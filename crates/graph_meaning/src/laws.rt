@@ -1,5 +1,5 @@
 //! The laws of a graph's meaning, of its cost, and of its histories.
-ghost use Rattle.graph_meaning.specs.Laws.{AreValuesStable, AreCostsStable, DoTreesGrow, IsCostTheSum, IsCostOfAnyCut, IsMeantWhereCosted, AreExecutionsConfluent, AreExecutionsNeverStuck, AreRunsConfluent, AreRunsNeverStuck, AreUnitsOrderly, HaveUnitsOneEnd, AreOrdersRightWithoutLists, AreFoundByNumber, AreOutputsCounted, AreDepthsOfOneMeaning, IsMeaningOne, AreDepthsOfOneCost, IsMeaningStable, IsNothingCalledAtZero};
+ghost use Rattle.graph_meaning.specs.Laws.{AreValuesStable, AreCostsStable, DoTreesGrow, IsCostTheSum, IsCostOfAnyCut, IsMeantWhereCosted, AreExecutionsConfluent, AreExecutionsNeverStuck, AreRunsConfluent, AreRunsNeverStuck, AreUnitsOrderly, HaveUnitsOneEnd, AreOrdersRightWithoutLists, AreFoundByNumber, AreOutputsCounted, AreDepthsOfOneMeaning, IsMeaningOne, AreDepthsOfOneCost, IsMeaningStable, IsNothingCalledAtZero, AreSumsDefined, AreCopiesDefined, IsSumOne, IsCostOne};
 
 /// The results of a graph that one depth gives are given at every greater one.
 pub fn values_are_stable()
@@ -99,4 +99,24 @@ pub fn the_meaning_is_stable()
 /// At depth 0 no node enters a called graph or a turn.
 pub fn nothing_is_called_at_depth_zero()
     ensures { IsNothingCalledAtZero }
+{}
+
+/// In graphs without a cycle, where the cost is defined each sum by its recursion is.
+pub fn sums_are_defined_where_the_cost_is()
+    ensures { AreSumsDefined }
+{}
+
+/// In graphs without a cycle, where the cost is defined copies and writes are.
+pub fn copies_are_defined_where_the_cost_is()
+    ensures { AreCopiesDefined }
+{}
+
+/// No two depths give different sums.
+pub fn the_sum_is_one()
+    ensures { IsSumOne }
+{}
+
+/// No two depths of calls and turns give different costs.
+pub fn the_cost_is_one()
+    ensures { IsCostOne }
 {}
