@@ -1,12 +1,12 @@
 -- A depth of calls and turns gives the cost that a depth of steps gives.
 use Rattle.std.proofs.Common.{◌≡◌, ℕ, zero, suc, ◌+◌, ◌≤◌, Bool, true, false, List, [], ◌∷◌, ◌++◌, map, Option, Some, None, refl, sym, ap, ◌∙◌, subst, arith}
-use Rattle.graph_meaning.specs.Entered.{Entered, Steps, Left, Unshown, GraphStep, SliceStep, cost, steps_cost, slices_cost, plus, entry_fires}
+use Rattle.graph_meaning.specs.Entered.{Entered, Steps, Left, Unshown, GraphStep, SliceStep, cost, steps_cost, plus, entry_fires}
 use Rattle.graph_meaning.specs.Carried.{Carried}
 use Rattle.graph_meaning.specs.Forms.{Form, First, Begins, Skips, Next, Stage, Enter, Iterate, Leave, next_of, first, follow, gather}
-use Rattle.graph_meaning.specs.Demand.{Source, Kind, Plain, Whole, Vertex, Network, Cut, IsCut, flatten, and_then, all, operands, of_node, leads_to, dem, compound, steps_of, node_tree, nodes_tree, on_results, slice_cost, tree_from, tree}
-use Rattle.graph_meaning.specs.Plain.{is_deeper, CarryAll, MeanAll, NodesFire, no_node, a_node, InnerFires, of_simple, of_whole, LaterFires, of_leaving, of_graph, of_deeper, of_iterations, RowsFire, of_no_row, of_row}
+use Rattle.graph_meaning.specs.Demand.{Source, Kind, Plain, Whole, Vertex, Network, Cut, IsCut, all, operands, of_node, leads_to, dem, compound, steps_of, node_tree, nodes_tree, on_results, slice_cost, tree_from}
+use Rattle.graph_meaning.specs.Plain.{is_deeper, NodesFire, no_node, a_node, InnerFires, of_simple, of_whole, LaterFires, of_leaving, of_graph, of_deeper, of_iterations, RowsFire, of_no_row, of_row}
 use Rattle.graph_meaning.specs.Laws.{AreDepthsOfOneCost}
-use Rattle.graph_meaning.proofs.Depths.{Below, all-below, node-below, dem-below, operands-below}
+use Rattle.graph_meaning.proofs.Depths.{all-below, node-below, dem-below, operands-below}
 use Rattle.graph_meaning.proofs.PlainValues.{operands-stand, rows-stand, operands-given, rows-given}
 use Rattle.graph_meaning.proofs.Slicing.{same-cost}
 

@@ -1,5 +1,5 @@
 -- What a depth of calls and turns gives, every greater one gives.
-use Rattle.std.proofs.Common.{◌≡◌, ℕ, zero, suc, ◌≤◌, Bool, true, false, List, [], ◌∷◌, refl, subst, arith}
+use Rattle.std.proofs.Common.{◌≡◌, ℕ, zero, suc, ◌≤◌, Bool, true, false, List, ◌∷◌, refl, subst, arith}
 use Rattle.graph_meaning.specs.Carried.{Carried}
 use Rattle.graph_meaning.specs.Forms.{Form, Next, Stage, Enter, Leave, Iterate, next_of, first, follow, gather}
 use Rattle.graph_meaning.specs.Demand.{Source, Kind, Network}

@@ -11,7 +11,7 @@ use Rattle.graph_meaning.proofs.Ranks.{AreRanked, ranked}
 use Rattle.graph_meaning.proofs.Depths.{plus-left, plus-right, cost-whole}
 use Rattle.graph_meaning.proofs.Given.{Full, nodes-full, whole-results}
 use Rattle.graph_meaning.proofs.PlainValues.{operands-stand, rows-stand, leads, node-outputs}
-use Rattle.graph_meaning.proofs.PlainCosts.{one, is-one-cut, nodes-from}
+use Rattle.graph_meaning.proofs.PlainCosts.{one, nodes-from}
 
 compound-whole : (v : Vertex) (p : Steps) (r : Entered) → IsWhole (compound v p r) → AreWhole p × IsWhole r
 compound-whole v Left r h = (tt, h.2)

@@ -1,8 +1,8 @@
 -- No two depths give different sums.
-use Rattle.std.proofs.Common.{◌≡◌, ℕ, suc, ◌+◌, ◌≤◌, Bool, List, [], ◌∷◌, map, length, Option, Some, None, refl, sym, ap, ◌∙◌, subst, arith}
+use Rattle.std.proofs.Common.{◌≡◌, ℕ, ◌+◌, List, [], ◌∷◌, Some, refl, sym, ap, ◌∙◌, subst, arith}
 use Rattle.graph_meaning.specs.Carried.{Carried}
-use Rattle.graph_meaning.specs.Forms.{Form, Next, Stage, Enter, Iterate, Leave, next_of, first, follow, gather}
-use Rattle.graph_meaning.specs.Demand.{Source, Kind, Plain, Whole, Vertex, Network, all, operands, of_node, of_kind, leads_to, dem}
+use Rattle.graph_meaning.specs.Forms.{Form, Next, Enter, Iterate, Leave, next_of, first, follow, gather}
+use Rattle.graph_meaning.specs.Demand.{Source, Kind, Plain, Whole, Vertex, Network, of_node, leads_to, dem}
 use Rattle.graph_meaning.specs.Plain.{CarryAll, Outputs, MeanAll}
 use Rattle.graph_meaning.specs.Storage.{Weights, NodesAdd, no_node, a_node, InnerAdds, of_simple, of_whole, LaterAdds, of_leaving, of_graph, of_deeper, of_iterations, RowsAdd, of_no_row, of_row, GraphAdds, of_nodes}
 use Rattle.graph_meaning.specs.Laws.{IsSumOne, IsCostOne}
