@@ -26,3 +26,4 @@ pub mod PlainDepths
 pub mod Settled
 pub mod Sums
 pub mod SumsOnce
+pub mod Takers

@@ -1,5 +1,5 @@
 -- The laws of a graph's meaning, of its cost, and of all orders in which it may fire.
-use Rattle.std.specs.Prelude.{◌≡◌, ℕ, Bool, false, ◌≤◌, List, length, Some, Contains, ◌↔◌}
+use Rattle.std.specs.Prelude.{◌≡◌, ℕ, Bool, true, false, ◌≤◌, List, length, Some, Contains, ◌↔◌}
 use Rattle.if1_graph.specs.declared.graph.Unit1.{Unit1}
 use Rattle.if1_graph.specs.declared.op.Simple.{Simple}
 use Rattle.if1_graph.specs.declared.row.Gives.{Gives}
@@ -12,13 +12,13 @@ use Rattle.graph_meaning.specs.Carried.{Carried}
 use Rattle.graph_meaning.specs.NodeValues.{Shape, op}
 use Rattle.graph_meaning.specs.NodeValues as shape
 use Rattle.graph_meaning.specs.Forms.{Form, Stage, Enter}
-use Rattle.graph_meaning.specs.Entered.{cost}
-use Rattle.graph_meaning.specs.Demand.{Network, Cut, IsCut, AreOrderly, dem, tree}
+use Rattle.graph_meaning.specs.Entered.{Item, Node, IsLast, cost}
+use Rattle.graph_meaning.specs.Demand.{Network, Cut, IsCut, AreOrderly, WaitsFor, dem, tree}
 use Rattle.graph_meaning.specs.Networks.{net_of, network}
 use Rattle.graph_meaning.specs.Orders.{AreOrdersRight, HasNoLists}
 use Rattle.graph_meaning.specs.Plain.{is_deeper, Leads, Means, Costs}
 use Rattle.graph_meaning.specs.Storage.{Weights, GraphAdds, Storage, Copies, Writes}
-use Rattle.graph_meaning.specs.Histories.{Run, Cost, IsConfluent, IsNeverStuck}
+use Rattle.graph_meaning.specs.Histories.{History, Legal, Claimable, is_made, Run, Cost, IsConfluent, IsNeverStuck}
 use Rattle.graph_meaning.specs.Growing.{Grows, IsExecution}
 
 -- the run of a graph on its inputs, where `cut` cuts the iterations of each ForAll into slices
@@ -132,3 +132,10 @@ IsSumOne = (u : Network) (w : Weights) (g : ℕ) (ins : List Carried) (n m s t :
 -- nor different costs
 abbrev pub IsCostOne : Type 0
 IsCostOne = (u : Network) (g : ℕ) (ins : List Carried) (n m c d : ℕ) → Costs u n g ins c → Costs u m g ins d → c ≡ d
+
+-- Where the own item of a node may be claimed, every node for which it waits along data edges and ordering lists, itself or
+-- by others, has its last item made.
+abbrev pub AreUsersFinished : Type 0
+AreUsersFinished = (cut : Cut) (u : Network) (g : ℕ) (ins : List Carried) (limit : ℕ) (h : History) → IsCut cut → AreOrderly u → Legal (run_of cut u g ins) limit h
+    → (taker user : ℕ) → Claimable (run_of cut u g ins) h (Node taker) → WaitsFor (u g).nodes taker user
+    → (n : ℕ) (j : Item) → IsLast (tree cut n u g ins) user j → is_made h j ≡ true

@@ -1,5 +1,5 @@
 //! The laws of a graph's meaning, of its cost, and of its histories.
-ghost use Rattle.graph_meaning.specs.Laws.{AreValuesStable, AreCostsStable, DoTreesGrow, IsCostTheSum, IsCostOfAnyCut, IsMeantWhereCosted, AreExecutionsConfluent, AreExecutionsNeverStuck, AreRunsConfluent, AreRunsNeverStuck, AreUnitsOrderly, HaveUnitsOneEnd, AreOrdersRightWithoutLists, AreFoundByNumber, AreOutputsCounted, AreDepthsOfOneMeaning, IsMeaningOne, AreDepthsOfOneCost, IsMeaningStable, IsNothingCalledAtZero, AreSumsDefined, AreCopiesDefined, IsSumOne, IsCostOne};
+ghost use Rattle.graph_meaning.specs.Laws.{AreValuesStable, AreCostsStable, DoTreesGrow, IsCostTheSum, IsCostOfAnyCut, IsMeantWhereCosted, AreExecutionsConfluent, AreExecutionsNeverStuck, AreRunsConfluent, AreRunsNeverStuck, AreUnitsOrderly, HaveUnitsOneEnd, AreOrdersRightWithoutLists, AreFoundByNumber, AreOutputsCounted, AreDepthsOfOneMeaning, IsMeaningOne, AreDepthsOfOneCost, IsMeaningStable, IsNothingCalledAtZero, AreSumsDefined, AreCopiesDefined, IsSumOne, IsCostOne, AreUsersFinished};
 
 /// The results of a graph that one depth gives are given at every greater one.
 pub fn values_are_stable()
@@ -119,4 +119,9 @@ pub fn the_sum_is_one()
 /// No two depths of calls and turns give different costs.
 pub fn the_cost_is_one()
     ensures { IsCostOne }
+{}
+
+/// Where a node may be claimed, every node for which it waits has finished.
+pub fn users_are_finished_before_a_taker()
+    ensures { AreUsersFinished }
 {}
