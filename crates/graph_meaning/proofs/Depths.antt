@@ -20,7 +20,7 @@ all-below f g h [] = λ b e. e
 all-below f g h (x ∷ xs) =
     then-below (f x) (g x) _ _ (h x) (λ a. then-below (all (map f xs)) (all (map g xs)) _ _ (all-below f g h xs) (λ r b e. e))
 
-of-kind-below : (r r' : Rest) → ((f : Form) (ks : List Carried) (next : Next) → Below (r f ks next) (r' f ks next)) → (k : Kind) (ks : List Carried) → Below (of_kind r k ks) (of_kind r' k ks)
+pub of-kind-below : (r r' : Rest) → ((f : Form) (ks : List Carried) (next : Next) → Below (r f ks next) (r' f ks next)) → (k : Kind) (ks : List Carried) → Below (of_kind r k ks) (of_kind r' k ks)
 of-kind-below r r' h (Plain row shape) ks = λ b e. e
 of-kind-below r r' h (Whole form) ks = h form ks (next_of (first form ks))
 
@@ -41,7 +41,7 @@ demanded-below of of' h vs ins (suc far) (suc far') le (Port (suc l) p) =
     (outputs-below of of' h (demanded of vs ins far) (demanded of' vs ins far') (demanded-below of of' h vs ins far far' (omega (arith, le))) (at_label vs (suc l)))
     (λ os b e. e)
 
-operands-below : (of of' : Of) → OfBelow of of' → (g : Net) (ins : List Carried) (os : List Source) → Below (operands of g ins os) (operands of' g ins os)
+pub operands-below : (of of' : Of) → OfBelow of of' → (g : Net) (ins : List Carried) (os : List Source) → Below (operands of g ins os) (operands of' g ins os)
 operands-below of of' h g ins os =
     all-below (demanded of g.nodes ins (length g.nodes)) (demanded of' g.nodes ins (length g.nodes)) (demanded-below of of' h g.nodes ins (length g.nodes) (length g.nodes) (omega arith)) os
 

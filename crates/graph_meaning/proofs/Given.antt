@@ -79,6 +79,10 @@ each-at P [] l h i = absurd i
 each-at P (v ∷ vs) l h (inl e) = (v, h.0, e)
 each-at P (v ∷ vs) l h (inr i) = each-at P vs l h.1 i
 
+each-map : (P Q : Vertex → Type 0) → ((v : Vertex) → P v → Q v) → (vs : List Vertex) → EachNode P vs → EachNode Q vs
+each-map P Q f [] h = tt
+each-map P Q f (v ∷ vs) h = (f v h.0, each-map P Q f vs h.1)
+
 pub each-both : (P Q : Vertex → Type 0) (vs : List Vertex) → EachNode P vs → EachNode Q vs → EachNode (λ v. P v × Q v) vs
 each-both P Q [] h k = tt
 each-both P Q (v ∷ vs) h k = ((h.0, k.0), each-both P Q vs h.1 k.1)
@@ -154,6 +158,19 @@ module _ (cut : Cut) (u : Network) (n : ℕ) (graph : Net) (ready : IsRanked gra
   whole-results whole =
       filled meaning graph ready ins (length graph.nodes) graph.results (λ m i. ready.short m (ready.results_named m i))
       (λ m i. all-out whole (suc (ready.rank m)) m (omega arith) (ready.results_named m i))
+
+  -- a node has its operands and its outputs
+  abbrev pub Full : Vertex → Type 0
+  Full v = (ks : List Carried) × (rs : List Carried) × (known v ≡ Some ks) × (meaning v ks ≡ Some rs)
+
+  full : IsWhole (nodes_tree grown known graph.nodes) → (v : Vertex) → Facts v × KindEnds v.kind (known v) → Full v
+  full whole v x =
+      let k = node-known v x.0 (λ m i. all-out whole (suc (ready.rank m)) m (omega arith) (x.0.1.0 m (data-left m (data_labels v.ins) v.before i))) in
+      let r = kind-gives v.kind k.0 (subst (KindEnds v.kind) k.1 x.1) in
+      (k.0, r.0, k.1, r.1)
+
+  pub nodes-full : IsWhole (nodes_tree grown known graph.nodes) → EachNode Full graph.nodes
+  nodes-full whole = each-map _ Full (full whole) graph.nodes (each-both _ _ graph.nodes facts (nodes-end graph.nodes whole))
 
   -- where a node's label is, there are its outputs
   compound-at : (v : Vertex) (p : Steps) (r : Entered) (m : ℕ) → OutAt out (compound v p r) m → (m ≡ v.label → out v.label ≡ true) × OutAt out r m

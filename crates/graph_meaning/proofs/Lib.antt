@@ -21,4 +21,9 @@ pub mod Unlisted
 pub mod Numbers
 pub mod Outputs
 pub mod PlainValues
+pub mod PlainCosts
+pub mod PlainDepths
 pub mod Settled
+pub mod Sums
+pub mod SumsOnce
+pub mod Takers

@@ -61,7 +61,7 @@ kind-outputs u n r h (Whole form) ks rs e = whole n form ks rs (h form ks (next_
 abbrev LeadsFrom : Network → ℕ → Type 0
 LeadsFrom u m = (n : ℕ) → m ≤ n → (form : Form) (ks : List Carried) (next : Next) (rs : List Carried) → leads_to m u form ks next ≡ Some rs → Leads u n form ks next rs
 
-node-outputs : (u : Network) (m : ℕ) → LeadsFrom u m → (n : ℕ) → m ≤ n → (v : Vertex) (ks rs : List Carried) → of_node (leads_to m u) v ks ≡ Some rs → Outputs u n v.kind ks rs
+pub node-outputs : (u : Network) (m : ℕ) → LeadsFrom u m → (n : ℕ) → m ≤ n → (v : Vertex) (ks rs : List Carried) → of_node (leads_to m u) v ks ≡ Some rs → Outputs u n v.kind ks rs
 node-outputs u m h n le v ks rs e = kind-outputs u n (leads_to m u) (h n le) v.kind ks rs e
 
 entered : (u : Network) (m : ℕ) → LeadsFrom u m → (form : Form) (ks : List Carried) (t : Bool) (g : ℕ) (ins : List Carried) (stage : Stage) (ms rs : List Carried)
@@ -179,7 +179,7 @@ module _ (u : Network) where
     all-at _ _ _ _ _ (no_port n g ins) = (0, 0, refl)
     all-at _ _ _ _ _ (port n g ins o os c cs a b) = port-at g ins o os c cs (carries-at n g ins o c a) (all-at n g ins os cs b)
 
-    outputs-at : (n : ℕ) (k : Kind) (ks rs : List Carried) → Outputs u n k ks rs → OutputsAt k ks rs
+    pub outputs-at : (n : ℕ) (k : Kind) (ks rs : List Carried) → Outputs u n k ks rs → OutputsAt k ks rs
     outputs-at _ _ _ _ (simple n row shape ks) = (0, refl)
     outputs-at _ _ _ _ (whole n form ks rs a) = leads-at n form ks (next_of (first form ks)) rs a
 

@@ -1,5 +1,5 @@
 -- The laws of a graph's meaning, of its cost, and of all orders in which it may fire.
-use Rattle.std.specs.Prelude.{◌≡◌, ℕ, ◌≤◌, List, length, Some, Contains, ◌↔◌}
+use Rattle.std.specs.Prelude.{◌≡◌, ℕ, Bool, true, false, ◌≤◌, List, length, Some, Contains, ◌↔◌}
 use Rattle.if1_graph.specs.declared.graph.Unit1.{Unit1}
 use Rattle.if1_graph.specs.declared.op.Simple.{Simple}
 use Rattle.if1_graph.specs.declared.row.Gives.{Gives}
@@ -11,12 +11,14 @@ use Rattle.if1_graph.specs.Units.{Place, places, number_of}
 use Rattle.graph_meaning.specs.Carried.{Carried}
 use Rattle.graph_meaning.specs.NodeValues.{Shape, op}
 use Rattle.graph_meaning.specs.NodeValues as shape
-use Rattle.graph_meaning.specs.Entered.{cost}
-use Rattle.graph_meaning.specs.Demand.{Network, Cut, IsCut, AreOrderly, dem, tree}
+use Rattle.graph_meaning.specs.Forms.{Form, Stage, Enter}
+use Rattle.graph_meaning.specs.Entered.{Item, Node, IsLast, cost}
+use Rattle.graph_meaning.specs.Demand.{Network, Cut, IsCut, AreOrderly, WaitsFor, dem, tree}
 use Rattle.graph_meaning.specs.Networks.{net_of, network}
 use Rattle.graph_meaning.specs.Orders.{AreOrdersRight, HasNoLists}
-use Rattle.graph_meaning.specs.Plain.{Means}
-use Rattle.graph_meaning.specs.Histories.{Run, Cost, IsConfluent, IsNeverStuck}
+use Rattle.graph_meaning.specs.Plain.{is_deeper, Leads, Means, Costs}
+use Rattle.graph_meaning.specs.Storage.{Weights, GraphAdds, Storage, Copies, Writes}
+use Rattle.graph_meaning.specs.Histories.{History, Legal, Claimable, is_made, Run, Cost, IsConfluent, IsNeverStuck}
 use Rattle.graph_meaning.specs.Growing.{Grows, IsExecution}
 
 -- the run of a graph on its inputs, where `cut` cuts the iterations of each ForAll into slices
@@ -98,6 +100,42 @@ AreOutputsCounted = (o : Simple) (s : Shape) (cs : List Carried) → length (op 
 abbrev pub AreDepthsOfOneMeaning : Type 0
 AreDepthsOfOneMeaning = (u : Network) (g : ℕ) (ins rs : List Carried) → ((n : ℕ) × Means u n g ins rs) ↔ ((m : ℕ) × (dem m u g ins ≡ Some rs))
 
+-- what a depth of calls and turns gives, every greater one gives
+abbrev pub IsMeaningStable : Type 0
+IsMeaningStable = (u : Network) (g : ℕ) (ins rs : List Carried) (n m : ℕ) → n ≤ m → Means u n g ins rs → Means u m g ins rs
+
+-- at depth 0 no node enters a called graph or a turn
+abbrev pub IsNothingCalledAtZero : Type 0
+IsNothingCalledAtZero = (u : Network) (form : Form) (ks : List Carried) (turn : Bool) (g : ℕ) (ins : List Carried) (stage : Stage) (rs : List Carried) → Leads u 0 form ks (Enter turn g ins stage) rs → is_deeper form turn ≡ false
+
 -- no two depths of calls and turns give different results
 abbrev pub IsMeaningOne : Type 0
 IsMeaningOne = (u : Network) (g : ℕ) (ins rs other : List Carried) (n m : ℕ) → Means u n g ins rs → Means u m g ins other → rs ≡ other
+
+-- some depth of calls and turns gives this cost exactly where some depth of steps does
+abbrev pub AreDepthsOfOneCost : Type 0
+AreDepthsOfOneCost = (cut : Cut) (u : Network) (g : ℕ) (ins : List Carried) (c : ℕ) → IsCut cut → ((n : ℕ) × Costs u n g ins c) ↔ ((m : ℕ) × (cost (tree cut m u g ins) ≡ Some c))
+
+-- in graphs without a cycle, where the cost is defined each sum by its recursion is
+abbrev pub AreSumsDefined : Type 0
+AreSumsDefined = (u : Network) (w : Weights) (g : ℕ) (ins : List Carried) (c n : ℕ) → AreOrderly u → Costs u n g ins c → (m : ℕ) × (s : ℕ) × GraphAdds u w m g ins s
+
+-- so there are copies and writes
+abbrev pub AreCopiesDefined : Type 0
+AreCopiesDefined = (storage : Storage) (u : Network) (g : ℕ) (ins : List Carried) (c n : ℕ) → AreOrderly u → Costs u n g ins c
+    → ((m : ℕ) × (copied : ℕ) × Copies storage u m g ins copied) × ((m : ℕ) × (written : ℕ) × Writes storage u m g ins written)
+
+-- no two depths give different sums
+abbrev pub IsSumOne : Type 0
+IsSumOne = (u : Network) (w : Weights) (g : ℕ) (ins : List Carried) (n m s t : ℕ) → GraphAdds u w n g ins s → GraphAdds u w m g ins t → s ≡ t
+
+-- nor different costs
+abbrev pub IsCostOne : Type 0
+IsCostOne = (u : Network) (g : ℕ) (ins : List Carried) (n m c d : ℕ) → Costs u n g ins c → Costs u m g ins d → c ≡ d
+
+-- Where the own item of a node may be claimed, every node for which it waits along data edges and ordering lists, itself or
+-- by others, has its last item made.
+abbrev pub AreUsersFinished : Type 0
+AreUsersFinished = (cut : Cut) (u : Network) (g : ℕ) (ins : List Carried) (limit : ℕ) (h : History) → IsCut cut → AreOrderly u → Legal (run_of cut u g ins) limit h
+    → (taker user : ℕ) → Claimable (run_of cut u g ins) h (Node taker) → WaitsFor (u g).nodes taker user
+    → (n : ℕ) (j : Item) → IsLast (tree cut n u g ins) user j → is_made h j ≡ true

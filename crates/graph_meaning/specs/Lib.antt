@@ -9,3 +9,4 @@ pub mod Networks
 pub mod NodeValues
 pub mod Orders
 pub mod Plain
+pub mod Storage

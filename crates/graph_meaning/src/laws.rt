@@ -1,5 +1,5 @@
 //! The laws of a graph's meaning, of its cost, and of its histories.
-ghost use Rattle.graph_meaning.specs.Laws.{AreValuesStable, AreCostsStable, DoTreesGrow, IsCostTheSum, IsCostOfAnyCut, IsMeantWhereCosted, AreExecutionsConfluent, AreExecutionsNeverStuck, AreRunsConfluent, AreRunsNeverStuck, AreUnitsOrderly, HaveUnitsOneEnd, AreOrdersRightWithoutLists, AreFoundByNumber, AreOutputsCounted, AreDepthsOfOneMeaning, IsMeaningOne};
+ghost use Rattle.graph_meaning.specs.Laws.{AreValuesStable, AreCostsStable, DoTreesGrow, IsCostTheSum, IsCostOfAnyCut, IsMeantWhereCosted, AreExecutionsConfluent, AreExecutionsNeverStuck, AreRunsConfluent, AreRunsNeverStuck, AreUnitsOrderly, HaveUnitsOneEnd, AreOrdersRightWithoutLists, AreFoundByNumber, AreOutputsCounted, AreDepthsOfOneMeaning, IsMeaningOne, AreDepthsOfOneCost, IsMeaningStable, IsNothingCalledAtZero, AreSumsDefined, AreCopiesDefined, IsSumOne, IsCostOne, AreUsersFinished};
 
 /// The results of a graph that one depth gives are given at every greater one.
 pub fn values_are_stable()
@@ -84,4 +84,44 @@ pub fn depths_have_one_meaning()
 /// No two depths of calls and turns give different results.
 pub fn the_meaning_is_one()
     ensures { IsMeaningOne }
+{}
+
+/// Some depth of calls and turns gives the cost of a graph exactly where some depth of steps does.
+pub fn depths_have_one_cost()
+    ensures { AreDepthsOfOneCost }
+{}
+
+/// What a depth of calls and turns gives, every greater one gives.
+pub fn the_meaning_is_stable()
+    ensures { IsMeaningStable }
+{}
+
+/// At depth 0 no node enters a called graph or a turn.
+pub fn nothing_is_called_at_depth_zero()
+    ensures { IsNothingCalledAtZero }
+{}
+
+/// In graphs without a cycle, where the cost is defined each sum by its recursion is.
+pub fn sums_are_defined_where_the_cost_is()
+    ensures { AreSumsDefined }
+{}
+
+/// In graphs without a cycle, where the cost is defined copies and writes are.
+pub fn copies_are_defined_where_the_cost_is()
+    ensures { AreCopiesDefined }
+{}
+
+/// No two depths give different sums.
+pub fn the_sum_is_one()
+    ensures { IsSumOne }
+{}
+
+/// No two depths of calls and turns give different costs.
+pub fn the_cost_is_one()
+    ensures { IsCostOne }
+{}
+
+/// Where a node may be claimed, every node for which it waits has finished.
+pub fn users_are_finished_before_a_taker()
+    ensures { AreUsersFinished }
 {}
