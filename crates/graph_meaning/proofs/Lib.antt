@@ -21,7 +21,7 @@ pub mod Unlisted
 pub mod Numbers
 pub mod Outputs
 pub mod LeastPort
--- pub mod StorageExamples
+pub mod StorageExamples
 pub mod PlainValues
 pub mod PlainCosts
 pub mod PlainDepths
