@@ -20,6 +20,8 @@ pub mod Ended
 pub mod Unlisted
 pub mod Numbers
 pub mod Outputs
+pub mod LeastPort
+pub mod StorageExamples
 pub mod PlainValues
 pub mod PlainCosts
 pub mod PlainDepths

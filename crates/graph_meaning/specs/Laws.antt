@@ -1,5 +1,6 @@
 -- The laws of a graph's meaning, of its cost, and of all orders in which it may fire.
 use Rattle.std.specs.Prelude.{◌≡◌, ℕ, Bool, true, false, ◌≤◌, List, length, Some, Contains, ◌↔◌}
+use Rattle.flow_value.specs.declared.cause.Cause.{Cause}
 use Rattle.if1_graph.specs.declared.graph.Unit1.{Unit1}
 use Rattle.if1_graph.specs.declared.op.Simple.{Simple}
 use Rattle.if1_graph.specs.declared.row.Gives.{Gives}
@@ -11,6 +12,7 @@ use Rattle.if1_graph.specs.Units.{Place, places, number_of}
 use Rattle.graph_meaning.specs.Carried.{Carried}
 use Rattle.graph_meaning.specs.NodeValues.{Shape, op}
 use Rattle.graph_meaning.specs.NodeValues as shape
+use Rattle.graph_meaning.specs.Strict.{IsFit, first_strict, AreErrors}
 use Rattle.graph_meaning.specs.Forms.{Form, Stage, Enter}
 use Rattle.graph_meaning.specs.Entered.{Item, Node, IsLast, cost}
 use Rattle.graph_meaning.specs.Demand.{Network, Cut, IsCut, AreOrderly, WaitsFor, dem, tree}
@@ -95,6 +97,10 @@ outputs_by AllFields _ = 0
 -- a simple node other than a call has as many outputs as its row says
 abbrev pub AreOutputsCounted : Type 0
 AreOutputsCounted = (o : Simple) (s : Shape) (cs : List Carried) → length (op o s cs) ≡ outputs_by (row_of o).gives s
+
+-- Of a simple node whose operands fit, every output is the error of the least strict port that carries one.
+abbrev pub IsLeastPortGiven : Type 0
+IsLeastPortGiven = (o : Simple) (s : Shape) (cs : List Carried) (c : Cause) → IsFit o cs → first_strict o 1 cs ≡ Some c → AreErrors c (op o s cs)
 
 -- Some depth of calls and turns gives these results exactly where some depth of steps does. Nothing is asked of the graphs.
 abbrev pub AreDepthsOfOneMeaning : Type 0

@@ -10,3 +10,4 @@ pub mod NodeValues
 pub mod Orders
 pub mod Plain
 pub mod Storage
+pub mod Strict

@@ -1,5 +1,5 @@
 //! The laws of a graph's meaning, of its cost, and of its histories.
-ghost use Rattle.graph_meaning.specs.Laws.{AreValuesStable, AreCostsStable, DoTreesGrow, IsCostTheSum, IsCostOfAnyCut, IsMeantWhereCosted, AreExecutionsConfluent, AreExecutionsNeverStuck, AreRunsConfluent, AreRunsNeverStuck, AreUnitsOrderly, HaveUnitsOneEnd, AreOrdersRightWithoutLists, AreFoundByNumber, AreOutputsCounted, AreDepthsOfOneMeaning, IsMeaningOne, AreDepthsOfOneCost, IsMeaningStable, IsNothingCalledAtZero, AreSumsDefined, AreCopiesDefined, IsSumOne, IsCostOne, AreUsersFinished};
+ghost use Rattle.graph_meaning.specs.Laws.{AreValuesStable, AreCostsStable, DoTreesGrow, IsCostTheSum, IsCostOfAnyCut, IsMeantWhereCosted, AreExecutionsConfluent, AreExecutionsNeverStuck, AreRunsConfluent, AreRunsNeverStuck, AreUnitsOrderly, HaveUnitsOneEnd, AreOrdersRightWithoutLists, AreFoundByNumber, AreOutputsCounted, IsLeastPortGiven, AreDepthsOfOneMeaning, IsMeaningOne, AreDepthsOfOneCost, IsMeaningStable, IsNothingCalledAtZero, AreSumsDefined, AreCopiesDefined, IsSumOne, IsCostOne, AreUsersFinished};
 
 /// The results of a graph that one depth gives are given at every greater one.
 pub fn values_are_stable()
@@ -74,6 +74,11 @@ pub fn graphs_are_found_by_number()
 /// A simple node other than a call has as many outputs as its row of the table says.
 pub fn outputs_are_counted()
     ensures { AreOutputsCounted }
+{}
+
+/// Every output of a simple node is the error of its least strict port that carries one.
+pub fn the_error_of_the_least_port_is_given()
+    ensures { IsLeastPortGiven }
 {}
 
 /// Some depth of calls and turns gives the results of a graph exactly where some depth of steps does.
