@@ -12,7 +12,7 @@ use Rattle.flow_value.specs.declared.value.Val.TheVariants as val
 use Rattle.flow_value.specs.declared.value.Val.TheViews as values
 use Rattle.if1_graph.specs.declared.op.Grouping.TheVariants.{Free}
 use Rattle.if1_graph.specs.declared.op.Simple.TheVariants as simple
-use Rattle.graph_meaning.specs.Carried.{Carried, Value, Many, Spoiled, Name}
+use Rattle.graph_meaning.specs.Carried.{Value, Many, Spoiled, Name}
 use Rattle.graph_meaning.specs.Forms.{Call, Select}
 use Rattle.graph_meaning.specs.Demand.{Whole}
 use Rattle.graph_meaning.specs.Storage.{Storage, elements_in, copied_by, written_by, node_copied, node_written, copying}
