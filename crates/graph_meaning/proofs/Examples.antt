@@ -88,6 +88,10 @@ spoiled-twice = refl
 large-range : op simple.RangeGenerate shape.Plain (int 1 ∷ int 4194305 ∷ []) ≡ Spoiled cause.Size ∷ []
 large-range = refl
 
+-- the bound of a stream is strict too
+spoiled-bound : op simple.ABuild shape.Stream (err cause.Zero ∷ int 5 ∷ []) ≡ err cause.Zero ∷ []
+spoiled-bound = refl
+
 -- a mask that is an error comes before an error among the elements
 masked-sum : op (simple.Reduce Free) shape.Plain (Name (codes "sum") ∷ Many (val.Int (pos 5) ∷ val.Err cause.Zero ∷ []) ∷ Many (val.Bool true ∷ val.Err cause.Tag ∷ []) ∷ []) ≡ err cause.Tag ∷ []
 masked-sum = refl

@@ -6,7 +6,6 @@ use Rattle.flow_value.specs.declared.operation.Scalar1.TheVariants as one
 use Rattle.flow_value.specs.declared.operation.Scalar2.TheVariants as two
 use Rattle.flow_value.specs.declared.value.Val.{Val}
 use Rattle.flow_value.specs.declared.value.Val.TheOpen.{Val-F}
-use Rattle.flow_value.specs.declared.value.Val.TheVariants as val
 use Rattle.flow_value.specs.declared.value.Val.TheViews as values
 use Rattle.flow_reduce.specs.Elements.{or_else, error_of}
 use Rattle.value_ops.specs.Arity.{unless_errors}
@@ -14,10 +13,8 @@ use Rattle.value_ops.specs.Operations.{op_value}
 use Rattle.value_ops.specs.declared.operation.Operation.TheVariants as operation
 use Rattle.loop_folds.specs.declared.folding.Folding.{Folding}
 use Rattle.loop_folds.specs.declared.folding.Folding.TheVariants as folding
-use Rattle.if1_graph.specs.Ops.{reducer_at}
 use Rattle.if1_graph.specs.Ports.{count_from}
 use Rattle.if1_graph.specs.Rows.{Operand, row_of}
-use Rattle.if1_graph.specs.declared.op.Reducer.{Reducer}
 use Rattle.if1_graph.specs.declared.op.Grouping.{Grouping}
 use Rattle.if1_graph.specs.declared.op.Simple.{Simple}
 use Rattle.if1_graph.specs.declared.op.Simple.TheVariants as simple
@@ -26,7 +23,7 @@ use Rattle.if1_graph.specs.declared.row.Rest.TheVariants as rest
 use Rattle.graph_meaning.specs.Carried.{Carried, Value, Many, Spoiled, Name, Unfilled, vals}
 use Rattle.graph_meaning.specs.NodeValues.{Shape, op, unless_spoiled, scatter_in, fold_of, gather_from, gathering, reduced, reduction}
 use Rattle.graph_meaning.specs.NodeValues as shape
-use Rattle.graph_meaning.specs.Strict.{Taken, AnyValue, AnInteger, AMultiple, AName, AReduction, taken_of, is_integer, Takes, AllTake, MayHaveValues, FitsRest, Fits, IsFit, error_in, first_strict, AreErrors}
+use Rattle.graph_meaning.specs.Strict.{Taken, AnyValue, AnInteger, AMultiple, AName, AReduction, taken_of, is_integer, Takes, AllTake, Fits, IsFit, error_in, first_strict, AreErrors}
 use Rattle.graph_meaning.specs.Laws.{IsLeastPortGiven}
 
 -- ---- ports that take values
@@ -142,12 +139,11 @@ module _ (c : Cause) where
   first2 a b w e = (first-of a (unless_error b w) (or_else (error_of b) None) (first-of b w None (none-left w)) e, tt)
 
   first3 : (a b d w : Val) → or_else (error_of a) (or_else (error_of b) (or_else (error_of d) None)) ≡ Some c → AreErrors c (Value (unless_error a (unless_error b (unless_error d w))) ∷ [])
-  first3 a b d w e =
-      (
-      first-of a (unless_error b (unless_error d w)) (or_else (error_of b) (or_else (error_of d) None))
-      (first-of b (unless_error d w) (or_else (error_of d) None) (first-of d w None (none-left w))) e,
-      tt
-      )
+  first3 a b d w e = (
+    first-of a (unless_error b (unless_error d w)) (or_else (error_of b) (or_else (error_of d) None))
+        (first-of b (unless_error d w) (or_else (error_of d) None) (first-of d w None (none-left w))) e,
+    tt,
+  )
 
   -- an error that no port brings
   nothing : (rs : List Carried) → None ≡ Some c → AreErrors c rs
@@ -252,11 +248,14 @@ no-strict o s c cs n e = nothing c (op o s cs) (subst (λ q. q ≡ Some c) n e)
 
 -- ---- rows of any number of operands
 
+bound-of : (c : Cause) (a w : Val) (cs : List Carried) → first_strict simple.ABuild 1 (Value a ∷ cs) ≡ Some c → AreErrors c (Value (unless_error a w) ∷ [])
+bound-of c a w cs e = (first-of c a w (first_strict simple.ABuild 2 cs) (λ q. none-left c w (subst (λ r. r ≡ Some c) (elements c 0 cs) q)) e, tt)
+
 build-of : (s : Shape) (c : Cause) (a : Val) (cs : List Carried) → Least simple.ABuild s c (Value a ∷ cs)
-build-of shape.Plain c a cs e = (first-of c a _ (first_strict simple.ABuild 2 cs) (λ q. none-left c _ (subst (λ r. r ≡ Some c) (elements c 0 cs) q)) e, tt)
-build-of shape.Stream c a cs e = (first-of c a _ (first_strict simple.ABuild 2 cs) (λ q. none-left c _ (subst (λ r. r ≡ Some c) (elements c 0 cs) q)) e, tt)
-build-of shape.Union c a cs e = (first-of c a _ (first_strict simple.ABuild 2 cs) (λ q. none-left c _ (subst (λ r. r ≡ Some c) (elements c 0 cs) q)) e, tt)
-build-of (shape.Fields n) c a cs e = (first-of c a _ (first_strict simple.ABuild 2 cs) (λ q. none-left c _ (subst (λ r. r ≡ Some c) (elements c 0 cs) q)) e, tt)
+build-of shape.Plain c a cs = bound-of c a _ cs
+build-of shape.Stream c a cs = bound-of c a _ cs
+build-of shape.Union c a cs = bound-of c a _ cs
+build-of (shape.Fields n) c a cs = bound-of c a _ cs
 
 build-row : (s : Shape) (c : Cause) (cs : List Carried) → IsFit simple.ABuild cs → Least simple.ABuild s c cs
 build-row s c [] t = absurd t

@@ -1,5 +1,5 @@
 -- What nodes copy and write, row by row, on small operands.
-use Rattle.std.proofs.Common.{◌≡◌, ℕ, pos, Bool, true, false, List, [], ◌∷◌, length, refl, ap, rules, eqb}
+use Rattle.std.proofs.Common.{◌≡◌, ℕ, pos, Bool, true, false, List, [], ◌∷◌, ◌+◌, length, refl, ap, rules, eqb}
 use Rattle.std.specs.Prelude.{codes, ◌||◌}
 use Rattle.flow_value.specs.Bounds.{bounded}
 use Rattle.flow_value.specs.Leaves.{leaf_step, leaf_count, leaf_count_of_all}
@@ -14,8 +14,11 @@ use Rattle.if1_graph.specs.declared.op.Grouping.TheVariants.{Free}
 use Rattle.if1_graph.specs.declared.op.Simple.TheVariants as simple
 use Rattle.graph_meaning.specs.Carried.{Carried, Value, Many, Spoiled, Name}
 use Rattle.graph_meaning.specs.Forms.{Call, Select}
-use Rattle.graph_meaning.specs.Demand.{Whole}
-use Rattle.graph_meaning.specs.Storage.{Storage, elements_in, copied_by, written_by, node_copied, node_written, copying}
+use Rattle.graph_meaning.specs.NodeValues as shape
+use Rattle.graph_meaning.specs.Demand.{Port, Plain, Whole, Vertex, Network}
+use Rattle.graph_meaning.specs.Plain.{CarryAll, no_port, input, output}
+use Rattle.graph_meaning.specs.Plain as plain
+use Rattle.graph_meaning.specs.Storage.{Storage, elements_in, copied_by, written_by, node_copied, node_written, copying, writing, Copies, Writes, Weights, GraphAdds, of_nodes, a_node, no_node, of_simple}
 
 -- ---- values
 
@@ -358,3 +361,43 @@ last-writes = refl
 
 select-writes : node_written (edges (at 1) no) 0 1 (Whole (Select 1 (2 ∷ []) 1)) (Value (int 1) ∷ []) (Value three ∷ []) ≡ 0
 select-writes = refl
+
+-- ---- a whole graph
+
+abbrev hands_on : Vertex
+hands_on = record { label = 1; kind = Plain simple.NoOp shape.Plain; ins = Port 0 1 ∷ []; before = [] }
+
+-- a graph that gives its input as a node hands it on
+abbrev handing : Network
+handing g = record { nodes = hands_on ∷ []; results = Port 1 1 ∷ [] }
+
+abbrev one_array : List Carried
+one_array = Value three ∷ []
+
+handed : CarryAll handing 0 0 one_array (Port 0 1 ∷ []) one_array
+handed = plain.port 0 0 one_array (Port 0 1) [] (Value three) [] (input 0 0 one_array 1) (no_port 0 0 one_array)
+
+handed-on : CarryAll handing 0 0 one_array (Port 1 1 ∷ []) one_array
+handed-on =
+    plain.port 0 0 one_array (Port 1 1) [] (Value three) []
+    (output 0 0 one_array 0 1 hands_on one_array one_array refl handed (plain.simple 0 simple.NoOp shape.Plain one_array))
+    (no_port 0 0 one_array)
+
+handing-adds : (w : Weights) → GraphAdds handing w 0 0 one_array (w.of_results 0 one_array + (w.of_node 0 hands_on one_array one_array + (0 + 0)))
+handing-adds w =
+    of_nodes 0 0 one_array one_array (w.of_node 0 hands_on one_array one_array + (0 + 0)) handed-on
+    (
+    a_node 0 0 one_array hands_on [] one_array one_array 0 0 handed (plain.simple 0 simple.NoOp shape.Plain one_array)
+    (of_simple 0 simple.NoOp shape.Plain one_array) (no_node 0 0 one_array)
+    )
+
+-- the node copies the array of three, and so does the boundary
+handing-copies : Copies (edges (at 1) no) handing 0 0 one_array 6
+handing-copies = (_, handing-adds (copying (edges (at 1) no)), simp (one-leaf, array-leaves))
+
+-- both take it
+handing-taken : Copies (edges (at 1) (at 1)) handing 0 0 one_array 0
+handing-taken = (_, handing-adds (copying (edges (at 1) (at 1))), refl)
+
+handing-writes : Writes (edges (at 1) no) handing 0 0 one_array 0
+handing-writes = (_, handing-adds (writing (edges (at 1) no)), refl)
