@@ -1,2 +1,5 @@
 pub mod Same
 pub mod Keeping
+pub mod Finding
+pub mod Chains
+pub mod Levels

@@ -36,6 +36,11 @@ impl Shapes {
         }
     }
 
+    /// The allocator.
+    pub fn allocator(&self) -> Global {
+        *self.keys.allocator()
+    }
+
     /// The number of the tree of a kind and two parts, which is a new one where it is not there yet.
     pub fn number(&mut self, kind: u32, first: u32, second: u32) -> Result<u32, NoMemory>
         requires first { first ≤ length (trees_in self.old) }
