@@ -1,5 +1,5 @@
 -- A level more.
-use Rattle.std.proofs.Common.{◌≡◌, ℕ, zero, suc, ◌+◌, ◌<◌, ◌≤◌, ◌==◌, Bool, true, false, List, [], ◌∷◌, ◌++◌, length, map, find, take, Option, Some, None, refl, sym, ap, ◌∙◌, subst, arith, if◌then◌else◌}
+use Rattle.std.proofs.Common.{◌≡◌, ℕ, zero, suc, ◌+◌, ◌<◌, ◌≤◌, ◌==◌, Bool, true, false, List, [], ◌∷◌, ◌++◌, length, map, find, take, Option, Some, None, refl, sym, ap, ◌∙◌, subst, arith, if◌then◌else◌, add-one}
 use Rattle.std.proofs.lemmas.List.{length-append}
 use Rattle.if1_graph.specs.declared.graph.TypeEntry.{TypeEntry}
 use Rattle.if1_graph.specs.Kinds.{kind_at}
@@ -64,3 +64,18 @@ level_more ts us types ns new depth before told l =
 
 pub level_within : (ts : List Tree) (types : List TypeEntry) (ns : List ℕ) (depth : ℕ) → IsLevel ts types ns depth → AreWithin ts types ns
 level_within ts types ns depth h l = (h l).within
+
+pub level_step : (ts us : List Tree) (types : List TypeEntry) (ns given new : List ℕ) (depth : ℕ) → IsLevel ts types ns depth → given ≡ ns
+    → AreTold us (λ e. tree_of (part_by ts types given) types e (kind_at e.code)) types new → IsLevel us types new (depth + 1)
+level_step ts us types ns given new depth before is told =
+    subst (IsLevel us types new) (sym (add-one depth))
+    (level_more ts us types ns new depth before (subst (λ ns. AreTold us (λ e. tree_of (part_by ts types ns) types e (kind_at e.code)) types new) is told))
+
+-- an entry more of a list that goes by parts
+pub entry_told : (f : Parts → TypeEntry → Tree) (ts us vs : List Tree) (types : List TypeEntry) (ns : List ℕ) (i : ℕ) (next new : List ℕ) (e : TypeEntry) (n : ℕ)
+    → IsLater ts us → IsLater us vs → AreWithin ts types ns → AreTold us (f (part_by ts types ns)) (take i types) next
+    → Stands vs n (f (part_by us types ns) e) → take (i + 1) types ≡ take i types ++ e ∷ [] → new ≡ next ++ n ∷ []
+    → AreTold vs (f (part_by ts types ns)) (take (i + 1) types) new
+entry_told f ts us vs types ns i next new e n l m w told s is new_is =
+    told_more us vs (f (part_by ts types ns)) types (take i types) (take (i + 1) types) next new e n m told
+    (subst (λ part. Stands vs n (f part e)) (parts_later ts us types ns l w) s) is new_is
