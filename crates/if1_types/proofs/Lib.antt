@@ -3,3 +3,4 @@ pub mod Keeping
 pub mod Finding
 pub mod Chains
 pub mod Levels
+pub mod Sorted

@@ -1,5 +1,6 @@
 -- The tree of a label tells what the label stands for.
-use Rattle.std.proofs.Common.{◌≡◌, ℕ, zero, suc, Bool, true, false, List, [], ◌∷◌, map, length, Option, Some, None, refl, sym, ap, ◌∙◌, if◌then◌else◌}
+use Rattle.std.proofs.Common.{◌≡◌, ℕ, zero, suc, Bool, true, false, List, [], ◌∷◌, map, length, Option, Some, None, refl, sym, ap, ◌∙◌, subst, ◌==◌, true≢false, eqb-true, if◌then◌else◌}
+use Rattle.std.proofs.lemmas.Option.{same_Some}
 use Rattle.flow_value.specs.declared.ty.Ty.{Ty}
 use Rattle.flow_value.specs.declared.ty.Ty.TheVariants as ty
 use Rattle.flow_value.specs.declared.ty.Ty.TheOpen.{Ty-F}
@@ -181,3 +182,50 @@ module _ (ts : List TypeEntry) where
   sort_of_tells e (Some kind.Tag) = plain_over (bare_at ts e.label) (tree_within most_deep ts e.label) (bare_tells e.label)
   sort_of_tells e (Some kind.Tuple) = plain_over (bare_at ts e.label) (tree_within most_deep ts e.label) (bare_tells e.label)
   sort_of_tells e None = plain_over (bare_at ts e.label) (tree_within most_deep ts e.label) (bare_tells e.label)
+
+-- the entry of a label has it
+entry_labelled : (ts : List TypeEntry) (l : ℕ) (e : TypeEntry) → entry_at ts l ≡ Some e → e.label ≡ l
+entry_labelled [] l e h = cc
+entry_labelled (d ∷ ts) l e h = by (d.label == l) refl h (entry_labelled ts l e)
+  where
+    by : (b : Bool) → (d.label == l) ≡ b → (if b then Some d else entry_at ts l) ≡ Some e → (entry_at ts l ≡ Some e → e.label ≡ l) → e.label ≡ l
+    by true test h rest = ap (λ e. e.label) (sym (same_Some d e h)) ∙ eqb-true d.label l test
+    by false test h rest = rest h
+
+-- the tree of a label tells its sort
+pub sort_tells : (ts : List TypeEntry) (l : ℕ) → IsSort (sort_at ts l) (sort_tree_at ts l)
+sort_tells ts l = by (entry_at ts l) refl
+  where
+    by : (o : Option TypeEntry) → entry_at ts l ≡ o → IsSort (o >>= λ e. sort_of ts l e (kind_at e.code))
+        (elim o [ None ↦ leaf | Some e ↦ sort_tree (tree_within most_deep ts) ts e (kind_at e.code) ])
+    by None h = tt
+    by (Some e) h =
+        subst (λ l. IsSort (sort_of ts l e (kind_at e.code)) (sort_tree (tree_within most_deep ts) ts e (kind_at e.code))) (entry_labelled ts l e h)
+        (sort_of_tells ts e (kind_at e.code))
+
+abbrev is_node : Tree → Bool
+is_node leaf = false
+is_node (node k a b) = true
+
+-- trees are equal exactly where what they tell is
+pub trees_same : {A : Type 0} (f : A → Tree) (g : Tree → Option A) (o p : Option A) (t u : Tree) → Tells f g o t → Tells f g p u → t ≡ u → o ≡ p
+trees_same f g None None t u h i e = refl
+trees_same f g None (Some y) leaf leaf h i e = absurd i
+trees_same f g None (Some y) leaf (node k a b) h i e = absurd (true≢false (sym (ap is_node e)))
+trees_same f g None (Some y) (node k a b) u h i e = absurd h
+trees_same f g (Some x) None leaf u h i e = absurd h
+trees_same f g (Some x) None (node k a b) leaf h i e = absurd (true≢false (ap is_node e))
+trees_same f g (Some x) None (node k a b) (node j c d) h i e = absurd i
+trees_same f g (Some x) (Some y) leaf u h i e = absurd h
+trees_same f g (Some x) (Some y) (node k a b) leaf h i e = absurd i
+trees_same f g (Some x) (Some y) (node k a b) (node j c d) h i e = sym h.1 ∙ ap g e ∙ i.1
+
+pub told_same : {A : Type 0} (f : A → Tree) (g : Tree → Option A) (o p : Option A) (t u : Tree) → Tells f g o t → Tells f g p u → o ≡ p → t ≡ u
+told_same f g None None leaf leaf h i e = refl
+told_same f g None None leaf (node k a b) h i e = absurd i
+told_same f g None None (node k a b) u h i e = absurd h
+told_same f g None (Some y) t u h i e = cc
+told_same f g (Some x) None t u h i e = cc
+told_same f g (Some x) (Some y) leaf u h i e = absurd h
+told_same f g (Some x) (Some y) (node k a b) leaf h i e = absurd i
+told_same f g (Some x) (Some y) (node k a b) (node j c d) h i e = sym h.0 ∙ ap f (same_Some x y e) ∙ i.0

@@ -1,5 +1,6 @@
 -- The types of a table by label, with a number for each.
 use Rattle.std.specs.Prelude.{◌≡◌, ℕ, zero, suc, ◌≤◌, ◌==◌, ◌↔◌, Bool, List, [], ◌∷◌, length, map, All, Option, Some, None, if◌then◌else◌}
+use Rattle.std.specs.List.Sorted.{IsStrictlyIncreasing}
 use Rattle.if1_graph.specs.declared.graph.TypeEntry.{TypeEntry}
 use Rattle.if1_graph.specs.declared.kind.TypeKind.{TypeKind}
 use Rattle.if1_graph.specs.Kinds.{kind_at}
@@ -60,3 +61,10 @@ IsWalked trees ts ns line l (Some parts) =
 -- the numbers have the trees of the labels, where types are at most so deep
 abbrev pub IsLevel : List Tree → List TypeEntry → List ℕ → ℕ → Type 0
 IsLevel trees ts ns depth = (l : ℕ) → Stands trees (number_at (labels_in ts) ns l) (tree_within depth ts l)
+
+-- Numbers beside labels: two are equal exactly where the labels stand for the same, and one is 0 exactly where its label
+-- stands for nothing.
+pub record AreSorts (ts : List TypeEntry) (ls ns : List ℕ) : Type 0 where
+  pub rising : IsStrictlyIncreasing ls
+  pub there : (l : ℕ) → (number_at ls ns l ≡ 0) ↔ (sort_at ts l ≡ None)
+  pub same : (l m : ℕ) → (number_at ls ns l ≡ number_at ls ns m) ↔ (sort_at ts l ≡ sort_at ts m)

@@ -49,7 +49,7 @@ fn list_over(
     Ok(number)
 }
 
-fn part_over(
+pub fn part_over(
     shapes: &mut Shapes,
     types: &[TypeEntry],
     labels: &[u32],

@@ -4,4 +4,7 @@
 mod level;
 mod lists;
 mod shapes;
+mod sorts;
 mod table;
+
+pub use sorts::{Sorts, sorts_of};
