@@ -8,3 +8,6 @@ mod sorts;
 mod table;
 
 pub use sorts::{Sorts, sorts_of};
+
+#[cfg(test)]
+mod tests;
