@@ -20,3 +20,11 @@ pub number_none : (xs ns : List ℕ) (l : ℕ) → ((k : ℕ) → k < length xs 
 number_none [] ns l none = refl
 number_none (x ∷ xs) [] l none = refl
 number_none (x ∷ xs) (n ∷ ns) l none = grind (arith, none 0, number_none xs ns l (λ k h is. none (suc k) (omega (arith, h)) is))
+
+-- rising labels that are written out
+pub rising_last : (x : ℕ) → IsStrictlyIncreasing (x ∷ [])
+rising_last x k h = absurd (omega (arith, h))
+
+pub rising_first : (x y : ℕ) (zs : List ℕ) → x < y → IsStrictlyIncreasing (y ∷ zs) → IsStrictlyIncreasing (x ∷ y ∷ zs)
+rising_first x y zs h up zero l = grind (arith, h)
+rising_first x y zs h up (suc k) l = grind (arith, up k)

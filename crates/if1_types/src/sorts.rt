@@ -72,7 +72,12 @@ fn sort_number(
     match kind_of(entry.code) {
         Some(TypeKind::Multiple) => part_over(shapes, types, labels, numbers, 11, entry.first),
         Some(TypeKind::Function) => function_number(
-            shapes, types, labels, numbers, entry.first, entry.second,
+            shapes,
+            types,
+            labels,
+            numbers,
+            entry.first,
+            entry.second,
         ),
         _ => part_over(shapes, types, labels, numbers, 10, entry.label),
     }

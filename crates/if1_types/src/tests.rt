@@ -1,11 +1,15 @@
 //! Small tables.
+ghost use Rattle.std.specs.Prelude.{◌≡◌};
+
 use crate::sorts::sorts_of;
 use flow_value::Seq;
 use if1_graph::TypeEntry;
 use std::alloc::Global;
 use std::test::Fail;
 
-fn entry(alloc: Global, label: u32, code: u32, first: u32, second: u32) -> TypeEntry {
+fn entry(alloc: Global, label: u32, code: u32, first: u32, second: u32) -> TypeEntry
+    ensures { result.label ≡ label }
+{
     TypeEntry {
         label,
         code,
