@@ -1,12 +1,11 @@
 -- Trees by number, with one more.
-use Rattle.std.proofs.Common.{◌≡◌, ℕ, zero, suc, ◌+◌, ◌<◌, ◌≤◌, Bool, true, false, ◌&&◌, nat_eq, List, [], ◌∷◌, ◌++◌, length, get_or, slice_get, position, Option, Some, None, refl, sym, ap, ◌∙◌, subst, arith, append_assoc, ◌⊎◌, inl, inr, true≢false, eqb-true, map, ◌≢◌}
+use Rattle.std.proofs.Common.{◌≡◌, ℕ, zero, suc, ◌+◌, ◌<◌, ◌≤◌, Bool, true, false, ◌&&◌, nat_eq, List, [], ◌∷◌, ◌++◌, length, get_or, slice_get, position, Some, None, refl, sym, ap, ◌∙◌, subst, arith, append_assoc, ◌⊎◌, inl, inr, true≢false, eqb-true, ◌≢◌}
 use Rattle.std.proofs.lemmas.List.{length-append, map-append}
 use Rattle.std.specs.Map.{keys_of}
 use Rattle.indexmap.specs.IndexMap.{insert_entry}
-use Rattle.std.proofs.lemmas.Option.{slice_get_within, same_Some}
+use Rattle.std.proofs.lemmas.Option.{slice_get_within}
 use Rattle.std.proofs.lemmas.Bool.{eq-eqb}
-use Rattle.std.specs.List.{list_any}
-use Rattle.type_table.proofs.Lists.{IsEarlier, IsLast, which, IsFound, found, none_found, not_among, insert_last}
+use Rattle.type_table.proofs.Lists.{IsEarlier, IsLast, which, found, none_found, not_among, insert_last}
 use Rattle.if1_types.specs.Trees.{Tree, leaf, node, over, over_both}
 use Rattle.if1_types.specs.Shapes.{Key, key_eq, tree_at, key_tree, trees_onto, trees_in, IsOnce, IsKept, IsLater, Stands}
 
@@ -105,7 +104,7 @@ row_at [] i h = absurd (omega (arith, h))
 row_at (k ∷ ks) zero h = (k, refl)
 row_at (k ∷ ks) (suc i) h = row_at ks i (omega (arith, h))
 
-split : (n m : ℕ) → (n ≤ m) ⊎ (m < n)
+pub split : (n m : ℕ) → (n ≤ m) ⊎ (m < n)
 split zero m = inl (omega arith)
 split (suc n) zero = inr (omega arith)
 split (suc n) (suc m) = elim (split n m) [

@@ -1,13 +1,12 @@
 -- A level more.
-use Rattle.std.proofs.Common.{◌≡◌, ℕ, zero, suc, ◌+◌, ◌<◌, ◌≤◌, ◌==◌, Bool, true, false, List, [], ◌∷◌, ◌++◌, length, map, find, take, Option, Some, None, refl, sym, ap, ◌∙◌, subst, arith, if◌then◌else◌, add-one}
-use Rattle.std.proofs.lemmas.List.{length-append}
+use Rattle.std.proofs.Common.{◌≡◌, ℕ, zero, suc, ◌+◌, ◌≤◌, ◌==◌, Bool, true, false, List, [], ◌∷◌, ◌++◌, take, Some, None, refl, sym, ap, ◌∙◌, subst, arith, if◌then◌else◌, add-one, inl, inr}
 use Rattle.if1_graph.specs.declared.graph.TypeEntry.{TypeEntry}
 use Rattle.if1_graph.specs.Kinds.{kind_at}
 use Rattle.if1_graph.specs.Types.{entry_at}
-use Rattle.if1_types.specs.Trees.{Tree, leaf, node, over_both, Parts, tree_of, tree_within}
+use Rattle.if1_types.specs.Trees.{Tree, leaf, over_both, Parts, tree_of, tree_within}
 use Rattle.if1_types.specs.Shapes.{tree_at, IsLater, Stands}
 use Rattle.if1_types.specs.Tables.{number_at, labels_in, part_by, AreWithin, AreTold, IsLevel}
-use Rattle.if1_types.proofs.Keeping.{stands_later}
+use Rattle.if1_types.proofs.Keeping.{stands_later, split}
 use Rattle.if1_types.proofs.Chains.{tree_later}
 
 pub within_later : (ts us : List Tree) (types : List TypeEntry) (ns : List ℕ) → IsLater ts us → AreWithin ts types ns → AreWithin us types ns
@@ -90,3 +89,25 @@ both_told f g ts us vs ws types ns k first second n l m w a b h =
     ∙ ap (over_both k (f (part_by ts types ns))) b.is
     ∙ ap (λ part. over_both k (f (part_by ts types ns)) (g part)) (parts_later ts us types ns l w))
     h
+
+-- ---- levels that no longer change
+
+stays : (types : List TypeEntry) (d : ℕ) → ((l : ℕ) → tree_within (suc d) types l ≡ tree_within d types l) → (n l : ℕ) → d ≤ n → tree_within n types l ≡ tree_within d types l
+stays types d h zero l w = let z : zero ≡ d = omega (arith, w) in ap (λ n. tree_within n types l) z
+stays types d h (suc n) l w = elim (split d n) [
+  | inl x ↦
+      ap (λ part. elim (entry_at types l) [ None ↦ leaf | Some e ↦ tree_of part types e (kind_at e.code) ])
+      (λ j m. stays types d h n m x j) ∙ h l
+  | inr x ↦ let z : suc n ≡ d = omega (arith, w, x) in ap (λ n. tree_within n types l) z
+]
+
+-- the numbers of a level that are those of the level before are those of every later level
+pub level_stays : (ts us : List Tree) (types : List TypeEntry) (ns new : List ℕ) (depth most : ℕ) → IsLater ts us → IsLevel ts types ns depth → IsLevel us types new (depth + 1) → new ≡ ns
+    → depth ≤ most → IsLevel us types new most
+level_stays ts us types ns new depth most later before now same within l =
+    let now_is : (m : ℕ) → Stands us (number_at (labels_in types) ns m) (tree_within (suc depth) types m) =
+    λ m. subst (λ ns. Stands us (number_at (labels_in types) ns m) (tree_within (suc depth) types m)) same (subst (λ d. Stands us (number_at (labels_in types) new m) (tree_within d types m)) (add-one depth) (now m)) in
+    let settled : (m : ℕ) → tree_within (suc depth) types m ≡ tree_within depth types m =
+    λ m. sym (now_is m).is ∙ (stands_later later (before m)).is in
+    subst (λ ns. Stands us (number_at (labels_in types) ns l) (tree_within most types l)) (sym same)
+    (subst (Stands us (number_at (labels_in types) ns l)) (sym (stays types depth settled most l within)) (stands_later later (before l)))

@@ -13,8 +13,8 @@ use Rattle.if1_graph.specs.declared.kind.Basic.TheVariants as basic
 use Rattle.if1_graph.specs.Kinds.{kind_at, basic_at}
 use Rattle.if1_graph.specs.Tables.{◌>>=◌}
 use Rattle.if1_graph.specs.Types.{Member, Sort, Plain, Many, Function, entry_at, is_field, is_tag, is_tuple, members, scalar, ty_of, ty_within, without_names, most_deep, bare_at, tuple_at, sort_of, sort_at}
-use Rattle.if1_types.specs.Trees.{Tree, leaf, node, ending, over, over_both, Parts, member_part, list, scalar_tree, tree_of, tree_within, sort_tree, sort_tree_at}
-use Rattle.if1_types.specs.Telling.{ty_step, ty_tree, members_tree, list_tree, types_tree, told_sort, read_value, read_members, read_types, read_sort, Tells}
+use Rattle.if1_types.specs.Trees.{Tree, leaf, node, over, over_both, Parts, member_part, list, scalar_tree, tree_of, tree_within, sort_tree, sort_tree_at}
+use Rattle.if1_types.specs.Telling.{ty_step, ty_tree, list_tree, types_tree, told_sort, read_value, read_members, read_types, read_sort, Tells}
 
 -- ---- steps
 

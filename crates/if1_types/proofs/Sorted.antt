@@ -1,10 +1,10 @@
 -- Numbers of sorts, from the trees.
-use Rattle.std.proofs.Common.{◌≡◌, ℕ, zero, suc, ◌≤◌, ◌↔◌, List, length, map, Option, Some, None, refl, sym, ap, ◌∙◌, subst, arith}
+use Rattle.std.proofs.Common.{◌≡◌, ℕ, List, Some, None, sym, ap, ◌∙◌, subst, arith}
 use Rattle.std.specs.List.Sorted.{IsStrictlyIncreasing}
 use Rattle.if1_graph.specs.declared.graph.TypeEntry.{TypeEntry}
 use Rattle.if1_graph.specs.Kinds.{kind_at}
 use Rattle.if1_graph.specs.Types.{entry_at, sort_at, most_deep}
-use Rattle.if1_types.specs.Trees.{Tree, leaf, Parts, tree_within, sort_tree, sort_tree_at}
+use Rattle.if1_types.specs.Trees.{Tree, leaf, tree_within, sort_tree, sort_tree_at}
 use Rattle.if1_types.specs.Shapes.{tree_at, IsOnce, Stands}
 use Rattle.if1_types.specs.Telling.{told_sort, read_sort}
 use Rattle.if1_types.specs.Tables.{number_at, labels_in, part_by, AreTold, IsLevel, AreSorts}

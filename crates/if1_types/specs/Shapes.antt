@@ -1,5 +1,5 @@
 -- Trees by number: 0 is nothing, and each tree that is there has one number, from 1.
-use Rattle.std.specs.Prelude.{◌≡◌, ℕ, zero, suc, ◌≤◌, Bool, ◌&&◌, nat_eq, List, [], ◌∷◌, ◌++◌, length, get_or, slice_get, position, Option, Some, None}
+use Rattle.std.specs.Prelude.{◌≡◌, ℕ, zero, suc, ◌≤◌, Bool, ◌&&◌, nat_eq, List, [], ◌∷◌, ◌++◌, length, get_or, slice_get, Some}
 use Rattle.if1_types.specs.Trees.{Tree, leaf, node}
 
 -- a kind and the numbers of two parts

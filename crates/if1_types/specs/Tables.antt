@@ -1,14 +1,13 @@
 -- The types of a table by label, with a number for each.
-use Rattle.std.specs.Prelude.{◌≡◌, ℕ, zero, suc, ◌≤◌, ◌==◌, ◌↔◌, Bool, List, [], ◌∷◌, length, map, All, Option, Some, None, if◌then◌else◌}
+use Rattle.std.specs.Prelude.{◌≡◌, ℕ, suc, ◌≤◌, ◌==◌, ◌↔◌, Bool, List, [], ◌∷◌, length, map, All, Option, Some, None, if◌then◌else◌}
 use Rattle.std.specs.List.Sorted.{IsStrictlyIncreasing}
 use Rattle.if1_graph.specs.declared.graph.TypeEntry.{TypeEntry}
 use Rattle.if1_graph.specs.declared.kind.TypeKind.{TypeKind}
-use Rattle.if1_graph.specs.Kinds.{kind_at}
-use Rattle.if1_graph.specs.Types.{entry_at, is_field, is_tag, is_tuple, sort_at}
+use Rattle.if1_graph.specs.Types.{is_field, is_tag, is_tuple, sort_at}
 use Rattle.if1_types.specs.declared.lists.Line.{Line}
 use Rattle.if1_types.specs.declared.lists.Line.TheVariants.{Field, Tag, Tuple}
-use Rattle.if1_types.specs.Trees.{Tree, leaf, node, ending, over_both, list, tree_within, Parts}
-use Rattle.if1_types.specs.Shapes.{tree_at, IsLater, Stands}
+use Rattle.if1_types.specs.Trees.{Tree, leaf, ending, over_both, list, tree_within, Parts}
+use Rattle.if1_types.specs.Shapes.{tree_at, Stands}
 
 -- the number beside a label, 0 where there is none
 abbrev pub number_at : List ℕ → List ℕ → ℕ → ℕ

@@ -1,5 +1,5 @@
 //! The numbers of types, a level of depth at a time.
-ghost use Rattle.std.specs.Prelude.{◌≡◌, IfOk, map, length};
+ghost use Rattle.std.specs.Prelude.{◌≡◌, ◌↔◌, IsTrue, IfOk, map, length};
 ghost use Rattle.std.specs.List.Sorted.{IsStrictlyIncreasing};
 ghost use Rattle.if1_graph.specs.Kinds.{kind_at};
 ghost use Rattle.if1_graph.specs.Types.{most_deep};
@@ -130,6 +130,12 @@ fn level(
     Ok(next)
 }
 
+fn are_same(a: &[u32], b: &[u32]) -> bool
+    ensures { IsTrue result ↔ (a.now ≡ b.now) }
+{
+    a == b
+}
+
 /// The numbers of all types that are at most as deep as types may be.
 pub fn type_numbers(
     shapes: &mut Shapes,
@@ -142,7 +148,11 @@ pub fn type_numbers(
 {
     let mut numbers = Seq::new(shapes.allocator());
     for _ in 0..DEEPEST {
-        numbers = level(shapes, types, labels, numbers.as_slice())?;
+        let next = level(shapes, types, labels, numbers.as_slice())?;
+        if are_same(next.as_slice(), numbers.as_slice()) {
+            return Ok(next);
+        }
+        numbers = next;
     }
     Ok(numbers)
 }

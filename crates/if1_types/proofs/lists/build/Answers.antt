@@ -1,4 +1,4 @@
-use Rattle.std.proofs.Common.{◌≡◌, ◌∙◌, sym, ap, subst, arith, ◌≤◌, ◌<◌, length, map, drop, ◌-◌, refl}
+use Rattle.std.proofs.Common.{◌≡◌, subst, arith, map, drop, ◌-◌, refl}
 use Rattle.if1_types.specs.Trees.{ending}
 use Rattle.if1_types.specs.Shapes.{trees_in, tree_at, Stands}
 use Rattle.if1_types.specs.Tables.{chain}

@@ -1,4 +1,4 @@
-use Rattle.std.proofs.Common.{◌≡◌, ◌≤◌, ◌∙◌, sym, ap, subst, arith, All, length, map, ◌++◌, ◌∷◌, []}
+use Rattle.std.proofs.Common.{◌≤◌, sym, subst, arith, All, length, map}
 use Rattle.std.proofs.lemmas.List.Elements.{All-push}
 use Rattle.if1_types.specs.Shapes.{trees_in, tree_at}
 use Rattle.if1_types.specs.Tables.{part_by, is_line}

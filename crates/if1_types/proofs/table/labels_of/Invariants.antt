@@ -1,4 +1,4 @@
-use Rattle.std.proofs.Common.{◌≡◌, ◌++◌, map, drop}
+use Rattle.std.proofs.Common.{◌≡◌, ◌++◌, drop}
 use Rattle.if1_types.specs.Tables.{labels_in}
 use Rattle.if1_types.proofs.table.labels_of.Given as goal
 

@@ -1,7 +1,7 @@
 use Rattle.std.proofs.Common.{◌≡◌, ◌∙◌, sym, ap, subst, suc, ◌≤◌, length, ◌++◌, ◌∷◌, [], position}
 use Rattle.std.specs.Map.{keys_of}
 use Rattle.std.proofs.lemmas.List.{length-map}
-use Rattle.if1_types.specs.Shapes.{key_eq, tree_at, key_tree, trees_in, IsKept, IsLater, Stands}
+use Rattle.if1_types.specs.Shapes.{key_eq, key_tree, trees_in, IsKept, IsLater, Stands}
 use Rattle.if1_types.proofs.Keeping.{stands_found, stands_last, later_one, IsAdded, added}
 use Rattle.if1_types.proofs.shapes.Shapes.number.Goals as goal
 

@@ -1,7 +1,6 @@
-use Rattle.std.proofs.Common.{◌≡◌, ◌∙◌, sym, ap, subst, arith, length, zero, ◌≤◌}
-use Rattle.if1_types.specs.Trees.{leaf, over_both}
-use Rattle.if1_types.specs.Shapes.{tree_at, trees_in, IsKept, Stands}
-use Rattle.if1_types.proofs.Keeping.{over_some_both, over_none_first, over_none_second}
+use Rattle.std.proofs.Common.{sym, subst, arith}
+use Rattle.if1_types.specs.Shapes.{trees_in, IsKept, Stands}
+use Rattle.if1_types.proofs.Keeping.{over_some_both}
 use Rattle.if1_types.proofs.shapes.Shapes.over_both.Goals as goal
 
 pub returns-clause-number : goal.returns-clause-number
