@@ -222,16 +222,3 @@ over_some ks ts k n kept h some = over_node k (tree_at ts n) (is_there ks ts n k
 
 pub over_some_both : (ks : List Key) (ts : List Tree) (k n m : ℕ) → IsKept ks ts → n ≤ length ts → m ≤ length ts → n ≢ 0 → m ≢ 0 → over_both k (tree_at ts n) (tree_at ts m) ≡ node k (tree_at ts n) (tree_at ts m)
 over_some_both ks ts k n m kept h i some other = over_nodes k (tree_at ts n) (tree_at ts m) (is_there ks ts n kept h some) (is_there ks ts m kept i other)
-
-pub over_none : (ts : List Tree) (k n : ℕ) → n ≡ 0 → over k (tree_at ts n) ≡ leaf
-over_none ts k n z = ap (λ n. over k (tree_at ts n)) z
-
-pub over_none_first : (ts : List Tree) (k n m : ℕ) → n ≡ 0 → over_both k (tree_at ts n) (tree_at ts m) ≡ leaf
-over_none_first ts k n m z = ap (λ n. over_both k (tree_at ts n) (tree_at ts m)) z
-
-pub over_none_second : (ts : List Tree) (k n m : ℕ) → m ≡ 0 → over_both k (tree_at ts n) (tree_at ts m) ≡ leaf
-over_none_second ts k n m z = ap (λ m. over_both k (tree_at ts n) (tree_at ts m)) z ∙ by (tree_at ts n)
-  where
-    by : (t : Tree) → over_both k t leaf ≡ leaf
-    by leaf = refl
-    by (node i a b) = refl
