@@ -1,0 +1,6 @@
+pub mod Same
+pub mod Keeping
+pub mod Finding
+pub mod Chains
+pub mod Levels
+pub mod Sorted

@@ -1,0 +1,12 @@
+use Rattle.std.proofs.Common.{take}
+use Rattle.if1_graph.specs.Kinds.{kind_at}
+use Rattle.if1_types.specs.Trees.{sort_tree}
+use Rattle.if1_types.specs.Shapes.{trees_in, IsLater}
+use Rattle.if1_types.specs.Tables.{part_by, AreTold}
+use Rattle.if1_types.proofs.sorts.sort_numbers.Given as goal
+
+abbrev pub invariant-loop-entry : goal.invariant-loop-entry
+invariant-loop-entry l = record {
+  told : AreTold (trees_in l.shapes) (λ e. sort_tree (part_by (trees_in l.initial.shapes) l.types l.numbers) l.types e (kind_at e.code)) (take l.entry-index l.types) l.sorts;
+  later : IsLater (trees_in l.initial.shapes) (trees_in l.shapes);
+}

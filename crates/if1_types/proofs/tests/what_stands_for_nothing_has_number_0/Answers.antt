@@ -1,0 +1,11 @@
+use Rattle.std.proofs.Common.{[], ◌∷◌, arith}
+use Rattle.if1_types.proofs.Finding.{rising_last, rising_first}
+use Rattle.if1_types.proofs.tests.what_stands_for_nothing_has_number_0.Goals as goal
+
+pub sorts_of-requires : goal.sorts_of-requires
+sorts_of-requires g c =
+    rising_first c.entry.result.label c.entry-2.result.label (c.entry-3.result.label ∷ c.entry-4.result.label ∷ c.entry-5.result.label ∷ []) (omega (arith, c.entry.ensures, c.entry-2.ensures)) (
+    rising_first c.entry-2.result.label c.entry-3.result.label (c.entry-4.result.label ∷ c.entry-5.result.label ∷ []) (omega (arith, c.entry-2.ensures, c.entry-3.ensures)) (
+    rising_first c.entry-3.result.label c.entry-4.result.label (c.entry-5.result.label ∷ []) (omega (arith, c.entry-3.ensures, c.entry-4.ensures)) (
+    rising_first c.entry-4.result.label c.entry-5.result.label ([]) (omega (arith, c.entry-4.ensures, c.entry-5.ensures)) (
+    rising_last c.entry-5.result.label))))

@@ -1,0 +1,158 @@
+//! The numbers of types, a level of depth at a time.
+ghost use Rattle.std.specs.Prelude.{◌≡◌, ◌↔◌, IsTrue, IfOk, map, length};
+ghost use Rattle.std.specs.List.Sorted.{IsStrictlyIncreasing};
+ghost use Rattle.if1_graph.specs.Kinds.{kind_at};
+ghost use Rattle.if1_graph.specs.Types.{most_deep};
+ghost use Rattle.if1_types.specs.Trees.{over, list, scalar_tree, tree_of};
+ghost use Rattle.if1_types.specs.Shapes.{trees_in, IsLater, Stands};
+ghost use Rattle.if1_types.specs.Tables.{labels_in, part_by, is_line, AreWithin, AreTold, IsLevel};
+
+use crate::lists::{Line, list_number};
+use crate::shapes::Shapes;
+use crate::table::number_at;
+use flow_value::{NoMemory, Numbers, Seq};
+use if1_graph::{Basic, TypeEntry, TypeKind, basic_of, kind_of};
+
+/// No type is deeper.
+const DEEPEST: u32 = 64;
+
+fn scalar_number(shapes: &mut Shapes, basic: Option<Basic>) -> Result<u32, NoMemory>
+    ensures number { IfOk result (λ n. Stands (trees_in shapes.new) n (scalar_tree basic)) }
+    ensures later { IsLater (trees_in shapes.old) (trees_in shapes.new) }
+{
+    match basic {
+        Some(Basic::Boolean) => shapes.number(0, 0, 0),
+        Some(Basic::Character) => shapes.number(1, 0, 0),
+        Some(Basic::Integer) => shapes.number(2, 0, 0),
+        Some(Basic::Null) => shapes.number(3, 0, 0),
+        _ => Ok(0),
+    }
+}
+
+fn list_over(
+    shapes: &mut Shapes,
+    types: &[TypeEntry],
+    labels: &[u32],
+    numbers: &[u32],
+    kind: u32,
+    line: Line,
+    first: u32,
+) -> Result<u32, NoMemory>
+    requires rising { IsStrictlyIncreasing (map (λ e. e.label) types.now) }
+    requires labels { labels.now ≡ labels_in types.now }
+    requires within { AreWithin (trees_in shapes.old) types.now numbers.now }
+    ensures number { IfOk result (λ n. Stands (trees_in shapes.new) n (over kind (list (part_by (trees_in shapes.old) types.now numbers.now) (is_line line) types.now (length types.now) first))) }
+    ensures later { IsLater (trees_in shapes.old) (trees_in shapes.new) }
+{
+    let list = list_number(shapes, types, labels, numbers, line, first)?;
+    let number = shapes.over(kind, list)?;
+    Ok(number)
+}
+
+pub fn part_over(
+    shapes: &mut Shapes,
+    types: &[TypeEntry],
+    labels: &[u32],
+    numbers: &[u32],
+    kind: u32,
+    label: u32,
+) -> Result<u32, NoMemory>
+    requires rising { IsStrictlyIncreasing (map (λ e. e.label) types.now) }
+    requires labels { labels.now ≡ labels_in types.now }
+    requires within { AreWithin (trees_in shapes.old) types.now numbers.now }
+    ensures number { IfOk result (λ n. Stands (trees_in shapes.new) n (over kind (part_by (trees_in shapes.old) types.now numbers.now label))) }
+    ensures later { IsLater (trees_in shapes.old) (trees_in shapes.new) }
+{
+    let _ = types;
+    let part = number_at(labels, numbers, label);
+    let number = shapes.over(kind, part)?;
+    Ok(number)
+}
+
+/// The number of the type of an entry, by those of its parts.
+fn ty_number(
+    shapes: &mut Shapes,
+    types: &[TypeEntry],
+    labels: &[u32],
+    numbers: &[u32],
+    entry: &TypeEntry,
+) -> Result<u32, NoMemory>
+    requires rising { IsStrictlyIncreasing (map (λ e. e.label) types.now) }
+    requires labels { labels.now ≡ labels_in types.now }
+    requires within { AreWithin (trees_in shapes.old) types.now numbers.now }
+    ensures number { IfOk result (λ n. Stands (trees_in shapes.new) n (tree_of (part_by (trees_in shapes.old) types.now numbers.now) types.now entry.now (kind_at entry.now.code))) }
+    ensures later { IsLater (trees_in shapes.old) (trees_in shapes.new) }
+{
+    match kind_of(entry.code) {
+        Some(TypeKind::Basic) => scalar_number(shapes, basic_of(entry.first)),
+        Some(TypeKind::Array) => part_over(shapes, types, labels, numbers, 4, entry.first),
+        Some(TypeKind::Stream) => part_over(shapes, types, labels, numbers, 5, entry.first),
+        Some(TypeKind::Record) => list_over(
+            shapes,
+            types,
+            labels,
+            numbers,
+            6,
+            Line::Field,
+            entry.first,
+        ),
+        Some(TypeKind::Union) => list_over(
+            shapes,
+            types,
+            labels,
+            numbers,
+            7,
+            Line::Tag,
+            entry.first,
+        ),
+        _ => Ok(0),
+    }
+}
+
+/// The numbers of the types that are one level deeper.
+fn level(
+    shapes: &mut Shapes,
+    types: &[TypeEntry],
+    labels: &[u32],
+    numbers: &[u32],
+) -> Result<Numbers, NoMemory>
+    requires rising { IsStrictlyIncreasing (map (λ e. e.label) types.now) }
+    requires labels { labels.now ≡ labels_in types.now }
+    requires within { AreWithin (trees_in shapes.old) types.now numbers.now }
+    ensures numbers { IfOk result (AreTold (trees_in shapes.new) (λ e. tree_of (part_by (trees_in shapes.old) types.now numbers.now) types.now e (kind_at e.code)) types.now) }
+    ensures later { IsLater (trees_in shapes.old) (trees_in shapes.new) }
+{
+    let mut next = Seq::with_room(shapes.allocator(), types.len())?;
+    for entry in types {
+        let number = ty_number(shapes, types, labels, numbers, entry)?;
+        next.add(number)?;
+    }
+    Ok(next)
+}
+
+fn are_same(a: &[u32], b: &[u32]) -> bool
+    ensures { IsTrue result ↔ (a.now ≡ b.now) }
+{
+    a == b
+}
+
+/// The numbers of all types that are at most as deep as types may be.
+pub fn type_numbers(
+    shapes: &mut Shapes,
+    types: &[TypeEntry],
+    labels: &[u32],
+) -> Result<Numbers, NoMemory>
+    requires rising { IsStrictlyIncreasing (map (λ e. e.label) types.now) }
+    requires labels { labels.now ≡ labels_in types.now }
+    ensures numbers { IfOk result (λ ns. IsLevel (trees_in shapes.new) types.now ns most_deep) }
+{
+    let mut numbers = Seq::new(shapes.allocator());
+    for _ in 0..DEEPEST {
+        let next = level(shapes, types, labels, numbers.as_slice())?;
+        if are_same(next.as_slice(), numbers.as_slice()) {
+            return Ok(next);
+        }
+        numbers = next;
+    }
+    Ok(numbers)
+}

@@ -1,0 +1,109 @@
+//! Trees by number.
+ghost use Rattle.std.specs.Prelude.{◌≡◌, ◌≤◌, [], length, suc, IfOk};
+ghost use Rattle.if1_types.specs.Trees.{node, over, over_both};
+ghost use Rattle.if1_types.specs.Shapes.{trees_in, tree_at, IsOnce, IsLater, Stands};
+
+use flow_value::NoMemory;
+use indexmap::IndexMap;
+use std::alloc::Global;
+use std::marker::Model;
+
+/// The trees that there are, each under its kind and the numbers of its parts.
+#[derive(Drop)]
+pub struct Shapes {
+    keys: IndexMap<(u32, u32, u32), ()>,
+}
+
+impl Model for Shapes {
+    ghost use Rattle.std.specs.Prelude.{List};
+    ghost use Rattle.std.specs.Map.{keys_of};
+    ghost use Rattle.if1_types.specs.Shapes.{Key, trees_in, IsKept};
+
+    ghost Value = { List Key };
+
+    ghost view = { λ s. keys_of s.keys.entries };
+
+    ghost invariant = { λ s. IsKept (keys_of s.keys.entries) (trees_in (keys_of s.keys.entries)) };
+}
+
+impl Shapes {
+    /// No trees; takes no memory.
+    pub fn new(alloc: Global) -> Shapes
+        ensures { result ≡ [] }
+    {
+        Shapes {
+            keys: IndexMap::new(alloc),
+        }
+    }
+
+    /// The allocator.
+    pub fn allocator(&self) -> Global {
+        *self.keys.allocator()
+    }
+
+    /// The number of the tree of a kind and two parts, which is a new one where it is not there yet.
+    pub fn number(&mut self, kind: u32, first: u32, second: u32) -> Result<u32, NoMemory>
+        requires first { first ≤ length (trees_in self.old) }
+        requires second { second ≤ length (trees_in self.old) }
+        ensures number { IfOk result (λ n. Stands (trees_in self.new) n (node kind (tree_at (trees_in self.old) first) (tree_at (trees_in self.old) second))) }
+        ensures later { IsLater (trees_in self.old) (trees_in self.new) }
+    {
+        let key = (kind, first, second);
+        if let Some(place) = self.keys.get_index_of(&key) {
+            let number = number_after(place)?;
+            return Ok(number);
+        }
+        let number = number_after(self.keys.len())?;
+        self.keys.insert(key, ())?;
+        Ok(number)
+    }
+
+    /// The number of a tree over one part; nothing is over nothing.
+    pub fn over(&mut self, kind: u32, part: u32) -> Result<u32, NoMemory>
+        requires { part ≤ length (trees_in self.old) }
+        ensures number { IfOk result (λ n. Stands (trees_in self.new) n (over kind (tree_at (trees_in self.old) part))) }
+        ensures later { IsLater (trees_in self.old) (trees_in self.new) }
+    {
+        let _ = &self.keys;
+        if part == 0 {
+            return Ok(0);
+        }
+        let number = self.number(kind, part, 0)?;
+        Ok(number)
+    }
+
+    /// The number of a tree over two parts; nothing is over nothing.
+    pub fn over_both(&mut self, kind: u32, first: u32, second: u32) -> Result<u32, NoMemory>
+        requires first { first ≤ length (trees_in self.old) }
+        requires second { second ≤ length (trees_in self.old) }
+        ensures number { IfOk result (λ n. Stands (trees_in self.new) n (over_both kind (tree_at (trees_in self.old) first) (tree_at (trees_in self.old) second))) }
+        ensures later { IsLater (trees_in self.old) (trees_in self.new) }
+    {
+        let _ = &self.keys;
+        if first == 0 {
+            return Ok(0);
+        }
+        if second == 0 {
+            return Ok(0);
+        }
+        let number = self.number(kind, first, second)?;
+        Ok(number)
+    }
+
+    /// Each tree has one number.
+    pub fn holds(&self)
+        ensures { IsOnce (trees_in self.now) }
+    {
+        let _ = &self.keys;
+    }
+}
+
+/// The number after a count. More than a `u32` counts would want more memory than there is.
+fn number_after(count: usize) -> Result<u32, NoMemory>
+    ensures { IfOk result (λ n. n ≡ suc count) }
+{
+    match u32::try_from(count) {
+        Ok(number) if number < u32::MAX => Ok(number + 1),
+        _ => Err(NoMemory),
+    }
+}
