@@ -1,6 +1,6 @@
 #!/bin/bash
 # Times the command `mean` on small programs of known benchmarks beside the same programs in Python, in turns: sums over two
-# ranges, a product of matrices, quicksort. It prints seconds, the least of some rounds, and the ratio; all times are
+# ranges, a product of matrices, a sort in place. It prints seconds, the least of some rounds, and the ratio; all times are
 # without the start, which is that of the size 1. Both must print the same. Run it at the top of the repository, on an
 # idle machine; the argument is the rounds.
 set -e
@@ -41,4 +41,4 @@ compare() { # a benchmark, its size
 
 compare sums 1000
 compare matrix 100
-compare sort 50000
+compare sort 1500

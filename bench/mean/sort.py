@@ -1,4 +1,5 @@
-"""Sorts n numbers of a generator of random numbers by quicksort, and gives each thousandth."""
+"""Sorts n numbers of a generator of random numbers in place, by insertion: a number moves down by one place a turn. It gives
+each hundredth number."""
 import sys
 
 
@@ -11,20 +12,18 @@ def numbers(n):
     return out
 
 
-def quicksort(a):
-    if len(a) < 2:
-        return a
-    first = a[0]
-    less, equal, greater = [], [], []
-    for x in a:
-        if x < first:
-            less.append(x)
-        if x == first:
-            equal.append(x)
-        if x > first:
-            greater.append(x)
-    return quicksort(less) + equal + quicksort(greater)
+def sort(a):
+    i = 1
+    j = 1
+    while i < len(a):
+        if j > 0 and a[j] < a[j - 1]:
+            a[j - 1], a[j] = a[j], a[j - 1]
+            j -= 1
+        else:
+            i += 1
+            j = i
 
 
-kept = quicksort(numbers(int(sys.argv[1])))[999::1000]
-print("[1:" + "".join(" %d" % x for x in kept) + "]")
+a = numbers(int(sys.argv[1]))
+sort(a)
+print("[1:" + "".join(" %d" % x for x in a[99::100]) + "]")

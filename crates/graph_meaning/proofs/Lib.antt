@@ -17,11 +17,11 @@ pub mod Examples
 pub mod Lists
 pub mod Units
 pub mod Ended
-pub mod Unlisted
 pub mod Numbers
 pub mod Outputs
 pub mod LeastPort
 pub mod StorageExamples
+pub mod StorageUnits
 pub mod PlainValues
 pub mod PlainCosts
 pub mod PlainDepths
@@ -29,3 +29,7 @@ pub mod Settled
 pub mod Sums
 pub mod SumsOnce
 pub mod Takers
+pub mod UnitWaits
+pub mod UnitTakers
+pub mod StorageUnitExamples
+pub mod StorageTableExamples

@@ -22,10 +22,10 @@ use Rattle.graph_meaning.specs.Storage.{Storage, elements_in, copied_by, written
 
 -- ---- values
 
-abbrev int : ℕ → Val
+abbrev pub int : ℕ → Val
 int n = val.Int (pos n)
 
-abbrev array : List Val → Val
+abbrev pub array : List Val → Val
 array vs = val.Arr (bounded (pos 1) vs)
 
 -- arrays of two and of three integers
@@ -39,7 +39,7 @@ three = array (int 1 ∷ int 2 ∷ int 3 ∷ [])
 abbrev pair : Val
 pair = val.Rec (three ∷ int 4 ∷ [])
 
-one-leaf : (n : ℕ) → leaf_count (int n) ≡ 1
+pub one-leaf : (n : ℕ) → leaf_count (int n) ≡ 1
 unfolding values.roll-Val denote.Hole.Carrier.roll
 one-leaf n = fold-roll-Val ℕ leaf_step (Val-F.Int (pos n))
 
@@ -47,7 +47,7 @@ error-leaf : (c : Cause) → leaf_count (val.Err c) ≡ 1
 unfolding values.roll-Val denote.Hole.Carrier.roll
 error-leaf c = fold-roll-Val ℕ leaf_step (Val-F.Err c)
 
-array-leaves : (vs : List Val) → leaf_count (array vs) ≡ leaf_count_of_all vs
+pub array-leaves : (vs : List Val) → leaf_count (array vs) ≡ leaf_count_of_all vs
 unfolding values.roll-Val denote.Hole.Carrier.roll
 array-leaves vs = fold-roll-Val ℕ leaf_step (Val-F.Arr (bounded (pos 1) vs))
 
@@ -59,7 +59,7 @@ record-leaves : (vs : List Val) → leaf_count (val.Rec vs) ≡ leaf_count_of_al
 unfolding values.roll-Val denote.Hole.Carrier.roll
 record-leaves vs = fold-roll-Val ℕ leaf_step (Val-F.Rec vs)
 
-array-elements : (vs : List Val) → elements_in (values.out-Val (array vs)) ≡ length vs
+pub array-elements : (vs : List Val) → elements_in (values.out-Val (array vs)) ≡ length vs
 array-elements vs =
     let out : values.out-Val (array vs) ≡ Val-F.Arr (bounded (pos 1) vs) = search (rules, values.the_lemmas) in ap elements_in out
 

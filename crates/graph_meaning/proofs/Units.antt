@@ -19,11 +19,11 @@ use Rattle.graph_meaning.specs.Entered.{IsIn}
 use Rattle.graph_meaning.specs.Forms as form
 use Rattle.graph_meaning.specs.Demand.{Source, Port, Fixed, Kind, Plain, Whole, Vertex, at_label, data_labels, waits, waits_of, WaitsFor, straight, through, IsLabel, LabelsOnce, EachNode, IsOrderly}
 use Rattle.graph_meaning.specs.Networks.{source_from, source_by, sources, ins_of, vertex_of, net_of, net_at, nothing}
-use Rattle.graph_meaning.specs.Orders.{Precedes, fed, listed, between, IsOrderRight}
+use Rattle.if1_marks.specs.Orders.{Precedes, fed, listed, between, IsOrderRight}
 use Rattle.graph_meaning.specs.Laws.{AreUnitsOrderly}
 use Rattle.graph_meaning.proofs.Lists.{here, there, here-or-there, in-none, in-mapped, found-in, in-filter}
 
-same-number : (a b : ℕ) → (a == b) ≡ true → a ≡ b
+pub same-number : (a b : ℕ) → (a == b) ≡ true → a ≡ b
 same-number a b e = eqb_yes (subst T (sym e) tt)
 
 and-left : (a b : Bool) → a && b ≡ true → a ≡ true
@@ -105,7 +105,7 @@ module _ (u : Unit1) (g : Graph) where
     labels-once ns h.1,
   )
 
-  at-node : (ns : List Node) (l : ℕ) → at_label (vertices ns) l ≡ option_map (vertex_of u g) (node_at ns l)
+  pub at-node : (ns : List Node) (l : ℕ) → at_label (vertices ns) l ≡ option_map (vertex_of u g) (node_at ns l)
   at-node [] l = refl
   at-node (n ∷ ns) l = go (eqb (label_of n) l) (at-node ns l)
     where

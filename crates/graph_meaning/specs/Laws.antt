@@ -1,6 +1,10 @@
 -- The laws of a graph's meaning, of its cost, and of all orders in which it may fire.
-use Rattle.std.specs.Prelude.{◌≡◌, ℕ, Bool, true, false, ◌≤◌, List, length, Some, Contains, ◌↔◌}
+use Rattle.std.specs.Prelude.{◌≡◌, ◌≢◌, ℕ, Bool, true, false, ◌&&◌, not, ◌==◌, ◌≤◌, List, length, find, Some, Contains, ◌↔◌}
 use Rattle.flow_value.specs.declared.cause.Cause.{Cause}
+use Rattle.if1_graph.specs.declared.graph.Edge.{Edge}
+use Rattle.if1_graph.specs.declared.graph.Graph.{Graph}
+use Rattle.if1_graph.specs.declared.graph.Graph.TheViews.{out-Graph}
+use Rattle.if1_graph.specs.declared.graph.Node as node
 use Rattle.if1_graph.specs.declared.graph.Unit1.{Unit1}
 use Rattle.if1_graph.specs.declared.op.Simple.{Simple}
 use Rattle.if1_graph.specs.declared.row.Gives.{Gives}
@@ -8,18 +12,21 @@ use Rattle.if1_graph.specs.declared.row.Gives.TheVariants.{One, Pair, Results, A
 use Rattle.if1_graph.specs.Formed.{IsFormed}
 use Rattle.if1_graph.specs.Rows.{row_of}
 use Rattle.if1_graph.specs.Ready.{IsReady}
-use Rattle.if1_graph.specs.Units.{Place, places, number_of}
+use Rattle.if1_graph.specs.Units.{node_at, edge_into, Place, places, number_of}
+use Rattle.if1_marks.specs.Given.{is_consuming}
+use Rattle.if1_marks.specs.Sound.{IsSound}
 use Rattle.graph_meaning.specs.Carried.{Carried}
 use Rattle.graph_meaning.specs.NodeValues.{Shape, op}
 use Rattle.graph_meaning.specs.NodeValues as shape
 use Rattle.graph_meaning.specs.Strict.{IsFit, first_strict, AreErrors}
 use Rattle.graph_meaning.specs.Forms.{Form, Stage, Enter}
 use Rattle.graph_meaning.specs.Entered.{Item, Node, IsLast, cost}
-use Rattle.graph_meaning.specs.Demand.{Network, Cut, IsCut, AreOrderly, WaitsFor, dem, tree}
-use Rattle.graph_meaning.specs.Networks.{net_of, network}
-use Rattle.graph_meaning.specs.Orders.{AreOrdersRight, HasNoLists}
+use Rattle.graph_meaning.specs.Demand.{Kind, Plain, Whole, Network, Cut, IsCut, AreOrderly, WaitsFor, dem, tree}
+use Rattle.graph_meaning.specs.Networks.{kind_of, net_of, network}
+use Rattle.if1_marks.specs.Orders.{AreOrdersRight, HasNoLists}
 use Rattle.graph_meaning.specs.Plain.{is_deeper, Leads, Means, Costs}
-use Rattle.graph_meaning.specs.Storage.{Weights, GraphAdds, Storage, Copies, Writes}
+use Rattle.graph_meaning.specs.Storage.{Weights, GraphAdds, Storage, is_consumed_at, is_left, Copies, Writes}
+use Rattle.graph_meaning.specs.StorageUnits.{storage_of, UnitCopies, UnitWrites}
 use Rattle.graph_meaning.specs.Histories.{History, Legal, Claimable, is_made, Run, Cost, IsConfluent, IsNeverStuck}
 use Rattle.graph_meaning.specs.Growing.{Grows, IsExecution}
 
@@ -145,3 +152,50 @@ abbrev pub AreUsersFinished : Type 0
 AreUsersFinished = (cut : Cut) (u : Network) (g : ℕ) (ins : List Carried) (limit : ℕ) (h : History) → IsCut cut → AreOrderly u → Legal (run_of cut u g ins) limit h
     → (taker user : ℕ) → Claimable (run_of cut u g ins) h (Node taker) → WaitsFor (u g).nodes taker user
     → (n : ℕ) (j : Item) → IsLast (tree cut n u g ins) user j → is_made h j ≡ true
+
+-- ---- units with marks
+
+-- in a ready unit with sound marks, where the cost of a graph is defined its copies and writes are
+abbrev pub AreUnitCopiesDefined : Type 0
+AreUnitCopiesDefined = (u : Unit1) (g : ℕ) (ins : List Carried) (c n : ℕ) → IsReady u → IsSound u → Costs (network u) n g ins c
+    → ((copied : ℕ) × UnitCopies u g ins copied) × ((written : ℕ) × UnitWrites u g ins written)
+
+-- each of the two is one number
+abbrev pub AreUnitCopiesOne : Type 0
+AreUnitCopiesOne = (u : Unit1) (g : ℕ) (ins : List Carried) (a b : ℕ)
+    → (UnitCopies u g ins a → UnitCopies u g ins b → a ≡ b) × (UnitWrites u g ins a → UnitWrites u g ins b → a ≡ b)
+
+-- what is carried into a port is copied by a node of this kind, as far as the table tells
+abbrev pub is_copied_by : Storage → (graph node port : ℕ) → Kind → Bool
+is_copied_by s g l port (Plain row shape) = is_consumed_at row port && is_left s g l port
+is_copied_by s g l port (Whole form) = s.is_given g l port && is_left s g l port
+
+-- what is carried by an edge is copied if it is a consuming edge that does not take
+abbrev pub is_copied_along : Unit1 → Graph → Edge → Bool
+is_copied_along u g e = is_consuming u g e && not e.takes
+
+-- the graph of this number
+abbrev pub IsAt : Unit1 → ℕ → Place → Type 0
+IsAt u k p = find (λ p. number_of p == k) (places u) ≡ Some p
+
+-- By the table that is read off a unit, exactly the ports are copied to which a consuming edge leads that does not take, of nodes
+-- and of the boundary.
+pub record CopiesUnmarked (u : Unit1) (k : ℕ) (p : Place) (e : Edge) : Type 0 where
+  pub at_node : (n : node.Node) → e.node ≢ 0 → node_at (out-Graph p.graph).nodes e.node ≡ Some n → is_copied_by (storage_of u) k e.node e.port (kind_of u p.graph n) ≡ is_copied_along u p.graph e
+  pub at_boundary : e.node ≡ 0 → is_left (storage_of u) k 0 e.port ≡ is_copied_along u p.graph e
+
+abbrev pub AreUnmarkedCopied : Type 0
+AreUnmarkedCopied = (u : Unit1) (k : ℕ) (p : Place) (e : Edge) → IsAt u k p → edge_into p.graph e.node e.port ≡ Some e → CopiesUnmarked u k p e
+
+-- the run of each graph of a ready unit with sound marks ends alike in each order of its firings, and is never stuck
+abbrev pub HaveSoundUnitsOneEnd : Type 0
+HaveSoundUnitsOneEnd = (cut : Cut) (u : Unit1) (g : ℕ) (ins : List Carried) (limit : ℕ) → IsCut cut → IsReady u → IsSound u → HasOneEnd cut u g ins limit
+
+-- Where the taker of a port may be claimed in the run of a graph of a ready unit with sound marks, every other node with an
+-- edge from the port has its last item made.
+abbrev pub AreTakersLast : Type 0
+AreTakersLast = (cut : Cut) (u : Unit1) (p : Place) (ins : List Carried) (limit : ℕ) (h : History) → IsCut cut → IsReady u → IsSound u → Contains (places u) p
+    → Legal (run_of cut (network u) (number_of p) ins) limit h
+    → (e f : Edge) → Contains (out-Graph p.graph).edges e → Contains (out-Graph p.graph).edges f → e.takes ≡ true → f.from ≡ e.from → f ≢ e → e.node ≢ 0
+    → Claimable (run_of cut (network u) (number_of p) ins) h (Node e.node)
+    → (n : ℕ) (j : Item) → IsLast (tree cut n (network u) (number_of p) ins) f.node j → is_made h j ≡ true

@@ -7,7 +7,7 @@ pub mod Histories
 pub mod Laws
 pub mod Networks
 pub mod NodeValues
-pub mod Orders
 pub mod Plain
 pub mod Storage
+pub mod StorageUnits
 pub mod Strict

@@ -2,7 +2,7 @@
 --
 -- Only what is an aggregate by the type of its edge counts. An edge whose node takes its aggregate to change it in place is
 -- not copied.
-use Rattle.std.specs.Prelude.{◌≡◌, ℕ, suc, ◌+◌, ◌*◌, Bool, true, false, if◌then◌else◌, ◌&&◌, not, List, [], ◌∷◌, map, drop, min, length, sum, Option, Some, None}
+use Rattle.std.specs.Prelude.{◌≡◌, ℕ, suc, ◌+◌, ◌*◌, Bool, true, false, if◌then◌else◌, ◌&&◌, not, List, [], ◌∷◌, map, drop, min, length, sum, Option, Some}
 use Rattle.flow_value.specs.Leaves.{leaf_count, leaf_count_of_all}
 use Rattle.flow_value.specs.declared.value.Val.{Val}
 use Rattle.flow_value.specs.declared.value.Val.TheOpen.{Val-F}
@@ -10,11 +10,12 @@ use Rattle.flow_value.specs.declared.value.Val.TheViews.{out-Val}
 use Rattle.loop_folds.specs.declared.masking.Keep.TheVariants.{Kept}
 use Rattle.loop_folds.specs.Clauses.{Cell}
 use Rattle.if1_graph.specs.Ops.{reducer_at}
-use Rattle.if1_graph.specs.Rows.{Operand, operand_of, is_consumed}
+use Rattle.if1_graph.specs.Rows.{operand_of}
 use Rattle.if1_graph.specs.declared.op.Reducer.{Reducer}
 use Rattle.if1_graph.specs.declared.op.Reducer.TheVariants as reducer
 use Rattle.if1_graph.specs.declared.op.Simple.{Simple}
 use Rattle.if1_graph.specs.declared.op.Simple.TheVariants as simple
+use Rattle.if1_marks.specs.Given.{is_operand_consumed}
 use Rattle.graph_meaning.specs.Carried.{Carried, Value, Many, Spoiled, Name, Unfilled}
 use Rattle.graph_meaning.specs.NodeValues.{Shape, cells_of}
 use Rattle.graph_meaning.specs.Forms.{Form, Call, Next, Stage, Enter, Iterate, Leave, next_of, first, follow, gather}
@@ -136,13 +137,9 @@ kept_of [] = 0
 
 -- ---- copies
 
-abbrev pub consumes : Option Operand → Bool
-consumes None = false
-consumes (Some o) = is_consumed o.0
-
 -- whether a simple node consumes what is carried into this port
 abbrev pub is_consumed_at : Simple → ℕ → Bool
-is_consumed_at row port = consumes (operand_of row port)
+is_consumed_at row port = is_operand_consumed (operand_of row port)
 
 module _ (s : Storage) where
   -- an aggregate is carried there that is not taken in place

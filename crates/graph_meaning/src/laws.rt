@@ -1,5 +1,5 @@
 //! The laws of a graph's meaning, of its cost, and of its histories.
-ghost use Rattle.graph_meaning.specs.Laws.{AreValuesStable, AreCostsStable, DoTreesGrow, IsCostTheSum, IsCostOfAnyCut, IsMeantWhereCosted, AreExecutionsConfluent, AreExecutionsNeverStuck, AreRunsConfluent, AreRunsNeverStuck, AreUnitsOrderly, HaveUnitsOneEnd, AreOrdersRightWithoutLists, AreFoundByNumber, AreOutputsCounted, IsLeastPortGiven, AreDepthsOfOneMeaning, IsMeaningOne, AreDepthsOfOneCost, IsMeaningStable, IsNothingCalledAtZero, AreSumsDefined, AreCopiesDefined, IsSumOne, IsCostOne, AreUsersFinished};
+ghost use Rattle.graph_meaning.specs.Laws.{AreValuesStable, AreCostsStable, DoTreesGrow, IsCostTheSum, IsCostOfAnyCut, IsMeantWhereCosted, AreExecutionsConfluent, AreExecutionsNeverStuck, AreRunsConfluent, AreRunsNeverStuck, AreUnitsOrderly, HaveUnitsOneEnd, AreOrdersRightWithoutLists, AreFoundByNumber, AreOutputsCounted, IsLeastPortGiven, AreDepthsOfOneMeaning, IsMeaningOne, AreDepthsOfOneCost, IsMeaningStable, IsNothingCalledAtZero, AreSumsDefined, AreCopiesDefined, IsSumOne, IsCostOne, AreUsersFinished, AreUnitCopiesDefined, AreUnitCopiesOne, AreUnmarkedCopied, HaveSoundUnitsOneEnd, AreTakersLast};
 
 /// The results of a graph that one depth gives are given at every greater one.
 pub fn values_are_stable()
@@ -129,4 +129,30 @@ pub fn the_cost_is_one()
 /// Where a node may be claimed, every node for which it waits has finished.
 pub fn users_are_finished_before_a_taker()
     ensures { AreUsersFinished }
+{}
+
+/// In a ready unit with sound marks, where the cost of a graph is defined its copies and writes are.
+pub fn copies_of_units_are_defined()
+    ensures { AreUnitCopiesDefined }
+{}
+
+/// The copies of a graph of a unit are one number, and so are its writes.
+pub fn copies_of_units_are_one()
+    ensures { AreUnitCopiesOne }
+{}
+
+/// What is copied goes along the consuming edges that do not take.
+pub fn unmarked_consuming_edges_are_copied()
+    ensures { AreUnmarkedCopied }
+{}
+
+/// The run of each graph of a ready unit with sound marks ends alike in each order of its firings, and
+/// is never stuck.
+pub fn sound_units_have_one_end()
+    ensures { HaveSoundUnitsOneEnd }
+{}
+
+/// Where the taker of a port may be claimed, all other users of the port have finished.
+pub fn other_users_are_finished_before_the_taker()
+    ensures { AreTakersLast }
 {}

@@ -1,13 +1,13 @@
 -- Trees by number, with one more.
-use Rattle.std.proofs.Common.{◌≡◌, ℕ, zero, suc, ◌+◌, ◌<◌, ◌≤◌, Bool, true, false, ◌&&◌, nat_eq, List, [], ◌∷◌, ◌++◌, length, get_or, slice_get, position, Some, None, refl, sym, ap, ◌∙◌, subst, arith, append_assoc, ◌⊎◌, inl, inr, true≢false, eqb-true, ◌≢◌}
-use Rattle.std.proofs.lemmas.List.{length-append, map-append}
+use Rattle.std.proofs.Common.{◌≡◌, ℕ, zero, suc, ◌+◌, ◌<◌, ◌≤◌, Bool, true, false, ◌&&◌, nat_eq, List, [], ◌∷◌, ◌++◌, length, get_or, slice_get, position, Option, Some, None, refl, sym, ap, ◌∙◌, subst, arith, append_assoc, ◌⊎◌, inl, inr, true≢false, eqb-true, ◌≢◌}
+use Rattle.std.proofs.lemmas.List.{length-append, length-map, map-append}
 use Rattle.std.specs.Map.{keys_of}
 use Rattle.indexmap.specs.IndexMap.{insert_entry}
 use Rattle.std.proofs.lemmas.Option.{slice_get_within}
 use Rattle.std.proofs.lemmas.Bool.{eq-eqb}
 use Rattle.type_table.proofs.Lists.{IsEarlier, IsLast, which, found, none_found, not_among, insert_last}
 use Rattle.if1_types.specs.Trees.{Tree, leaf, node, over, over_both}
-use Rattle.if1_types.specs.Shapes.{Key, key_eq, tree_at, key_tree, trees_onto, trees_in, IsOnce, IsKept, IsLater, Stands}
+use Rattle.if1_types.specs.Shapes.{Key, key_eq, tree_at, key_tree, trees_onto, trees_in, members_in, key_at, IsOnce, IsKept, IsLater, Stands, IsKeyOf, AreCounted, AreHeld}
 
 onto_more : (ts : List Tree) (ks : List Key) (k : Key) → trees_onto ts (ks ++ k ∷ []) ≡ trees_onto ts ks ++ key_tree (trees_onto ts ks) k ∷ []
 onto_more ts [] k = refl
@@ -199,6 +199,72 @@ added {V} es new k v kept a b absent entries =
       kept = subst (IsKept (keys_of new)) (sym trees) (subst (λ ks. IsKept ks (trees_in (keys_of es) ++ key_tree (trees_in (keys_of es)) k ∷ [])) (sym keys) (kept_more (keys_of es) (trees_in (keys_of es)) k kept a b absent));
       trees = trees;
     }
+
+-- the members of each list are still counted
+pub added_counted : (es new : List (Key × ℕ)) (k : Key) (v : ℕ) → AreHeld es → IsAdded es new k → position (key_eq k) (keys_of es) ≡ None → new ≡ insert_entry key_eq es k v
+    → v ≡ members_in (key_tree (trees_in (keys_of es)) k) → AreCounted new
+added_counted es new k v held more absent entries is i e h =
+    let last : new ≡ es ++ (k, v) ∷ [] = entries ∙ insert_last key_eq k v es (none_found (key_eq k) (keys_of es) absent) in
+    by (which es (k, v) i e (subst (λ new. slice_get new i ≡ Some e) last h))
+  where
+    ts : List Tree
+    ts = trees_in (keys_of es)
+
+    count : length ts ≡ length es
+    count = held.kept.count ∙ length-map es (λ e. e.0)
+
+    by : IsEarlier es i e ⊎ IsLast es (k, v) i e → e.1 ≡ members_in (tree_at (trees_in (keys_of new)) (suc i))
+    by (inl x) =
+        held.counted i e x.is
+        ∙ ap members_in (sym (tree_before ts (key_tree ts k ∷ []) (suc i) (omega (arith, slice_get_within es i e x.is, count))) ∙ ap (λ ts. tree_at ts (suc i)) (sym more.trees))
+    by (inr l) =
+        ap (λ e. e.1) (sym l.is) ∙ is
+        ∙ ap members_in (sym (got_last ts (key_tree ts k)) ∙ ap (λ i. get_or (ts ++ key_tree ts k ∷ []) i leaf) (count ∙ sym l.place) ∙ ap (λ ts. tree_at ts (suc i)) (sym more.trees))
+
+-- ---- the row of a number
+
+pub key_got : (es : List (Key × ℕ)) (n i : ℕ) (e : Key × ℕ) → suc i ≡ n → Some e ≡ slice_get es i → Some e.0 ≡ key_at (keys_of es) n
+key_got es n i e is h = sym (by es i e (sym h)) ∙ ap (key_at (keys_of es)) is
+  where
+    by : (es : List (Key × ℕ)) (i : ℕ) (e : Key × ℕ) → slice_get es i ≡ Some e → slice_get (keys_of es) i ≡ Some e.0
+    by [] i e h = cc
+    by (d ∷ es) zero e h = ap (λ o. elim o [ None ↦ None | Some e ↦ Some e.0 ]) h
+    by (d ∷ es) (suc i) e h = by es i e h
+
+pub key_is : (es : List (Key × ℕ)) (i : ℕ) (e : Key × ℕ) → AreHeld es → Some e ≡ slice_get es i → IsKeyOf (keys_of es) (suc i) (Some e.0)
+key_is es i e held h = held.kept.rows i e.0 (map_get es i e (sym h))
+  where
+    map_get : (es : List (Key × ℕ)) (i : ℕ) (e : Key × ℕ) → slice_get es i ≡ Some e → slice_get (keys_of es) i ≡ Some e.0
+    map_get [] i e h = cc
+    map_get (d ∷ es) zero e h = ap (λ o. elim o [ None ↦ None | Some e ↦ Some e.0 ]) h
+    map_get (d ∷ es) (suc i) e h = map_get es i e h
+
+no_tree : (ts : List Tree) (i : ℕ) → length ts ≤ i → tree_at ts (suc i) ≡ leaf
+no_tree [] i h = refl
+no_tree (t ∷ ts) zero h = absurd (omega (arith, h))
+no_tree (t ∷ ts) (suc i) h = no_tree ts i (omega (arith, h))
+
+none_beyond : (es : List (Key × ℕ)) (i : ℕ) → None ≡ slice_get es i → length es ≤ i
+none_beyond [] i h = omega arith
+none_beyond (e ∷ es) zero h = cc
+none_beyond (e ∷ es) (suc i) h = let w = none_beyond es i h in omega (arith, w)
+
+pub key_none : (es : List (Key × ℕ)) (i : ℕ) → AreHeld es → None ≡ slice_get es i → IsKeyOf (keys_of es) (suc i) None
+key_none es i held h = let w = none_beyond es i h in no_tree (trees_in (keys_of es)) i (omega (arith, w, held.kept.count, length-map es (λ e. e.0)))
+
+-- every number has the key of its place
+pub keys_are : (es : List (Key × ℕ)) → AreHeld es → (n : ℕ) → IsKeyOf (keys_of es) n (key_at (keys_of es) n)
+keys_are es held zero = refl
+keys_are es held (suc i) = by (slice_get (keys_of es) i) refl
+  where
+    beyond : (ks : List Key) (i : ℕ) → slice_get ks i ≡ None → length ks ≤ i
+    beyond [] i h = omega arith
+    beyond (k ∷ ks) zero h = cc
+    beyond (k ∷ ks) (suc i) h = let w = beyond ks i h in omega (arith, w)
+
+    by : (o : Option Key) → slice_get (keys_of es) i ≡ o → IsKeyOf (keys_of es) (suc i) o
+    by None h = let w = beyond (keys_of es) i h in no_tree (trees_in (keys_of es)) i (omega (arith, w, held.kept.count))
+    by (Some k) h = held.kept.rows i k h
 
 -- ---- what is over something
 

@@ -4,3 +4,5 @@ pub mod Finding
 pub mod Chains
 pub mod Levels
 pub mod Sorted
+pub mod Views
+pub mod Written

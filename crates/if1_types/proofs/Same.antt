@@ -53,16 +53,16 @@ both_tell f g f' g' f'' g'' make k there back (Some x) (Some y) (node j a b) (no
 
 -- ---- trees of types
 
-array_tree : (t : Ty) → ty_tree (ty.Arr t) ≡ node 4 (ty_tree t) leaf
+pub array_tree : (t : Ty) → ty_tree (ty.Arr t) ≡ node 4 (ty_tree t) leaf
 array_tree t = ap ty_tree (sym (ty.rolls-Arr t)) ∙ fold-roll-Ty Tree ty_step (Ty-F.Arr t)
 
-stream_tree : (t : Ty) → ty_tree (ty.Stream t) ≡ node 5 (ty_tree t) leaf
+pub stream_tree : (t : Ty) → ty_tree (ty.Stream t) ≡ node 5 (ty_tree t) leaf
 stream_tree t = ap ty_tree (sym (ty.rolls-Stream t)) ∙ fold-roll-Ty Tree ty_step (Ty-F.Stream t)
 
-record_tree : (ms : List Member) → ty_tree (ty.Rec ms) ≡ node 6 (list_tree ms) leaf
+pub record_tree : (ms : List Member) → ty_tree (ty.Rec ms) ≡ node 6 (list_tree ms) leaf
 record_tree ms = ap ty_tree (sym (ty.rolls-Rec ms)) ∙ fold-roll-Ty Tree ty_step (Ty-F.Rec ms)
 
-union_tree : (ms : List Member) → ty_tree (ty.Uni ms) ≡ node 7 (list_tree ms) leaf
+pub union_tree : (ms : List Member) → ty_tree (ty.Uni ms) ≡ node 7 (list_tree ms) leaf
 union_tree ms = ap ty_tree (sym (ty.rolls-Uni ms)) ∙ fold-roll-Ty Tree ty_step (Ty-F.Uni ms)
 
 scalar_tells : (b : Option Basic) → IsType (scalar b) (scalar_tree b)
@@ -141,7 +141,7 @@ within_tells (suc depth) ts l = by (entry_at ts l) (within_tells depth ts)
 
 -- ---- sorts
 
-types_told : (ms : List Member) → types_tree (map (λ m. m.1) ms) ≡ list_tree ms
+pub types_told : (ms : List Member) → types_tree (map (λ m. m.1) ms) ≡ list_tree ms
 types_told [] = refl
 types_told (m ∷ ms) = ap (λ t. node 9 (ty_tree m.1) t) (types_told ms)
 

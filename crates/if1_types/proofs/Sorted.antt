@@ -1,12 +1,14 @@
 -- Numbers of sorts, from the trees.
-use Rattle.std.proofs.Common.{◌≡◌, ℕ, List, Some, None, sym, ap, ◌∙◌, subst, arith}
+use Rattle.std.proofs.Common.{◌≡◌, ℕ, List, Option, Some, None, sym, ap, ◌∙◌, subst, arith}
+use Rattle.std.proofs.lemmas.Option.{same_Some}
 use Rattle.std.specs.List.Sorted.{IsStrictlyIncreasing}
 use Rattle.if1_graph.specs.declared.graph.TypeEntry.{TypeEntry}
 use Rattle.if1_graph.specs.Kinds.{kind_at}
-use Rattle.if1_graph.specs.Types.{entry_at, sort_at, most_deep}
-use Rattle.if1_types.specs.Trees.{Tree, leaf, tree_within, sort_tree, sort_tree_at}
-use Rattle.if1_types.specs.Shapes.{tree_at, IsOnce, Stands}
-use Rattle.if1_types.specs.Telling.{told_sort, read_sort}
+use Rattle.if1_graph.specs.Types.{Sort, entry_at, sort_at, most_deep}
+use Rattle.if1_types.specs.Trees.{Tree, leaf, node, tree_within, sort_tree, sort_tree_at}
+use Rattle.if1_types.specs.Shapes.{Key, tree_at, trees_in, IsOnce, Stands}
+use Rattle.if1_types.specs.Forms.{IsSort, Stand}
+use Rattle.if1_types.specs.Telling.{told_sort, read_sort, Tells}
 use Rattle.if1_types.specs.Tables.{number_at, labels_in, part_by, AreTold, IsLevel, AreSorts}
 use Rattle.if1_types.proofs.Same.{sort_tells, trees_same, told_same}
 use Rattle.if1_types.proofs.Levels.{told_at}
@@ -49,3 +51,19 @@ are_sorts ts us types ns given sorts labels rising once is level given_is told =
     absent l e =
         once (number_at (labels_in types) sorts l) 0 (have l).within (omega arith)
         ((have l).is ∙ told_same told_sort read_sort (sort_at types l) None (sort_tree_at types l) leaf (sort_tells types l) tt e)
+
+told_by : (o : Option Sort) (s : Sort) (t : Tree) → Tells told_sort read_sort o t → o ≡ Some s → (told_sort s ≡ t) × (read_sort t ≡ Some s)
+told_by None s t h e = cc
+told_by (Some r) s leaf h e = absurd h
+told_by (Some r) s (node k a b) h e = let same = same_Some r s e in (ap told_sort (sym same) ∙ h.0, h.1 ∙ e)
+
+pub they_stand : (ts : List Tree) (ks : List Key) (types : List TypeEntry) (ns given sorts labels : List ℕ) → labels ≡ labels_in types
+    → IsLevel ts types ns most_deep → given ≡ ns → AreTold (trees_in ks) (λ e. sort_tree (part_by ts types given) types e (kind_at e.code)) types sorts → Stand types ks labels sorts
+they_stand ts ks types ns given sorts labels is level given_is told =
+    subst (λ labels. Stand types ks labels sorts) (sym is) (λ l s h. by l s h (told_by (sort_at types l) s (sort_tree_at types l) (sort_tells types l) h))
+  where
+    have : HaveSorts (trees_in ks) types sorts
+    have = have_sorts ts (trees_in ks) types ns sorts level (subst (λ ns. AreTold (trees_in ks) (λ e. sort_tree (part_by ts types ns) types e (kind_at e.code)) types sorts) given_is told)
+
+    by : (l : ℕ) (s : Sort) → sort_at types l ≡ Some s → (told_sort s ≡ sort_tree_at types l) × (read_sort (sort_tree_at types l) ≡ Some s) → IsSort ks (number_at (labels_in types) sorts l) s
+    by l s h t = record { stands = subst (Stands (trees_in ks) (number_at (labels_in types) sorts l)) (sym t.0) (have l); bare = ap read_sort t.0 ∙ t.1 }

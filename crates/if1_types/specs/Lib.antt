@@ -2,3 +2,4 @@ pub mod Trees
 pub mod Telling
 pub mod Shapes
 pub mod Tables
+pub mod Forms

@@ -1,5 +1,6 @@
 -- Trees by number: 0 is nothing, and each tree that is there has one number, from 1.
-use Rattle.std.specs.Prelude.{◌≡◌, ℕ, zero, suc, ◌≤◌, Bool, ◌&&◌, nat_eq, List, [], ◌∷◌, ◌++◌, length, get_or, slice_get, Some}
+use Rattle.std.specs.Prelude.{◌≡◌, ℕ, zero, suc, ◌≤◌, Bool, ◌&&◌, nat_eq, List, [], ◌∷◌, ◌++◌, length, get_or, slice_get, Option, Some, None, if◌then◌else◌}
+use Rattle.std.specs.Map.{keys_of}
 use Rattle.if1_types.specs.Trees.{Tree, leaf, node}
 
 -- a kind and the numbers of two parts
@@ -42,3 +43,26 @@ pub record IsLater (ts us : List Tree) : Type 0 where
 pub record Stands (ts : List Tree) (n : ℕ) (t : Tree) : Type 0 where
   pub within : n ≤ length ts
   pub is : tree_at ts n ≡ t
+
+-- the kind of the tree of a number and the numbers of its parts
+abbrev pub key_at : List Key → ℕ → Option Key
+key_at ks zero = None
+key_at ks (suc i) = slice_get ks i
+
+-- what the number of a tree is: its kind and the numbers of its parts
+abbrev pub IsKeyOf : List Key → ℕ → Option Key → Type 0
+IsKeyOf ks n None = tree_at (trees_in ks) n ≡ leaf
+IsKeyOf ks n (Some k) = (tree_at (trees_in ks) n ≡ key_tree (trees_in ks) k) × (k.1 ≤ length (trees_in ks)) × (k.2 ≤ length (trees_in ks))
+
+-- how many members a list has
+abbrev pub members_in : Tree → ℕ
+members_in leaf = 0
+members_in (node k a b) = if nat_eq k 9 then suc (members_in b) else 0
+
+-- beside each key the members of its tree are counted
+abbrev pub AreCounted : List (Key × ℕ) → Type 0
+AreCounted es = (i : ℕ) (e : Key × ℕ) → slice_get es i ≡ Some e → e.1 ≡ members_in (tree_at (trees_in (keys_of es)) (suc i))
+
+pub record AreHeld (es : List (Key × ℕ)) : Type 0 where
+  pub kept : IsKept (keys_of es) (trees_in (keys_of es))
+  pub counted : AreCounted es

@@ -3,7 +3,9 @@ use Rattle.std.specs.Prelude.{◌≡◌, ℕ, suc, ◌≤◌, ◌==◌, ◌↔�
 use Rattle.std.specs.List.Sorted.{IsStrictlyIncreasing}
 use Rattle.if1_graph.specs.declared.graph.TypeEntry.{TypeEntry}
 use Rattle.if1_graph.specs.declared.kind.TypeKind.{TypeKind}
-use Rattle.if1_graph.specs.Types.{is_field, is_tag, is_tuple, sort_at}
+use Rattle.if1_graph.specs.Tables.{◌>>=◌}
+use Rattle.if1_graph.specs.Kinds.{kind_at}
+use Rattle.if1_graph.specs.Types.{entry_at, is_field, is_tag, is_tuple, sort_at}
 use Rattle.if1_types.specs.declared.lists.Line.{Line}
 use Rattle.if1_types.specs.declared.lists.Line.TheVariants.{Field, Tag, Tuple}
 use Rattle.if1_types.specs.Trees.{Tree, leaf, ending, over_both, list, tree_within, Parts}
@@ -30,6 +32,10 @@ abbrev pub is_line : Line → (Option TypeKind → Bool)
 is_line Field = is_field
 is_line Tag = is_tag
 is_line Tuple = is_tuple
+
+-- the entry of a label, where it is on a line of one kind
+abbrev pub entry_on : (Option TypeKind → Bool) → List TypeEntry → ℕ → Option TypeEntry
+entry_on is ts l = entry_at ts l >>= λ e. if is (kind_at e.code) then Some e else None
 
 -- the list of these members and those after them
 abbrev pub chain : List Tree → Tree → Tree

@@ -1,12 +1,19 @@
 //! What the labels of a type table stand for, by number.
 #![tactic(auto)]
 
+mod forms;
+mod laws;
 mod level;
 mod lists;
+mod params;
 mod shapes;
 mod sorts;
 mod table;
 
+pub use forms::{ListForm, SortForm, TyForm};
+pub use laws::a_number_stands_for_one_thing;
+pub use params::params_of;
+pub use shapes::Shapes;
 pub use sorts::{Sorts, sorts_of};
 
 #[cfg(test)]

@@ -22,7 +22,8 @@ pub enum Line {
     Tuple,
 }
 
-fn is_line(line: Line, kind: Option<TypeKind>) -> bool
+/// Whether a line of a type table is of this kind.
+pub fn is_line(line: Line, kind: Option<TypeKind>) -> bool
     ensures { result ≡ is_line line kind }
 {
     match line {

@@ -1,29 +1,30 @@
 //! Trees by number.
-ghost use Rattle.std.specs.Prelude.{◌≡◌, ◌≤◌, [], length, suc, IfOk};
-ghost use Rattle.if1_types.specs.Trees.{node, over, over_both};
-ghost use Rattle.if1_types.specs.Shapes.{trees_in, tree_at, IsOnce, IsLater, Stands};
+ghost use Rattle.std.specs.Prelude.{◌≡◌, ℕ, ◌≤◌, [], length, suc, IfOk};
+ghost use Rattle.if1_types.specs.Trees.{Tree, node, over, over_both};
+ghost use Rattle.if1_types.specs.Shapes.{trees_in, tree_at, members_in, key_at, IsKeyOf, IsOnce, IsLater, Stands};
 
 use flow_value::NoMemory;
 use indexmap::IndexMap;
 use std::alloc::Global;
 use std::marker::Model;
 
-/// The trees that there are, each under its kind and the numbers of its parts.
+/// The trees that there are, each under its kind and the numbers of its parts, with a count of the
+/// members where it is a list.
 #[derive(Drop)]
 pub struct Shapes {
-    keys: IndexMap<(u32, u32, u32), ()>,
+    keys: IndexMap<(u32, u32, u32), u32>,
 }
 
 impl Model for Shapes {
     ghost use Rattle.std.specs.Prelude.{List};
     ghost use Rattle.std.specs.Map.{keys_of};
-    ghost use Rattle.if1_types.specs.Shapes.{Key, trees_in, IsKept};
+    ghost use Rattle.if1_types.specs.Shapes.{Key, AreHeld};
 
     ghost Value = { List Key };
 
     ghost view = { λ s. keys_of s.keys.entries };
 
-    ghost invariant = { λ s. IsKept (keys_of s.keys.entries) (trees_in (keys_of s.keys.entries)) };
+    ghost invariant = { λ s. AreHeld s.keys.entries };
 }
 
 impl Shapes {
@@ -54,7 +55,8 @@ impl Shapes {
             return Ok(number);
         }
         let number = number_after(self.keys.len())?;
-        self.keys.insert(key, ())?;
+        let members = self.members_over(kind, second)?;
+        self.keys.insert(key, members)?;
         Ok(number)
     }
 
@@ -90,9 +92,46 @@ impl Shapes {
         Ok(number)
     }
 
-    /// Each tree has one number.
+    /// The kind of the tree of a number and the numbers of its parts; none where it has none.
+    pub fn key(&self, number: u32) -> Option<(u32, u32, u32)>
+        ensures is { result ≡ key_at self.now number }
+        ensures of { IsKeyOf self.now number result }
+    {
+        if number == 0 {
+            return None;
+        }
+        let (key, _) = self.keys.get_index(number as usize - 1)?;
+        Some(*key)
+    }
+
+    /// How many members the list of a number has; takes constant time.
+    pub fn members(&self, number: u32) -> u32
+        ensures { result ≡ members_in (tree_at (trees_in self.now) number) }
+    {
+        if number == 0 {
+            return 0;
+        }
+        match self.keys.get_index(number as usize - 1) {
+            Some((_, members)) => *members,
+            None => 0,
+        }
+    }
+
+    /// How many members a tree of a kind has, over this second part.
+    fn members_over(&self, kind: u32, second: u32) -> Result<u32, NoMemory>
+        ensures { IfOk result (λ n. (a : Tree) → n ≡ members_in (node kind a (tree_at (trees_in self.now) second))) }
+    {
+        if kind != 9 {
+            return Ok(0);
+        }
+        let members = number_after(self.members(second) as usize)?;
+        Ok(members)
+    }
+
+    /// Each tree has one number, and its key is that of its parts.
     pub fn holds(&self)
-        ensures { IsOnce (trees_in self.now) }
+        ensures once { IsOnce (trees_in self.now) }
+        ensures keys { (n : ℕ) → IsKeyOf self.now n (key_at self.now n) }
     {
         let _ = &self.keys;
     }

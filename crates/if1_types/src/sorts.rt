@@ -1,12 +1,15 @@
 //! What the labels of a table stand for, by number.
-ghost use Rattle.std.specs.Prelude.{◌≡◌, IfOk, map, length};
+ghost use Rattle.std.specs.Prelude.{◌≡◌, ℕ, List, Some, IfOk, map, length};
 ghost use Rattle.std.specs.List.Sorted.{IsStrictlyIncreasing};
 ghost use Rattle.if1_graph.specs.Kinds.{kind_at};
-ghost use Rattle.if1_graph.specs.Types.{is_tuple};
+ghost use Rattle.flow_value.specs.declared.ty.Ty.{Ty};
+ghost use Rattle.if1_graph.specs.Types.{Sort, is_tuple};
 ghost use Rattle.if1_types.specs.Trees.{over_both, list, sort_tree};
-ghost use Rattle.if1_types.specs.Shapes.{trees_in, IsLater, Stands};
+ghost use Rattle.if1_types.specs.Shapes.{trees_in, tree_at, members_in, IsLater, Stands};
 ghost use Rattle.if1_types.specs.Tables.{labels_in, number_at, part_by, AreWithin, AreTold, AreSorts};
+ghost use Rattle.if1_types.specs.Forms.{IsSort, IsTy, IsList, Stand, AreOnce, AreRead, sort_form_at, ty_form_at, list_form_at, IsSortForm, IsTyForm, IsListForm, sort_form, ty_form, list_form};
 
+use crate::forms::{ListForm, SortForm, TyForm};
 use crate::level::{part_over, type_numbers};
 use crate::lists::{Line, list_number};
 use crate::shapes::Shapes;
@@ -22,6 +25,8 @@ pub struct Sorts {
     pub labels: Numbers,
     /// The number of each; 0 stands for nothing.
     pub numbers: Numbers,
+    /// What the numbers stand for.
+    pub shapes: Shapes,
 }
 
 impl Sorts {
@@ -32,6 +37,94 @@ impl Sorts {
         ensures { result ≡ number_at self.now.labels self.now.numbers label }
     {
         number_at(self.labels.as_slice(), self.numbers.as_slice(), label)
+    }
+
+    /// What the number of a label stands for.
+    pub fn sort(&self, number: u32) -> SortForm
+        ensures form { result ≡ sort_form_at self.now.shapes number }
+        ensures of { (s : Sort) → IsSort self.now.shapes number s → IsSortForm self.now.shapes s result }
+    {
+        match self.shapes.key(number) {
+            Some(key) => sort_form(key.0, key.1, key.2),
+            None => SortForm::Nothing,
+        }
+    }
+
+    /// What the number of a type stands for.
+    pub fn ty(&self, number: u32) -> TyForm
+        ensures form { result ≡ ty_form_at self.now.shapes number }
+        ensures of { (t : Ty) → IsTy self.now.shapes number t → IsTyForm self.now.shapes t result }
+    {
+        match self.shapes.key(number) {
+            Some(key) => ty_form(key.0, key.1),
+            None => TyForm::Nothing,
+        }
+    }
+
+    /// What the number of a list of types stands for.
+    pub fn list(&self, number: u32) -> ListForm
+        ensures form { result ≡ list_form_at self.now.shapes number }
+        ensures of { (ts : List Ty) → IsList self.now.shapes number ts → IsListForm self.now.shapes ts result }
+    {
+        match self.shapes.key(number) {
+            Some(key) => list_form(key.0, key.1, key.2),
+            None => ListForm::End,
+        }
+    }
+
+    /// How many types a list has; takes constant time.
+    pub fn length(&self, number: u32) -> u32
+        ensures members { result ≡ members_in (tree_at (trees_in self.now.shapes) number) }
+        ensures of { (ts : List Ty) → IsList self.now.shapes number ts → result ≡ length ts }
+    {
+        self.shapes.members(number)
+    }
+
+    /// Each type, list and sort has one number, and its form by number is its own.
+    pub fn holds(&self)
+        ensures once { AreOnce self.now.shapes }
+        ensures read { AreRead self.now.shapes }
+    {
+        self.shapes.holds();
+    }
+}
+
+/// The form of a sort, by the kind of its tree and the numbers of the parts.
+fn sort_form(kind: u32, first: u32, second: u32) -> SortForm
+    ensures { result ≡ sort_form kind first second }
+{
+    match kind {
+        10 => SortForm::Value(first),
+        11 => SortForm::Multiple(first),
+        12 => SortForm::Function(first, second),
+        _ => SortForm::Nothing,
+    }
+}
+
+/// The form of a type, by the kind of its tree and the number of the part.
+fn ty_form(kind: u32, first: u32) -> TyForm
+    ensures { result ≡ ty_form kind first }
+{
+    match kind {
+        0 => TyForm::Boolean,
+        1 => TyForm::Character,
+        2 => TyForm::Integer,
+        3 => TyForm::Null,
+        4 => TyForm::Array(first),
+        5 => TyForm::Stream(first),
+        6 => TyForm::Record(first),
+        7 => TyForm::Union(first),
+        _ => TyForm::Nothing,
+    }
+}
+
+/// The form of a list, by the kind of its tree and the numbers of the parts.
+fn list_form(kind: u32, first: u32, second: u32) -> ListForm
+    ensures { result ≡ list_form kind first second }
+{
+    match kind {
+        9 => ListForm::Member(first, second),
+        _ => ListForm::End,
     }
 }
 
@@ -107,7 +200,8 @@ fn sort_numbers(
 /// for nothing (IF1 manual M-170, type table). No type is written out.
 pub fn sorts_of(alloc: Global, types: &[TypeEntry]) -> Result<Sorts, NoMemory>
     requires { IsStrictlyIncreasing (map (λ e. e.label) types.now) }
-    ensures { IfOk result (λ s. AreSorts types.now s.labels s.numbers) }
+    ensures numbers { IfOk result (λ s. AreSorts types.now s.labels s.numbers) }
+    ensures stand { IfOk result (λ s. Stand types.now s.shapes s.labels s.numbers) }
 {
     let labels = labels_of(alloc, types)?;
     let mut shapes = Shapes::new(alloc);
@@ -117,5 +211,6 @@ pub fn sorts_of(alloc: Global, types: &[TypeEntry]) -> Result<Sorts, NoMemory>
     Ok(Sorts {
         labels,
         numbers: sorts,
+        shapes,
     })
 }

@@ -2,6 +2,7 @@
 ghost use Rattle.std.specs.Prelude.{IfErr, IfOk};
 ghost use Rattle.sisal_check.specs.Texts.{IsText};
 ghost use Rattle.type_rules.specs.Faults.{IsRule};
+ghost use Rattle.type_table.specs.Tables.{IsTable};
 ghost use Rattle.typed_tree.specs.Faults.{BreaksUnit};
 ghost use Rattle.typed_tree.specs.Units.{IsTyped};
 
@@ -18,6 +19,7 @@ use value_names::InForce;
 /// Reference Manual 1.2, types, scope and programs.
 pub fn check(alloc: Global, unit: Unit) -> Result<Program, TypeFault>
     ensures typed { IfOk result (λ p. IsText unit → IsTyped unit p) }
+    ensures types { IfOk result (λ p. IsTable p.types) }
     ensures breaks { IfErr result (IsRule (λ rule line. IsText unit → BreaksUnit unit rule line)) }
 {
     let Declared {

@@ -200,6 +200,10 @@ kept_cut env more e f g m hm he hf hg =
 pub body_is : (n : ℕ) (p : Program) (w : Walked) (env e vs : List Val) (j k s : ℕ) → definitions n p w.defs.now env ≡ Some (e, j) → meanings n p w.values.now e ≡ Some (vs, k) → s ≡ j + k → walked_body n p w env ≡ Some (vs, s)
 body_is n p w env e vs j k s h i q = timed _ vs (j + k) s (some_then (definitions n p w.defs.now env) e j (meanings n p w.values.now) vs k h i) q
 
+-- values without definitions
+pub bare_body : (n : ℕ) (p : Program) (w : Walked) (env : List Val) (v : Val) (k : ℕ) → w.defs.now ≡ [] → meanings n p w.values.now env ≡ Some (v ∷ [], k) → walked_body n p w env ≡ Some (v ∷ [], k)
+bare_body n p w env v k e h = ap (λ ds. andthen (definitions n p ds env) (meanings n p w.values.now)) e ∙ given_then env (meanings n p w.values.now) ∙ h
+
 -- ---- places of loops
 
 -- a place whose values are known

@@ -4,5 +4,7 @@ pub mod Slots
 pub mod Sources
 pub mod Rows
 pub mod Meaning
+pub mod Reads
 pub mod Pending
+pub mod Turning
 pub mod Descents

@@ -8,6 +8,7 @@ ghost use Rattle.source_meaning.specs.Meaning.{meaning, meanings, kind_meaning};
 ghost use Rattle.source_meaning.specs.Pending.{Program};
 
 use crate::slots::{Slot, lent, operate};
+use crate::whole::{Form, form_of, truth_of, whole_of};
 use crate::words::{Test, constant_value, test_of, value_at};
 use flow_value::{Cause, Items, NoMemory, Scalar2, Seq, Val, scalar2};
 use std::alloc::Global;
@@ -32,9 +33,11 @@ struct LentOutcome {
 
 /// Operands, and the steps that they took.
 #[derive(Drop)]
-struct LentOutcomes {
-    slots: Seq<Slot>,
-    steps: usize,
+pub struct LentOutcomes {
+    /// The operands.
+    pub slots: Seq<Slot>,
+    /// The steps.
+    pub steps: usize,
 }
 
 /// The sum, unless it is too great.
@@ -58,9 +61,88 @@ fn later(value: Val, a: usize, b: usize) -> Option<Outcome>
 pub fn direct(alloc: Global, e: &TypedExpr, names: &[Val]) -> Result<Option<Outcome>, NoMemory>
     ensures { IfOk result (λ o. IfSome o (λ d. (n : ℕ) (p : Program) → meaning n p e.now names.now ≡ Some (d.value ∷ [], d.steps))) }
 {
-    match direct_kind(alloc, &e.kind, e.types.len(), names)? {
+    let form = form_of(&e.kind);
+    if let Some(found) = plain(form, e, names) {
+        return Ok(Some(found));
+    }
+    let found = direct_form(alloc, e, names, !matches!(form, Form::Other))?;
+    Ok(found)
+}
+
+/// The integer or truth value of an expression.
+fn plain(form: Form, e: &TypedExpr, names: &[Val]) -> Option<Outcome>
+    ensures { IfSome result (λ d. (n : ℕ) (p : Program) → meaning n p e.now names.now ≡ Some (d.value ∷ [], d.steps)) }
+{
+    match form {
+        Form::Whole => plain_whole(e, names),
+        Form::Truth => plain_truth(e, names),
+        Form::Either => match plain_whole(e, names) {
+            Some(found) => Some(found),
+            None => plain_truth(e, names),
+        },
+        Form::Other => None,
+    }
+}
+
+/// The integer of an expression.
+fn plain_whole(e: &TypedExpr, names: &[Val]) -> Option<Outcome>
+    ensures { IfSome result (λ d. (n : ℕ) (p : Program) → meaning n p e.now names.now ≡ Some (d.value ∷ [], d.steps)) }
+{
+    match whole_of(e, names) {
+        Some(found) => Some(Outcome {
+            value: Val::Int(found.value),
+            steps: found.steps,
+        }),
+        None => None,
+    }
+}
+
+/// The truth value of an expression.
+fn plain_truth(e: &TypedExpr, names: &[Val]) -> Option<Outcome>
+    ensures { IfSome result (λ d. (n : ℕ) (p : Program) → meaning n p e.now names.now ≡ Some (d.value ∷ [], d.steps)) }
+{
+    match truth_of(e, names) {
+        Some(found) => Some(Outcome {
+            value: Val::Bool(found.value),
+            steps: found.steps,
+        }),
+        None => None,
+    }
+}
+
+/// The value of an expression, by its parts. Where an integer or a truth value was looked for in
+/// vain, it is not looked for again in the parts that were looked at.
+#[cycle(direct)]
+fn direct_form(
+    alloc: Global,
+    e: &TypedExpr,
+    names: &[Val],
+    is_tried: bool,
+) -> Result<Option<Outcome>, NoMemory>
+    ensures { IfOk result (λ o. IfSome o (λ d. (n : ℕ) (p : Program) → meaning n p e.now names.now ≡ Some (d.value ∷ [], d.steps))) }
+{
+    match direct_kind(alloc, &e.kind, e.types.len(), names, is_tried)? {
         Some(found) => Ok(later(found.value, 1, found.steps)),
         None => Ok(None),
+    }
+}
+
+/// The value of a part.
+#[cycle(direct)]
+fn direct_part(
+    alloc: Global,
+    e: &TypedExpr,
+    names: &[Val],
+    is_tried: bool,
+) -> Result<Option<Outcome>, NoMemory>
+    ensures { IfOk result (λ o. IfSome o (λ d. (n : ℕ) (p : Program) → meaning n p e.now names.now ≡ Some (d.value ∷ [], d.steps))) }
+{
+    if is_tried {
+        let found = direct_form(alloc, e, names, true)?;
+        Ok(found)
+    } else {
+        let found = direct(alloc, e, names)?;
+        Ok(found)
     }
 }
 
@@ -71,6 +153,7 @@ fn direct_kind(
     kind: &TypedKind,
     results: usize,
     names: &[Val],
+    is_tried: bool,
 ) -> Result<Option<Outcome>, NoMemory>
     ensures { IfOk result (λ o. IfSome o (λ d. (n : ℕ) (p : Program) → kind_meaning n p kind.now results names.now ≡ Some (d.value ∷ [], d.steps))) }
 {
@@ -84,15 +167,15 @@ fn direct_kind(
             Ok(Some(Outcome { value, steps: 0 }))
         }
         TypedKind::Group(parts) => {
-            let found = direct_only(alloc, parts.as_slice(), names)?;
+            let found = direct_one(alloc, parts.as_slice(), names, is_tried)?;
             Ok(found)
         }
         TypedKind::Apply(op, parts) => {
-            let found = direct_apply(alloc, op, parts.as_slice(), names)?;
+            let found = direct_apply(alloc, op, parts.as_slice(), names, is_tried)?;
             Ok(found)
         }
         TypedKind::If(_, _, _) => {
-            let found = direct_choice(alloc, kind, results, names)?;
+            let found = direct_choice(alloc, kind, results, names, is_tried)?;
             Ok(found)
         }
         _ => Ok(None),
@@ -100,7 +183,6 @@ fn direct_kind(
 }
 
 /// The value of a list of one expression.
-#[cycle(direct)]
 pub fn direct_only(
     alloc: Global,
     parts: &[TypedExpr],
@@ -108,10 +190,24 @@ pub fn direct_only(
 ) -> Result<Option<Outcome>, NoMemory>
     ensures { IfOk result (λ o. IfSome o (λ d. (n : ℕ) (p : Program) → meanings n p parts.now names.now ≡ Some (d.value ∷ [], d.steps))) }
 {
+    let found = direct_one(alloc, parts, names, false)?;
+    Ok(found)
+}
+
+/// The same, where an integer or a truth value may have been looked for in vain.
+#[cycle(direct)]
+fn direct_one(
+    alloc: Global,
+    parts: &[TypedExpr],
+    names: &[Val],
+    is_tried: bool,
+) -> Result<Option<Outcome>, NoMemory>
+    ensures { IfOk result (λ o. IfSome o (λ d. (n : ℕ) (p : Program) → meanings n p parts.now names.now ≡ Some (d.value ∷ [], d.steps))) }
+{
     let [e] = parts else {
         return Ok(None);
     };
-    let found = direct(alloc, e, names)?;
+    let found = direct_part(alloc, e, names, is_tried)?;
     Ok(found)
 }
 
@@ -122,6 +218,7 @@ fn direct_choice(
     kind: &TypedKind,
     results: usize,
     names: &[Val],
+    is_tried: bool,
 ) -> Result<Option<Outcome>, NoMemory>
     ensures { IfOk result (λ o. IfSome o (λ d. (n : ℕ) (p : Program) → kind_meaning n p kind.now results names.now ≡ Some (d.value ∷ [], d.steps))) }
 {
@@ -131,16 +228,16 @@ fn direct_choice(
     if results != 1 {
         return Ok(None);
     }
-    let Some(said) = direct_only(alloc, test.as_slice(), names)? else {
+    let Some(said) = direct_one(alloc, test.as_slice(), names, is_tried)? else {
         return Ok(None);
     };
     match test_of(&[said.value]) {
         Test::Yes => {
-            let found = direct_arm(alloc, yes.as_slice(), names, said.steps)?;
+            let found = direct_arm(alloc, yes.as_slice(), names, said.steps, is_tried)?;
             Ok(found)
         }
         Test::No => {
-            let found = direct_arm(alloc, no.as_slice(), names, said.steps)?;
+            let found = direct_arm(alloc, no.as_slice(), names, said.steps, is_tried)?;
             Ok(found)
         }
         Test::Failed(cause) => Ok(Some(Outcome {
@@ -157,10 +254,11 @@ fn direct_arm(
     parts: &[TypedExpr],
     names: &[Val],
     before: usize,
+    is_tried: bool,
 ) -> Result<Option<Outcome>, NoMemory>
     ensures { IfOk result (λ o. IfSome o (λ d. (n : ℕ) (p : Program) → plus before (meanings n p parts.now names.now) ≡ Some (d.value ∷ [], d.steps))) }
 {
-    match direct_only(alloc, parts, names)? {
+    match direct_one(alloc, parts, names, is_tried)? {
         Some(found) => Ok(later(found.value, before, found.steps)),
         None => Ok(None),
     }
@@ -173,22 +271,31 @@ fn direct_apply(
     op: &Operation,
     parts: &[TypedExpr],
     names: &[Val],
+    is_tried: bool,
 ) -> Result<Option<Outcome>, NoMemory>
     ensures { IfOk result (λ o. IfSome o (λ d. (n : ℕ) (p : Program) → andthen (meanings n p parts.now names.now) (λ vs. given (op_value op.now vs ∷ [])) ≡ Some (d.value ∷ [], d.steps))) }
 {
     match op {
         Operation::Binary(scalar) => {
-            let found = direct_binary(alloc, *scalar, parts, names)?;
+            let found = direct_binary(alloc, *scalar, parts, names, is_tried)?;
             Ok(found)
         }
         Operation::Swapped(scalar) => {
-            let found = direct_swapped(alloc, *scalar, parts, names)?;
+            let found = direct_swapped(alloc, *scalar, parts, names, is_tried)?;
             Ok(found)
         }
         _ => {
-            let found = direct_operation(alloc, op, parts, names)?;
+            let found = direct_operation(alloc, op, parts, names, is_tried && is_tried_in(op))?;
             Ok(found)
         }
+    }
+}
+
+/// Whether the operands of an operation are looked at where its integer is looked for.
+fn is_tried_in(op: &Operation) -> bool {
+    match op {
+        Operation::Unary(_) | Operation::Element => true,
+        _ => false,
     }
 }
 
@@ -202,16 +309,21 @@ struct Pair {
 
 /// Two operands, where there are two.
 #[cycle(direct)]
-fn direct_pair(alloc: Global, parts: &[TypedExpr], names: &[Val]) -> Result<Option<Pair>, NoMemory>
+fn direct_pair(
+    alloc: Global,
+    parts: &[TypedExpr],
+    names: &[Val],
+    is_tried: bool,
+) -> Result<Option<Pair>, NoMemory>
     ensures { IfOk result (λ o. IfSome o (λ d. (n : ℕ) (p : Program) → meanings n p parts.now names.now ≡ Some (slot_value names.now d.first ∷ slot_value names.now d.second ∷ [], d.steps))) }
 {
     let [a, b] = parts else {
         return Ok(None);
     };
-    let Some(first) = direct_slot(alloc, a, names)? else {
+    let Some(first) = lent_part(alloc, a, names, is_tried)? else {
         return Ok(None);
     };
-    let Some(second) = direct_slot(alloc, b, names)? else {
+    let Some(second) = lent_part(alloc, b, names, is_tried)? else {
         return Ok(None);
     };
     match sum(first.steps, second.steps) {
@@ -231,10 +343,11 @@ fn direct_binary(
     op: Scalar2,
     parts: &[TypedExpr],
     names: &[Val],
+    is_tried: bool,
 ) -> Result<Option<Outcome>, NoMemory>
     ensures { IfOk result (λ o. IfSome o (λ d. (n : ℕ) (p : Program) → andthen (meanings n p parts.now names.now) (λ vs. given (op_value (Operation.Binary op) vs ∷ [])) ≡ Some (d.value ∷ [], d.steps))) }
 {
-    let Some(pair) = direct_pair(alloc, parts, names)? else {
+    let Some(pair) = direct_pair(alloc, parts, names, is_tried)? else {
         return Ok(None);
     };
     let missing = Val::Err(Cause::Explicit);
@@ -256,10 +369,11 @@ fn direct_swapped(
     op: Scalar2,
     parts: &[TypedExpr],
     names: &[Val],
+    is_tried: bool,
 ) -> Result<Option<Outcome>, NoMemory>
     ensures { IfOk result (λ o. IfSome o (λ d. (n : ℕ) (p : Program) → andthen (meanings n p parts.now names.now) (λ vs. given (op_value (Operation.Swapped op) vs ∷ [])) ≡ Some (d.value ∷ [], d.steps))) }
 {
-    let Some(pair) = direct_pair(alloc, parts, names)? else {
+    let Some(pair) = direct_pair(alloc, parts, names, is_tried)? else {
         return Ok(None);
     };
     let missing = Val::Err(Cause::Explicit);
@@ -281,10 +395,11 @@ fn direct_operation(
     op: &Operation,
     parts: &[TypedExpr],
     names: &[Val],
+    is_tried: bool,
 ) -> Result<Option<Outcome>, NoMemory>
     ensures { IfOk result (λ o. IfSome o (λ d. (n : ℕ) (p : Program) → andthen (meanings n p parts.now names.now) (λ vs. given (op_value op.now vs ∷ [])) ≡ Some (d.value ∷ [], d.steps))) }
 {
-    match direct_slots(alloc, parts, names)? {
+    match lent_parts(alloc, parts, names, is_tried)? {
         Some(found) => {
             let value = operate(alloc, op, names, found.slots)?;
             Ok(Some(Outcome {
@@ -298,7 +413,12 @@ fn direct_operation(
 
 /// An operand, where a name is only lent.
 #[cycle(direct)]
-fn direct_slot(alloc: Global, e: &TypedExpr, names: &[Val]) -> Result<Option<LentOutcome>, NoMemory>
+fn lent_part(
+    alloc: Global,
+    e: &TypedExpr,
+    names: &[Val],
+    is_tried: bool,
+) -> Result<Option<LentOutcome>, NoMemory>
     ensures { IfOk result (λ o. IfSome o (λ d. (n : ℕ) (p : Program) → meaning n p e.now names.now ≡ Some (slot_value names.now d.slot ∷ [], d.steps))) }
 {
     match &e.kind {
@@ -306,7 +426,7 @@ fn direct_slot(alloc: Global, e: &TypedExpr, names: &[Val]) -> Result<Option<Len
             slot: Slot::Name(*level),
             steps: 1,
         })),
-        _ => match direct(alloc, e, names)? {
+        _ => match direct_part(alloc, e, names, is_tried)? {
             Some(found) => Ok(Some(LentOutcome {
                 slot: Slot::Value(found.value),
                 steps: found.steps,
@@ -316,19 +436,20 @@ fn direct_slot(alloc: Global, e: &TypedExpr, names: &[Val]) -> Result<Option<Len
     }
 }
 
-/// LentOutcomes, each of one value.
+/// Operands, each of one value.
 #[cycle(direct)]
-fn direct_slots(
+pub fn lent_parts(
     alloc: Global,
     parts: &[TypedExpr],
     names: &[Val],
+    is_tried: bool,
 ) -> Result<Option<LentOutcomes>, NoMemory>
     ensures { IfOk result (λ o. IfSome o (λ d. (n : ℕ) (p : Program) → meanings n p parts.now names.now ≡ Some (slot_values names.now d.slots, d.steps))) }
 {
     let mut slots = Seq::with_room(alloc, parts.len())?;
     let mut steps = 0;
     for e in parts {
-        let Some(found) = direct_slot(alloc, e, names)? else {
+        let Some(found) = lent_part(alloc, e, names, is_tried)? else {
             return Ok(None);
         };
         slots.add(found.slot)?;

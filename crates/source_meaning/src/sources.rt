@@ -9,7 +9,8 @@ ghost use Rattle.source_meaning.specs.Slots.{slot_values};
 ghost use Rattle.source_meaning.specs.Sources.{width, up_to, range_size, list_size, size_of, sizes_of, first_failure, are_size, common, places_of, number_in, element_at, index_in, names_of, names_at, lower_of};
 
 use crate::slots::{Slot, lent};
-use flow_value::{Cause, Items, NoMemory, Seq, Val, copy, item_at, whole};
+use crate::words::copied_value;
+use flow_value::{Cause, Items, NoMemory, Seq, Val, item_at, whole};
 use std::alloc::Global;
 use typed_tree::Source;
 
@@ -196,16 +197,18 @@ fn index_in(list: &Val, place: usize) -> Val
 }
 
 /// A copy of an element that may be there.
+#[inline(always)]
 fn copied(alloc: Global, element: Option<&Val>) -> Result<Val, NoMemory>
     ensures { IfOk result (λ v. v ≡ unwrap_or (option_copied element.entry) (val.Err cause.Explicit)) }
 {
     match element {
-        Some(v) => copy(alloc, v),
+        Some(v) => copied_value(alloc, v),
         None => Ok(Val::Err(Cause::Explicit)),
     }
 }
 
 /// A copy of the element of an array or a stream at a place.
+#[inline(always)]
 fn element_at(alloc: Global, list: &Val, place: usize) -> Result<Val, NoMemory>
     ensures { IfOk result (λ v. v ≡ element_at list.now place) }
 {

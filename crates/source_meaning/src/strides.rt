@@ -1,9 +1,9 @@
 //! The bodies of loops whose values come at once.
-ghost use Rattle.std.specs.Prelude.{◌≡◌, ℕ, ◌+◌, ◌<◌, List, ◌++◌, IfOk, IfSome, Some, None, take, length};
+ghost use Rattle.std.specs.Prelude.{◌≡◌, ℕ, ◌+◌, ◌<◌, List, [], ◌∷◌, ◌++◌, IfOk, IfSome, Some, None, take, length};
 ghost use Rattle.flow_value.specs.declared.value.Val.{Val};
 ghost use Rattle.source_meaning.specs.Timed.{Timed, plus, andthen};
 ghost use Rattle.source_meaning.specs.Words.{goes_on, test_of};
-ghost use Rattle.source_meaning.specs.Slots.{slot_values};
+ghost use Rattle.source_meaning.specs.Slots.{given_values, slot_values};
 ghost use Rattle.source_meaning.specs.Sources.{names_at};
 ghost use Rattle.source_meaning.specs.Meaning.{meanings, definitions};
 ghost use Rattle.source_meaning.specs.Pending.{Program, walked_body};
@@ -12,6 +12,7 @@ use crate::direct::{are_direct, direct, direct_only, sum};
 use crate::slots::{Given, Slot, add_values};
 use crate::sources::add_names_at;
 use crate::state::{Turned, Walked};
+use crate::whole::{Truth, Whole, truth_only, whole_only};
 use crate::words::{Test, goes_on, test_of};
 use flow_value::{Items, NoMemory, Seq, Val};
 use std::alloc::Global;
@@ -49,6 +50,42 @@ pub fn direct_row(
     Ok(Some(Row { values, steps }))
 }
 
+/// Values as they are handed on, and the steps that they took.
+#[derive(Drop)]
+pub struct GivenRow {
+    /// The values.
+    pub values: Given,
+    /// The steps.
+    pub steps: usize,
+}
+
+/// The values of expressions, each of one value; one value alone takes no list.
+pub fn direct_given(
+    alloc: Global,
+    parts: &[TypedExpr],
+    names: &[Val],
+) -> Result<Option<GivenRow>, NoMemory>
+    ensures { IfOk result (λ o. IfSome o (λ d. (n : ℕ) (p : Program) → meanings n p parts.now names.now ≡ Some (given_values d.values, d.steps))) }
+{
+    if parts.len() == 1 {
+        match direct_only(alloc, parts, names)? {
+            Some(found) => Ok(Some(GivenRow {
+                values: Given::One(found.value),
+                steps: found.steps,
+            })),
+            None => Ok(None),
+        }
+    } else {
+        match direct_row(alloc, parts, names)? {
+            Some(found) => Ok(Some(GivenRow {
+                values: Given::Many(found.values),
+                steps: found.steps,
+            })),
+            None => Ok(None),
+        }
+    }
+}
+
 /// Has the names of definitions come into force, and gives their steps. Where that is none, more
 /// names may be in force.
 pub fn direct_definitions(
@@ -61,10 +98,10 @@ pub fn direct_definitions(
 {
     let mut steps = 0;
     for def in defs {
-        let Some(row) = direct_row(alloc, def.as_slice(), names.as_slice())? else {
+        let Some(row) = direct_given(alloc, def.as_slice(), names.as_slice())? else {
             return Ok(None);
         };
-        add_values(names, Given::Many(row.values))?;
+        add_values(names, row.values)?;
         match sum(steps, row.steps) {
             Some(more) => steps = more,
             None => return Ok(None),
@@ -74,18 +111,51 @@ pub fn direct_definitions(
 }
 
 /// The values of the clauses of a loop over generators, where the names of a place are in force.
-fn direct_body(alloc: Global, parts: Walked<'_>, names: &mut Items) -> Result<Option<Row>, NoMemory>
-    ensures values { IfOk result (λ o. IfSome o (λ d. (n : ℕ) (p : Program) → walked_body n p parts.entry names.old ≡ Some (d.values, d.steps))) }
+fn direct_body(
+    alloc: Global,
+    parts: Walked<'_>,
+    names: &mut Items,
+) -> Result<Option<GivenRow>, NoMemory>
+    ensures values { IfOk result (λ o. IfSome o (λ d. (n : ℕ) (p : Program) → walked_body n p parts.entry names.old ≡ Some (given_values d.values, d.steps))) }
+    ensures kept { IfOk result (λ o. take (length names.old) names.new ≡ names.old) }
+{
+    match whole_body(parts, names.as_slice()) {
+        Some(found) => Ok(Some(GivenRow {
+            values: Given::One(Val::Int(found.value)),
+            steps: found.steps,
+        })),
+        None => defined_body(alloc, parts, names),
+    }
+}
+
+/// The integer that is the one value of a loop over generators without definitions.
+fn whole_body(parts: Walked<'_>, names: &[Val]) -> Option<Whole>
+    ensures { IfSome result (λ w. (n : ℕ) (p : Program) → walked_body n p parts.entry names.now ≡ Some (Val.Int w.value ∷ [], w.steps)) }
+{
+    if parts.defs.is_empty() {
+        whole_only(parts.values.as_slice(), names)
+    } else {
+        None
+    }
+}
+
+/// The same, with definitions.
+fn defined_body(
+    alloc: Global,
+    parts: Walked<'_>,
+    names: &mut Items,
+) -> Result<Option<GivenRow>, NoMemory>
+    ensures values { IfOk result (λ o. IfSome o (λ d. (n : ℕ) (p : Program) → walked_body n p parts.entry names.old ≡ Some (given_values d.values, d.steps))) }
     ensures kept { IfOk result (λ o. take (length names.old) names.new ≡ names.old) }
 {
     let Some(before) = direct_definitions(alloc, parts.defs.as_slice(), names)? else {
         return Ok(None);
     };
-    let Some(row) = direct_row(alloc, parts.values.as_slice(), names.as_slice())? else {
+    let Some(row) = direct_given(alloc, parts.values.as_slice(), names.as_slice())? else {
         return Ok(None);
     };
     match sum(before, row.steps) {
-        Some(steps) => Ok(Some(Row {
+        Some(steps) => Ok(Some(GivenRow {
             values: row.values,
             steps,
         })),
@@ -100,8 +170,8 @@ pub fn direct_place(
     bounds: &[Slot],
     place: usize,
     names: &mut Items,
-) -> Result<Option<Row>, NoMemory>
-    ensures values { IfOk result (λ o. IfSome o (λ d. (n : ℕ) (p : Program) → walked_body n p parts.entry (names.old ++ names_at parts.entry.form.now.sources (slot_values names.old bounds.now) place) ≡ Some (d.values, d.steps))) }
+) -> Result<Option<GivenRow>, NoMemory>
+    ensures values { IfOk result (λ o. IfSome o (λ d. (n : ℕ) (p : Program) → walked_body n p parts.entry (names.old ++ names_at parts.entry.form.now.sources (slot_values names.old bounds.now) place) ≡ Some (given_values d.values, d.steps))) }
     ensures names { IfOk result (λ o. names.new ≡ names.old) }
 {
     let height = names.len();
@@ -123,7 +193,35 @@ pub fn is_direct_body(parts: Walked<'_>) -> bool {
 }
 
 /// The steps of a test that comes at once, where it has the loop go on.
-fn direct_test(
+pub fn direct_test(
+    alloc: Global,
+    is_until: bool,
+    test: &[TypedExpr],
+    names: &[Val],
+) -> Result<Option<usize>, NoMemory>
+    ensures { IfOk result (λ o. IfSome o (λ k. (n : ℕ) (p : Program) (F : Test → Timed (List Val)) → andthen (meanings n p test.now names.now) (λ ts. F (goes_on is_until (test_of ts))) ≡ plus k (F Test.Yes))) }
+{
+    match truth_only(test, names) {
+        Some(found) => Ok(truth_steps(is_until, found)),
+        None => {
+            let found = valued_test(alloc, is_until, test, names)?;
+            Ok(found)
+        }
+    }
+}
+
+/// The steps of a truth value that has a loop go on.
+fn truth_steps(is_until: bool, found: Truth) -> Option<usize>
+    ensures { IfSome result (λ k. (k ≡ found.steps) × (goes_on is_until (test_of (Val.Bool found.value ∷ [])) ≡ Test.Yes)) }
+{
+    match goes_on(is_until, test_of(&[Val::Bool(found.value)])) {
+        Test::Yes => Some(found.steps),
+        _ => None,
+    }
+}
+
+/// The same, by the value of the test.
+fn valued_test(
     alloc: Global,
     is_until: bool,
     test: &[TypedExpr],
@@ -138,66 +236,6 @@ fn direct_test(
         Test::Yes => Ok(Some(found.steps)),
         _ => Ok(None),
     }
-}
-
-/// The values of the clauses before a turn and the steps of its test.
-pub fn direct_before(
-    alloc: Global,
-    parts: Turned<'_>,
-    names: &[Val],
-) -> Result<Option<Row>, NoMemory>
-    ensures { IfOk result (λ o. IfSome o (λ d. (n : ℕ) (p : Program) (F : List Val → Test → Timed (List Val)) → andthen (meanings n p parts.entry.values.now names.now) (λ row. andthen (meanings n p parts.entry.test.now names.now) (λ ts. F row (goes_on parts.entry.form.now.is_until (test_of ts)))) ≡ plus d.steps (F d.values Test.Yes))) }
-{
-    let Some(row) = direct_row(alloc, parts.values.as_slice(), names)? else {
-        return Ok(None);
-    };
-    let Some(tested) = direct_test(alloc, parts.form.is_until, parts.test.as_slice(), names)? else {
-        return Ok(None);
-    };
-    match sum(row.steps, tested) {
-        Some(steps) => Ok(Some(Row {
-            values: row.values,
-            steps,
-        })),
-        None => Ok(None),
-    }
-}
-
-/// The steps of the definitions of a turn, whose names come into force, and of the turn itself.
-/// Where that is none, the names are as before.
-pub fn direct_turn(
-    alloc: Global,
-    parts: Turned<'_>,
-    before: usize,
-    names: &mut Items,
-) -> Result<Option<usize>, NoMemory>
-    ensures defined { IfOk result (λ o. IfSome o (λ k. (n : ℕ) (p : Program) (G : List Val → Timed (List Val)) → plus before (plus 1 (andthen (definitions n p parts.entry.defs.now names.old) G)) ≡ plus k (G names.new))) }
-    ensures counted { IfOk result (λ o. IfSome o (λ k. before < k)) }
-    ensures kept { IfOk result (λ o. take (length names.old) names.new ≡ names.old) }
-    ensures undone { IfOk result (λ o. o ≡ None → names.new ≡ names.old) }
-{
-    let height = names.len();
-    match direct_definitions(alloc, parts.defs.as_slice(), names)? {
-        Some(made) => match turn_steps(before, made) {
-            Some(steps) => Ok(Some(steps)),
-            None => {
-                names.truncate(height);
-                Ok(None)
-            }
-        },
-        None => {
-            names.truncate(height);
-            Ok(None)
-        }
-    }
-}
-
-/// So many steps, that of a turn, and those of its definitions, unless they are too many.
-fn turn_steps(before: usize, made: usize) -> Option<usize>
-    ensures { IfSome result (λ k. k ≡ (before + 1) + made) }
-{
-    let turned = sum(before, 1)?;
-    sum(turned, made)
 }
 
 /// Whether the turns of a loop and what stands before them are of the forms that come at once.

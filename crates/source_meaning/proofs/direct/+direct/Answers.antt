@@ -10,8 +10,8 @@ use Rattle.source_meaning.specs.Pending.{Program}
 use Rattle.source_meaning.proofs.AtOnce.{one_of, two_of, counted, only_is, both_are, row_step, behind_steps, applied, group_is, apply_is, said_yes, said_no, said_failed, slots_behind}
 use Rattle.source_meaning.proofs.direct.+direct.Goals as goal
 
-pub direct-returns-in-Some : goal.direct-returns-in-Some
-direct-returns-in-Some t c =
+pub direct_form-returns-in-Some : goal.direct_form-returns-in-Some
+direct_form-returns-in-Some t c =
     let env = c.args.names.now in
     let f = c.in-Some.found in
     let h : (n : ℕ) (p : Program) → kind_meaning n p c.args.e.now.kind c.len.result env ≡ Some (f.value ∷ [], f.steps) = search rules in
@@ -35,8 +35,8 @@ direct_kind-returns-in_ok-found-in-Apply t c =
     IfSome_then c.in_ok-found-in-Apply.found c.in_ok-found-in-Apply.ensures
     (λ d q n p. apply_is n p c.args.kind.now c.in-Apply.op c.in-Apply.parts c.as_slice-in-Apply.result.now c.args.results env c.in-Apply.is c.as_slice-in-Apply.ensures ∙ q n p)
 
-pub direct_only-returns : goal.direct_only-returns
-direct_only-returns t c =
+pub direct_one-returns : goal.direct_one-returns
+direct_one-returns t c =
     let env = c.args.names.now in
     let e : c.args.parts.now ≡ c.e-item.result ∷ [] = one_of _ _ c.in-len1.len_at_least c.in-len1.len_below c.e-item.is in
     IfSome_then c.in_ok-found.found c.in_ok-found.ensures
@@ -99,8 +99,8 @@ direct_swapped-returns t c = λ n p.
     let v : c.scalar2-value.result ≡ op_value (op.Swapped c.args.op) (slot_value env d.first ∷ slot_value env d.second ∷ []) = search rules in
     applied _ _ d.steps (op.Swapped c.args.op) c.scalar2-value.result (h n p) v
 
-pub direct_slots-loop-e-preserved : goal.direct_slots-loop-e-preserved
-direct_slots-loop-e-preserved t c = λ n p.
+pub lent_parts-loop-e-preserved : goal.lent_parts-loop-e-preserved
+lent_parts-loop-e-preserved t c = λ n p.
     let env = c.args.names.now in
     let f = c.in-Some.found in
     let h : (n : ℕ) (p : Program) → meaning n p c.e-item.result env ≡ Some (slot_value env f.slot ∷ [], f.steps) = search rules in
@@ -109,8 +109,8 @@ direct_slots-loop-e-preserved t c = λ n p.
     let s : c.in-Some-sum.more ≡ c.loop-e.steps + f.steps = search rules in
     row_step n p c.args.parts.now c.loop-e.e-index c.e-item.result env (slot_values env c.loop-e.slots) (slot_value env f.slot ∷ []) _ c.loop-e.steps f.steps _ c.loop-e-test.true c.e-item.is (c.loop-e.invariant n p) (h n p) us s
 
-pub direct_slots-returns : goal.direct_slots-returns
-direct_slots-returns t c = λ n p.
+pub lent_parts-returns : goal.lent_parts-returns
+lent_parts-returns t c = λ n p.
     ap (λ es. meanings n p es c.args.names.now) (sym (take_all c.loop-e.e-index c.args.parts.now c.loop-e-test.false)) ∙ c.loop-e.invariant n p
 
 pub direct_operation-returns-in_ok-value-in-Some : goal.direct_operation-returns-in_ok-value-in-Some

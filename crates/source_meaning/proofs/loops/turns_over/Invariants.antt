@@ -1,16 +1,18 @@
-use Rattle.std.proofs.Common.{◌≡◌, ◌≤◌, ◌+◌, ◌-◌, ℕ, [], if◌then◌else◌}
-use Rattle.source_meaning.specs.declared.state.After.TheVariants as after
+use Rattle.std.proofs.Common.{◌≡◌, ◌≤◌, ◌+◌, ◌-◌, ℕ}
 use Rattle.source_meaning.specs.Timed.{Moves}
-use Rattle.source_meaning.specs.Pending.{Program, before}
+use Rattle.source_meaning.specs.Pending.{Program}
+use Rattle.source_meaning.specs.Turning.{Fits, standing}
 use Rattle.source_meaning.proofs.loops.turns_over.Given as goal
 
-abbrev pub invariant-loop-is_direct : goal.invariant-loop-is_direct
-invariant-loop-is_direct l = record {
-  moves : (p : Program) → Moves (λ n. before n p l.initial.state.steps l.initial.state.frames.items l.initial.state.names (after.Start l.initial.round) []) (λ n. before n p l.state.steps l.state.frames.items l.state.names (after.Start l.round) []);
+abbrev pub invariant-loop-state : goal.invariant-loop-state
+invariant-loop-state l = record {
+  moves : (p : Program) → Moves (λ n. standing n p l.initial.state.steps l.initial.state.frames.items l.initial.state.names l.initial.round) (λ n. standing n p l.state.steps l.state.frames.items l.state.names l.round);
+  fits : Fits l.round.parts.form.now.clauses l.round.clauses.items;
+  parts : l.round.parts ≡ l.initial.round.parts;
   frames : l.state.frames.items ≡ l.initial.state.frames.items;
   steps : l.initial.state.steps ≤ l.state.steps;
   bound : l.initial.state.steps ≤ l.limit → l.state.steps ≤ l.limit;
 }
 
-abbrev pub decreases-loop-is_direct : goal.decreases-loop-is_direct
-decreases-loop-is_direct l = ((l.limit + 1) - l.state.steps) + (if l.is_direct then 1 else 0)
+abbrev pub decreases-loop-state : goal.decreases-loop-state
+decreases-loop-state l = (l.limit + 1) - l.state.steps

@@ -1,17 +1,14 @@
-use Rattle.std.proofs.Common.{rules, ◌≡◌, ◌∙◌, ℕ, ◌+◌, Some, ap, sym}
-use Rattle.source_meaning.specs.Meaning.{meanings, definitions}
-use Rattle.source_meaning.specs.Pending.{Program}
-use Rattle.source_meaning.proofs.AtOnce.{body_is}
+use Rattle.std.proofs.Common.{rules, ◌≡◌, ◌∙◌, ℕ, [], ◌∷◌, Some, ap, sym}
+use mir.Syntax.{w64}
+use mir.Val.{SFits}
+use Rattle.flow_value.specs.declared.value.Val.TheVariants as val
+use Rattle.source_meaning.specs.Pending.{Program, walked_body}
+use Rattle.source_meaning.proofs.Wholes.{read_back}
 use Rattle.source_meaning.proofs.strides.direct_body.Goals as goal
 
-pub returns-in-Some-sum-clause-values : goal.returns-in-Some-sum-clause-values
-returns-in-Some-sum-clause-values c = λ n p.
-    let env = c.args.names.now in
-    let w = c.args.parts in
-    let e = c.direct_definitions.new.names in
-    let r = c.in-Some-2.row in
-    let made : (n : ℕ) (p : Program) → definitions n p c.as_slice.result.now env ≡ Some (e, c.in-Some.before) = search rules in
-    let known : (n : ℕ) (p : Program) → meanings n p c.as_slice-2.result.now c.as_slice-3.result.now ≡ Some (r.values, r.steps) = search rules in
-    let s : c.in-Some-sum.steps ≡ c.in-Some.before + r.steps = search rules in
-    body_is n p w env e r.values c.in-Some.before r.steps c.in-Some-sum.steps (ap (λ ds. definitions n p ds env) (sym c.as_slice.ensures) ∙ made n p)
-    (ap (λ es. meanings n p es e) (sym c.as_slice-2.ensures) ∙ ap (meanings n p c.as_slice-2.result.now) (sym c.as_slice-3.ensures) ∙ known n p) s
+pub returns-in-Some-clause-values : goal.returns-in-Some-clause-values
+returns-in-Some-clause-values c = λ n p.
+    let f = c.in-Some.found in
+    let known : (n : ℕ) (p : Program) → walked_body n p c.args.parts c.as_slice.result.now ≡ Some (val.Int f.value ∷ [], f.steps) = search rules in
+    let fits : SFits w64 f.value = search rules in
+    read_back _ f.value f.steps fits (ap (walked_body n p c.args.parts) (sym c.as_slice.ensures) ∙ known n p)

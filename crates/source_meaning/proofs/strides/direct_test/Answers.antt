@@ -1,4 +1,6 @@
 use Rattle.std.proofs.Common.{rules, ◌≡◌, ◌∙◌, ℕ, [], ◌∷◌, Some, ap, sym}
+use Rattle.std.proofs.lemmas.Option.{IfSome_then}
+use Rattle.flow_value.specs.declared.value.Val.TheVariants as val
 use Rattle.source_meaning.specs.declared.words.Test.TheVariants as test
 use Rattle.source_meaning.specs.Timed.{plus, andthen}
 use Rattle.source_meaning.specs.Words.{test_of, goes_on}
@@ -6,10 +8,10 @@ use Rattle.source_meaning.specs.Meaning.{meanings}
 use Rattle.source_meaning.specs.Pending.{Program}
 use Rattle.source_meaning.proofs.strides.direct_test.Goals as goal
 
-pub returns-in-Yes : goal.returns-in-Yes
-returns-in-Yes c = λ n p F.
+pub returns-in-Some : goal.returns-in-Some
+returns-in-Some c =
     let f = c.in-Some.found in
     let u = c.args.is_until in
-    let known : (n : ℕ) (p : Program) → meanings n p c.args.test.now c.args.names.now ≡ Some (f.value ∷ [], f.steps) = search rules in
-    let yes : goes_on u (test_of (f.value ∷ [])) ≡ test.Yes = ap (goes_on u) (sym c.test_of.ensures) ∙ sym c.goes_on.ensures ∙ c.in-Yes.is in
-    ap (λ a. andthen a (λ ts. F (goes_on u (test_of ts)))) (known n p) ∙ ap (λ t. plus f.steps (F t)) yes
+    let known : (n : ℕ) (p : Program) → meanings n p c.args.test.now c.args.names.now ≡ Some (val.Bool f.value ∷ [], f.steps) = search rules in
+    IfSome_then c.truth_steps.result c.truth_steps.ensures
+    (λ k q n p F. ap (λ a. andthen a (λ ts. F (goes_on u (test_of ts)))) (known n p) ∙ ap (λ t. plus f.steps (F t)) q.1 ∙ ap (λ i. plus i (F test.Yes)) (sym q.0))

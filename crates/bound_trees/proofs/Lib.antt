@@ -1,0 +1,13 @@
+pub mod Every
+pub mod Forms
+pub mod Literals
+pub mod Spelled
+pub mod Counts
+pub mod Levels
+pub mod Choices
+pub mod Bound
+pub mod Parts
+pub mod Told
+pub mod Units
+pub mod Shallow
+pub mod Nested

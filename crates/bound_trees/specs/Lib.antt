@@ -1,0 +1,4 @@
+pub mod Constants
+pub mod Bound
+pub mod Laws
+pub mod Depths

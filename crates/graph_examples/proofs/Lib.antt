@@ -1,0 +1,16 @@
+pub mod CompoundErrorExamples
+pub mod FoldErrorExamples
+pub mod GreaterFormed
+pub mod GreaterMeans
+pub mod GreaterOuts
+pub mod GreaterPorts
+pub mod GreaterReady
+pub mod GreaterText
+pub mod GreaterTypes
+pub mod ListErrorExamples
+pub mod NumberErrorExamples
+pub mod Outs
+pub mod Reals
+pub mod RowProofs
+pub mod ScalarErrorExamples
+pub mod StrictErrorExamples

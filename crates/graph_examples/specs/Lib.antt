@@ -1,0 +1,11 @@
+pub mod CompoundErrors
+pub mod ExampleUnit
+pub mod FoldErrors
+pub mod Greater
+pub mod ListErrors
+pub mod NumberErrors
+pub mod RecordErrors
+pub mod RowExamples
+pub mod ScalarErrors
+pub mod StrictErrors
+pub mod Words

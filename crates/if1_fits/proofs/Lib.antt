@@ -1,0 +1,4 @@
+pub mod Viewed
+pub mod Decided
+pub mod Walks
+pub mod Law

@@ -1,0 +1,128 @@
+-- What the numbers of sorts, types and lists of types lead to.
+use Rattle.std.specs.Prelude.{ℕ, zero, suc, Bool, false, ◌==◌, List, Option, Some, None, is_some, find}
+use Rattle.if1_graph.specs.declared.graph.Edge.{Edge}
+use Rattle.if1_graph.specs.Tables.{◌>>=◌}
+use Rattle.if1_types.specs.declared.forms.SortForm.{SortForm}
+use Rattle.if1_types.specs.declared.forms.SortForm.TheVariants as sort
+use Rattle.if1_types.specs.declared.forms.TyForm.{TyForm}
+use Rattle.if1_types.specs.declared.forms.TyForm.TheVariants as form
+use Rattle.if1_types.specs.declared.forms.ListForm.{ListForm}
+use Rattle.if1_types.specs.declared.forms.ListForm.TheVariants as list
+use Rattle.if1_types.specs.Shapes.{Key}
+use Rattle.if1_types.specs.Tables.{number_at}
+use Rattle.if1_types.specs.Forms.{sort_form_at, ty_form_at, list_form_at}
+
+-- ---- forms
+
+abbrev pub value_in : SortForm → Option ℕ
+value_in (sort.Value k) = Some k
+value_in _ = None
+
+abbrev pub many_in : SortForm → Option ℕ
+many_in (sort.Multiple k) = Some k
+many_in _ = None
+
+abbrev pub arguments_in : SortForm → Option ℕ
+arguments_in (sort.Function a r) = Some a
+arguments_in _ = None
+
+abbrev pub results_in : SortForm → Option ℕ
+results_in (sort.Function a r) = Some r
+results_in _ = None
+
+abbrev pub array_in : TyForm → Option ℕ
+array_in (form.Array k) = Some k
+array_in _ = None
+
+abbrev pub sequence_in : TyForm → Option ℕ
+sequence_in (form.Array k) = Some k
+sequence_in (form.Stream k) = Some k
+sequence_in _ = None
+
+abbrev pub fields_in : TyForm → Option ℕ
+fields_in (form.Record l) = Some l
+fields_in _ = None
+
+abbrev pub tags_in : TyForm → Option ℕ
+tags_in (form.Union l) = Some l
+tags_in _ = None
+
+abbrev pub kind_in : TyForm → ℕ
+kind_in form.Boolean = 0
+kind_in form.Character = 1
+kind_in form.Integer = 2
+kind_in form.Null = 3
+kind_in (form.Array k) = 4
+kind_in (form.Stream k) = 5
+kind_in (form.Record l) = 6
+kind_in (form.Union l) = 7
+kind_in form.Nothing = 8
+
+abbrev pub first_in : ListForm → Option ℕ
+first_in (list.Member k l) = Some k
+first_in list.End = None
+
+abbrev pub rest_in : ListForm → Option ℕ
+rest_in (list.Member k l) = Some l
+rest_in list.End = None
+
+-- ---- numbers
+
+module _ (ks : List Key) where
+  -- the type of a value, and of the values of a multiple
+  abbrev pub value_of : ℕ → Option ℕ
+  value_of n = value_in (sort_form_at ks n)
+
+  abbrev pub many_of : ℕ → Option ℕ
+  many_of n = many_in (sort_form_at ks n)
+
+  -- the elements of an array or a stream
+  abbrev pub array_of : ℕ → Option ℕ
+  array_of k = array_in (ty_form_at ks k)
+
+  abbrev pub sequence_of : ℕ → Option ℕ
+  sequence_of k = sequence_in (ty_form_at ks k)
+
+  abbrev pub fields_of : ℕ → Option ℕ
+  fields_of k = fields_in (ty_form_at ks k)
+
+  abbrev pub tags_of : ℕ → Option ℕ
+  tags_of k = tags_in (ty_form_at ks k)
+
+  -- and where they are values
+  abbrev pub array_at : ℕ → Option ℕ
+  array_at n = value_of n >>= array_of
+
+  abbrev pub sequence_at : ℕ → Option ℕ
+  sequence_at n = value_of n >>= sequence_of
+
+  abbrev pub fields_at : ℕ → Option ℕ
+  fields_at n = value_of n >>= fields_of
+
+  -- the kind of a type: 0 boolean, 1 character, 2 integer, 3 null, 4 array, 5 stream, 6 record, 7 union; 9 for none
+  abbrev pub kind_or : Option ℕ → ℕ
+  kind_or None = 9
+  kind_or (Some k) = kind_in (ty_form_at ks k)
+
+  -- the type at a place of a list, from 0
+  abbrev pub listed : ℕ → ℕ → Option ℕ
+  listed l zero = first_in (list_form_at ks l)
+  listed l (suc i) = rest_in (list_form_at ks l) >>= λ rest. listed rest i
+
+  -- and at a port, from 1
+  abbrev pub listed_at : Option ℕ → ℕ → Option ℕ
+  listed_at l zero = None
+  listed_at l (suc i) = l >>= λ l. listed l i
+
+-- two numbers, where both are there, are equal
+abbrev pub are_same : Option ℕ → Option ℕ → Bool
+are_same (Some a) (Some b) = a == b
+are_same _ _ = false
+
+-- the number of what the edge into a port carries, 0 where nothing is carried
+abbrev pub number_of : List ℕ → List ℕ → Option Edge → ℕ
+number_of ls ns None = 0
+number_of ls ns (Some e) = number_at ls ns e.ty
+
+abbrev pub carried_at : List ℕ → List ℕ → List Edge → ℕ → ℕ
+carried_at ls ns es port = number_of ls ns (find (λ e. e.port == port) es)

@@ -1,0 +1,177 @@
+//! What the numbers of sorts, types and lists of types lead to.
+ghost use Rattle.std.specs.Prelude.{◌≡◌, find, ◌==◌};
+ghost use Rattle.std.specs.Option.{option_copied};
+ghost use Rattle.if1_types.specs.Forms.{sort_form_at};
+ghost use Rattle.std.specs.List.Sorted.{IsStrictlyIncreasing};
+ghost use Rattle.if1_fits.specs.Views as spec;
+
+use if1_graph::Edge;
+use if1_types::{ListForm, SortForm, Sorts, TyForm};
+
+/// The type of a value.
+pub fn value_of(sorts: &Sorts, number: u32) -> Option<u32>
+    ensures { result ≡ spec.value_of sorts.now.shapes number }
+{
+    match sorts.sort(number) {
+        SortForm::Value(ty) => Some(ty),
+        _ => None,
+    }
+}
+
+/// The type of the values of a multiple.
+pub fn many_of(sorts: &Sorts, number: u32) -> Option<u32>
+    ensures { result ≡ spec.many_of sorts.now.shapes number }
+{
+    match sorts.sort(number) {
+        SortForm::Multiple(ty) => Some(ty),
+        _ => None,
+    }
+}
+
+/// The elements of an array.
+pub fn array_of(sorts: &Sorts, ty: u32) -> Option<u32>
+    ensures { result ≡ spec.array_of sorts.now.shapes ty }
+{
+    match sorts.ty(ty) {
+        TyForm::Array(element) => Some(element),
+        _ => None,
+    }
+}
+
+/// The elements of an array or a stream.
+pub fn sequence_of(sorts: &Sorts, ty: u32) -> Option<u32>
+    ensures { result ≡ spec.sequence_of sorts.now.shapes ty }
+{
+    match sorts.ty(ty) {
+        TyForm::Array(element) | TyForm::Stream(element) => Some(element),
+        _ => None,
+    }
+}
+
+/// The fields of a record, as a list.
+pub fn fields_of(sorts: &Sorts, ty: u32) -> Option<u32>
+    ensures { result ≡ spec.fields_of sorts.now.shapes ty }
+{
+    match sorts.ty(ty) {
+        TyForm::Record(fields) => Some(fields),
+        _ => None,
+    }
+}
+
+/// The first list of types in a function, that of its arguments.
+pub fn arguments_of(sorts: &Sorts, number: u32) -> Option<u32>
+    ensures { result ≡ spec.arguments_in (sort_form_at sorts.now.shapes number) }
+{
+    match sorts.sort(number) {
+        SortForm::Function(arguments, _) => Some(arguments),
+        _ => None,
+    }
+}
+
+/// The second list of types in a function, that of its results.
+pub fn results_of(sorts: &Sorts, number: u32) -> Option<u32>
+    ensures { result ≡ spec.results_in (sort_form_at sorts.now.shapes number) }
+{
+    match sorts.sort(number) {
+        SortForm::Function(_, results) => Some(results),
+        _ => None,
+    }
+}
+
+/// The kind of a type, 8 for no type.
+fn kind_in(form: TyForm) -> u32
+    ensures { result ≡ spec.kind_in form }
+{
+    match form {
+        TyForm::Boolean => 0,
+        TyForm::Character => 1,
+        TyForm::Integer => 2,
+        TyForm::Null => 3,
+        TyForm::Array(_) => 4,
+        TyForm::Stream(_) => 5,
+        TyForm::Record(_) => 6,
+        TyForm::Union(_) => 7,
+        TyForm::Nothing => 8,
+    }
+}
+
+/// The kind of a type, 9 where there is none.
+pub fn kind_or(sorts: &Sorts, ty: Option<u32>) -> u32
+    ensures { result ≡ spec.kind_or sorts.now.shapes ty }
+{
+    match ty {
+        Some(ty) => kind_in(sorts.ty(ty)),
+        None => 9,
+    }
+}
+
+fn first_of(form: ListForm) -> Option<u32>
+    ensures { result ≡ spec.first_in form }
+{
+    match form {
+        ListForm::Member(ty, _) => Some(ty),
+        ListForm::End => None,
+    }
+}
+
+/// The type at a place of a list, from 0.
+fn listed(sorts: &Sorts, list: u32, place: u32) -> Option<u32>
+    ensures { result ≡ spec.listed sorts.now.shapes list place }
+{
+    let mut rest = list;
+    let mut left = place;
+    while left > 0 {
+        let ListForm::Member(_, others) = sorts.list(rest) else {
+            return None;
+        };
+        rest = others;
+        left -= 1;
+    }
+    first_of(sorts.list(rest))
+}
+
+/// The type at a port of a list, from 1.
+pub fn listed_at(sorts: &Sorts, list: Option<u32>, port: u32) -> Option<u32>
+    ensures { result ≡ spec.listed_at sorts.now.shapes list port }
+{
+    if port == 0 {
+        return None;
+    }
+    listed(sorts, list?, port - 1)
+}
+
+/// Whether two numbers, where both are there, are equal.
+pub fn are_same(one: Option<u32>, other: Option<u32>) -> bool
+    ensures { result ≡ spec.are_same one other }
+{
+    match (one, other) {
+        (Some(one), Some(other)) => one == other,
+        _ => false,
+    }
+}
+
+/// The edge into a port.
+fn edge_at(edges: &[Edge], port: u32) -> Option<&Edge>
+    ensures { option_copied result ≡ find (λ e. e.port == port) edges.now }
+{
+    edges.iter().find(|edge| edge.port == port)
+}
+
+/// The number of what an edge carries, 0 where there is no edge.
+fn number_of(sorts: &Sorts, edge: Option<&Edge>) -> u32
+    requires { IsStrictlyIncreasing sorts.now.labels }
+    ensures { result ≡ spec.number_of sorts.now.labels sorts.now.numbers (option_copied edge.entry) }
+{
+    match edge {
+        Some(edge) => sorts.number(edge.ty),
+        None => 0,
+    }
+}
+
+/// The number of what the edge into a port carries, 0 where nothing is carried.
+pub fn carried_at(sorts: &Sorts, edges: &[Edge], port: u32) -> u32
+    requires { IsStrictlyIncreasing sorts.now.labels }
+    ensures { result ≡ spec.carried_at sorts.now.labels sorts.now.numbers edges.now port }
+{
+    number_of(sorts, edge_at(edges, port))
+}

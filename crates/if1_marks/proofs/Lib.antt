@@ -1,0 +1,11 @@
+pub mod Lists
+pub mod Tests
+pub mod Consumed
+pub mod Lent
+pub mod Taken
+pub mod Unlisted
+pub mod Examples
+pub mod Blameless
+pub mod Faultless
+pub mod SoundExamples
+pub mod Unmarked

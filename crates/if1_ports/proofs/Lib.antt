@@ -1,0 +1,12 @@
+pub mod Counts
+pub mod Edges
+pub mod Ranges
+pub mod Tables
+pub mod One
+pub mod Known
+pub mod SimpleNodes
+pub mod CompoundNodes
+pub mod EachEnd
+pub mod Right
+pub mod EachPlace
+pub mod Walks

@@ -1,0 +1,9 @@
+pub mod Outlines
+pub mod Names
+pub mod Counts
+pub mod Fed
+pub mod Simple
+pub mod Into
+pub mod Compound
+pub mod Ends
+pub mod Inside

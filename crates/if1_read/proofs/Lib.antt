@@ -1,0 +1,11 @@
+pub mod Giving
+pub mod Likeness
+pub mod Canonical
+pub mod Marking
+pub mod Ending
+pub mod Bodies
+pub mod Closing
+pub mod KnownNames
+pub mod Naming
+pub mod Reading
+pub mod Pushing

@@ -1,0 +1,11 @@
+pub mod Like
+pub mod Counted
+pub mod Marks
+pub mod Known
+pub mod Entries
+pub mod Digits
+pub mod Fine
+pub mod Made
+pub mod Stands
+pub mod Sorting
+pub mod Whole
