@@ -105,7 +105,13 @@ fn a_choice_is_written_with_its_parts(rt: HostRuntime) -> Result<(), Fail> {
         imports: Seq::new(alloc),
         graphs: main(alloc, nodes, edges)?,
     };
-    assert!(rt; is_text(alloc, &unit, b"T 1 1 3\nT 2 8 1 0\nT 3 3 2 2\nX 3 \"main\"\n{ Compound 1 1\nG 0\nE 0 1 0 1 1\nG 0\nL 0 1 1 \"4\"\nG 0\nL 0 1 1 \"5\"\n} 1 1 3 0 1 2\nE 0 1 1 1 1\nE 1 1 0 1 1\n")?);
+    assert!(rt;
+        is_text(
+            alloc,
+            &unit,
+            b"T 1 1 3\nT 2 8 1 0\nT 3 3 2 2\nX 3 \"main\"\n{ Compound 1 1\nG 0\nE 0 1 0 1 1\nG 0\nL 0 1 1 \"4\"\nG 0\nL 0 1 1 \"5\"\n} 1 1 3 0 1 2\nE 0 1 1 1 1\nE 1 1 0 1 1\n"
+        )?
+    );
     Ok(())
 }
 
@@ -131,6 +137,12 @@ fn marks_names_and_imports_are_written(rt: HostRuntime) -> Result<(), Fail> {
         imports,
         graphs: main(alloc, nodes, edges)?,
     };
-    assert!(rt; is_text(alloc, &unit, b"I 7 \"f\"\nX 3 \"main\"\nN 1 152\nL 1 1 1 \"2\"\nN 2 141 %na=n %bf=1,5\nE 1 1 2 2 1 %na=x %tk=1\n")?);
+    assert!(rt;
+        is_text(
+            alloc,
+            &unit,
+            b"I 7 \"f\"\nX 3 \"main\"\nN 1 152\nL 1 1 1 \"2\"\nN 2 141 %na=n %bf=1,5\nE 1 1 2 2 1 %na=x %tk=1\n"
+        )?
+    );
     Ok(())
 }
