@@ -35,6 +35,9 @@ stands_later {ts} {us} {n} {t} l s =
     subst (λ us. Stands us n t) (sym l.is)
     (record { within = omega (arith, s.within, length-append ts l.more); is = tree_before ts l.more n s.within ∙ s.is })
 
+pub tree_later : (ts us : List Tree) (n : ℕ) → IsLater ts us → n ≤ length ts → tree_at us n ≡ tree_at ts n
+tree_later ts us n l h = (stands_later l (record { within = h; is = refl })).is
+
 pub later_same : (ts : List Tree) → IsLater ts ts
 later_same ts = record { more = []; is = by ts }
   where

@@ -3,11 +3,10 @@ use Rattle.std.proofs.Common.{◌≡◌, ℕ, zero, suc, ◌+◌, ◌≤◌, ◌
 use Rattle.if1_graph.specs.declared.graph.TypeEntry.{TypeEntry}
 use Rattle.if1_graph.specs.Kinds.{kind_at}
 use Rattle.if1_graph.specs.Types.{entry_at}
-use Rattle.if1_types.specs.Trees.{Tree, leaf, over_both, Parts, tree_of, tree_within}
-use Rattle.if1_types.specs.Shapes.{tree_at, IsLater, Stands}
+use Rattle.if1_types.specs.Trees.{Tree, leaf, Parts, tree_of, tree_within}
+use Rattle.if1_types.specs.Shapes.{IsLater, Stands}
 use Rattle.if1_types.specs.Tables.{number_at, labels_in, part_by, AreWithin, AreTold, IsLevel}
-use Rattle.if1_types.proofs.Keeping.{stands_later, split}
-use Rattle.if1_types.proofs.Chains.{tree_later}
+use Rattle.if1_types.proofs.Keeping.{stands_later, tree_later, split}
 
 pub within_later : (ts us : List Tree) (types : List TypeEntry) (ns : List ℕ) → IsLater ts us → AreWithin ts types ns → AreWithin us types ns
 within_later ts us types ns l w m = (stands_later l (record { within = w m; is = refl })).within
@@ -78,17 +77,6 @@ pub entry_told : (f : Parts → TypeEntry → Tree) (ts us vs : List Tree) (type
 entry_told f ts us vs types ns i next new e n l m w told s is new_is =
     told_more us vs (f (part_by ts types ns)) types (take i types) (take (i + 1) types) next new e n m told
     (subst (λ part. Stands vs n (f part e)) (parts_later ts us types ns l w) s) is new_is
-
--- two things that go by parts, the second found later
-pub both_told : (f g : Parts → Tree) (ts us vs ws : List Tree) (types : List TypeEntry) (ns : List ℕ) (k first second n : ℕ) → IsLater ts us → IsLater us vs → AreWithin ts types ns
-    → Stands us first (f (part_by ts types ns)) → Stands vs second (g (part_by us types ns)) → Stands ws n (over_both k (tree_at vs first) (tree_at vs second))
-    → Stands ws n (over_both k (f (part_by ts types ns)) (g (part_by ts types ns)))
-both_told f g ts us vs ws types ns k first second n l m w a b h =
-    subst (Stands ws n)
-    (ap (λ t. over_both k t (tree_at vs second)) (stands_later m a).is
-    ∙ ap (over_both k (f (part_by ts types ns))) b.is
-    ∙ ap (λ part. over_both k (f (part_by ts types ns)) (g part)) (parts_later ts us types ns l w))
-    h
 
 -- ---- levels that no longer change
 

@@ -1,7 +1,10 @@
 pub mod Same
 pub mod Keeping
 pub mod Finding
-pub mod Chains
+pub mod Nexts
+pub mod Paths
+pub mod Rows
+pub mod Listed
 pub mod Levels
 pub mod Sorted
 pub mod Views

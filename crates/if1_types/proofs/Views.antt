@@ -1,5 +1,5 @@
 -- What a number stands for, by its key.
-use Rattle.std.proofs.Common.{◌≡◌, ◌≢◌, ℕ, zero, suc, ◌≤◌, Bool, true, false, nat_eq, List, [], ◌∷◌, map, length, Option, Some, None, refl, sym, ap, ◌∙◌, subst, arith, true≢false, rules}
+use Rattle.std.proofs.Common.{◌≡◌, ℕ, suc, Bool, true, false, List, [], ◌∷◌, map, length, Option, Some, None, refl, sym, ap, ◌∙◌, subst, true≢false, rules}
 use Rattle.std.proofs.lemmas.Option.{same_Some}
 use Rattle.flow_value.specs.declared.ty.Ty.{Ty, map-Ty}
 use Rattle.flow_value.specs.declared.ty.Ty.TheVariants as ty
@@ -10,12 +10,12 @@ use Rattle.if1_graph.specs.Tables.{◌>>=◌}
 use Rattle.if1_graph.specs.Types.{Member, Sort, Plain, Many, Function}
 use Rattle.if1_types.specs.Trees.{Tree, leaf, node, ending}
 use Rattle.if1_types.specs.Telling.{ty_tree, list_tree, types_tree, told_sort, read_value, read_members, read_types, read_sort, value_of, read, ty_step}
-use Rattle.if1_types.specs.Shapes.{Key, tree_at, trees_in, key_at, key_tree, members_in, IsOnce, IsKeyOf, Stands}
+use Rattle.if1_types.specs.Shapes.{Key, trees_in, key_at, key_tree, members_in, IsOnce, IsKeyOf, Stands}
 use Rattle.if1_types.specs.declared.forms.SortForm.TheVariants as sort
 use Rattle.if1_types.specs.declared.forms.TyForm.TheVariants as form
 use Rattle.if1_types.specs.declared.forms.ListForm.TheVariants as list
 use Rattle.if1_types.specs.Forms.{IsTy, IsList, IsSort, AreOnce, AreOne, AreRead, IsTyForm, IsListForm, IsSortForm, ty_form, list_form, sort_form}
-use Rattle.if1_types.proofs.Same.{array_tree, stream_tree, record_tree, union_tree, types_told}
+use Rattle.if1_types.proofs.Same.{types_told}
 
 -- ---- one number, one thing
 

@@ -1,5 +1,5 @@
 -- Types as they are written out.
-use Rattle.std.proofs.Common.{◌≡◌, ◌≢◌, ℕ, zero, suc, ◌-◌, Bool, true, false, List, [], ◌∷◌, ◌++◌, map, length, Option, Some, None, option_map, refl, sym, ap, ◌∙◌, subst, arith, append_assoc, if◌then◌else◌}
+use Rattle.std.proofs.Common.{◌≡◌, ◌≢◌, ℕ, zero, suc, Bool, true, false, List, [], ◌∷◌, ◌++◌, map, length, Option, Some, None, option_map, refl, sym, ap, ◌∙◌, append_assoc, if◌then◌else◌}
 use Rattle.std.proofs.lemmas.Option.{same_Some}
 use Rattle.flow_value.specs.declared.ty.Ty.{Ty}
 use Rattle.if1_graph.specs.declared.graph.TypeEntry.{TypeEntry}
@@ -7,7 +7,7 @@ use Rattle.if1_graph.specs.declared.kind.TypeKind.{TypeKind}
 use Rattle.if1_graph.specs.declared.kind.TypeKind.TheVariants as kind
 use Rattle.if1_graph.specs.Kinds.{kind_at}
 use Rattle.if1_graph.specs.Tables.{◌>>=◌}
-use Rattle.if1_graph.specs.Types.{Member, Naming, entry_at, is_tuple, with_names, without_names, members, most_deep, ty_of, ty_within, ty_at, tuple_at, params_of, params_at}
+use Rattle.if1_graph.specs.Types.{Member, entry_at, is_tuple, with_names, without_names, members, most_deep, ty_of, ty_within, ty_at, params_of, params_at}
 use Rattle.if1_types.specs.Tables.{entry_on}
 
 pub label_step : (depth below : ℕ) (ts : List TypeEntry) (l : ℕ) (e : TypeEntry) → suc below ≡ depth → Some e ≡ entry_at ts l

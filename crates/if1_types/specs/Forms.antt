@@ -4,7 +4,6 @@ use Rattle.flow_value.specs.declared.ty.Ty.{Ty}
 use Rattle.flow_value.specs.declared.ty.Ty.TheVariants as ty
 use Rattle.if1_graph.specs.declared.graph.TypeEntry.{TypeEntry}
 use Rattle.if1_graph.specs.Types.{Member, Sort, Plain, Many, Function, sort_at}
-use Rattle.if1_types.specs.Trees.{Tree}
 use Rattle.if1_types.specs.Telling.{ty_tree, types_tree, told_sort, read_value, read_types, read_sort}
 use Rattle.if1_types.specs.Shapes.{Key, trees_in, key_at, Stands}
 use Rattle.if1_types.specs.Tables.{number_at}

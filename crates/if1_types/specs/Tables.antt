@@ -1,14 +1,14 @@
 -- The types of a table by label, with a number for each.
-use Rattle.std.specs.Prelude.{◌≡◌, ℕ, suc, ◌≤◌, ◌==◌, ◌↔◌, Bool, List, [], ◌∷◌, length, map, All, Option, Some, None, if◌then◌else◌}
+use Rattle.std.specs.Prelude.{◌≡◌, ℕ, ◌≤◌, ◌==◌, ◌↔◌, Bool, List, [], ◌∷◌, length, map, Option, Some, None, if◌then◌else◌}
 use Rattle.std.specs.List.Sorted.{IsStrictlyIncreasing}
 use Rattle.if1_graph.specs.declared.graph.TypeEntry.{TypeEntry}
 use Rattle.if1_graph.specs.declared.kind.TypeKind.{TypeKind}
 use Rattle.if1_graph.specs.Tables.{◌>>=◌}
 use Rattle.if1_graph.specs.Kinds.{kind_at}
 use Rattle.if1_graph.specs.Types.{entry_at, is_field, is_tag, is_tuple, sort_at}
-use Rattle.if1_types.specs.declared.lists.Line.{Line}
-use Rattle.if1_types.specs.declared.lists.Line.TheVariants.{Field, Tag, Tuple}
-use Rattle.if1_types.specs.Trees.{Tree, leaf, ending, over_both, list, tree_within, Parts}
+use Rattle.if1_types.specs.declared.lines.Line.{Line}
+use Rattle.if1_types.specs.declared.lines.Line.TheVariants.{Field, Tag, Tuple}
+use Rattle.if1_types.specs.Trees.{Tree, tree_within, Parts}
 use Rattle.if1_types.specs.Shapes.{tree_at, Stands}
 
 -- the number beside a label, 0 where there is none
@@ -37,31 +37,12 @@ is_line Tuple = is_tuple
 abbrev pub entry_on : (Option TypeKind → Bool) → List TypeEntry → ℕ → Option TypeEntry
 entry_on is ts l = entry_at ts l >>= λ e. if is (kind_at e.code) then Some e else None
 
--- the list of these members and those after them
-abbrev pub chain : List Tree → Tree → Tree
-chain [] t = t
-chain (a ∷ rest) t = over_both 9 a (chain rest t)
-
 -- the numbers beside these entries have the trees of the entries
 abbrev pub AreTold : List Tree → (TypeEntry → Tree) → List TypeEntry → List ℕ → Type 0
 AreTold trees f [] [] = Unit {0}
 AreTold trees f [] (n ∷ ns) = ⊥
 AreTold trees f (e ∷ es) [] = ⊥
 AreTold trees f (e ∷ es) (n ∷ ns) = Stands trees n (f e) × AreTold trees f es ns
-
--- the number of a member's type and the label of the next one, or that there is no list from the label on
-abbrev pub IsMemberAt : List Tree → List TypeEntry → List ℕ → Line → ℕ → Option (ℕ × ℕ) → Type 0
-IsMemberAt trees ts ns line l None = (far : ℕ) → list (part_by trees ts ns) (is_line line) ts far l ≡ leaf
-IsMemberAt trees ts ns line l (Some m) =
-    (AreWithin trees ts ns → m.0 ≤ length trees)
-    × ((far : ℕ) → list (part_by trees ts ns) (is_line line) ts (suc far) l ≡ over_both 9 (tree_at trees m.0) (list (part_by trees ts ns) (is_line line) ts far m.1))
-
--- the numbers of the members' types, or that there is no list
-abbrev pub IsWalked : List Tree → List TypeEntry → List ℕ → Line → ℕ → Option (List ℕ) → Type 0
-IsWalked trees ts ns line l None = list (part_by trees ts ns) (is_line line) ts (length ts) l ≡ leaf
-IsWalked trees ts ns line l (Some parts) =
-    (AreWithin trees ts ns → All (λ n. n ≤ length trees) parts)
-    × (list (part_by trees ts ns) (is_line line) ts (length ts) l ≡ chain (map (tree_at trees) parts) ending)
 
 -- the numbers have the trees of the labels, where types are at most so deep
 abbrev pub IsLevel : List Tree → List TypeEntry → List ℕ → ℕ → Type 0

@@ -1,15 +1,19 @@
 //! The numbers of types, a level of depth at a time.
-ghost use Rattle.std.specs.Prelude.{◌≡◌, ◌↔◌, IsTrue, IfOk, map, length};
+ghost use Rattle.std.specs.Prelude.{◌≡◌, ◌≤◌, ◌↔◌, All, IsTrue, IfOk, map, length};
 ghost use Rattle.std.specs.List.Sorted.{IsStrictlyIncreasing};
 ghost use Rattle.if1_graph.specs.Kinds.{kind_at};
-ghost use Rattle.if1_graph.specs.Types.{most_deep};
-ghost use Rattle.if1_types.specs.Trees.{over, list, scalar_tree, tree_of};
+ghost use Rattle.if1_graph.specs.Types.{is_field, is_tag, most_deep};
+ghost use Rattle.if1_types.specs.Trees.{over, scalar_tree, tree_of};
 ghost use Rattle.if1_types.specs.Shapes.{trees_in, IsLater, Stands};
-ghost use Rattle.if1_types.specs.Tables.{labels_in, part_by, is_line, AreWithin, AreTold, IsLevel};
+ghost use Rattle.if1_types.specs.Tables.{labels_in, part_by, AreWithin, AreTold, IsLevel};
+ghost use Rattle.if1_types.specs.Lists.{listed, AreListed};
+ghost use Rattle.if1_types.specs.Ways.{IsWay};
 
-use crate::lists::{Line, list_number};
+use crate::lines::Line;
+use crate::lists::{list_number, list_numbers};
 use crate::shapes::Shapes;
 use crate::table::number_at;
+use crate::ways::{Way, way_of};
 use flow_value::{NoMemory, Numbers, Seq};
 use if1_graph::{Basic, TypeEntry, TypeKind, basic_of, kind_of};
 
@@ -31,20 +35,17 @@ fn scalar_number(shapes: &mut Shapes, basic: Option<Basic>) -> Result<u32, NoMem
 
 fn list_over(
     shapes: &mut Shapes,
-    types: &[TypeEntry],
     labels: &[u32],
-    numbers: &[u32],
+    lists: &[u32],
     kind: u32,
-    line: Line,
     first: u32,
 ) -> Result<u32, NoMemory>
-    requires rising { IsStrictlyIncreasing (map (λ e. e.label) types.now) }
-    requires labels { labels.now ≡ labels_in types.now }
-    requires within { AreWithin (trees_in shapes.old) types.now numbers.now }
-    ensures number { IfOk result (λ n. Stands (trees_in shapes.new) n (over kind (list (part_by (trees_in shapes.old) types.now numbers.now) (is_line line) types.now (length types.now) first))) }
+    requires rising { IsStrictlyIncreasing labels.now }
+    requires within { All (λ n. n ≤ length (trees_in shapes.old)) lists.now }
+    ensures number { IfOk result (λ n. Stands (trees_in shapes.new) n (over kind (listed (trees_in shapes.old) labels.now lists.now first))) }
     ensures later { IsLater (trees_in shapes.old) (trees_in shapes.new) }
 {
-    let list = list_number(shapes, types, labels, numbers, line, first)?;
+    let list = list_number(shapes, labels, lists, first);
     let number = shapes.over(kind, list)?;
     Ok(number)
 }
@@ -69,17 +70,21 @@ pub fn part_over(
     Ok(number)
 }
 
-/// The number of the type of an entry, by those of its parts.
+/// The number of the type of an entry, by those of its parts and of the lists of fields and tags.
 fn ty_number(
     shapes: &mut Shapes,
     types: &[TypeEntry],
     labels: &[u32],
     numbers: &[u32],
+    fields: &[u32],
+    tags: &[u32],
     entry: &TypeEntry,
 ) -> Result<u32, NoMemory>
     requires rising { IsStrictlyIncreasing (map (λ e. e.label) types.now) }
     requires labels { labels.now ≡ labels_in types.now }
     requires within { AreWithin (trees_in shapes.old) types.now numbers.now }
+    requires fields { AreListed (trees_in shapes.old) (part_by (trees_in shapes.old) types.now numbers.now) is_field types.now fields.now }
+    requires tags { AreListed (trees_in shapes.old) (part_by (trees_in shapes.old) types.now numbers.now) is_tag types.now tags.now }
     ensures number { IfOk result (λ n. Stands (trees_in shapes.new) n (tree_of (part_by (trees_in shapes.old) types.now numbers.now) types.now entry.now (kind_at entry.now.code))) }
     ensures later { IsLater (trees_in shapes.old) (trees_in shapes.new) }
 {
@@ -87,26 +92,34 @@ fn ty_number(
         Some(TypeKind::Basic) => scalar_number(shapes, basic_of(entry.first)),
         Some(TypeKind::Array) => part_over(shapes, types, labels, numbers, 4, entry.first),
         Some(TypeKind::Stream) => part_over(shapes, types, labels, numbers, 5, entry.first),
-        Some(TypeKind::Record) => list_over(
-            shapes,
-            types,
-            labels,
-            numbers,
-            6,
-            Line::Field,
-            entry.first,
-        ),
-        Some(TypeKind::Union) => list_over(
-            shapes,
-            types,
-            labels,
-            numbers,
-            7,
-            Line::Tag,
-            entry.first,
-        ),
+        Some(TypeKind::Record) => list_over(shapes, labels, fields, 6, entry.first),
+        Some(TypeKind::Union) => list_over(shapes, labels, tags, 7, entry.first),
         _ => Ok(0),
     }
+}
+
+fn ty_numbers(
+    shapes: &mut Shapes,
+    types: &[TypeEntry],
+    labels: &[u32],
+    numbers: &[u32],
+    fields: &[u32],
+    tags: &[u32],
+) -> Result<Numbers, NoMemory>
+    requires rising { IsStrictlyIncreasing (map (λ e. e.label) types.now) }
+    requires labels { labels.now ≡ labels_in types.now }
+    requires within { AreWithin (trees_in shapes.old) types.now numbers.now }
+    requires fields { AreListed (trees_in shapes.old) (part_by (trees_in shapes.old) types.now numbers.now) is_field types.now fields.now }
+    requires tags { AreListed (trees_in shapes.old) (part_by (trees_in shapes.old) types.now numbers.now) is_tag types.now tags.now }
+    ensures numbers { IfOk result (AreTold (trees_in shapes.new) (λ e. tree_of (part_by (trees_in shapes.old) types.now numbers.now) types.now e (kind_at e.code)) types.now) }
+    ensures later { IsLater (trees_in shapes.old) (trees_in shapes.new) }
+{
+    let mut next = Seq::with_room(shapes.allocator(), types.len())?;
+    for entry in types {
+        let number = ty_number(shapes, types, labels, numbers, fields, tags, entry)?;
+        next.add(number)?;
+    }
+    Ok(next)
 }
 
 /// The numbers of the types that are one level deeper.
@@ -115,18 +128,27 @@ fn level(
     types: &[TypeEntry],
     labels: &[u32],
     numbers: &[u32],
+    fields: &Way,
+    tags: &Way,
 ) -> Result<Numbers, NoMemory>
     requires rising { IsStrictlyIncreasing (map (λ e. e.label) types.now) }
     requires labels { labels.now ≡ labels_in types.now }
     requires within { AreWithin (trees_in shapes.old) types.now numbers.now }
+    requires fields { IsWay is_field types.now fields.now }
+    requires tags { IsWay is_tag types.now tags.now }
     ensures numbers { IfOk result (AreTold (trees_in shapes.new) (λ e. tree_of (part_by (trees_in shapes.old) types.now numbers.now) types.now e (kind_at e.code)) types.now) }
     ensures later { IsLater (trees_in shapes.old) (trees_in shapes.new) }
 {
-    let mut next = Seq::with_room(shapes.allocator(), types.len())?;
-    for entry in types {
-        let number = ty_number(shapes, types, labels, numbers, entry)?;
-        next.add(number)?;
-    }
+    let records = list_numbers(shapes, types, labels, numbers, Line::Field, fields)?;
+    let unions = list_numbers(shapes, types, labels, numbers, Line::Tag, tags)?;
+    let next = ty_numbers(
+        shapes,
+        types,
+        labels,
+        numbers,
+        records.as_slice(),
+        unions.as_slice(),
+    )?;
     Ok(next)
 }
 
@@ -146,9 +168,11 @@ pub fn type_numbers(
     requires labels { labels.now ≡ labels_in types.now }
     ensures numbers { IfOk result (λ ns. IsLevel (trees_in shapes.new) types.now ns most_deep) }
 {
+    let fields = way_of(shapes.allocator(), types, labels, Line::Field)?;
+    let tags = way_of(shapes.allocator(), types, labels, Line::Tag)?;
     let mut numbers = Seq::new(shapes.allocator());
     for _ in 0..DEEPEST {
-        let next = level(shapes, types, labels, numbers.as_slice())?;
+        let next = level(shapes, types, labels, numbers.as_slice(), &fields, &tags)?;
         if are_same(next.as_slice(), numbers.as_slice()) {
             return Ok(next);
         }

@@ -4,11 +4,13 @@
 mod forms;
 mod laws;
 mod level;
+mod lines;
 mod lists;
 mod params;
 mod shapes;
 mod sorts;
 mod table;
+mod ways;
 
 pub use forms::{ListForm, SortForm, TyForm};
 pub use laws::a_number_stands_for_one_thing;

@@ -6,7 +6,7 @@ ghost use Rattle.if1_graph.specs.Kinds.{kind_at};
 ghost use Rattle.if1_graph.specs.Types.{with_names, members, scalar, ty_of, ty_within, ty_at, tuple_at, params_of, params_at};
 ghost use Rattle.if1_types.specs.Tables.{is_line, entry_on};
 
-use crate::lists::{Line, is_line};
+use crate::lines::{Line, is_line};
 use flow_value::{Fields, Held, Name, NoMemory, Seq, Ty, Types};
 use if1_graph::{Basic, TypeEntry, TypeKind, basic_of, entry_of, kind_of};
 use std::alloc::Global;

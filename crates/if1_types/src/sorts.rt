@@ -1,19 +1,22 @@
 //! What the labels of a table stand for, by number.
-ghost use Rattle.std.specs.Prelude.{◌≡◌, ℕ, List, Some, IfOk, map, length};
+ghost use Rattle.std.specs.Prelude.{◌≡◌, ◌≤◌, ℕ, All, List, Some, IfOk, map, length};
 ghost use Rattle.std.specs.List.Sorted.{IsStrictlyIncreasing};
 ghost use Rattle.if1_graph.specs.Kinds.{kind_at};
 ghost use Rattle.flow_value.specs.declared.ty.Ty.{Ty};
 ghost use Rattle.if1_graph.specs.Types.{Sort, is_tuple};
-ghost use Rattle.if1_types.specs.Trees.{over_both, list, sort_tree};
+ghost use Rattle.if1_types.specs.Trees.{over_both, sort_tree};
 ghost use Rattle.if1_types.specs.Shapes.{trees_in, tree_at, members_in, IsLater, Stands};
 ghost use Rattle.if1_types.specs.Tables.{labels_in, number_at, part_by, AreWithin, AreTold, AreSorts};
+ghost use Rattle.if1_types.specs.Lists.{listed, AreListed};
 ghost use Rattle.if1_types.specs.Forms.{IsSort, IsTy, IsList, Stand, AreOnce, AreRead, sort_form_at, ty_form_at, list_form_at, IsSortForm, IsTyForm, IsListForm, sort_form, ty_form, list_form};
 
 use crate::forms::{ListForm, SortForm, TyForm};
 use crate::level::{part_over, type_numbers};
-use crate::lists::{Line, list_number};
+use crate::lines::Line;
+use crate::lists::{list_number, list_numbers};
 use crate::shapes::Shapes;
 use crate::table::{labels_of, number_at};
+use crate::ways::way_of;
 use flow_value::{NoMemory, Numbers, Seq};
 use if1_graph::{TypeEntry, TypeKind, kind_of};
 use std::alloc::Global;
@@ -130,35 +133,36 @@ fn list_form(kind: u32, first: u32, second: u32) -> ListForm
 
 fn function_number(
     shapes: &mut Shapes,
-    types: &[TypeEntry],
     labels: &[u32],
-    numbers: &[u32],
+    lists: &[u32],
     arguments: u32,
     results: u32,
 ) -> Result<u32, NoMemory>
-    requires rising { IsStrictlyIncreasing (map (λ e. e.label) types.now) }
-    requires labels { labels.now ≡ labels_in types.now }
-    requires within { AreWithin (trees_in shapes.old) types.now numbers.now }
-    ensures number { IfOk result (λ n. Stands (trees_in shapes.new) n (over_both 12 (list (part_by (trees_in shapes.old) types.now numbers.now) is_tuple types.now (length types.now) arguments) (list (part_by (trees_in shapes.old) types.now numbers.now) is_tuple types.now (length types.now) results))) }
+    requires rising { IsStrictlyIncreasing labels.now }
+    requires within { All (λ n. n ≤ length (trees_in shapes.old)) lists.now }
+    ensures number { IfOk result (λ n. Stands (trees_in shapes.new) n (over_both 12 (listed (trees_in shapes.old) labels.now lists.now arguments) (listed (trees_in shapes.old) labels.now lists.now results))) }
     ensures later { IsLater (trees_in shapes.old) (trees_in shapes.new) }
 {
-    let first = list_number(shapes, types, labels, numbers, Line::Tuple, arguments)?;
-    let second = list_number(shapes, types, labels, numbers, Line::Tuple, results)?;
+    let first = list_number(shapes, labels, lists, arguments);
+    let second = list_number(shapes, labels, lists, results);
     let number = shapes.over_both(12, first, second)?;
     Ok(number)
 }
 
-/// The number of what an entry stands for, by the numbers of types.
+/// The number of what an entry stands for, by the numbers of types and of lists of arguments and
+/// results.
 fn sort_number(
     shapes: &mut Shapes,
     types: &[TypeEntry],
     labels: &[u32],
     numbers: &[u32],
+    lists: &[u32],
     entry: &TypeEntry,
 ) -> Result<u32, NoMemory>
     requires rising { IsStrictlyIncreasing (map (λ e. e.label) types.now) }
     requires labels { labels.now ≡ labels_in types.now }
     requires within { AreWithin (trees_in shapes.old) types.now numbers.now }
+    requires lists { AreListed (trees_in shapes.old) (part_by (trees_in shapes.old) types.now numbers.now) is_tuple types.now lists.now }
     ensures number { IfOk result (λ n. Stands (trees_in shapes.new) n (sort_tree (part_by (trees_in shapes.old) types.now numbers.now) types.now entry.now (kind_at entry.now.code))) }
     ensures later { IsLater (trees_in shapes.old) (trees_in shapes.new) }
 {
@@ -166,14 +170,34 @@ fn sort_number(
         Some(TypeKind::Multiple) => part_over(shapes, types, labels, numbers, 11, entry.first),
         Some(TypeKind::Function) => function_number(
             shapes,
-            types,
             labels,
-            numbers,
+            lists,
             entry.first,
             entry.second,
         ),
         _ => part_over(shapes, types, labels, numbers, 10, entry.label),
     }
+}
+
+fn sorts_by(
+    shapes: &mut Shapes,
+    types: &[TypeEntry],
+    labels: &[u32],
+    numbers: &[u32],
+    lists: &[u32],
+) -> Result<Numbers, NoMemory>
+    requires rising { IsStrictlyIncreasing (map (λ e. e.label) types.now) }
+    requires labels { labels.now ≡ labels_in types.now }
+    requires within { AreWithin (trees_in shapes.old) types.now numbers.now }
+    requires lists { AreListed (trees_in shapes.old) (part_by (trees_in shapes.old) types.now numbers.now) is_tuple types.now lists.now }
+    ensures { IfOk result (AreTold (trees_in shapes.new) (λ e. sort_tree (part_by (trees_in shapes.old) types.now numbers.now) types.now e (kind_at e.code)) types.now) }
+{
+    let mut sorts = Seq::with_room(shapes.allocator(), types.len())?;
+    for entry in types {
+        let number = sort_number(shapes, types, labels, numbers, lists, entry)?;
+        sorts.add(number)?;
+    }
+    Ok(sorts)
 }
 
 fn sort_numbers(
@@ -187,11 +211,9 @@ fn sort_numbers(
     requires within { AreWithin (trees_in shapes.old) types.now numbers.now }
     ensures { IfOk result (AreTold (trees_in shapes.new) (λ e. sort_tree (part_by (trees_in shapes.old) types.now numbers.now) types.now e (kind_at e.code)) types.now) }
 {
-    let mut sorts = Seq::with_room(shapes.allocator(), types.len())?;
-    for entry in types {
-        let number = sort_number(shapes, types, labels, numbers, entry)?;
-        sorts.add(number)?;
-    }
+    let way = way_of(shapes.allocator(), types, labels, Line::Tuple)?;
+    let lists = list_numbers(shapes, types, labels, numbers, Line::Tuple, &way)?;
+    let sorts = sorts_by(shapes, types, labels, numbers, lists.as_slice())?;
     Ok(sorts)
 }
 

@@ -29,7 +29,8 @@ pub fn number_at(labels: &[u32], numbers: &[u32], label: u32) -> u32
     }
 }
 
-fn number_in(numbers: &[u32], place: usize) -> u32
+/// The number at a place, 0 where there is none.
+pub fn number_in(numbers: &[u32], place: usize) -> u32
     ensures { result ≡ get_or numbers.now place 0 }
 {
     match numbers.get(place) {

@@ -1,21 +1,35 @@
-use Rattle.std.proofs.Common.{◌≡◌, ◌+◌, ◌∙◌, ◌++◌, ◌∷◌, [], sym, ap, take}
-use Rattle.std.proofs.lemmas.List.{take_more}
+use Rattle.std.proofs.Common.{sym, subst}
 use Rattle.if1_graph.specs.Kinds.{kind_at}
+use Rattle.if1_graph.specs.Types.{is_field, is_tag}
 use Rattle.if1_types.specs.Trees.{tree_of}
-use Rattle.if1_types.specs.Shapes.{trees_in}
+use Rattle.if1_types.specs.Shapes.{trees_in, IsLater}
+use Rattle.if1_types.specs.Tables.{part_by, AreTold}
+use Rattle.if1_types.specs.Lists.{AreListed}
 use Rattle.if1_types.proofs.Keeping.{later_then}
-use Rattle.if1_types.proofs.Levels.{entry_told}
+use Rattle.if1_types.proofs.Levels.{within_later, parts_later}
+use Rattle.if1_types.proofs.Listed.{listed_later, listed_by_later}
 use Rattle.if1_types.proofs.level.level.Goals as goal
 
-pub loop-entry-preserved : goal.loop-entry-preserved
-loop-entry-preserved c =
-    let is : take (c.loop-entry.entry-index + 1) c.args.types.now ≡ take c.loop-entry.entry-index c.args.types.now ++ c.entry-item.result ∷ [] =
-    take_more c.args.types.now c.loop-entry.entry-index c.entry-item.result c.loop-entry-test.true
-    ∙ ap (λ x. take c.loop-entry.entry-index c.args.types.now ++ x ∷ []) (sym c.entry-item.is) in
-    record {
-      told =
-          entry_told (λ part e. tree_of part c.args.types.now e (kind_at e.code)) (trees_in c.args.shapes.now) (trees_in c.loop-entry.shapes) (trees_in c.ty_number.new.shapes)
-          c.args.types.now c.args.numbers.now c.loop-entry.entry-index c.loop-entry.next c.add.new.self c.entry-item.result c.in_ok-number.number
-          c.loop-entry.invariant.later c.in_ok-number.ensures.later c.requires.within c.loop-entry.invariant.told c.in_ok-number.ensures.number is c.in_ok-add.ensures.ok;
-      later = later_then c.loop-entry.invariant.later c.in_ok-number.ensures.later;
-    }
+later : (c : goal.After-as_slice-2) → IsLater (trees_in c.args.shapes.now) (trees_in c.list_numbers-2.new.shapes)
+later c = later_then c.in_ok-records.ensures.later c.in_ok-unions.ensures.later
+
+pub ty_numbers-requires-clause-fields : goal.ty_numbers-requires-clause-fields
+ty_numbers-requires-clause-fields c =
+    subst (AreListed (trees_in c.list_numbers-2.new.shapes) (part_by (trees_in c.list_numbers-2.new.shapes) c.args.types.now c.args.numbers.now) is_field c.args.types.now) (sym c.as_slice.ensures)
+    (listed_by_later (trees_in c.args.shapes.now) (trees_in c.list_numbers-2.new.shapes) is_field c.args.types.now c.args.numbers.now c.in_ok-records.records (later c) c.requires.within
+    (listed_later (trees_in c.list_numbers.new.shapes) (trees_in c.list_numbers-2.new.shapes) (part_by (trees_in c.args.shapes.now) c.args.types.now c.args.numbers.now) is_field
+    c.args.types.now c.in_ok-records.records c.in_ok-unions.ensures.later c.in_ok-records.ensures.lists))
+
+pub ty_numbers-requires-clause-tags : goal.ty_numbers-requires-clause-tags
+ty_numbers-requires-clause-tags c =
+    subst (AreListed (trees_in c.list_numbers-2.new.shapes) (part_by (trees_in c.list_numbers-2.new.shapes) c.args.types.now c.args.numbers.now) is_tag c.args.types.now) (sym c.as_slice-2.ensures)
+    (listed_by_later (trees_in c.list_numbers.new.shapes) (trees_in c.list_numbers-2.new.shapes) is_tag c.args.types.now c.args.numbers.now c.in_ok-unions.unions
+    c.in_ok-unions.ensures.later (within_later (trees_in c.args.shapes.now) (trees_in c.list_numbers.new.shapes) c.args.types.now c.args.numbers.now c.in_ok-records.ensures.later c.requires.within)
+    c.in_ok-unions.ensures.lists)
+
+pub returns-clause-numbers : goal.returns-clause-numbers
+returns-clause-numbers c =
+    subst (λ part. AreTold (trees_in c.ty_numbers.new.shapes) (λ e. tree_of part c.args.types.now e (kind_at e.code)) c.args.types.now c.in_ok-next.next)
+    (parts_later (trees_in c.args.shapes.now) (trees_in c.list_numbers-2.new.shapes) c.args.types.now c.args.numbers.now
+    (later_then c.in_ok-records.ensures.later c.in_ok-unions.ensures.later) c.requires.within)
+    c.in_ok-next.ensures.numbers

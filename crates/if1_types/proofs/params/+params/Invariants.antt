@@ -1,5 +1,4 @@
-use Rattle.std.proofs.Common.{◌≡◌, ℕ, ◌+◌, ◌*◌, length, List, Option, Some, ◌++◌}
-use Rattle.flow_value.specs.declared.ty.Ty.{Ty}
+use Rattle.std.proofs.Common.{◌≡◌, ◌+◌, ◌*◌, length, Some, ◌++◌}
 use Rattle.if1_graph.specs.Tables.{◌>>=◌}
 use Rattle.if1_graph.specs.Types.{with_names, members, ty_within}
 use Rattle.if1_types.specs.Tables.{is_line}

@@ -1,5 +1,4 @@
-use Rattle.std.proofs.Common.{◌≡◌, ℕ, suc, ◌-◌, Some, ap, ◌∙◌, sym, subst, arith}
-use Rattle.std.specs.Map.{keys_of}
+use Rattle.std.proofs.Common.{◌≡◌, suc, ◌-◌, Some, ap, ◌∙◌, sym, subst, arith}
 use Rattle.if1_types.specs.Shapes.{key_at, IsKeyOf}
 use Rattle.if1_types.proofs.Keeping.{key_got, keys_are}
 use Rattle.if1_types.proofs.shapes.Shapes.key.Goals as goal

@@ -1,4 +1,4 @@
-use Rattle.std.proofs.Common.{◌≡◌, ℕ, suc, ◌-◌, Some, ap, ◌∙◌, sym, subst, arith}
+use Rattle.std.proofs.Common.{◌≡◌, suc, ◌-◌, ap, ◌∙◌, sym, arith}
 use Rattle.std.specs.Map.{keys_of}
 use Rattle.if1_types.specs.Shapes.{trees_in, tree_at, members_in}
 use Rattle.if1_types.proofs.shapes.Shapes.members.Goals as goal

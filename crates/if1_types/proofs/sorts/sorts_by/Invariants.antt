@@ -1,0 +1,15 @@
+use Rattle.std.proofs.Common.{take}
+use Rattle.if1_graph.specs.Kinds.{kind_at}
+use Rattle.if1_graph.specs.Types.{is_tuple}
+use Rattle.if1_types.specs.Trees.{sort_tree}
+use Rattle.if1_types.specs.Shapes.{trees_in, IsLater}
+use Rattle.if1_types.specs.Tables.{part_by, AreTold}
+use Rattle.if1_types.specs.Lists.{AreListed}
+use Rattle.if1_types.proofs.sorts.sorts_by.Given as goal
+
+abbrev pub invariant-loop-entry : goal.invariant-loop-entry
+invariant-loop-entry l = record {
+  told : AreTold (trees_in l.shapes) (λ e. sort_tree (part_by (trees_in l.fn.shapes) l.types l.numbers) l.types e (kind_at e.code)) (take l.entry-index l.types) l.sorts;
+  later : IsLater (trees_in l.fn.shapes) (trees_in l.shapes);
+  listed : AreListed (trees_in l.shapes) (part_by (trees_in l.fn.shapes) l.types l.numbers) is_tuple l.types l.lists;
+}

@@ -1,0 +1,9 @@
+use Rattle.std.proofs.Common.{ℕ, ◌<◌, Contains}
+use Rattle.if1_types.proofs.Paths.{AreKept}
+use Rattle.if1_types.proofs.ways.order_of.Given as goal
+
+abbrev pub invariant-loop-start : goal.invariant-loop-start
+invariant-loop-start l = record {
+  kept : AreKept l.next l.met l.order;
+  all : (p : ℕ) → p < l.start → Contains l.order p;
+}
