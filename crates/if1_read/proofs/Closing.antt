@@ -17,10 +17,10 @@ unset_falls (false ∷ ms) zero h e = omega arith
 unset_falls (true ∷ ms) (suc k) h e = unset_falls ms k (omega (arith, h)) e
 unset_falls (false ∷ ms) (suc k) h e = omega (arith, unset_falls ms k (omega (arith, h)) e)
 
-rising_rest : (n : ℕ) (ns : List ℕ) → IsStrictlyIncreasing (n ∷ ns) → IsStrictlyIncreasing ns
+pub rising_rest : (n : ℕ) (ns : List ℕ) → IsStrictlyIncreasing (n ∷ ns) → IsStrictlyIncreasing ns
 rising_rest n ns up k h = grind (arith, up (suc k))
 
-above : (n : ℕ) (ns : List ℕ) (k : ℕ) → IsStrictlyIncreasing (n ∷ ns) → k < length ns → n < slice_index ns k
+pub above : (n : ℕ) (ns : List ℕ) (k : ℕ) → IsStrictlyIncreasing (n ∷ ns) → k < length ns → n < slice_index ns k
 above n ns zero up h = grind (arith, up 0)
 above n ns (suc k) up h = grind (arith, above n ns k up, up (suc k))
 

@@ -53,7 +53,7 @@ parted : (f : ℕ → Bool) (a b m : ℕ) → (a ≡ m) ⊎ (b ≡ m) → f m �
 parted f a b m (inl e) h = inl (ap f e ∙ h)
 parted f a b m (inr e) h = inr (ap f e ∙ h)
 
-marked : (ts : List TypeEntry) (ms : List Bool) → AreMarks ts ms → (l : ℕ) → HasReal ts l → is_marked ts ms l ≡ true
+pub marked : (ts : List TypeEntry) (ms : List Bool) → AreMarks ts ms → (l : ℕ) → HasReal ts l → is_marked ts ms l ≡ true
 marked ts ms are l (itself r) =
     let f = found ts l r.entry r.found in
     subst (λ (x : ℕ). is_marked ts ms x ≡ true) f.1

@@ -1,5 +1,5 @@
 -- The names of the functions that lines give.
-use Rattle.std.proofs.Common.{◌≡◌, ℕ, Bool, true, false, cond, ◌||◌, rules, List, [], ◌∷◌, ◌++◌, map, length, Option, Some, is_some, bytes_eq, refl, sym, ap, ◌∙◌}
+use Rattle.std.proofs.Common.{◌≡◌, ℕ, suc, Bool, true, false, cond, ◌||◌, rules, List, [], ◌∷◌, ◌++◌, map, length, Option, Some, is_some, bytes_eq, refl, sym, ap, ◌∙◌, append_assoc}
 use Rattle.std.specs.List.{list_any}
 use Rattle.if1_line.specs.declared.line.Line.{Line}
 use Rattle.if1_line.specs.declared.line.Line.TheVariants as line
@@ -13,29 +13,33 @@ use Rattle.if1_graph.specs.Formed.{function_named}
 use Rattle.if1_graph.specs.Reads.{GivesBody, GivesParts, GivesUnit, no_line, simple, compound, edge, literal, no_part, part, no_graph, import, function}
 use Rattle.if1_read.specs.declared.judge.Known.{Known}
 use Rattle.if1_read.specs.Known.{AreNamed, Fits}
-use Rattle.if1_read.specs.Sorting.{with_name, named_in, has_name}
+use Rattle.if1_read.specs.declared.read.Spot.{Spot}
+use Rattle.if1_read.specs.Sorting.{named_in, has_name}
+use Rattle.if1_read.proofs.Spots.{at, of_part, of_close}
 
-pub named_more : (t : List ℕ) (known : Bool) (ks ls : List Line) → named_in t known (ks ++ ls) ≡ named_in t (named_in t known ks) ls
-named_more t known [] ls = refl
-named_more t known (k ∷ ks) ls = named_more t (with_name t known k) ks ls
+module _ (u : Unit1) (t : List ℕ) (known : Bool) where
+  mutual
+    -- the lines of a graph name no function of the unit
+    body_silent : (d : ℕ) (ls : List Line) (ns : List Node) (es : List Edge) → GivesBody u ls ns es → (rest : List Line) → named_in t (at d true) known (ls ++ rest) ≡ named_in t (at d true) known rest
+    body_silent d ls ns es no_line rest = refl
+    body_silent d ls ns es (simple {ls = ls0} {ns = ns0} {es = es0} n label op before name is g) rest = body_silent d ls0 ns0 es0 g rest
+    body_silent d ls ns es (compound {ps = ps} {ls = ls0} {ns = ns0} {es = es0} n more label op gs assoc before name is p g) rest =
+        let close = line.Close label op (length gs) assoc before name in
+        ap (named_in t (at (suc d) false) known) (append_assoc ps (close ∷ ls0) rest)
+        ∙ (parts_silent d false ps gs p label op (length gs) assoc before name (ls0 ++ rest) ∙ body_silent d ls0 ns0 es0 g rest)
+    body_silent d ls ns es (edge {ls = ls0} {ns = ns0} {es = es0} from out node port ty takes name g) rest = body_silent d ls0 ns0 es0 g rest
+    body_silent d ls ns es (literal {ls = ls0} {ns = ns0} {es = es0} node port ty text name g) rest = body_silent d ls0 ns0 es0 g rest
 
-mutual
-  body_silent : (u : Unit1) (t : List ℕ) (known : Bool) (ls : List Line) (ns : List Node) (es : List Edge) → GivesBody u ls ns es → named_in t known ls ≡ known
-  body_silent u t known ls ns es no_line = refl
-  body_silent u t known ls ns es (simple {ls = ls0} {ns = ns0} {es = es0} n label op before name is g) = body_silent u t known ls0 ns0 es0 g
-  body_silent u t known ls ns es (compound {ps = ps} {ls = ls0} {ns = ns0} {es = es0} n rest label op gs assoc before name is p g) =
-      named_more t known (line.Open rest ∷ ps) (line.Close label op (length gs) assoc before name ∷ ls0)
-      ∙ ap (λ (b : Bool). named_in t b ls0) (parts_silent u t known ps gs p)
-      ∙ body_silent u t known ls0 ns0 es0 g
-  body_silent u t known ls ns es (edge {ls = ls0} {ns = ns0} {es = es0} from out node port ty takes name g) = body_silent u t known ls0 ns0 es0 g
-  body_silent u t known ls ns es (literal {ls = ls0} {ns = ns0} {es = es0} node port ty text name g) = body_silent u t known ls0 ns0 es0 g
-
-  parts_silent : (u : Unit1) (t : List ℕ) (known : Bool) (ls : List Line) (gs : List Graph) → GivesParts u ls gs → named_in t known ls ≡ known
-  parts_silent u t known ls gs no_part = refl
-  parts_silent u t known ls gs (part {ls = bs} {ps = ps} {ns = ns} {es = es} {gs = gs0} g b same p) =
-      named_more t known (line.Subgraph (out-Graph g).name ∷ bs) ps
-      ∙ ap (λ (x : Bool). named_in t x ps) (body_silent u t known bs ns es b)
-      ∙ parts_silent u t known ps gs0 p
+    -- nor do those of the graphs in a compound node
+    parts_silent : (d : ℕ) (r : Bool) (ls : List Line) (gs : List Graph) → GivesParts u ls gs → (label op count : ℕ) (assoc before name : List ℕ) (rest : List Line) →
+        named_in t (at (suc d) r) known (ls ++ line.Close label op count assoc before name ∷ rest) ≡ named_in t (at d true) known rest
+    parts_silent d r ls gs no_part label op count assoc before name rest =
+        ap (λ (s : Spot). named_in t s known rest) (of_close d r label op count assoc before name)
+    parts_silent d r ls gs (part {ls = bs} {ps = ps} {ns = ns} {es = es} {gs = gs0} g b same p) label op count assoc before name rest =
+        let behind = line.Close label op count assoc before name ∷ rest in
+        ap (λ (s : Spot). named_in t s known ((bs ++ ps) ++ behind)) (of_part d r (out-Graph g).name)
+        ∙ ap (named_in t (at (suc d) true) known) (append_assoc bs ps behind)
+        ∙ (body_silent (suc d) bs ns es b (ps ++ behind) ∙ parts_silent d true ps gs0 p label op count assoc before name rest)
 
 or_assoc : (a b c : Bool) → ((a || b) || c) ≡ (a || (b || c))
 or_assoc true b c = refl
@@ -49,15 +53,14 @@ some_if : (b : Bool) (g : Graph) (o : Option Graph) → is_some (cond b (Some g)
 some_if true g o = refl
 some_if false g o = refl
 
-unit_names : (u : Unit1) (t : List ℕ) (known : Bool) (ls : List Line) (is : List (ℕ × List ℕ)) (gs : List Graph) → GivesUnit u ls is gs →
-    named_in t known ls ≡ (known || is_some (function_named gs t))
-unit_names u t known ls is gs no_graph = sym (or_false known)
-unit_names u t known ls is gs (import {ls = ls0} {is = is0} {gs = gs0} ty name g) = unit_names u t known ls0 is0 gs0 g
-unit_names u t known ls is gs (function {bs = bs} {ls = ls0} {ns = ns} {es = es} {is = is0} {gs = gs0} g b same r) =
+unit_names : (u : Unit1) (t : List ℕ) (r known : Bool) (ls : List Line) (is : List (ℕ × List ℕ)) (gs : List Graph) → GivesUnit u ls is gs →
+    named_in t (at 0 r) known ls ≡ (known || is_some (function_named gs t))
+unit_names u t r known ls is gs no_graph = sym (or_false known)
+unit_names u t r known ls is gs (import {ls = ls0} {is = is0} {gs = gs0} ty name g) = unit_names u t false known ls0 is0 gs0 g
+unit_names u t r known ls is gs (function {bs = bs} {ls = ls0} {ns = ns} {es = es} {is = is0} {gs = gs0} g b same more) =
     let here : Bool = bytes_eq (out-Graph g).name t in
-    named_more t known (line.Function (out-Graph g).exported (out-Graph g).fun (out-Graph g).name ∷ bs) ls0
-    ∙ ap (λ (x : Bool). named_in t x ls0) (body_silent u t (known || here) bs ns es b)
-    ∙ unit_names u t (known || here) ls0 is0 gs0 r
+    body_silent u t (known || here) 0 bs ns es b ls0
+    ∙ unit_names u t true (known || here) ls0 is0 gs0 more
     ∙ or_assoc known here (is_some (function_named gs0 t))
     ∙ ap (λ (x : Bool). known || x) (sym (some_if here g (function_named gs0 t)))
 
@@ -84,4 +87,4 @@ named_fits k = record { types = refl; names = names_of k.names }
 -- functions that lines give to any unit with these types are those of the names
 pub given_named : (k : Known) (ls : List Line) (is : List (ℕ × List ℕ)) (gs : List Graph) →
     ((t : List ℕ) → list_any (λ n. bytes_eq n t) k.names ≡ has_name t ls) → GivesUnit (named_unit k) ls is gs → AreNamed k.names gs
-given_named k ls is gs has given t = sym (has t ∙ unit_names (named_unit k) t false ls is gs given)
+given_named k ls is gs has given t = sym (has t ∙ unit_names (named_unit k) t false false ls is gs given)

@@ -1,6 +1,8 @@
 pub mod Like
 pub mod Counted
 pub mod Marks
+pub mod Spread
+pub mod Arranged
 pub mod Known
 pub mod Entries
 pub mod Digits
@@ -9,3 +11,15 @@ pub mod Made
 pub mod Stands
 pub mod Sorting
 pub mod Whole
+pub mod Putting
+pub mod Effects
+pub mod Faults
+pub mod Laws
+pub mod Least
+pub mod Pages
+pub mod Rows
+pub mod Ruled
+pub mod Rulings
+pub mod Sheets
+pub mod Verdicts
+pub mod Edgewise

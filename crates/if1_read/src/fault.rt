@@ -1,5 +1,7 @@
 //! Faults of lines, of which the first is named.
-ghost use Rattle.std.specs.Prelude.{◌≡◌, None};
+ghost use Rattle.std.specs.Prelude.{◌≡◌, None, Some};
+ghost use Rattle.if1_read.specs.Faults.{rank};
+ghost use Rattle.if1_read.specs.Least.{is_before, earlier, found, refusal_of};
 
 use if1_graph::If1Fault;
 
@@ -23,7 +25,9 @@ pub struct Fault {
     pub kind: Kind,
 }
 
-fn rank(kind: Kind) -> u32 {
+fn rank(kind: Kind) -> u32
+    ensures { result ≡ rank kind }
+{
     match kind {
         Kind::Bad => 1,
         Kind::Unknown => 2,
@@ -32,14 +36,17 @@ fn rank(kind: Kind) -> u32 {
     }
 }
 
-fn is_sooner(a: Fault, b: Fault) -> bool {
+fn is_sooner(a: Fault, b: Fault) -> bool
+    ensures { result ≡ is_before a b }
+{
     a.line < b.line || (a.line == b.line && rank(a.kind) < rank(b.kind))
 }
 
 /// The fault that is named when one more is found: that of the first line, and of two on one line
 /// that of the least number.
 pub fn sooner(first: Option<Fault>, line: u32, kind: Kind) -> Option<Fault>
-    ensures { ¬ (result ≡ None) }
+    ensures some { ¬ (result ≡ None) }
+    ensures found { result ≡ earlier first (Some (record { line = line; kind = kind })) }
 {
     let fault = Fault { line, kind };
     match first {
@@ -52,6 +59,7 @@ pub fn sooner(first: Option<Fault>, line: u32, kind: Kind) -> Option<Fault>
 pub fn after(first: Option<Fault>, line: u32, kind: Option<Kind>) -> Option<Fault>
     ensures clean { result ≡ None → first ≡ None }
     ensures none { result ≡ None → kind ≡ None }
+    ensures found { result ≡ earlier first (found line kind) }
 {
     match kind {
         Some(kind) => sooner(first, line, kind),
@@ -60,7 +68,9 @@ pub fn after(first: Option<Fault>, line: u32, kind: Option<Kind>) -> Option<Faul
 }
 
 /// The refusal for a fault.
-pub fn refusal(fault: Fault) -> If1Fault {
+pub fn refusal(fault: Fault) -> If1Fault
+    ensures { result ≡ refusal_of fault }
+{
     match fault.kind {
         Kind::Bad => If1Fault::BadLine(fault.line),
         Kind::Unknown => If1Fault::Unknown(fault.line),

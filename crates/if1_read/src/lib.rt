@@ -3,6 +3,7 @@
 
 mod fault;
 mod judge;
+mod laws;
 mod level;
 mod lines;
 mod literal;
@@ -16,4 +17,5 @@ mod table;
 #[cfg(test)]
 mod tests;
 
+pub use laws::accepted_has_no_fault;
 pub use read::read_if1;

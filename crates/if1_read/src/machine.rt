@@ -1,9 +1,23 @@
 //! The lines of graphs, one after another.
+ghost use Rattle.std.specs.Prelude.{◌≡◌, ℕ, suc, List, [], ◌∷◌, ◌++◌, None, Some, IfOk, All};
+ghost use Rattle.std.specs.List.{flat_map};
+ghost use Rattle.if1_line.specs.declared.line.Line.TheVariants.{Function, Subgraph, Import, Open, Close};
+ghost use Rattle.if1_graph.specs.Lines.{edge_line};
+ghost use Rattle.if1_read.specs.declared.fault.Kind.TheVariants.{Bad};
+ghost use Rattle.if1_read.specs.declared.judge.Known.{Known};
+ghost use Rattle.if1_read.specs.Known.{IsTableSound};
+ghost use Rattle.if1_read.specs.Stands.{IsNewPart, IsRead, GoesOn, Runs, lines_of};
+ghost use Rattle.if1_read.specs.Least.{earlier, least, found, noted};
+ghost use Rattle.if1_read.specs.Pages.{no_lines, sheet_faults, wrong_count, too_deep, run_faults, sheets_after};
+ghost use Rattle.if1_read.specs.Rulings.{rules_of};
+ghost use Rattle.if1_read.specs.Sheets.{page_of, sheet_of, sheets_around, sheets_of, marks_of, node_says, Turns};
+ghost use Rattle.if1_read.specs.Effects.{AddsNode, AddsEdge, BeginsPart, BeginsFunction, BeginsSubgraph, Imports, Opens, Closes};
+
 use crate::fault::{Fault, Kind, after};
 use crate::judge::Known;
 use crate::level::{Level, graphs_of, with_edge, with_node};
 use crate::part::Part;
-use flow_value::{Name, NoMemory, Numbers, Seq, Text};
+use flow_value::{Name, NoMemory, Seq};
 use if1_graph::{Edge, Imports, Node, Origin};
 use if1_line::Line;
 use std::alloc::Global;
@@ -24,7 +38,11 @@ pub struct Machine {
 /// At most so many compound nodes may be open.
 const MOST_LEVELS: usize = 200;
 
-pub fn begun(alloc: Global, first: Option<Fault>) -> Machine {
+pub fn begun(alloc: Global, first: Option<Fault>) -> Machine
+    ensures first { result.first ≡ first }
+    ensures runs { (k : Known) → Runs k [] result }
+    ensures sheets { sheets_of result ≡ (None, 0) ∷ [] }
+{
     Machine {
         imports: Seq::new(alloc),
         outer: Vec::new(alloc),
@@ -36,22 +54,11 @@ pub fn begun(alloc: Global, first: Option<Fault>) -> Machine {
     }
 }
 
-fn with(machine: Machine, level: Level, line: u32, wrong: Option<Kind>) -> Machine {
-    let Machine {
-        imports,
-        outer,
-        level: _,
-        first,
-    } = machine;
-    Machine {
-        imports,
-        outer,
-        level,
-        first: after(first, line, wrong),
-    }
-}
-
-fn bad(machine: Machine, line: u32) -> Machine {
+fn bad(machine: Machine, line: u32) -> Machine
+    ensures some { ¬ (result.first ≡ None) }
+    ensures found { result.first ≡ earlier machine.first (found line (Some Bad)) }
+    ensures sheets { sheets_of result ≡ sheets_of machine }
+{
     let Machine {
         imports,
         outer,
@@ -66,7 +73,11 @@ fn bad(machine: Machine, line: u32) -> Machine {
     }
 }
 
-fn node_line(machine: Machine, line: u32, node: Node) -> Result<Machine, NoMemory> {
+fn node_line(machine: Machine, line: u32, node: Node) -> Result<Machine, NoMemory>
+    ensures clean { IfOk result (λ m. m.first ≡ None → machine.first ≡ None) }
+    ensures adds { IfOk result (λ m. m.first ≡ None → AddsNode machine m node) }
+    ensures turns { IfOk result (λ m. (k : Known) (before name : List ℕ) → Turns k machine line (node_says (marks_of node) before name) m) }
+{
     let Machine {
         imports,
         outer,
@@ -82,7 +93,11 @@ fn node_line(machine: Machine, line: u32, node: Node) -> Result<Machine, NoMemor
     })
 }
 
-fn edge_line(known: &Known, machine: Machine, line: u32, edge: Edge) -> Result<Machine, NoMemory> {
+fn edge_line(known: &Known, machine: Machine, line: u32, edge: Edge) -> Result<Machine, NoMemory>
+    ensures clean { IfOk result (λ m. m.first ≡ None → machine.first ≡ None) }
+    ensures adds { IfOk result (λ m. m.first ≡ None → IsTableSound known.now.table → AddsEdge known.now machine m edge) }
+    ensures turns { IfOk result (λ m. IsTableSound known.now.table → Turns known.now machine line (edge_line edge) m) }
+{
     let Machine {
         imports,
         outer,
@@ -98,7 +113,10 @@ fn edge_line(known: &Known, machine: Machine, line: u32, edge: Edge) -> Result<M
     })
 }
 
-fn new_part(alloc: Global, exported: bool, fun: u32, name: Name) -> Part {
+fn new_part(alloc: Global, exported: bool, fun: u32, name: Name) -> Part
+    ensures fresh { IsNewPart exported fun name result }
+    ensures page { page_of result ≡ no_lines }
+{
     Part {
         exported,
         fun,
@@ -116,7 +134,13 @@ fn part_line(
     line: u32,
     part: Part,
     wrong: Option<Kind>,
-) -> Result<Machine, NoMemory> {
+) -> Result<Machine, NoMemory>
+    ensures clean { IfOk result (λ m. m.first ≡ None → machine.first ≡ None) }
+    ensures right { IfOk result (λ m. m.first ≡ None → wrong ≡ None) }
+    ensures begins { IfOk result (λ m. m.first ≡ None → IsTableSound known.now.table → BeginsPart known.now machine m part) }
+    ensures sheets { IfOk result (λ m. sheets_of m ≡ (Some (page_of part), suc (sheet_of machine.level).1) ∷ sheets_around machine.outer.items) }
+    ensures found { IfOk result (λ m. IsTableSound known.now.table → m.first ≡ earlier machine.first (least (sheet_faults (rules_of known.now) (sheet_of machine.level) ++ noted line wrong))) }
+{
     let Machine {
         imports,
         outer,
@@ -143,7 +167,11 @@ fn function_line(
     exported: bool,
     fun: u32,
     name: Name,
-) -> Result<Machine, NoMemory> {
+) -> Result<Machine, NoMemory>
+    ensures clean { IfOk result (λ m. m.first ≡ None → machine.first ≡ None) }
+    ensures begins { IfOk result (λ m. m.first ≡ None → IsTableSound known.now.table → BeginsFunction known.now machine m exported fun name) }
+    ensures turns { IfOk result (λ m. IsTableSound known.now.table → Turns known.now machine line (Function exported fun name) m) }
+{
     if !machine.outer.is_empty() {
         return Ok(bad(machine, line));
     }
@@ -164,7 +192,11 @@ fn subgraph_line(
     machine: Machine,
     line: u32,
     name: Name,
-) -> Result<Machine, NoMemory> {
+) -> Result<Machine, NoMemory>
+    ensures clean { IfOk result (λ m. m.first ≡ None → machine.first ≡ None) }
+    ensures begins { IfOk result (λ m. m.first ≡ None → IsTableSound known.now.table → BeginsSubgraph known.now machine m name) }
+    ensures turns { IfOk result (λ m. IsTableSound known.now.table → Turns known.now machine line (Subgraph name) m) }
+{
     if machine.outer.is_empty() {
         return Ok(bad(machine, line));
     }
@@ -185,7 +217,11 @@ fn import_line(
     line: u32,
     ty: u32,
     name: Name,
-) -> Result<Machine, NoMemory> {
+) -> Result<Machine, NoMemory>
+    ensures clean { IfOk result (λ m. m.first ≡ None → machine.first ≡ None) }
+    ensures imports { IfOk result (λ m. m.first ≡ None → IsTableSound known.now.table → Imports known.now machine m ty name) }
+    ensures turns { IfOk result (λ m. IsTableSound known.now.table → Turns known.now machine line (Import ty name) m) }
+{
     if !machine.outer.is_empty() {
         return Ok(bad(machine, line));
     }
@@ -205,15 +241,22 @@ fn import_line(
     })
 }
 
-fn too_deep(open: usize) -> Option<Kind> {
-    if open == MOST_LEVELS + 1 {
+fn too_deep(levels: usize) -> Option<Kind>
+    ensures none { result ≡ None → ¬ (levels ≡ 201) }
+    ensures is { result ≡ too_deep levels }
+{
+    if levels > MOST_LEVELS {
         Some(Kind::TooMany)
     } else {
         None
     }
 }
 
-fn open_line(alloc: Global, machine: Machine, line: u32) -> Result<Machine, NoMemory> {
+fn open_line(alloc: Global, machine: Machine, line: u32) -> Result<Machine, NoMemory>
+    ensures clean { IfOk result (λ m. m.first ≡ None → machine.first ≡ None) }
+    ensures opens { IfOk result (λ m. m.first ≡ None → Opens machine m) }
+    ensures turns { IfOk result (λ m. (k : Known) (rest : List ℕ) → Turns k machine line (Open rest) m) }
+{
     if machine.level.part.is_none() {
         return Ok(bad(machine, line));
     }
@@ -236,7 +279,10 @@ fn open_line(alloc: Global, machine: Machine, line: u32) -> Result<Machine, NoMe
     })
 }
 
-fn wrong_count(count: u32, graphs: usize) -> Option<Kind> {
+fn wrong_count(count: u32, graphs: usize) -> Option<Kind>
+    ensures none { result ≡ None → count ≡ graphs }
+    ensures is { result ≡ wrong_count count graphs }
+{
     if count as usize == graphs {
         None
     } else {
@@ -251,7 +297,11 @@ fn close_line(
     line: u32,
     count: u32,
     node: Node,
-) -> Result<Machine, NoMemory> {
+) -> Result<Machine, NoMemory>
+    ensures clean { IfOk result (λ m. m.first ≡ None → machine.first ≡ None) }
+    ensures closes { IfOk result (λ m. m.first ≡ None → IsTableSound known.now.table → Closes known.now machine m count node) }
+    ensures turns { IfOk result (λ m. IsTableSound known.now.table → (assoc before name : List ℕ) → Turns known.now machine line (Close (marks_of node).0 (marks_of node).1 count assoc before name) m) }
+{
     let Machine {
         imports,
         mut outer,
@@ -271,22 +321,8 @@ fn close_line(
     };
     let (graphs, first) = graphs_of(alloc, known, level, first)?;
     let first = after(first, line, wrong_count(count, graphs.len()));
-    let Node {
-        label,
-        op,
-        subs: _,
-        assoc,
-        before,
-        name,
-    } = node;
-    let node = Node {
-        label,
-        op,
-        subs: graphs,
-        assoc,
-        before,
-        name,
-    };
+    let mut node = node;
+    node.subs = graphs;
     let (level, wrong) = with_node(around, line, node)?;
     Ok(Machine {
         imports,
@@ -303,7 +339,11 @@ pub fn step(
     machine: Machine,
     line: u32,
     says: Line,
-) -> Result<Machine, NoMemory> {
+) -> Result<Machine, NoMemory>
+    ensures clean { IfOk result (λ m. m.first ≡ None → machine.first ≡ None) }
+    ensures goes { IfOk result (λ m. IsTableSound known.now.table → IsRead says → GoesOn known.now machine says m) }
+    ensures turns { IfOk result (λ m. IsTableSound known.now.table → Turns known.now machine line says m) }
+{
     match says {
         Line::Blank => Ok(machine),
         Line::Entry { .. } => Ok(machine),
@@ -403,7 +443,12 @@ pub fn run(
     known: &Known,
     lines: Vec<(u32, Line)>,
     first: Option<Fault>,
-) -> Result<Machine, NoMemory> {
+) -> Result<Machine, NoMemory>
+    ensures clean { IfOk result (λ m. m.first ≡ None → first ≡ None) }
+    ensures runs { IfOk result (λ m. m.first ≡ None → IsTableSound known.now.table → All IsRead (lines_of lines.items) → Runs known.now (lines_of lines.items) m) }
+    ensures sheets { IfOk result (λ m. IsTableSound known.now.table → sheets_of m ≡ sheets_after ((None, 0) ∷ []) lines.items) }
+    ensures found { IfOk result (λ m. IsTableSound known.now.table → earlier m.first (least (flat_map (sheet_faults (rules_of known.now)) (sheets_of m))) ≡ earlier first (least (run_faults (rules_of known.now) ((None, 0) ∷ []) lines.items))) }
+{
     let mut machine = begun(alloc, first);
     for (line, says) in lines {
         machine = step(alloc, known, machine, line, says)?;

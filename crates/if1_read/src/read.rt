@@ -1,7 +1,26 @@
 //! A unit from its text.
+ghost use Rattle.std.specs.Prelude.{◌≡◌, ◌≢◌, ◌-◌, ◌==◌, true, false, None, List, ℕ, suc, if◌then◌else◌, bytes_eq, IfOk, IfErr, OnOk};
+ghost use Rattle.std.specs.List.{list_any, flat_map};
+ghost use Rattle.if1_graph.specs.declared.fault.If1Fault.TheVariants as if1_fault;
+ghost use Rattle.if1_graph.specs.declared.graph.Unit1.{Unit1};
+ghost use Rattle.if1_graph.specs.Formed.{most};
+ghost use Rattle.if1_graph.specs.Reads.{ReadsIf1};
+ghost use Rattle.if1_read.specs.Entries.{entries_of};
+ghost use Rattle.if1_read.specs.Faults.{IsFaultOf};
+ghost use Rattle.if1_read.specs.Known.{IsTableSound};
+ghost use Rattle.if1_read.specs.Least.{earlier, least};
+ghost use Rattle.if1_read.specs.Pages.{sheet_faults};
+ghost use Rattle.if1_read.specs.Putting.{IsPut, AreSorted, SortsOn, AreSortedOut};
+ghost use Rattle.if1_read.specs.Rows.{many_types};
+ghost use Rattle.if1_read.specs.Rulings.{rules_of};
+ghost use Rattle.if1_read.specs.Sheets.{sheets_around};
+ghost use Rattle.if1_read.specs.Sorting.{with_name, has_name, spot_next};
+ghost use Rattle.if1_read.specs.Stands.{lines_of};
+ghost use Rattle.if1_read.specs.Whole.{IsWhole, IsRefused};
+
 use crate::fault::{Fault, Kind, after, refusal};
 use crate::judge::Known;
-use crate::level::graphs_of;
+use crate::level::{Level, graphs_of};
 use crate::lines::read_lines;
 use crate::machine::{Machine, run};
 use crate::names::Names;
@@ -21,22 +40,31 @@ struct Sorted {
 }
 
 /// The number of a line. More than a `u32` counts would want more memory than there is.
-fn next_number(number: u32) -> Result<u32, NoMemory> {
+fn next_number(number: u32) -> Result<u32, NoMemory>
+    ensures { IfOk result (λ n. n ≡ suc number) }
+{
     match number.checked_add(1) {
         Some(next) => Ok(next),
         None => Err(NoMemory),
     }
 }
 
-fn too_many(before: usize) -> Option<Kind> {
-    if before == MOST {
+fn too_many(before: usize) -> Option<Kind>
+    ensures is { result ≡ many_types before }
+    ensures room { result ≡ None → before ≢ most }
+{
+    if before >= MOST {
         Some(Kind::TooMany)
     } else {
         None
     }
 }
 
-fn put(sorted: Sorted, number: u32, line: Option<Line>) -> Result<Sorted, NoMemory> {
+fn put(sorted: Sorted, number: u32, line: Option<Line>) -> Result<Sorted, NoMemory>
+    ensures clean { IfOk result (λ s. s.first ≡ None → sorted.first ≡ None) }
+    ensures puts { IfOk result (λ s. s.first ≡ None → IsPut line (entries_of sorted.entries.items) (entries_of s.entries.items) (lines_of sorted.lines.items) (lines_of s.lines.items)) }
+    ensures sorts { IfOk result (λ s. SortsOn number line sorted s) }
+{
     let Sorted {
         mut entries,
         mut lines,
@@ -90,7 +118,10 @@ fn put(sorted: Sorted, number: u32, line: Option<Line>) -> Result<Sorted, NoMemo
     }
 }
 
-fn sort_out(alloc: Global, lines: Seq<Option<Line>>) -> Result<Sorted, NoMemory> {
+fn sort_out(alloc: Global, lines: Seq<Option<Line>>) -> Result<Sorted, NoMemory>
+    ensures read { IfOk result (λ s. s.first ≡ None → AreSorted lines (entries_of s.entries.items) (lines_of s.lines.items)) }
+    ensures sorted { IfOk result (λ s. AreSortedOut lines s) }
+{
     let mut sorted = Sorted {
         entries: Vec::new(alloc),
         lines: Vec::new(alloc),
@@ -104,34 +135,142 @@ fn sort_out(alloc: Global, lines: Seq<Option<Line>>) -> Result<Sorted, NoMemory>
     Ok(sorted)
 }
 
-fn add_name(alloc: Global, names: &mut Names, line: &Line) -> Result<(), NoMemory> {
+/// Where a line stands: inside so many open compound nodes, of which the innermost one, or the
+/// unit, has a graph whose lines are read or has none.
+#[derive(Clone, Copy)]
+struct Spot {
+    depth: u32,
+    reading: bool,
+}
+
+fn named(spot: Spot, reading: bool) -> Spot
+    ensures { result ≡ (if spot.depth == 0 then record { depth = spot.depth; reading = reading } else spot) }
+{
+    if spot.depth == 0 {
+        Spot {
+            depth: spot.depth,
+            reading,
+        }
+    } else {
+        spot
+    }
+}
+
+fn begun(spot: Spot) -> Spot
+    ensures { result ≡ (if spot.depth == 0 then spot else record { depth = spot.depth; reading = true }) }
+{
+    if spot.depth == 0 {
+        spot
+    } else {
+        Spot {
+            depth: spot.depth,
+            reading: true,
+        }
+    }
+}
+
+fn opened(spot: Spot) -> Result<Spot, NoMemory>
+    ensures { IfOk result (λ s. s ≡ (if spot.reading then record { depth = suc spot.depth; reading = false } else spot)) }
+{
+    if spot.reading {
+        Ok(Spot {
+            depth: next_number(spot.depth)?,
+            reading: false,
+        })
+    } else {
+        Ok(spot)
+    }
+}
+
+fn closed(spot: Spot) -> Spot
+    ensures { result ≡ (if spot.depth == 0 then spot else record { depth = spot.depth - 1; reading = true }) }
+{
+    if spot.depth == 0 {
+        spot
+    } else {
+        Spot {
+            depth: spot.depth - 1,
+            reading: true,
+        }
+    }
+}
+
+fn next_spot(spot: Spot, line: &Line) -> Result<Spot, NoMemory>
+    ensures { IfOk result (λ s. s ≡ spot_next line.now spot) }
+{
     match line {
-        Line::Function { name, .. } => names.add(Seq::from_slice(alloc, name.as_slice())?),
+        Line::Function { .. } => Ok(named(spot, true)),
+        Line::Import { .. } => Ok(named(spot, false)),
+        Line::Subgraph { .. } => Ok(begun(spot)),
+        Line::Open { .. } => opened(spot),
+        Line::Close { .. } => Ok(closed(spot)),
+        _ => Ok(spot),
+    }
+}
+
+fn add_name(alloc: Global, names: &mut Names, spot: Spot, line: &Line) -> Result<(), NoMemory>
+    ensures { OnOk result ((t : List ℕ) → list_any (λ n. bytes_eq n t) names.new ≡ with_name t spot (list_any (λ n. bytes_eq n t) names.old) line.now) }
+{
+    match line {
+        Line::Function { name, .. } if spot.depth == 0 => {
+            names.add(Seq::from_slice(alloc, name.as_slice())?)
+        }
         _ => Ok(()),
     }
 }
 
-fn names_in(alloc: Global, lines: &[(u32, Line)]) -> Result<Names, NoMemory> {
+/// The names of the functions of the unit.
+fn names_in(alloc: Global, lines: &[(u32, Line)]) -> Result<Names, NoMemory>
+    ensures { IfOk result (λ names. (t : List ℕ) → list_any (λ n. bytes_eq n t) names ≡ has_name t (lines_of lines.now)) }
+{
     let mut names = Names::new(alloc);
+    let mut spot = Spot {
+        depth: 0,
+        reading: false,
+    };
     for line in lines {
-        add_name(alloc, &mut names, &line.1)?;
+        add_name(alloc, &mut names, spot, &line.1)?;
+        spot = next_spot(spot, &line.1)?;
     }
     Ok(names)
 }
 
+/// The fault that is named when the graphs of levels have ended, of which the last is the innermost.
+fn all_ended(
+    alloc: Global,
+    known: &Known,
+    levels: Vec<Level>,
+    first: Option<Fault>,
+) -> Result<Option<Fault>, NoMemory>
+    ensures clean { IfOk result (λ o. o ≡ None → first ≡ None) }
+    ensures found { IfOk result (λ o. IsTableSound known.now.table → o ≡ earlier first (least (flat_map (sheet_faults (rules_of known.now)) (sheets_around levels.items)))) }
+{
+    let mut first = first;
+    for level in levels {
+        let (_, named) = graphs_of(alloc, known, level, first)?;
+        first = named;
+    }
+    Ok(first)
+}
+
 /// The unit when its lines have ended.
-fn whole(alloc: Global, known: Known, machine: Machine) -> Result<Unit1, If1Fault> {
+fn whole(alloc: Global, known: Known, machine: Machine) -> Result<Unit1, If1Fault>
+    ensures read { IfOk result (λ u. IsTableSound known.table → IsWhole known machine u) }
+    ensures fault { IfErr result (λ e. IsTableSound known.table → IsRefused known machine e) }
+{
     let Machine {
         imports,
         outer,
         level,
         first,
     } = machine;
+    let is_closed = outer.is_empty();
     let (mut graphs, first) = graphs_of(alloc, &known, level, first)?;
+    let first = all_ended(alloc, &known, outer, first)?;
     if let Some(fault) = first {
         return Err(refusal(fault));
     }
-    if !outer.is_empty() {
+    if !is_closed {
         return Err(If1Fault::Unclosed);
     }
     number_parts(&mut graphs, 1)?;
@@ -144,7 +283,15 @@ fn whole(alloc: Global, known: Known, machine: Machine) -> Result<Unit1, If1Faul
 }
 
 /// The unit that an IF1 text gives, in normal order (IF1 manual M-170, text form).
-pub fn read_if1(alloc: Global, text: &[u8]) -> Result<Unit1, If1Fault> {
+///
+/// A refusal names the first line at fault, and of several faults of that line the one of the
+/// least number; a text with no such line is refused where a compound node stays open, and else
+/// for want of memory alone.
+pub fn read_if1(alloc: Global, text: &[u8]) -> Result<Unit1, If1Fault>
+    ensures read { IfOk result (λ u. ReadsIf1 text.now u) }
+    ensures fault { IfErr result (λ e. IsFaultOf text.now e) }
+    ensures only { IfErr result (λ e. (u : Unit1) → ReadsIf1 text.now u → e ≡ if1_fault.NoMemory) }
+{
     let lines = read_lines(alloc, text)?;
     let Sorted {
         entries,

@@ -64,3 +64,22 @@ fn a_function_that_is_not_there(rt: HostRuntime) {
     let text = b"T 1 1 3\nT 2 8 1 0\nT 3 3 2 2\nX 3 \"main\"\nN 1 120\nL 1 1 3 \"other\"\n";
     assert!(rt; is_refused(rt.alloc(), text, If1Fault::Unknown(6)));
 }
+
+#[test]
+fn a_literal_around_an_open_node(rt: HostRuntime) {
+    let text = b"T 1 1 3\nT 2 8 1 0\nT 3 3 2 2\nX 3 \"main\"\nL 0 1 1 \"x\"\n{ Compound 1 1\nG 0\n";
+    assert!(rt; is_refused(rt.alloc(), text, If1Fault::BadLine(5)));
+}
+
+#[test]
+fn a_function_inside_a_node(rt: HostRuntime) {
+    let text =
+        b"T 1 1 3\nT 2 8 1 0\nT 3 3 2 2\nX 3 \"main\"\nN 1 120\nL 1 1 3 \"other\"\n{ Compound 1 1\nG 0\nX 3 \"other\"\n";
+    assert!(rt; is_refused(rt.alloc(), text, If1Fault::Unknown(6)));
+}
+
+#[test]
+fn a_line_that_is_none(rt: HostRuntime) {
+    let text = b"T 1 1 3\nT 1 8 1 0\n\nfoo\n";
+    assert!(rt; is_refused(rt.alloc(), text, If1Fault::BadLine(2)));
+}
