@@ -1,0 +1,11 @@
+pub mod Names
+pub mod Ports
+pub mod Numbered
+pub mod Tagged
+pub mod Sited
+pub mod Typed
+pub mod EachEnd
+pub mod Agreeing
+pub mod EachPlace
+pub mod Seeing
+pub mod Walks

@@ -1,0 +1,7 @@
+pub mod Tables
+pub mod Fed
+pub mod Contents
+pub mod Sites
+pub mod Ends
+pub mod Agree
+pub mod Inside

@@ -1,0 +1,421 @@
+//! The types of what leads into the nodes and the boundary of one graph.
+ghost use Rattle.std.specs.Prelude.{◌≡◌, true, false, All, AllPairs, Contains, MatchOption, IfOk, map, is_some};
+ghost use Rattle.if1_graph.specs.Normal.{Precedes};
+ghost use Rattle.if1_graph.specs.Typing.{giving_part};
+ghost use Rattle.if1_graph.specs.Units.{label_of, node_at};
+ghost use Rattle.if1_types.specs.Forms.{sort_form_at};
+ghost use Rattle.if1_fits.specs.Views.{arguments_in};
+ghost use Rattle.if1_graph.specs.declared.graph.Graph.TheViews.{out-Graph};
+ghost use Rattle.if1_graph.specs.declared.graph.Node.{out-Node};
+ghost use Rattle.if1_typing.specs.Tables.{table_of};
+ghost use Rattle.if1_typing.specs.Fed.{AreOrdered, AreUp};
+ghost use Rattle.if1_typing.specs.Ends as spec;
+ghost use Rattle.if1_typing.specs.Ends.{IsLaid};
+
+use crate::agree::disagreeing;
+use crate::answers::{both, either};
+use crate::fed::{fits_in, result_number, value_of};
+use crate::known::Known;
+use crate::node::Doing;
+use crate::site::Site;
+use crate::sites::{input_fits, result_fits, tags_at};
+use flow_value::NoMemory;
+use if1_graph::{
+    Compound, Edge, Graph, Node, Origin, Part, Simple, Use, Want, compound_of, node_of, operand_of,
+    output_of, simple_of,
+};
+use if1_ports::edges_into;
+use if1_types::SortForm;
+use std::alloc::Global;
+
+fn doing_of(node: &Node) -> Doing
+    ensures { result ≡ spec.doing_of node.now }
+{
+    Doing {
+        compound: compound_of(node.op),
+        simple: simple_of(node.op),
+    }
+}
+
+fn operand_fits(known: &Known, edges: &[Edge], operand: Option<(Use, Want)>, number: u32) -> bool
+    ensures { result ≡ spec.operand_fits (table_of known.now) edges.now operand number }
+{
+    match operand {
+        Some((_, want)) => fits_in(known, edges, want, number),
+        None => false,
+    }
+}
+
+fn compound_fits(known: &Known, compound: Compound, port: u32, number: u32) -> bool
+    ensures { result ≡ spec.compound_fits (table_of known.now) compound port number }
+{
+    match compound {
+        Compound::TagCase if port == 1 => tags_at(known, number).is_some(),
+        _ => value_of(known, number).is_some(),
+    }
+}
+
+fn simple_fits(
+    known: &Known,
+    edges: &[Edge],
+    simple: Option<Simple>,
+    port: u32,
+    number: u32,
+) -> bool
+    ensures { result ≡ spec.node_fits (table_of known.now) edges.now None simple port number }
+{
+    match simple {
+        Some(op) => operand_fits(known, edges, operand_of(op, port), number),
+        None => false,
+    }
+}
+
+/// Whether the type of a number is one that a port of a node wants.
+fn node_fits(known: &Known, edges: &[Edge], doing: Doing, port: u32, number: u32) -> bool
+    ensures { result ≡ spec.node_fits (table_of known.now) edges.now doing.compound doing.simple port number }
+{
+    match doing.compound {
+        Some(compound) => compound_fits(known, compound, port, number),
+        None => simple_fits(known, edges, doing.simple, port, number),
+    }
+}
+
+/// Whether the type of a number is one that a port of a node, or of the boundary, wants.
+fn is_wanted(
+    known: &Known,
+    site: Site,
+    graphs: &[Graph],
+    doing: Option<Doing>,
+    edges: &[Edge],
+    port: u32,
+    number: u32,
+) -> bool
+    requires { AreOrdered graphs.now }
+    ensures { result ≡ spec.is_wanted (table_of known.now) site graphs.now doing edges.now port number }
+{
+    match doing {
+        Some(doing) => node_fits(known, edges, doing, port, number),
+        None => result_fits(known, site, graphs, port, number),
+    }
+}
+
+/// The graph in a compound node whose results are the node's outputs.
+fn giving_part(compound: Compound) -> usize
+    ensures { result ≡ giving_part compound }
+{
+    match compound {
+        Compound::TagCase => 0,
+        Compound::Select => 1,
+        Compound::ForAll => 2,
+        Compound::LoopA | Compound::LoopB => 3,
+    }
+}
+
+fn output_as(known: &Known, edges: &[Edge], want: Option<Want>, number: u32) -> bool
+    ensures { result ≡ spec.output_as (table_of known.now) edges.now want number }
+{
+    match want {
+        Some(want) => fits_in(known, edges, want, number),
+        None => false,
+    }
+}
+
+fn simple_output_fits(
+    known: &Known,
+    graph: &Graph,
+    node: &Node,
+    simple: Option<Simple>,
+    port: u32,
+    number: u32,
+) -> bool
+    requires { AllPairs Precedes (out-Graph graph.now).edges }
+    ensures { result ≡ spec.output_fits (table_of known.now) graph.now node.now None simple port number }
+{
+    let edges = edges_into(graph.edges.as_slice(), node.label);
+    match simple {
+        Some(op) => output_as(known, edges, output_of(op, port), number),
+        None => false,
+    }
+}
+
+/// Whether the type of a number is that of an output of a node.
+fn output_fits(known: &Known, graph: &Graph, node: &Node, port: u32, number: u32) -> bool
+    requires order { AllPairs Precedes (out-Graph graph.now).edges }
+    requires inside { AreOrdered (out-Node node.now).subs }
+    ensures { result ≡ spec.node_gives (table_of known.now) graph.now (Some node.now) port number }
+{
+    match compound_of(node.op) {
+        Some(compound) => {
+            result_number(known, node.subs.as_slice(), giving_part(compound), port) == number
+        }
+        None => simple_output_fits(known, graph, node, simple_of(node.op), port, number),
+    }
+}
+
+fn node_gives(known: &Known, graph: &Graph, label: u32, port: u32, number: u32) -> bool
+    requires { IsLaid graph.now }
+    ensures { result ≡ spec.node_gives (table_of known.now) graph.now (node_at (out-Graph graph.now).nodes label) port number }
+{
+    match node_of(graph.nodes.as_slice(), label) {
+        Some(node) => output_fits(known, graph, node, port, number),
+        None => false,
+    }
+}
+
+fn port_gives(
+    known: &Known,
+    graph: &Graph,
+    site: Site,
+    inputs: &[Edge],
+    parts: &[Graph],
+    node: u32,
+    port: u32,
+    number: u32,
+) -> bool
+    requires laid { IsLaid graph.now }
+    requires up { AreUp inputs.now }
+    requires order { AreOrdered parts.now }
+    ensures { result ≡ spec.is_given (table_of known.now) (record { site = site; inputs = inputs.now; parts = parts.now }) graph.now (Origin.Port node port) number }
+{
+    if node == 0 {
+        input_fits(known, site, inputs, parts, port, number)
+    } else {
+        node_gives(known, graph, node, port, number)
+    }
+}
+
+/// Whether the type of a number is that of what an edge comes from.
+fn is_given(
+    known: &Known,
+    graph: &Graph,
+    site: Site,
+    inputs: &[Edge],
+    parts: &[Graph],
+    from: &Origin,
+    number: u32,
+) -> bool
+    requires laid { IsLaid graph.now }
+    requires up { AreUp inputs.now }
+    requires order { AreOrdered parts.now }
+    ensures { result ≡ spec.is_given (table_of known.now) (record { site = site; inputs = inputs.now; parts = parts.now }) graph.now from.now number }
+{
+    match from {
+        Origin::Lit(_) => true,
+        Origin::Port(node, port) => {
+            port_gives(known, graph, site, inputs, parts, *node, *port, number)
+        }
+    }
+}
+
+fn want_of(simple: Option<Simple>, port: u32) -> Option<Want>
+    ensures { result ≡ spec.want_of simple port }
+{
+    let (_, want) = operand_of(simple?, port)?;
+    Some(want)
+}
+
+fn is_name_for(known: &Known, want: Option<Want>, label: u32) -> bool
+    ensures { result ≡ spec.is_name_for (table_of known.now) want label }
+{
+    match want {
+        Some(Want::Reduction) => known.is_function(label),
+        _ => false,
+    }
+}
+
+/// Whether an edge is the name of a reduction that has a function type.
+fn is_function_name(known: &Known, doing: Option<Doing>, edge: &Edge) -> bool
+    ensures { result ≡ spec.is_function_name (table_of known.now) doing edge.now }
+{
+    match doing {
+        Some(doing) => is_name_for(known, want_of(doing.simple, edge.port), edge.ty),
+        None => false,
+    }
+}
+
+/// Whether an edge has a type that its port wants and its source gives. These edges lead into its node.
+fn is_typed(
+    known: &Known,
+    graph: &Graph,
+    site: Site,
+    inputs: &[Edge],
+    parts: &[Graph],
+    doing: Option<Doing>,
+    edges: &[Edge],
+    edge: &Edge,
+) -> bool
+    requires laid { IsLaid graph.now }
+    requires up { AreUp inputs.now }
+    requires order { AreOrdered parts.now }
+    ensures { result ≡ spec.is_typed (table_of known.now) (record { site = site; inputs = inputs.now; parts = parts.now }) graph.now doing edges.now edge.now }
+{
+    let number = known.number(edge.ty);
+    let wanted = is_wanted(known, site, parts, doing, edges, edge.port, number);
+    let given = is_given(known, graph, site, inputs, parts, &edge.from, number);
+    let fits = both(wanted, given);
+    let sorted = both(number != 0, fits);
+    either(is_function_name(known, doing, edge), sorted)
+}
+
+/// Whether all edges into a node, or into the boundary, have types that their ports want and their
+/// sources give.
+fn are_typed(
+    known: &Known,
+    graph: &Graph,
+    site: Site,
+    inputs: &[Edge],
+    parts: &[Graph],
+    doing: Option<Doing>,
+    edges: &[Edge],
+) -> bool
+    requires laid { IsLaid graph.now }
+    requires up { AreUp inputs.now }
+    requires order { AreOrdered parts.now }
+    ensures { result ≡ spec.are_typed (table_of known.now) (record { site = site; inputs = inputs.now; parts = parts.now }) graph.now doing edges.now edges.now }
+{
+    for edge in edges {
+        if !is_typed(known, graph, site, inputs, parts, doing, edges, edge) {
+            return false;
+        }
+    }
+    true
+}
+
+fn is_for_generator(site: Site) -> bool
+    ensures { result ≡ spec.is_generator site }
+{
+    match site {
+        Site::Part(inner) => inner.part == Part::Generator,
+        _ => false,
+    }
+}
+
+fn is_for_returns(site: Site) -> bool
+    ensures { result ≡ spec.is_returns site }
+{
+    match site {
+        Site::Part(inner) => inner.part == Part::Returns,
+        _ => false,
+    }
+}
+
+/// Whether a simple node may stand in a graph: multiples are made in generators and used up in returns.
+fn stands_right(site: Site, simple: Option<Simple>) -> bool
+    ensures { result ≡ spec.stands_right site simple }
+{
+    match simple {
+        Some(Simple::RangeGenerate | Simple::AScatter) => is_for_generator(site),
+        Some(Simple::AGather | Simple::FinalValue | Simple::Reduce(_)) => is_for_returns(site),
+        _ => true,
+    }
+}
+
+fn is_function_type(known: &Known, number: u32) -> bool
+    ensures { result ≡ is_some (arguments_in (sort_form_at (table_of known.now).keys number)) }
+{
+    match known.sorts.sort(number) {
+        SortForm::Function(_, _) => true,
+        _ => false,
+    }
+}
+
+/// Whether the type of a function is one of arguments and results.
+fn is_header_typed(known: &Known, site: Site) -> bool
+    ensures { result ≡ spec.is_header_typed (table_of known.now) site }
+{
+    match site {
+        Site::Function(ty) => is_function_type(known, ty),
+        _ => true,
+    }
+}
+
+fn is_end_typed(known: &Known, site: Site, doing: Option<Doing>) -> bool
+    ensures { result ≡ spec.is_end_typed (table_of known.now) site doing }
+{
+    match doing {
+        Some(doing) => stands_right(site, doing.simple),
+        None => is_header_typed(known, site),
+    }
+}
+
+/// Whether all that leads into a node, or into the boundary for 0, has the right type.
+fn is_right(
+    known: &Known,
+    graph: &Graph,
+    site: Site,
+    inputs: &[Edge],
+    parts: &[Graph],
+    label: u32,
+    doing: Option<Doing>,
+) -> bool
+    requires laid { IsLaid graph.now }
+    requires up { AreUp inputs.now }
+    requires order { AreOrdered parts.now }
+    ensures { result ≡ spec.is_right_as (table_of known.now) (record { site = site; inputs = inputs.now; parts = parts.now }) graph.now label doing }
+{
+    let edges = edges_into(graph.edges.as_slice(), label);
+    let place = is_end_typed(known, site, doing);
+    let typed = are_typed(known, graph, site, inputs, parts, doing, edges);
+    both(place, typed)
+}
+
+/// The label of a node into which something leads with a wrong type.
+fn wrong_node(
+    known: &Known,
+    graph: &Graph,
+    site: Site,
+    inputs: &[Edge],
+    parts: &[Graph],
+) -> Option<u32>
+    requires laid { IsLaid graph.now }
+    requires up { AreUp inputs.now }
+    requires order { AreOrdered parts.now }
+    ensures { MatchOption
+        result
+        (All (λ n. spec.is_right (table_of known.now) (record { site = site; inputs = inputs.now; parts = parts.now }) graph.now (label_of n) ≡ true) (out-Graph graph.now).nodes)
+        (λ l. Contains (map label_of (out-Graph graph.now).nodes) l × (spec.is_right (table_of known.now) (record { site = site; inputs = inputs.now; parts = parts.now }) graph.now l ≡ false)) }
+{
+    for node in graph.nodes.as_slice() {
+        if !is_right(
+            known,
+            graph,
+            site,
+            inputs,
+            parts,
+            node.label,
+            Some(doing_of(node)),
+        ) {
+            return Some(node.label);
+        }
+    }
+    None
+}
+
+/// A node of a graph into which something leads with a wrong type, or from whose source other edges
+/// lead with other types, or 0 for the boundary, if there is one. A function whose own type is wrong is
+/// named first, since what its inputs carry is not known then. Near linear in the nodes and edges.
+pub fn wrong_end(
+    alloc: Global,
+    known: &Known,
+    graph: &Graph,
+    site: Site,
+    inputs: &[Edge],
+    parts: &[Graph],
+) -> Result<Option<u32>, NoMemory>
+    requires laid { IsLaid graph.now }
+    requires up { AreUp inputs.now }
+    requires order { AreOrdered parts.now }
+    ensures { IfOk result (spec.FindsWrong (table_of known.now) (record { site = site; inputs = inputs.now; parts = parts.now }) graph.now) }
+{
+    if !is_end_typed(known, site, None) {
+        return Ok(Some(0));
+    }
+    if let Some(label) = wrong_node(known, graph, site, inputs, parts) {
+        return Ok(Some(label));
+    }
+    if !is_right(known, graph, site, inputs, parts, 0, None) {
+        return Ok(Some(0));
+    }
+    let found = disagreeing(alloc, known, graph.edges.as_slice())?;
+    Ok(found)
+}
