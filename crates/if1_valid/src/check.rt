@@ -1,0 +1,36 @@
+//! Whether a unit is valid.
+ghost use Rattle.std.specs.Prelude.{◌≡◌, IfOk, IfErr};
+ghost use Rattle.if1_graph.specs.Formed.{IsFormed};
+ghost use Rattle.if1_graph.specs.Normal.{IsNormal};
+ghost use Rattle.if1_graph.specs.Ready.{IsReady};
+ghost use Rattle.if1_valid.specs.Refused.{IsRefused};
+
+use crate::ready::Ready;
+use if1_graph::{If1Fault, Unit1};
+use if1_order::{ports_link, wrong_order};
+use if1_ports::wrong_ports;
+use if1_typing::wrong_type;
+use std::alloc::Global;
+
+/// The unit, if it is valid. Else a node or the boundary of a graph whose ports are not filled as the
+/// table of nodes says (fault 6); where the ports of the whole unit are right, one into which something
+/// of a wrong type leads (fault 7); where types are right too, a node that reaches itself (fault 5); or
+/// want of memory (IF1 manual M-170, simple and compound nodes).
+pub fn valid(alloc: Global, unit: Unit1) -> Result<Ready, If1Fault>
+    requires formed { IsFormed unit }
+    requires normal { IsNormal unit }
+    ensures valid { IfOk result (λ r. (r ≡ unit) × IsReady unit) }
+    ensures refused { IfErr result (IsRefused unit) }
+{
+    if let Some((graph, node)) = wrong_ports(alloc, &unit)? {
+        return Err(If1Fault::Ports { graph, node });
+    }
+    if let Some((graph, node)) = wrong_type(alloc, &unit)? {
+        return Err(If1Fault::TypeOf { graph, node });
+    }
+    ports_link();
+    if let Some((graph, node)) = wrong_order(alloc, &unit)? {
+        return Err(If1Fault::Cycle { graph, node });
+    }
+    Ok(Ready::of(unit))
+}

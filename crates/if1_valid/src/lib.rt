@@ -1,0 +1,13 @@
+//! Units that are valid: their ports are filled as the table of nodes says, with the types that it wants,
+//! and no node reaches itself.
+#![tactic(auto)]
+
+mod check;
+mod params;
+mod ready;
+
+pub use check::valid;
+pub use ready::Ready;
+
+#[cfg(test)]
+mod tests;
