@@ -2,6 +2,9 @@
 use Rattle.std.specs.Prelude.{◌≡◌, ℕ, List, Option, Result, Ok, Err}
 use Rattle.flow_gen.specs.Program.{program}
 use Rattle.flow_io.specs.Bytes.{AddsOn}
+use Rattle.if1_call.specs.Calls.{IsCanonicalOf, IsRefusedFor}
+use Rattle.if1_call.specs.declared.fault.Refusal.TheVariants as unit
+use Rattle.if1_graph.specs.declared.fault.If1Fault.{If1Fault}
 use Rattle.mean_call.specs.declared.fault.Refusal.{Refusal}
 use Rattle.mean_call.specs.declared.fault.Refusal.TheVariants as refusal
 use Rattle.run_words.specs.Words.{IsCommand, HasFault}
@@ -17,7 +20,7 @@ use Rattle.sisal_top.specs.declared.status.Status.TheVariants as status
 abbrev pub Asks : Command → List ℕ → List ℕ → Type 0
 Asks (command.Run set) bytes printed = IsPlain set × Prints bytes printed
 Asks command.Compile bytes printed = ⊥
-Asks command.If1 bytes printed = ⊥
+Asks command.If1 bytes printed = IsCanonicalOf bytes printed
 Asks (command.Mean set) bytes printed = PrintsMeaning set bytes printed
 Asks (command.Gen n) bytes printed = printed ≡ program n
 Asks command.Help bytes printed = printed ≡ help_text
@@ -27,7 +30,7 @@ Asks command.Version bytes printed = printed ≡ version_text
 abbrev pub IsLater : Command → List ℕ → Type 0
 IsLater (command.Run set) bytes = IsPlain set → IsNotYet bytes
 IsLater command.Compile bytes = Unit {0}
-IsLater command.If1 bytes = Unit {0}
+IsLater command.If1 bytes = IsRefusedFor bytes unit.Marked
 IsLater (command.Mean set) bytes = ⊥
 IsLater (command.Gen n) bytes = ⊥
 IsLater command.Help bytes = ⊥
@@ -42,6 +45,11 @@ abbrev pub IsStopped : Command → List ℕ → Refusal → Type 0
 IsStopped (command.Mean set) bytes r = HasNoMeaning set bytes r
 IsStopped _ bytes r = ⊥
 
+-- the command is `if1`, and this is a fault of the text or its unit
+abbrev pub IsInvalid : Command → List ℕ → If1Fault → Type 0
+IsInvalid command.If1 bytes f = IsRefusedFor bytes (unit.Fault f)
+IsInvalid _ bytes f = ⊥
+
 -- What a command gives, where these bytes are the text: what is printed, or the cause of a refusal.
 -- Want of memory and faults of the source are no matter of the command and the bytes.
 abbrev pub Replies : Command → List ℕ → Result (List ℕ) Status → Type 0
@@ -51,6 +59,7 @@ Replies c bytes (Err status.TooLong) = ReadsText c × IsRefused bytes status.Too
 Replies c bytes (Err (status.Typing rule line)) = IsUntyped c bytes rule line
 Replies c bytes (Err (status.Unlinked name)) = IsStopped c bytes (refusal.Unlinked name)
 Replies c bytes (Err (status.Argument f)) = IsStopped c bytes (refusal.Argument f)
+Replies c bytes (Err (status.If1 f)) = IsInvalid c bytes f
 Replies c bytes (Err status.TurnLimit) = IsStopped c bytes refusal.TurnLimit
 Replies c bytes (Err status.Later) = IsLater c bytes
 Replies c bytes (Err status.NoMemory) = Unit {0}

@@ -2,6 +2,8 @@
 use Rattle.std.specs.Prelude.{◌≤◌, ℕ, List, [], ◌∷◌, ◌++◌, take, length, codes, decimal, Option, Result, Ok, Err}
 use Rattle.flow_io.specs.Bytes.{AddsOn}
 use Rattle.flow_io.specs.declared.failed.Failed.{Failed}
+use Rattle.if1_graph.specs.declared.fault.If1Fault.{If1Fault}
+use Rattle.if1_graph.specs.declared.fault.If1Fault.TheVariants as if1
 use Rattle.mean_call.specs.declared.fault.ArgumentFault.{ArgumentFault}
 use Rattle.mean_call.specs.declared.fault.ArgumentFault.TheVariants as argument
 use Rattle.run_words.specs.declared.fault.WordFault.{WordFault}
@@ -49,6 +51,25 @@ argument_line argument.Entry = plain_line (codes "sisal: argument entry")
 argument_line (argument.Count w g) = placed_line (codes "sisal: argument count wanted ") w (codes " given ") g
 argument_line (argument.Value a f) = value_line a f
 
+-- a node by its graph, its port, and the node that reads what the port takes
+abbrev pub node_line : ℕ → ℕ → ℕ → List ℕ
+node_line n p r = (codes " node " ++ decimal n) ++ placed_line (codes " port ") p (codes " reader ") r
+
+abbrev pub marks_line : ℕ → ℕ → ℕ → ℕ → List ℕ
+marks_line g n p r = (codes "sisal: if1 8 graph " ++ decimal g) ++ node_line n p r
+
+abbrev pub if1_line : If1Fault → List ℕ
+if1_line (if1.BadLine l) = numbered_line (codes "sisal: if1 1 line ") l
+if1_line (if1.Unknown l) = numbered_line (codes "sisal: if1 2 line ") l
+if1_line (if1.Real l) = numbered_line (codes "sisal: if1 3 line ") l
+if1_line if1.Unclosed = plain_line (codes "sisal: if1 4")
+if1_line (if1.Cycle g n) = placed_line (codes "sisal: if1 5 graph ") g (codes " node ") n
+if1_line (if1.Ports g n) = placed_line (codes "sisal: if1 6 graph ") g (codes " node ") n
+if1_line (if1.TypeOf g n) = placed_line (codes "sisal: if1 7 graph ") g (codes " node ") n
+if1_line (if1.Marks g n p r) = marks_line g n p r
+if1_line (if1.TooMany l) = numbered_line (codes "sisal: if1 9 line ") l
+if1_line if1.NoMemory = plain_line (codes "sisal: no memory")
+
 -- what is written to the sink of errors: nothing where all is done, nor for the statuses that are not given yet
 abbrev pub line_of : Status → List ℕ
 line_of (status.Usage f) = usage_line f
@@ -57,6 +78,7 @@ line_of status.WriteFault = plain_line (codes "sisal: write fault")
 line_of status.NoMemory = plain_line (codes "sisal: no memory")
 line_of (status.Syntax f) = syntax_line f
 line_of (status.Typing r l) = placed_line (codes "sisal: type rule ") r (codes " line ") l
+line_of (status.If1 f) = if1_line f
 line_of (status.Argument f) = argument_line f
 line_of status.TurnLimit = plain_line (codes "sisal: turn limit")
 line_of status.TooLong = plain_line (codes "sisal: text too long")

@@ -63,12 +63,12 @@ IsRefused bytes refusal = HasNoTokens bytes refusal ⊎ HasNoUnit bytes refusal
 abbrev pub IsPlain : RunSet → Type 0
 IsPlain set = (set.if1 ≡ false) × (set.entry ≡ codes "main") × (set.limit ≡ 10000000) × (set.stats ≡ false) × (set.values ≡ [])
 
--- the commands that read the text: a plain `run`, and `mean`
+-- the commands that read the text: a plain `run`, `mean` and `if1`
 abbrev pub ReadsText : Command → Type 0
 ReadsText (command.Run set) = IsPlain set
 ReadsText (command.Mean set) = Unit {0}
 ReadsText command.Compile = ⊥
-ReadsText command.If1 = ⊥
+ReadsText command.If1 = Unit {0}
 ReadsText (command.Gen n) = ⊥
 ReadsText command.Help = ⊥
 ReadsText command.Version = ⊥

@@ -1,5 +1,8 @@
 -- The numbers of the statuses, and the statuses of other crates' faults.
 use Rattle.std.specs.Prelude.{ℕ}
+use Rattle.if1_call.specs.declared.fault.Refusal as units
+use Rattle.if1_call.specs.declared.fault.Refusal.TheVariants as unit
+use Rattle.if1_graph.specs.declared.fault.If1Fault.TheVariants as if1
 use Rattle.mean_call.specs.declared.fault.Refusal.{Refusal}
 use Rattle.mean_call.specs.declared.fault.Refusal.TheVariants as refusal
 use Rattle.run_words.specs.declared.fault.WordFault.{WordFault}
@@ -22,7 +25,7 @@ code_of status.WriteFault = 3
 code_of status.NoMemory = 4
 code_of (status.Syntax f) = 5
 code_of (status.Typing r l) = 6
-code_of status.If1 = 7
+code_of (status.If1 f) = 7
 code_of (status.Argument f) = 8
 code_of status.TurnLimit = 9
 code_of status.TooLong = 10
@@ -59,3 +62,17 @@ of_refusal (refusal.Unlinked name) = status.Unlinked name
 of_refusal (refusal.Argument f) = status.Argument f
 of_refusal refusal.TurnLimit = status.TurnLimit
 of_refusal refusal.NoMemory = status.NoMemory
+
+-- the status of a refusal of an IF1 text
+abbrev pub of_unit : units.Refusal → Status
+of_unit (unit.Fault if1.NoMemory) = status.NoMemory
+of_unit (unit.Fault (if1.BadLine l)) = status.If1 (if1.BadLine l)
+of_unit (unit.Fault (if1.Unknown l)) = status.If1 (if1.Unknown l)
+of_unit (unit.Fault (if1.Real l)) = status.If1 (if1.Real l)
+of_unit (unit.Fault if1.Unclosed) = status.If1 if1.Unclosed
+of_unit (unit.Fault (if1.Cycle g n)) = status.If1 (if1.Cycle g n)
+of_unit (unit.Fault (if1.Ports g n)) = status.If1 (if1.Ports g n)
+of_unit (unit.Fault (if1.TypeOf g n)) = status.If1 (if1.TypeOf g n)
+of_unit (unit.Fault (if1.Marks g n p r)) = status.If1 (if1.Marks g n p r)
+of_unit (unit.Fault (if1.TooMany l)) = status.If1 (if1.TooMany l)
+of_unit unit.Marked = status.Later

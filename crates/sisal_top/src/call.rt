@@ -17,6 +17,7 @@ use crate::texts::{help, version};
 use flow_gen::make;
 use flow_io::{ReadFail, Sink, Source, read_all, write_all};
 use flow_value::Text;
+use if1_call::canonical_text;
 use mean_call::evaluate;
 use run_words::{Command, MeanSet, RunSet, read_words};
 use std::alloc::Global;
@@ -105,6 +106,28 @@ fn mean<S: Source>(alloc: Global, set: &MeanSet, text: &mut S) -> Result<Text, S
     meaning(alloc, set, bytes.as_slice())
 }
 
+/// The canonical text of the unit that a text is.
+fn written(alloc: Global, bytes: &[u8]) -> Result<Text, Status>
+    ensures replies { Replies command.If1 bytes.now result }
+    ensures of_bytes { IfErr result IsOfBytes }
+{
+    let printed = canonical_text(alloc, bytes)?;
+    Ok(printed)
+}
+
+/// Checks the unit that the text is, and writes it canonically.
+fn if1<S: Source>(alloc: Global, text: &mut S) -> Result<Text, Status>
+    ensures replies { (told : List ℕ) → S.left text.old ≡ Some told → Replies command.If1 told result }
+    ensures reply { IfErr result IsReply }
+    ensures to_the_end { OnOk result (IsAtEnd (S.left text.new)) }
+    ensures read { IfErr result (λ s. IsUnread s ⊎ IsAtEnd (S.left text.new)) }
+    ensures fault { result ≡ Err Status.ReadFault → HasRisen (S.faults text.old) (S.faults text.new) }
+    ensures no_fault { result ≢ Err Status.ReadFault → S.faults text.new ≡ S.faults text.old }
+{
+    let bytes = read(alloc, text)?;
+    written(alloc, bytes.as_slice())
+}
+
 /// What a command prints.
 fn perform<S: Source>(alloc: Global, command: Command, text: &mut S) -> Result<Text, Status>
     ensures replies { (told : List ℕ) → S.left text.old ≡ Some told → Replies command told result }
@@ -127,7 +150,8 @@ fn perform<S: Source>(alloc: Global, command: Command, text: &mut S) -> Result<T
             }
         }
         Command::Mean(set) => mean(alloc, &set, text),
-        Command::Compile | Command::If1 => Err(Status::Later),
+        Command::If1 => if1(alloc, text),
+        Command::Compile => Err(Status::Later),
     }
 }
 
@@ -146,7 +170,7 @@ fn prepare<S: Source>(alloc: Global, words: &[String], text: &mut S) -> Result<T
     perform(alloc, command, text)
 }
 
-/// Does what the words ask for. For `run` and `mean` the text is read to its end, and what is
+/// Does what the words ask for. For `run`, `mean` and `if1` the text is read to its end, and what is
 /// printed is written at once.
 pub fn sisal<S: Source, O: Sink, E: Sink>(
     alloc: Global,

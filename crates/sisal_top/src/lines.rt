@@ -2,10 +2,11 @@
 ghost use Rattle.std.specs.Prelude.{◌≡◌, ◌++◌, ◌∷◌, [], ℕ, take, codes, decimal, OnOk, OnErr};
 ghost use Rattle.flow_io.specs.Bytes.{AddsOn};
 ghost use Rattle.flow_io.specs.Count.{HasRisen};
-ghost use Rattle.sisal_top.specs.Lines.{Takes, argument_line, line_of, numbered_line, placed_line, plain_line, syntax_line, usage_line, value_line};
+ghost use Rattle.sisal_top.specs.Lines.{Takes, argument_line, if1_line, line_of, marks_line, node_line, numbered_line, placed_line, plain_line, syntax_line, usage_line, value_line};
 
 use crate::status::{Status, SyntaxFault};
 use flow_io::{Failed, Sink, write_all};
+use if1_graph::If1Fault;
 use itoa::Buffer;
 use mean_call::ArgumentFault;
 use run_words::WordFault;
@@ -94,6 +95,82 @@ fn write_unlinked<E: Sink>(err: &mut E, name: &[u8]) -> Result<(), Failed>
 {
     write_words(err, b"sisal: unlinked ")?;
     write_name(err, name)
+}
+
+/// Writes words and a number.
+fn write_pair<E: Sink>(err: &mut E, words: &[u8], number: u64) -> Result<(), Failed>
+    ensures takes { Takes result (E.taken err.old) (words.now ++ decimal number) (E.taken err.new) }
+    ensures fault { OnErr result (HasRisen (E.faults err.old) (E.faults err.new)) }
+    ensures no_fault { OnOk result (E.faults err.new ≡ E.faults err.old) }
+{
+    write_words(err, words)?;
+    write_digits(err, number)
+}
+
+/// Writes a node, its port and the node that reads what the port takes.
+fn write_taker<E: Sink>(err: &mut E, node: u32, port: u32, reader: u32) -> Result<(), Failed>
+    ensures takes { Takes result (E.taken err.old) (node_line node port reader) (E.taken err.new) }
+    ensures fault { OnErr result (HasRisen (E.faults err.old) (E.faults err.new)) }
+    ensures no_fault { OnOk result (E.faults err.new ≡ E.faults err.old) }
+{
+    write_pair(err, b" node ", u64::from(node))?;
+    write_placed(
+        err,
+        b" port ",
+        u64::from(port),
+        b" reader ",
+        u64::from(reader),
+    )
+}
+
+/// Writes the line of a mark that is not sound.
+fn write_marks<E: Sink>(
+    err: &mut E,
+    graph: u32,
+    node: u32,
+    port: u32,
+    reader: u32,
+) -> Result<(), Failed>
+    ensures takes { Takes result (E.taken err.old) (marks_line graph node port reader) (E.taken err.new) }
+    ensures fault { OnErr result (HasRisen (E.faults err.old) (E.faults err.new)) }
+    ensures no_fault { OnOk result (E.faults err.new ≡ E.faults err.old) }
+{
+    write_pair(err, b"sisal: if1 8 graph ", u64::from(graph))?;
+    write_taker(err, node, port, reader)
+}
+
+/// Writes the line of a fault of a node.
+fn write_node<E: Sink>(err: &mut E, words: &[u8], graph: u32, node: u32) -> Result<(), Failed>
+    ensures takes { Takes result (E.taken err.old) (placed_line words.now graph (codes " node ") node) (E.taken err.new) }
+    ensures fault { OnErr result (HasRisen (E.faults err.old) (E.faults err.new)) }
+    ensures no_fault { OnOk result (E.faults err.new ≡ E.faults err.old) }
+{
+    write_placed(err, words, u64::from(graph), b" node ", u64::from(node))
+}
+
+/// Writes the line of a fault of an IF1 text or its unit.
+fn write_if1<E: Sink>(err: &mut E, fault: If1Fault) -> Result<(), Failed>
+    ensures takes { Takes result (E.taken err.old) (if1_line fault) (E.taken err.new) }
+    ensures fault { OnErr result (HasRisen (E.faults err.old) (E.faults err.new)) }
+    ensures no_fault { OnOk result (E.faults err.new ≡ E.faults err.old) }
+{
+    match fault {
+        If1Fault::BadLine(line) => write_numbered(err, b"sisal: if1 1 line ", u64::from(line)),
+        If1Fault::Unknown(line) => write_numbered(err, b"sisal: if1 2 line ", u64::from(line)),
+        If1Fault::Real(line) => write_numbered(err, b"sisal: if1 3 line ", u64::from(line)),
+        If1Fault::Unclosed => write_words(err, b"sisal: if1 4\n"),
+        If1Fault::Cycle { graph, node } => write_node(err, b"sisal: if1 5 graph ", graph, node),
+        If1Fault::Ports { graph, node } => write_node(err, b"sisal: if1 6 graph ", graph, node),
+        If1Fault::TypeOf { graph, node } => write_node(err, b"sisal: if1 7 graph ", graph, node),
+        If1Fault::Marks {
+            graph,
+            node,
+            port,
+            reader,
+        } => write_marks(err, graph, node, port, reader),
+        If1Fault::TooMany(line) => write_numbered(err, b"sisal: if1 9 line ", u64::from(line)),
+        If1Fault::NoMemory => write_words(err, b"sisal: no memory\n"),
+    }
 }
 
 /// Writes the line of a rule of typing.
@@ -198,6 +275,7 @@ fn write_line<E: Sink>(err: &mut E, status: &Status) -> Result<(), Failed>
         Status::Usage(fault) => write_usage(err, *fault),
         Status::Syntax(fault) => write_syntax(err, *fault),
         Status::Typing { rule, line } => write_typing(err, *rule, *line),
+        Status::If1(fault) => write_if1(err, *fault),
         Status::Argument(fault) => write_argument(err, *fault),
         Status::Unlinked(name) => write_unlinked(err, name.as_slice()),
         Status::ReadFault => write_words(err, b"sisal: read fault\n"),

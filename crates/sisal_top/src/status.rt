@@ -3,6 +3,8 @@ ghost use Rattle.std.specs.Prelude.{◌≡◌};
 ghost use Rattle.sisal_top.specs.Status.{code_of};
 
 use flow_value::{Name, NoMemory};
+use if1_call::Refusal as UnitRefusal;
+use if1_graph::If1Fault;
 use mean_call::{ArgumentFault, Refusal};
 use run_words::WordFault;
 use sisal_lex::LexFault;
@@ -32,7 +34,7 @@ pub enum Status {
         line: u32,
     },
     /// The text is no valid IF1 unit.
-    If1,
+    If1(If1Fault),
     /// The entry or an argument is refused.
     Argument(ArgumentFault),
     /// The run is longer than its limit.
@@ -78,7 +80,7 @@ impl Status {
             Status::NoMemory => 4,
             Status::Syntax(_) => 5,
             Status::Typing { .. } => 6,
-            Status::If1 => 7,
+            Status::If1(_) => 7,
             Status::Argument(_) => 8,
             Status::TurnLimit => 9,
             Status::TooLong => 10,
@@ -168,6 +170,20 @@ impl From<Refusal> for Status {
             Refusal::Argument(fault) => Status::Argument(fault),
             Refusal::TurnLimit => Status::TurnLimit,
             Refusal::NoMemory => Status::NoMemory,
+        }
+    }
+}
+
+impl From<UnitRefusal> for Status {
+    ghost use Rattle.sisal_top.specs.Status.{of_unit};
+
+    ghost from_gives = { λ r s. s ≡ of_unit r };
+
+    fn from(refusal: UnitRefusal) -> Status {
+        match refusal {
+            UnitRefusal::Fault(If1Fault::NoMemory) => Status::NoMemory,
+            UnitRefusal::Fault(fault) => Status::If1(fault),
+            UnitRefusal::Marked => Status::Later,
         }
     }
 }

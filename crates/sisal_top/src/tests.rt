@@ -167,6 +167,30 @@ fn other_words_are_not_built_yet(rt: HostRuntime) -> Result<(), Fail> {
     Ok(())
 }
 
+/// A function that gives its argument.
+fn identity() -> &'static [u8] {
+    b"T 1 1 3\nT 2 8 1 0\nT 3 3 2 2\nX 3 \"f\"\nE 0 1 0 1 1\n"
+}
+
+#[test]
+fn a_canonical_unit_is_printed_unchanged(rt: HostRuntime) -> Result<(), Fail> {
+    let ended = call(rt.alloc(), "if1", identity(), [&[], &[], &[]])?;
+    assert_eq!(rt; ended.status.code(), 0);
+    assert_eq!(rt; ended.out.bytes().as_slice(), identity());
+    Ok(())
+}
+
+#[test]
+fn a_text_of_sisal_is_no_unit(rt: HostRuntime) -> Result<(), Fail> {
+    let ended = call(rt.alloc(), "if1", seven(), [&[], &[], &[]])?;
+    assert_eq!(rt; ended.status.code(), 7);
+    assert_eq!(rt;
+        ended.err.bytes().as_slice(),
+        b"sisal: if1 1 line 1\n".as_slice()
+    );
+    Ok(())
+}
+
 #[test]
 fn a_failed_report_leaves_the_status(rt: HostRuntime) -> Result<(), Fail> {
     let ended = call(rt.alloc(), "run", half(), [&[], &[], &[0]])?;

@@ -1,8 +1,9 @@
-//! Calls the program on each line of standard input, which is a name, the words and a SISAL text,
+//! Calls the program on each line of standard input, which is a name, the words and a text,
 //! with tabs between them; the words have `^` between them, and `@` stands for a line feed of the
 //! text. Prints the name, what the call printed and the status. The stored run evaluates the
-//! programs of `examples/` and small ones for each cause of a refusal; what it must print comes from
-//! a separate implementation.
+//! programs of `examples/` and small ones for each cause of a refusal, and checks IF1 texts: units
+//! that are right, one for each fault, and one cut after each byte. What it must print comes from a
+//! separate implementation.
 #![tactic(auto)]
 
 use flow_io::{MemSink, MemSource};

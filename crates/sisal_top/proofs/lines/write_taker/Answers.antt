@@ -1,0 +1,16 @@
+use Rattle.std.proofs.Common.{codes, decimal, ◌++◌, sym}
+use Rattle.sisal_top.specs.Lines.{placed_line}
+use Rattle.sisal_top.proofs.Writes.{takes_failed, takes_then}
+use Rattle.sisal_top.proofs.lines.write_taker.Goals as goal
+
+pub returns-clause-takes : goal.returns-clause-takes
+returns-clause-takes g c =
+    let taken = g.E.Sink.taken in
+    rw (sym c.from.ensures, sym c.from-2.ensures, sym c.from-3.ensures)
+    (takes_then c.write_placed.result (taken c.args.err.now) (taken c.write_pair.new.err) (taken c.write_placed.new.err) (codes " node " ++ decimal c.from.result) (placed_line (codes " port ") c.from-2.result (codes " reader ") c.from-3.result) c.in_ok-write_pair.ensures.takes c.write_placed.ensures.takes)
+
+pub returns-in_err-write_pair-clause-takes : goal.returns-in_err-write_pair-clause-takes
+returns-in_err-write_pair-clause-takes g c =
+    let taken = g.E.Sink.taken in
+    rw (sym c.from.ensures)
+    (takes_failed c.from_residual.result c.in_err-write_pair.field-0.0 (taken c.args.err.now) (taken c.write_pair.new.err) (codes " node " ++ decimal c.from.result) (placed_line (codes " port ") c.args.port (codes " reader ") c.args.reader) c.from_residual.ensures.0 c.in_err-write_pair.ensures.takes)
