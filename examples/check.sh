@@ -8,14 +8,14 @@ trap 'rm -f "$difference"' EXIT
 printed() { # a text, a program: what the text's command lines print, one after another
     local line text=$1
     shift
-    sed -n 's|^% *\./sisal ||p' "$text" | while IFS= read -r line; do
+    sed -n 's|^[%C] *\./sisal ||p' "$text" | while IFS= read -r line; do
         eval "\"\$@\" $line" || echo "status $?"
     done
 }
 
 right=0 wrong=0
-for text in examples/*.sis; do
-    if printed "$text" "$@" | diff - "${text%.sis}.out" >"$difference" 2>&1; then
+for text in examples/*.sis examples/*.if1; do
+    if printed "$text" "$@" | diff - "${text%.*}.out" >"$difference" 2>&1; then
         right=$((right + 1))
     else
         wrong=$((wrong + 1))
