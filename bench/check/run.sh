@@ -1,6 +1,6 @@
 #!/bin/bash
-# Times the type checker beside the lexer and parser on the 4 MB text of bench/parse, in turns: the program bench_parse
-# lexes and parses it, bench_check checks it too, and the difference is the checker's time. It prints seconds, the least of
+# Times the type checker beside the lexer and parser on the 4 MB text of bench/parse, in turns: the program bench_texts
+# lexes and parses it, or checks it too, and the difference is the checker's time. It prints seconds, the least of
 # some rounds, and the memory of both a byte of text. All times are of the whole program without its start. Run it at the
 # top of the repository, on an idle machine; the argument is the rounds.
 set -e
@@ -10,26 +10,20 @@ trap 'rm -rf "$build"' EXIT
 python3 bench/parse/texts.py "$build/long.sis" "$build/long.py"
 printf 'define f\nfunction f(returns integer) 1 end function\n' >"$build/short.sis"
 
-built() { # a crate: its program, built and run once
-    (cd "crates/$1" && rt run <stdin) >"$build/rt" 2>&1 || { cat "$build/rt" >&2; exit 1; }
-    find "crates/$1/out" -type f -perm -u+x -name "$1*" | head -1
-}
-parser=${BENCH_PARSE:-$(built bench_parse)}
-checker=${BENCH_CHECK:-$(built bench_check)}
-[ -x "$parser" ] || { echo "no program bench_parse in crates/bench_parse/out: set BENCH_PARSE" >&2; exit 1; }
-[ -x "$checker" ] || { echo "no program bench_check in crates/bench_check/out: set BENCH_CHECK" >&2; exit 1; }
+program=${BENCH_TEXTS:-$(bench/texts.sh)}
+[ -x "$program" ] || exit 1
 
-milliseconds() { # a program, a text
+milliseconds() { # parse or check, a text
     local begin end
     begin=$(date +%s%N)
-    "$1" <"$2" >"$build/printed"
+    "$program" "$1" <"$2" >"$build/printed"
     end=$(date +%s%N)
     echo $(((end - begin) / 1000000))
 }
-peak() { # a program: the bytes that it takes for the long text
-    python3 - "$1" "$build/long.sis" <<'PY'
+peak() { # parse or check: the bytes that it takes for the long text
+    python3 - "$program" "$1" "$build/long.sis" <<'PY'
 import resource, subprocess, sys
-subprocess.run([sys.argv[1]], stdin=open(sys.argv[2]), stdout=subprocess.DEVNULL, check=True)
+subprocess.run([sys.argv[1], sys.argv[2]], stdin=open(sys.argv[3]), stdout=subprocess.DEVNULL, check=True)
 print(resource.getrusage(resource.RUSAGE_CHILDREN).ru_maxrss * 1024)
 PY
 }
@@ -38,8 +32,8 @@ declare -A least
 keep() { [ -n "${least[$1]}" ] && [ "${least[$1]}" -le "$2" ] || least[$1]=$2; }
 for ((i = 0; i < rounds; i++)); do
     for size in short long; do
-        keep "parser $size" "$(milliseconds "$parser" "$build/$size.sis")"
-        keep "checker $size" "$(milliseconds "$checker" "$build/$size.sis")"
+        keep "parser $size" "$(milliseconds parse "$build/$size.sis")"
+        keep "checker $size" "$(milliseconds check "$build/$size.sis")"
     done
 done
 cat "$build/printed"
@@ -47,5 +41,5 @@ parsed=$((least[parser long] - least[parser short]))
 all=$((least[checker long] - least[checker short]))
 awk -v a=$((all - parsed)) -v b=$parsed \
     'BEGIN { printf "check %.3f s, lex and parse %.3f s, ratio %.2f\n", a / 1000, b / 1000, a / b }'
-awk -v p="$(peak "$checker")" -v q="$(peak "$parser")" -v n="$(stat -c %s "$build/long.sis")" \
+awk -v p="$(peak check)" -v q="$(peak parse)" -v n="$(stat -c %s "$build/long.sis")" \
     'BEGIN { printf "memory %.1f bytes a byte of text, %.1f without the check\n", p / n, q / n }'

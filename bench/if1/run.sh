@@ -9,17 +9,13 @@ trap 'rm -rf "$build"' EXIT
 python3 bench/if1/texts.py "$build/long.if1" "$build/long.xml"
 printf 'T 1 1 3\n' >"$build/short.if1"
 
-built() { # a crate: its program, built and run once
-    (cd "crates/$1" && rt run <stdin) >"$build/rt" 2>&1 || { cat "$build/rt" >&2; exit 1; }
-    find "crates/$1/out" -type f -perm -u+x -name "$1*" | head -1
-}
-program=${BENCH_IF1:-$(built bench_if1)}
-[ -x "$program" ] || { echo "no program bench_if1 in crates/bench_if1/out: set BENCH_IF1" >&2; exit 1; }
+program=${BENCH_TEXTS:-$(bench/texts.sh)}
+[ -x "$program" ] || exit 1
 
 milliseconds() { # a text
     local begin end
     begin=$(date +%s%N)
-    "$program" <"$1" >"$build/printed"
+    "$program" if1 <"$1" >"$build/printed"
     end=$(date +%s%N)
     echo $(((end - begin) / 1000000))
 }

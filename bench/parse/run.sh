@@ -9,9 +9,8 @@ trap 'rm -rf "$build"' EXIT
 python3 bench/parse/texts.py "$build/long.sis" "$build/long.py"
 printf 'define f1\n' >"$build/short.sis"
 printf 'x = 1\n' >"$build/short.py"
-(cd crates/bench_parse && rt run <stdin) >"$build/rt" 2>&1 || { cat "$build/rt" >&2; exit 1; }
-ours=${BENCH_PARSE:-$(find crates/bench_parse/out -type f -perm -u+x -name 'bench_parse*' | head -1)}
-[ -x "$ours" ] || { echo "no program bench_parse in crates/bench_parse/out: set BENCH_PARSE" >&2; exit 1; }
+ours=${BENCH_TEXTS:-$(bench/texts.sh)}
+[ -x "$ours" ] || exit 1
 cat >"$build/theirs.py" <<'PY'
 import ast, sys
 print(len(ast.parse(open(sys.argv[1]).read()).body))
@@ -24,7 +23,7 @@ milliseconds() { # a command
     end=$(date +%s%N)
     echo $(((end - begin) / 1000000))
 }
-ours_on() { "$ours" <"$1"; }
+ours_on() { "$ours" parse <"$1"; }
 
 declare -A least
 keep() { [ -n "${least[$1]}" ] && [ "${least[$1]}" -le "$2" ] || least[$1]=$2; }
@@ -39,7 +38,7 @@ b=$((least[theirs long] - least[theirs short]))
 awk -v a=$a -v b=$b 'BEGIN { printf "lex and parse %.3f s, ast.parse %.3f s, ratio %.2f\n", a / 1000, b / 1000, a / b }'
 peak=$(python3 - "$ours" "$build/long.sis" <<'PY'
 import resource, subprocess, sys
-subprocess.run([sys.argv[1]], stdin=open(sys.argv[2]), stdout=subprocess.DEVNULL, check=True)
+subprocess.run([sys.argv[1], "parse"], stdin=open(sys.argv[2]), stdout=subprocess.DEVNULL, check=True)
 print(resource.getrusage(resource.RUSAGE_CHILDREN).ru_maxrss * 1024)
 PY
 )

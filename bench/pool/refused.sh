@@ -1,7 +1,7 @@
 #!/bin/sh
 # Refuses each request for memory of a pool's `reserve` and `build` in turn: the pool's own seven come first, those of
 # `reserve` and `build` are the 8th to the 12th. After each refusal the pool holds what it held, and takes another value.
-cd "$(dirname "$0")/../../crates/pool_uses" || exit 1
+cd "$(dirname "$0")/../../crates/test_pool" || exit 1
 failed=0
 for n in 8 9 10 11 12; do
     said=$(rt try --test --fail-alloc "$n" 2>&1)

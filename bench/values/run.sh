@@ -6,13 +6,12 @@ set -e
 rounds=${1:-5}
 build=$(mktemp -d)
 trap 'rm -rf "$build"' EXIT
-(cd crates/bench_values && rt run >/dev/null </dev/null)
-values=${BENCH_VALUES:-$(find crates/bench_values/out -type f -perm -u+x -name 'bench_values*' | head -1)}
-[ -x "$values" ] || { echo "no program bench_values in crates/bench_values/out: set BENCH_VALUES" >&2; exit 1; }
+program=${BENCH_TEXTS:-$(bench/texts.sh)}
+[ -x "$program" ] || exit 1
 
 best= best_json=
 for ((i = 0; i < rounds; i++)); do
-    "$values" long >"$build/printed" 2>"$build/time"
+    "$program" values-long </dev/null >"$build/printed" 2>"$build/time"
     python3 bench/values/beside.py long >"$build/json" 2>"$build/json_time"
     cmp "$build/printed" "$build/json"
     a=$(<"$build/time") b=$(<"$build/json_time")

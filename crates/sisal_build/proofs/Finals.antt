@@ -16,7 +16,7 @@ use Rattle.sisal_grammar.specs.Language.{language}
 use Rattle.sisal_grammar.specs.Placed.{placed}
 use Rattle.sisal_grammar.specs.Plan.{plan}
 use Rattle.sisal_grammar.proofs.Plans.{plan_typed, first_kind}
-use Rattle.sisal_values.specs.Stack.{IsSort, Tops}
+use Rattle.parse_stack.specs.Stack.{IsSort, Tops}
 use Rattle.sisal_build.proofs.Places.{placed_classes}
 
 is_sort : (k : Sort) (v : Val k) → IsSort k (into k v)

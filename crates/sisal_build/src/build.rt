@@ -13,10 +13,10 @@ ghost use Rattle.sisal_build.specs.Nowhere.{nowhere};
 
 use crate::performing::perform;
 use flow_value::{NoMemory, Seq};
+use parse_stack::Values;
 use pushdown::Step;
 use sisal_grammar::{Outline, Placed, Value, action_of, class_of};
 use sisal_lex::{Kind, Token};
-use sisal_values::Values;
 use std::alloc::Global;
 
 /// The unit whose derivation these steps are: they are taken from the last to the first, so that the

@@ -4,14 +4,14 @@ ghost use Rattle.std.specs.Prelude.{◌≡◌, OnOk, Some};
 ghost use Rattle.pushdown.specs.Meaning.{perform};
 ghost use Rattle.sisal_grammar.specs.Acts.{sisal};
 ghost use Rattle.sisal_grammar.specs.Sorts.{args};
-ghost use Rattle.sisal_values.specs.Stack.{Tops};
+ghost use Rattle.parse_stack.specs.Stack.{Tops};
 
 use crate::task::{Task, task_of};
 use flow_value::NoMemory;
+use parse_stack::Values;
 use sisal_expr_acts::{perform_case, perform_compound, perform_expr, perform_selector};
 use sisal_grammar::Action;
 use sisal_unit_acts::{perform_clause, perform_def, perform_loop, perform_type, perform_unit};
-use sisal_values::Values;
 use std::alloc::Global;
 
 /// Takes the values of a production's symbols, and puts what the production makes of them.

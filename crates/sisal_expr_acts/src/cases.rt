@@ -4,14 +4,14 @@ ghost use Rattle.std.specs.Prelude.{◌≡◌, OnOk, Some};
 ghost use Rattle.pushdown.specs.Meaning.{perform};
 ghost use Rattle.sisal_grammar.specs.Acts.{sisal};
 ghost use Rattle.sisal_grammar.specs.Sorts.{args};
-ghost use Rattle.sisal_values.specs.Stack.{Tops};
+ghost use Rattle.parse_stack.specs.Stack.{Tops};
 ghost use Rattle.sisal_expr_acts.specs.Actions.{case_action};
 
 use crate::folds::{in_order, subject_of};
 use flow_value::{Held, NoMemory};
+use parse_stack::{Values, named};
 use sisal_grammar::{Action, Back, ExprRest, Subject, SubjectRest, Value};
 use sisal_tree::{Arm, Expr, ExprKind, TagCase};
-use sisal_values::{Values, named};
 use std::alloc::Global;
 
 /// The actions of `tagcase`.

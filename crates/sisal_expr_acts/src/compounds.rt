@@ -4,14 +4,14 @@ ghost use Rattle.std.specs.Prelude.{◌≡◌, OnOk, Some};
 ghost use Rattle.pushdown.specs.Meaning.{perform};
 ghost use Rattle.sisal_grammar.specs.Acts.{sisal};
 ghost use Rattle.sisal_grammar.specs.Sorts.{args};
-ghost use Rattle.sisal_values.specs.Stack.{Tops};
+ghost use Rattle.parse_stack.specs.Stack.{Tops};
 ghost use Rattle.sisal_expr_acts.specs.Actions.{compound_action};
 
 use crate::folds::content;
 use flow_value::{Held, NoMemory};
+use parse_stack::{Values, name_in};
 use sisal_grammar::{Action, Back, Value};
 use sisal_tree::{Elements, Expr, ExprKind};
-use sisal_values::{Values, name_in};
 use std::alloc::Global;
 
 /// The actions of expressions between words.

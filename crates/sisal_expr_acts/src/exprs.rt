@@ -4,14 +4,14 @@ ghost use Rattle.std.specs.Prelude.{◌≡◌, OnOk, Some};
 ghost use Rattle.pushdown.specs.Meaning.{perform};
 ghost use Rattle.sisal_grammar.specs.Acts.{sisal};
 ghost use Rattle.sisal_grammar.specs.Sorts.{args};
-ghost use Rattle.sisal_values.specs.Stack.{Tops};
+ghost use Rattle.parse_stack.specs.Stack.{Tops};
 ghost use Rattle.sisal_expr_acts.specs.Actions.{expr_action};
 
 use crate::folds::{asked, called, chained};
 use flow_value::{Held, NoMemory};
+use parse_stack::{Values, binary_of, constant_of, name_in, prefix_of, scalar_of};
 use sisal_grammar::{Action, Back, Value};
 use sisal_tree::{Expr, ExprKind};
-use sisal_values::{Values, binary_of, constant_of, name_in, prefix_of, scalar_of};
 use std::alloc::Global;
 
 /// The actions of lists of expressions, operators and operands.

@@ -4,9 +4,9 @@ ghost use Rattle.std.specs.Prelude.{◌≡◌, ◌∷◌, fold, IfOk};
 ghost use Rattle.sisal_grammar.specs.Acts.{asked, bracketed, called, chained, content, followed, joined, posted, rest_of, selected, subject_of};
 
 use flow_value::{Held, NoMemory, Seq};
+use parse_stack::name_in;
 use sisal_grammar::{Back, Bracket, ExprRest, Placed, Selector, Subject, SubjectRest};
 use sisal_tree::{BinaryOperator, Constant, Expr, ExprKind};
-use sisal_values::name_in;
 use std::alloc::Global;
 
 /// Two operands with the operator between them.

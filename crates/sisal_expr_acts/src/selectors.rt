@@ -4,14 +4,14 @@ ghost use Rattle.std.specs.Prelude.{◌≡◌, OnOk, Some};
 ghost use Rattle.pushdown.specs.Meaning.{perform};
 ghost use Rattle.sisal_grammar.specs.Acts.{sisal};
 ghost use Rattle.sisal_grammar.specs.Sorts.{args};
-ghost use Rattle.sisal_values.specs.Stack.{Tops};
+ghost use Rattle.parse_stack.specs.Stack.{Tops};
 ghost use Rattle.sisal_expr_acts.specs.Actions.{selector_action};
 
 use crate::folds::{bracketed, posted};
 use flow_value::NoMemory;
+use parse_stack::{Values, name_in, named};
 use sisal_grammar::{Action, Back, Bracket, Selector, Value};
 use sisal_tree::FieldValue;
-use sisal_values::{Values, name_in, named};
 use std::alloc::Global;
 
 /// The actions of what follows an operand.

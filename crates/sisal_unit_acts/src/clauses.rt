@@ -4,13 +4,13 @@ ghost use Rattle.std.specs.Prelude.{◌≡◌, OnOk, Some};
 ghost use Rattle.pushdown.specs.Meaning.{perform};
 ghost use Rattle.sisal_grammar.specs.Acts.{sisal};
 ghost use Rattle.sisal_grammar.specs.Sorts.{args};
-ghost use Rattle.sisal_values.specs.Stack.{Tops};
+ghost use Rattle.parse_stack.specs.Stack.{Tops};
 ghost use Rattle.sisal_unit_acts.specs.Actions.{clause_action};
 
 use flow_value::NoMemory;
+use parse_stack::{Values, direction_of, gathered_of, is_unless, reduction_of};
 use sisal_grammar::{Action, Back, Value};
 use sisal_tree::{Clause, ClauseKind, Direction, Mask};
-use sisal_values::{Values, direction_of, gathered_of, is_unless, reduction_of};
 use std::alloc::Global;
 
 /// The actions of the results of loops.

@@ -4,13 +4,13 @@ ghost use Rattle.std.specs.Prelude.{◌≡◌, OnOk, Some};
 ghost use Rattle.pushdown.specs.Meaning.{perform};
 ghost use Rattle.sisal_grammar.specs.Acts.{sisal};
 ghost use Rattle.sisal_grammar.specs.Sorts.{args};
-ghost use Rattle.sisal_values.specs.Stack.{Tops};
+ghost use Rattle.parse_stack.specs.Stack.{Tops};
 ghost use Rattle.sisal_unit_acts.specs.Actions.{loop_action};
 
 use flow_value::{Held, NoMemory};
+use parse_stack::{Values, is_until, name_in, named};
 use sisal_grammar::{Action, Back, Test, Value};
 use sisal_tree::{Generator, Loop, Turn};
-use sisal_values::{Values, is_until, name_in, named};
 use std::alloc::Global;
 
 /// The actions of loops.

@@ -4,13 +4,13 @@ ghost use Rattle.std.specs.Prelude.{◌≡◌, OnOk, Some};
 ghost use Rattle.pushdown.specs.Meaning.{perform};
 ghost use Rattle.sisal_grammar.specs.Acts.{sisal};
 ghost use Rattle.sisal_grammar.specs.Sorts.{args};
-ghost use Rattle.sisal_values.specs.Stack.{Tops};
+ghost use Rattle.parse_stack.specs.Stack.{Tops};
 ghost use Rattle.sisal_unit_acts.specs.Actions.{type_action};
 
 use flow_value::NoMemory;
+use parse_stack::{Values, named, span};
 use sisal_grammar::{Action, Back, Value};
 use sisal_tree::Field;
-use sisal_values::{Values, named, span};
 use std::alloc::Global;
 
 /// The actions of written types.

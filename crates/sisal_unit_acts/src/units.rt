@@ -4,13 +4,13 @@ ghost use Rattle.std.specs.Prelude.{◌≡◌, OnOk, Some};
 ghost use Rattle.pushdown.specs.Meaning.{perform};
 ghost use Rattle.sisal_grammar.specs.Acts.{sisal};
 ghost use Rattle.sisal_grammar.specs.Sorts.{args};
-ghost use Rattle.sisal_values.specs.Stack.{Tops};
+ghost use Rattle.parse_stack.specs.Stack.{Tops};
 ghost use Rattle.sisal_unit_acts.specs.Actions.{unit_action};
 
 use flow_value::NoMemory;
+use parse_stack::{Values, name_in, named};
 use sisal_grammar::{Action, Back, Outline, Value};
 use sisal_tree::{FunDef, FunKind, Header, Item, TypeDef};
-use sisal_values::{Values, name_in, named};
 use std::alloc::Global;
 
 /// The actions of units and functions.

@@ -15,7 +15,7 @@ use Rattle.sisal_grammar.specs.Placed.{placed}
 use Rattle.sisal_grammar.specs.Plan.{plan}
 use Rattle.sisal_grammar.specs.Sorts.{args}
 use Rattle.sisal_grammar.proofs.Plans.{plan_typed}
-use Rattle.sisal_values.specs.Stack.{Tops}
+use Rattle.parse_stack.specs.Stack.{Tops}
 use Rattle.sisal_build.specs.Nowhere.{nowhere}
 use Rattle.sisal_build.proofs.Places.{placed_length, placed_classes, map_length}
 use Rattle.sisal_build.proofs.Finals.{tops, derived}

@@ -1,0 +1,69 @@
+//! Does what its words name, for a script to time, and prints a line for each. Of the text on standard
+//! input: `parse` lexes and parses it as SISAL (how many types and functions it has), `check` checks it
+//! too (how many functions the typed program has, or the rule that it breaks), `if1` reads, checks and
+//! writes it as IF1 (how many bytes its canonical text has). `values` reads and prints the value text
+//! of an array of a thousand integers (how many bytes are printed, and a checksum of them),
+//! `values-long` of a million; then the nanoseconds that it took go to standard error.
+#![tactic(auto)]
+
+mod texts;
+mod values;
+
+use flow_io::{ReaderSource, read_all};
+use std::time::Instant;
+use std::{env, io};
+use texts::{Typing, canonical_length, items, typed};
+use values::{FEW, MANY, again, checksum, integers, text_of};
+
+/// The most bytes of a text.
+const MOST_BYTES: usize = 4194304;
+
+/// Times the value text of so many integers.
+fn time_values(rt: HostRuntime, count: u32) -> io::Result<()> {
+    let alloc = rt.alloc();
+    let (Ok(ty), Ok(text)) = (integers(alloc), text_of(alloc, count)) else {
+        println!(rt; "no memory")?;
+        return Ok(());
+    };
+    let begin = Instant::now(&rt)?;
+    let Ok(printed) = again(alloc, &ty, text.as_slice()) else {
+        println!(rt; "no value")?;
+        return Ok(());
+    };
+    let taken = begin.elapsed(&rt)?;
+    let sum = checksum(printed.as_slice());
+    println!(rt; "{} bytes, checksum {}", printed.len(), sum)?;
+    if count == MANY {
+        eprintln!(rt; "{}", taken.as_nanos())?;
+    }
+    Ok(())
+}
+
+fn main(rt: HostRuntime) -> io::Result<()> {
+    let mut from = ReaderSource::new(rt.stdin());
+    let Ok(text) = read_all(rt.alloc(), &mut from, MOST_BYTES) else {
+        println!(rt; "no text")?;
+        return Ok(());
+    };
+    for word in env::args(&rt)? {
+        match word.as_str() {
+            "parse" => match items(rt.alloc(), text.as_slice()) {
+                Some(n) => println!(rt; "{n} types and functions")?,
+                None => println!(rt; "no unit")?,
+            },
+            "check" => match typed(rt.alloc(), text.as_slice()) {
+                Typing::Typed(functions) => println!(rt; "functions: {functions}")?,
+                Typing::Broken(rule, line) => println!(rt; "type rule {rule} line {line}")?,
+                Typing::Nothing => println!(rt; "no unit")?,
+            },
+            "if1" => match canonical_length(rt.alloc(), text.as_slice()) {
+                Some(bytes) => println!(rt; "bytes: {bytes}")?,
+                None => println!(rt; "no unit")?,
+            },
+            "values" => time_values(rt, FEW)?,
+            "values-long" => time_values(rt, MANY)?,
+            _ => println!(rt; "no such word")?,
+        }
+    }
+    Ok(())
+}

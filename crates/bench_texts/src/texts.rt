@@ -1,0 +1,55 @@
+//! What a text is as SISAL and as IF1.
+
+use crate::MOST_BYTES;
+use if1_call::canonical_text;
+use sisal_check::check;
+use sisal_lex::lex;
+use sisal_parse::parse;
+use sisal_tree::Unit;
+use std::alloc::Global;
+use type_rules::TypeFault;
+
+/// The unit that a text is, if it is one.
+fn unit_of(alloc: Global, text: &[u8]) -> Option<Unit> {
+    if text.len() > MOST_BYTES {
+        return None;
+    }
+    let tokens = lex(alloc, text).ok()?;
+    parse(alloc, tokens).ok()
+}
+
+/// How many types and functions a text has, if it is a unit.
+pub fn items(alloc: Global, text: &[u8]) -> Option<usize> {
+    let unit = unit_of(alloc, text)?;
+    Some(unit.items.len())
+}
+
+/// What the type checker says of a text.
+pub enum Typing {
+    /// It is a program of so many functions.
+    Typed(usize),
+    /// It breaks this rule on this line.
+    Broken(u8, u32),
+    /// It is no unit, or memory is wanting.
+    Nothing,
+}
+
+/// What the type checker says of a text.
+pub fn typed(alloc: Global, text: &[u8]) -> Typing {
+    let Some(unit) = unit_of(alloc, text) else {
+        return Typing::Nothing;
+    };
+    match check(alloc, unit) {
+        Ok(program) => Typing::Typed(program.functions.len()),
+        Err(TypeFault::Rule { rule, line }) => Typing::Broken(rule, line),
+        Err(TypeFault::NoMemory) => Typing::Nothing,
+    }
+}
+
+/// How long the canonical text of an IF1 text is, if it is a unit.
+pub fn canonical_length(alloc: Global, text: &[u8]) -> Option<usize> {
+    match canonical_text(alloc, text) {
+        Ok(text) => Some(text.len()),
+        Err(_) => None,
+    }
+}
