@@ -21,6 +21,3 @@ pub use outline::{Outline, arguments_in, fields_in, is_integer, is_stream, resul
 pub use outlines::outlines_of;
 pub use rows::Outlines;
 pub use units::wrong_ports;
-
-#[cfg(test)]
-mod tests;

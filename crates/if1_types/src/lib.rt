@@ -17,6 +17,3 @@ pub use laws::a_number_stands_for_one_thing;
 pub use params::params_of;
 pub use shapes::Shapes;
 pub use sorts::{Sorts, sorts_of};
-
-#[cfg(test)]
-mod tests;

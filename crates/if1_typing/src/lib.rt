@@ -14,6 +14,3 @@ mod tables;
 mod units;
 
 pub use units::wrong_type;
-
-#[cfg(test)]
-mod tests;

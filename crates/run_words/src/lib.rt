@@ -11,6 +11,3 @@ pub use command::{Command, Keyword, MeanSet, RunSet};
 pub use fault::WordFault;
 pub use options::{Flag, Named, Options, Runner, Setting};
 pub use reading::{read_words, words_have_one_meaning};
-
-#[cfg(test)]
-mod tests;
