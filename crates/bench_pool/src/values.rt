@@ -19,7 +19,7 @@ fn pool_of_one(alloc: Global) -> Result<Pool, NoMemory>
     ensures idle { IfOk result (λ pool. (number : ℕ) → IsIdleIfAny (entry_at pool number)) }
 {
     let mut pool = Pool::new(alloc);
-    let reserved = pool.reserve(alloc, 1);
+    let reserved = pool.reserve(1);
     let Ok(()) = reserved else {
         pool.end();
         return Err(NoMemory);
