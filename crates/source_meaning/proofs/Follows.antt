@@ -8,8 +8,8 @@ use Rattle.typed_tree.specs.declared.expr.TypedExpr.{TypedExpr}
 use Rattle.typed_tree.specs.declared.expr.Case.{Case}
 use Rattle.source_meaning.specs.declared.state.After.TheVariants as after
 use Rattle.source_meaning.specs.declared.state.Frame.{Frame}
-use Rattle.source_meaning.specs.Timed.{andthen}
-use Rattle.source_meaning.specs.Meaning.{all_of, with_content, arm_in, arm_at, meaning, meanings, definitions}
+use Rattle.meaning.specs.Timed.{andthen}
+use Rattle.meaning.specs.Meaning.{all_of, with_content, arm_in, arm_at, meaning, meanings, definitions}
 use Rattle.source_meaning.specs.Pending.{Program, Rest, finish, whole}
 use Rattle.source_meaning.proofs.Laws.{given_then, then_then}
 

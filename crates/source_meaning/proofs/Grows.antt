@@ -12,14 +12,14 @@ use Rattle.typed_tree.specs.declared.expr.Case.{Case}
 use Rattle.typed_tree.specs.declared.expr.Product.{Product}
 use Rattle.typed_tree.specs.declared.expr.Turns.{Turns}
 use Rattle.typed_tree.specs.declared.program.Function.{Function}
-use Rattle.source_meaning.specs.declared.words.Test.{Test}
-use Rattle.source_meaning.specs.declared.words.Test.TheVariants as test
-use Rattle.source_meaning.specs.declared.sources.Places.{Places}
-use Rattle.source_meaning.specs.declared.sources.Places.TheVariants as places
-use Rattle.source_meaning.specs.Timed.{Timed, given, plus, andthen, Below}
-use Rattle.source_meaning.specs.Words.{value_at, test_of, goes_on}
-use Rattle.source_meaning.specs.Sources.{places_of, lower_of}
-use Rattle.source_meaning.specs.Meaning.{Gives, all_of, defined, body_of, chosen, with_content, arm_in, arm_at, arm_of, each, environments, at_place, folded, over, Members, member, renew, turned, turn, turns, members, unless_failed, looped, kind_gives, expr_gives, results_of, function_gives, calls, meaning, kind_meaning, meanings, definitions}
+use Rattle.meaning.specs.declared.words.Test.{Test}
+use Rattle.meaning.specs.declared.words.Test.TheVariants as test
+use Rattle.meaning.specs.declared.sources.Places.{Places}
+use Rattle.meaning.specs.declared.sources.Places.TheVariants as places
+use Rattle.meaning.specs.Timed.{Timed, given, plus, andthen, Below}
+use Rattle.meaning.specs.Words.{value_at, test_of, goes_on}
+use Rattle.meaning.specs.Sources.{places_of, lower_of}
+use Rattle.meaning.specs.Meaning.{Gives, all_of, defined, body_of, chosen, with_content, arm_in, arm_at, arm_of, each, environments, at_place, folded, over, Members, member, renew, turned, turn, turns, members, unless_failed, looped, kind_gives, expr_gives, results_of, function_gives, calls, meaning, kind_meaning, meanings, definitions}
 use Rattle.source_meaning.specs.Pending.{Program}
 use Rattle.source_meaning.proofs.Laws.{below_refl, below_none, below_plus, below_then, below_trans, below_same}
 

@@ -1,5 +1,5 @@
 use Rattle.std.proofs.Common.{rules, ◌≡◌, Some, slice_get}
-use Rattle.source_meaning.specs.Meaning.{with_content}
+use Rattle.meaning.specs.Meaning.{with_content}
 use Rattle.source_meaning.specs.Pending.{rest}
 use Rattle.source_meaning.proofs.Follows.{arm_is}
 use Rattle.source_meaning.proofs.finish.enter_arm.Goals as goal
