@@ -27,10 +27,10 @@ one-carry u g ins os n m ks ls a b =
     let d = x.0 + y.0 in
     let far = length (u g).nodes in
     some-same ks ls
-        (sym (all-below (demanded (of_node (leads_to x.0 u)) (u g).nodes ins far) (demanded (of_node (leads_to d u)) (u g).nodes ins far)
-          (demanded-below (of_node (leads_to x.0 u)) (of_node (leads_to d u)) (node-below x.0 d (omega arith) u) (u g).nodes ins far far (omega arith)) os ks x.1)
-        ∙ all-below (demanded (of_node (leads_to y.0 u)) (u g).nodes ins far) (demanded (of_node (leads_to d u)) (u g).nodes ins far)
-          (demanded-below (of_node (leads_to y.0 u)) (of_node (leads_to d u)) (node-below y.0 d (omega arith) u) (u g).nodes ins far far (omega arith)) os ls y.1)
+    (sym (all-below (demanded (of_node (leads_to x.0 u)) (u g).nodes ins far) (demanded (of_node (leads_to d u)) (u g).nodes ins far)
+    (demanded-below (of_node (leads_to x.0 u)) (of_node (leads_to d u)) (node-below x.0 d (omega arith) u) (u g).nodes ins far far (omega arith)) os ks x.1)
+    ∙ all-below (demanded (of_node (leads_to y.0 u)) (u g).nodes ins far) (demanded (of_node (leads_to d u)) (u g).nodes ins far)
+    (demanded-below (of_node (leads_to y.0 u)) (of_node (leads_to d u)) (node-below y.0 d (omega arith) u) (u g).nodes ins far far (omega arith)) os ls y.1)
 
 -- the sums that nothing adds to, so that the direction to the record can be used without a reading of its own
 abbrev no_weights : Weights
@@ -83,14 +83,18 @@ module _ (T : Tally) (u : Network) (order : ℕ → List Vertex) where
         let later = more.2 in
         let sum = h.4 in
         let x = k.4 in
-        let y = more.4 in
-        (
+        let y = more.4 in (
           n,
           more.1,
           with_both T 1 (T.of_node g v ks.0 rs) inner later,
-          (rs, inner, later,
+          (
+            rs,
+            inner,
+            later,
             record { operands = ks.0; reads = ks.1; gives = kind-on T u order (Yields T u order k.0) (Yields T u order n) (yields-on T u order k.0 n (omega arith)) v.kind ks.0 rs inner k.3 },
-            nodes-on T u order (Yields T u order more.0) (Yields T u order n) (yields-on T u order more.0 n (omega arith)) g now vs more.1 later more.3, refl),
+            nodes-on T u order (Yields T u order more.0) (Yields T u order n) (yields-on T u order more.0 n (omega arith)) g now vs more.1 later more.3,
+            refl,
+          ),
           ap (λ z. 1 + (z + later.fires)) x ∙ (ap (λ z. 1 + (h.0 + z)) y ∙ sym sum),
         )
 
@@ -120,11 +124,20 @@ module _ (T : Tally) (u : Network) (order : ℕ → List Vertex) where
         → YieldsOn form ks (follow form ks stage ms) d → YieldsOn form ks (Enter t g ins stage) (entry_fires t + (c + d))
     enter-yields form ks t g ins stage ms c d m nodes carry later =
         let x = graph-yields g ins ms c m nodes carry in
-        let n = x.0 + later.0 in
-        (suc n, later.1, with_both T (entry_fires t) T.none x.1 later.2,
-            (ms, x.1, later.2, graph-on T u order (Yields T u order x.0) (Yields T u order n) (yields-on T u order x.0 n (omega arith)) g ins ms x.1 x.2,
-            yields-on T u order later.0 n (omega arith) form ks (follow form ks stage ms) later.1 later.2 later.3, refl),
-            both-fires (entry_fires t) x.1 later.2 c d x.3 later.4)
+        let n = x.0 + later.0 in (
+          suc n,
+          later.1,
+          with_both T (entry_fires t) T.none x.1 later.2,
+          (
+            ms,
+            x.1,
+            later.2,
+            graph-on T u order (Yields T u order x.0) (Yields T u order n) (yields-on T u order x.0 n (omega arith)) g ins ms x.1 x.2,
+            yields-on T u order later.0 n (omega arith) form ks (follow form ks stage ms) later.1 later.2 later.3,
+            refl,
+          ),
+          both-fires (entry_fires t) x.1 later.2 c d x.3 later.4,
+        )
 
     -- what the results of several rows consist of
     abbrev MeanIn : ℕ → ℕ → List (List Carried) → List (List Carried) → Type 0
@@ -153,9 +166,20 @@ module _ (T : Tally) (u : Network) (order : ℕ → List Vertex) where
       later-to _ _ _ _ _ (of_iterations n form ks g row rows ms lists c d a b later) =
           let x = rows-to n g (row ∷ rows) c a n lists b in
           let y = later-to n form ks (gather form ks ms lists) d later in
-          let k = x.0 + y.0 in
-          (suc k, y.1, with_both T 0 T.none x.1 y.2, (lists, x.1, y.2, rows-on T u order (Yields T u order x.0) (Yields T u order k) (yields-on T u order x.0 k (omega arith)) g (row ∷ rows) lists x.1 x.2,
-            yields-on T u order y.0 k (omega arith) form ks (gather form ks ms lists) y.1 y.2 y.3, refl), both-fires 0 x.1 y.2 c d x.3 y.4 ∙ omega arith)
+          let k = x.0 + y.0 in (
+            suc k,
+            y.1,
+            with_both T 0 T.none x.1 y.2,
+            (
+              lists,
+              x.1,
+              y.2,
+              rows-on T u order (Yields T u order x.0) (Yields T u order k) (yields-on T u order x.0 k (omega arith)) g (row ∷ rows) lists x.1 x.2,
+              yields-on T u order y.0 k (omega arith) form ks (gather form ks ms lists) y.1 y.2 y.3,
+              refl,
+            ),
+            both-fires 0 x.1 y.2 c d x.3 y.4 ∙ omega arith,
+          )
 
       rows-to : (n g : ℕ) (rows : List (List Carried)) (c : ℕ) → RowsFire u n g rows c → (m : ℕ) (lists : List (List Carried)) → MeanAll u m g rows lists
           → (n : ℕ) × (t : Total T) × RowsYield T u order (Yields T u order n) g rows lists t × (t.fires ≡ c)
@@ -164,9 +188,21 @@ module _ (T : Tally) (u : Network) (order : ℕ → List Vertex) where
           let z = mean-in m g (ins ∷ rows) lists b in
           let x = graph-yields g ins z.0 c m (nodes-to n g ins (u g).nodes c a) z.2 in
           let y = rows-to n g rows d more m z.1 z.3 in
-          let k = x.0 + y.0 in
-          (k, with_both T 1 T.none x.1 y.1, (z.0, z.1, x.1, y.1, graph-on T u order (Yields T u order x.0) (Yields T u order k) (yields-on T u order x.0 k (omega arith)) g ins z.0 x.1 x.2,
-            rows-on T u order (Yields T u order y.0) (Yields T u order k) (yields-on T u order y.0 k (omega arith)) g rows z.1 y.1 y.2, z.4, refl), both-fires 1 x.1 y.1 c d x.3 y.3)
+          let k = x.0 + y.0 in (
+            k,
+            with_both T 1 T.none x.1 y.1,
+            (
+              z.0,
+              z.1,
+              x.1,
+              y.1,
+              graph-on T u order (Yields T u order x.0) (Yields T u order k) (yields-on T u order x.0 k (omega arith)) g ins z.0 x.1 x.2,
+              rows-on T u order (Yields T u order y.0) (Yields T u order k) (yields-on T u order y.0 k (omega arith)) g rows z.1 y.1 y.2,
+              z.4,
+              refl,
+            ),
+            both-fires 1 x.1 y.1 c d x.3 y.3,
+          )
 
     -- the cost alone tells that there are results and sums
     pub yields-where-costed : (e g : ℕ) (ins : List Carried) (c : ℕ) → Costs u e g ins c → (n : ℕ) × (rs : List Carried) × (t : Total T) × GraphYields T u order (Yields T u order n) g ins rs t × (t.fires ≡ c)

@@ -16,9 +16,14 @@ module _ (T : Tally) (u : Network) (order : ℕ → List Vertex) where
 
     pub nodes-on : (g : ℕ) (env : Bindings) (vs : List Vertex) (after : Bindings) (c : Total T) → NodesYield T a g env vs after c → NodesYield T b g env vs after c
     nodes-on g env [] after c h = h
-    nodes-on g env (v ∷ vs) after c h =
-        (h.0, h.1, h.2, record { operands = h.3.operands; reads = h.3.reads; gives = kind-on v.kind h.3.operands h.0 h.1 h.3.gives },
-          nodes-on g (Fired v.label h.0 env) vs after h.2 h.4, h.5)
+    nodes-on g env (v ∷ vs) after c h = (
+      h.0,
+      h.1,
+      h.2,
+      record { operands = h.3.operands; reads = h.3.reads; gives = kind-on v.kind h.3.operands h.0 h.1 h.3.gives },
+      nodes-on g (Fired v.label h.0 env) vs after h.2 h.4,
+      h.5,
+    )
 
     pub graph-on : (g : ℕ) (ins rs : List Carried) (c : Total T) → GraphYields T u order a g ins rs c → GraphYields T u order b g ins rs c
     graph-on g ins rs c h = (h.0, h.1, nodes-on g (Inputs ins) (order g) h.0 h.1 h.2, h.3, h.4)

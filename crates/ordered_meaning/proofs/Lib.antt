@@ -7,3 +7,5 @@ pub mod Complete
 pub mod Same
 pub mod Taking
 pub mod UnitTaking
+pub mod Computed
+pub mod Examples

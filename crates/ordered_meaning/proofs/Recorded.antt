@@ -67,7 +67,7 @@ shuffle-adds u w n g ins _ _ (swapped v x vs) s h =
     let p = w.of_node g v a.0 a.1 in
     let q = w.of_node g x b.0 b.1 in
     subst (NodesAdd u w n g ins (x ∷ v ∷ vs)) (moves s p a.2 a.3 q b.2 b.3 e f)
-        (adds.a_node n g ins x (v ∷ vs) b.0 b.1 b.2 (p + (a.2 + b.3)) b.4 b.5 b.6 (adds.a_node n g ins v vs a.0 a.1 a.2 b.3 a.4 a.5 a.6 b.7))
+    (adds.a_node n g ins x (v ∷ vs) b.0 b.1 b.2 (p + (a.2 + b.3)) b.4 b.5 b.6 (adds.a_node n g ins v vs a.0 a.1 a.2 b.3 a.4 a.5 a.6 b.7))
   where
     moves : (s p c d q c' d' : ℕ) → s ≡ p + (c + d) → d ≡ q + (c' + d') → q + (c' + (p + (c + d'))) ≡ s
     moves s p c d q c' d' e f = omega (arith, e, f)
@@ -130,15 +130,21 @@ module _ (T : Tally) (w : Weights) (r : Reading T w) where
 
         kind-bears : (k : Kind) (os : List Source) (ks rs : List Carried) (c : Total T) → From (λ d. CarryAll u d g ins os ks) → KindYields T rest k ks rs c
             → From (λ d. Outputs u d k ks rs × InnerFires u d g ins k os c.fires × InnerAdds u w d k ks (sum_of c))
-        kind-bears (Plain row shape) os ks rs c r h =
-            (0, λ d le. (subst (Outputs u d (Plain row shape) ks) (sym h.0) (simple d row shape ks),
-                subst (InnerFires u d g ins (Plain row shape) os) (sym (ap (λ (x : Total T). x.fires) h.1)) (of_simple d g ins row shape os),
-                subst (InnerAdds u w d (Plain row shape) ks) (sym (none-read c h.1)) (adds.of_simple d row shape ks)))
+        kind-bears (Plain row shape) os ks rs c r h = (
+          0,
+          λ d le. (
+            subst (Outputs u d (Plain row shape) ks) (sym h.0) (simple d row shape ks),
+            subst (InnerFires u d g ins (Plain row shape) os) (sym (ap (λ (x : Total T). x.fires) h.1)) (of_simple d g ins row shape os),
+            subst (InnerAdds u w d (Plain row shape) ks) (sym (none-read c h.1)) (adds.of_simple d row shape ks),
+          ),
+        )
         kind-bears (Whole form) os ks rs c r h =
-            let x = bears form ks (next_of (first form ks)) rs c h in
-            (x.0 + r.0, λ d le.
-                let y = x.1 d (omega (arith, le)) in
-                (whole d form ks rs y.0, of_whole d g ins form os ks c.fires (r.1 d (omega (arith, le))) y.1, adds.of_whole d form ks (sum_of c) y.2))
+            let x = bears form ks (next_of (first form ks)) rs c h in (
+              x.0 + r.0,
+              λ d le.
+                  let y = x.1 d (omega (arith, le)) in
+                  (whole d form ks rs y.0, of_whole d g ins form os ks c.fires (r.1 d (omega (arith, le))) y.1, adds.of_whole d form ks (sum_of c) y.2),
+            )
 
         pub nodes-bear : (vs : List Vertex) → EachNode (λ v. (l : ℕ) × (v.label ≡ suc l) × (at_label (u g).nodes (suc l) ≡ Some v)) vs → (env after : Bindings) (c : Total T) → Stands env → NodesYield T rest g env vs after c
             → Stands after × From (λ d. NodesFire u d g ins vs c.fires × NodesAdd u w d g ins vs (sum_of c))
@@ -149,43 +155,59 @@ module _ (T : Tally) (w : Weights) (r : Reading T w) where
             let node = go.3 in
             let carry = read-all env h v.ins node.operands node.reads in
             let k = kind-bears v.kind v.ins node.operands rs go.1 carry node.gives in
-            let later = nodes-bear vs lab.1 (Fired v.label rs env) after go.2 (outs rs node.operands carry k) go.4 in
-            (later.0, (carry.0 + (k.0 + later.1.0), λ d le.
-                let a = k.1 d (omega (arith, le)) in
-                let b = later.1.1 d (omega (arith, le)) in
-                (subst (NodesFire u d g ins (v ∷ vs)) (sym (ap (λ (x : Total T). x.fires) go.5)) (a_node d g ins v vs go.1.fires go.2.fires a.1 b.0),
-                 subst (NodesAdd u w d g ins (v ∷ vs)) (sym (both-read c go.1 go.2 1 (T.of_node g v node.operands rs) (w.of_node g v node.operands rs) (r.node_is g v node.operands rs) go.5))
-                     (adds.a_node d g ins v vs node.operands rs (sum_of go.1) (sum_of go.2) (carry.1 d (omega (arith, le))) a.0 a.2 b.1))))
+            let later = nodes-bear vs lab.1 (Fired v.label rs env) after go.2 (outs rs node.operands carry k) go.4 in (
+              later.0,
+              (
+                carry.0 + (k.0 + later.1.0),
+                λ d le.
+                    let a = k.1 d (omega (arith, le)) in
+                    let b = later.1.1 d (omega (arith, le)) in (
+                      subst (NodesFire u d g ins (v ∷ vs)) (sym (ap (λ (x : Total T). x.fires) go.5)) (a_node d g ins v vs go.1.fires go.2.fires a.1 b.0),
+                      subst (NodesAdd u w d g ins (v ∷ vs)) (sym (both-read c go.1 go.2 1 (T.of_node g v node.operands rs) (w.of_node g v node.operands rs) (r.node_is g v node.operands rs) go.5))
+                          (adds.a_node d g ins v vs node.operands rs (sum_of go.1) (sum_of go.2) (carry.1 d (omega (arith, le))) a.0 a.2 b.1),
+                    ),
+              ),
+            )
           where
             outs : (rs ks : List Carried) → From (λ d. CarryAll u d g ins v.ins ks) → From (λ d. Outputs u d v.kind ks rs × InnerFires u d g ins v.kind v.ins go.1.fires × InnerAdds u w d v.kind ks (sum_of go.1)) → Stands (Fired v.label rs env)
             outs rs ks r k l p x (inr has) = h l p x has
-            outs rs ks r k l p x (inl b) =
-                (r.0 + k.0, λ d le. subst (λ z. Carries u d g ins (Port z p) x) (sym (b.0 ∙ lab.0.1))
-                    (subst (λ z. Carries u d g ins (Port (suc lab.0.0) p) z) (sym b.1)
-                      (output d g ins lab.0.0 p v ks rs lab.0.2 (r.1 d (omega (arith, le))) ((k.1 d (omega (arith, le))).0))))
+            outs rs ks r k l p x (inl b) = (
+              r.0 + k.0,
+              λ d le. subst (λ z. Carries u d g ins (Port z p) x) (sym (b.0 ∙ lab.0.1))
+                  (subst (λ z. Carries u d g ins (Port (suc lab.0.0) p) z) (sym b.1)
+                  (output d g ins lab.0.0 p v ks rs lab.0.2 (r.1 d (omega (arith, le))) ((k.1 d (omega (arith, le))).0))),
+            )
 
       pub graph-bears : (g : ℕ) (ins rs : List Carried) (c : Total T) → GraphYields T u order rest g ins rs c → From (λ d. Means u d g ins rs × Costs u d g ins c.fires × GraphAdds u w d g ins (sum_of c))
       graph-bears g ins rs c h =
           let o = ok g in
           let x = nodes-bear g ins (order g) o.labelled (Inputs ins) h.0 h.1 (stands-inputs g ins) h.2 in
-          let res = read-all g ins h.0 x.0 (u g).results rs h.3 in
-          (x.1.0 + res.0, λ d le.
-              let carry = res.1 d (omega (arith, le)) in
-              let a = x.1.1 d (omega (arith, le)) in
-              (carry, subst (NodesFire u d g ins (u g).nodes) (sym (ap (λ (x : Total T). x.fires) h.4)) (shuffle-fires u d g ins (order g) (u g).nodes o.shuffled h.1.fires a.0),
-               subst (GraphAdds u w d g ins) (sym (results-read c h.1 g rs h.4)) (adds.of_nodes d g ins rs (sum_of h.1) carry (shuffle-adds u w d g ins (order g) (u g).nodes o.shuffled (sum_of h.1) a.1))))
+          let res = read-all g ins h.0 x.0 (u g).results rs h.3 in (
+            x.1.0 + res.0,
+            λ d le.
+                let carry = res.1 d (omega (arith, le)) in
+                let a = x.1.1 d (omega (arith, le)) in (
+                  carry,
+                  subst (NodesFire u d g ins (u g).nodes) (sym (ap (λ (x : Total T). x.fires) h.4)) (shuffle-fires u d g ins (order g) (u g).nodes o.shuffled h.1.fires a.0),
+                  subst (GraphAdds u w d g ins) (sym (results-read c h.1 g rs h.4)) (adds.of_nodes d g ins rs (sum_of h.1) carry (shuffle-adds u w d g ins (order g) (u g).nodes o.shuffled (sum_of h.1) a.1)),
+                ),
+          )
 
       rows-bear : (g : ℕ) (rows lists : List (List Carried)) (c : Total T) → RowsYield T u order rest g rows lists c → From (λ d. MeanAll u d g rows lists × RowsFire u d g rows c.fires × RowsAdd u w d g rows (sum_of c))
       rows-bear g [] lists c h =
           (0, λ d le. (subst (MeanAll u d g []) (sym h.0) (no_row d g), subst (RowsFire u d g []) (sym (ap (λ (x : Total T). x.fires) h.1)) (of_no_row d g), subst (RowsAdd u w d g []) (sym (none-read c h.1)) (adds.of_no_row d g)))
       rows-bear g (row ∷ rows) lists c h =
           let x = graph-bears g row h.0 h.2 h.4 in
-          let y = rows-bear g rows h.1 h.3 h.5 in
-          (x.0 + y.0, λ d le.
-              let a = x.1 d (omega (arith, le)) in
-              let b = y.1 d (omega (arith, le)) in
-              (subst (MeanAll u d g (row ∷ rows)) (sym h.6) (a_row d g row h.0 rows h.1 a.0 b.0), subst (RowsFire u d g (row ∷ rows)) (sym (ap (λ (x : Total T). x.fires) h.7)) (of_row d g row rows h.2.fires h.3.fires a.1 b.1),
-               subst (RowsAdd u w d g (row ∷ rows)) (sym (two-read c h.2 h.3 1 h.7)) (adds.of_row d g row rows (sum_of h.2) (sum_of h.3) a.2 b.2)))
+          let y = rows-bear g rows h.1 h.3 h.5 in (
+            x.0 + y.0,
+            λ d le.
+                let a = x.1 d (omega (arith, le)) in
+                let b = y.1 d (omega (arith, le)) in (
+                  subst (MeanAll u d g (row ∷ rows)) (sym h.6) (a_row d g row h.0 rows h.1 a.0 b.0),
+                  subst (RowsFire u d g (row ∷ rows)) (sym (ap (λ (x : Total T). x.fires) h.7)) (of_row d g row rows h.2.fires h.3.fires a.1 b.1),
+                  subst (RowsAdd u w d g (row ∷ rows)) (sym (two-read c h.2 h.3 1 h.7)) (adds.of_row d g row rows (sum_of h.2) (sum_of h.3) a.2 b.2),
+                ),
+          )
 
     enter-bears : (form : Form) (ks : List Carried) (t : Bool) (g : ℕ) (ins : List Carried) (stage : Stage) (rs ms : List Carried) (c inner later : Total T)
         → From (λ d. Means u d g ins ms × Costs u d g ins inner.fires × GraphAdds u w d g ins (sum_of inner)) → Leading form ks (follow form ks stage ms) rs later → c ≡ with_both T (entry_fires t) T.none inner later → Leading form ks (Enter t g ins stage) rs c
@@ -198,40 +220,53 @@ module _ (T : Tally) (w : Weights) (r : Reading T w) where
         sums-are = two-read c inner later (entry_fires t) e
 
         go : (b : Bool) → is_deeper form t ≡ b → Leading form ks (Enter t g ins stage) rs c
-        go false is = (x.0 + y.0, λ d le.
-            let a = x.1 d (omega (arith, le)) in
-            let b = y.1 d (omega (arith, le)) in
-            (enters d form ks t g ins stage ms rs is a.0 b.0,
-             subst (LaterFires u d form ks (Enter t g ins stage)) (sym fires-are) (of_graph d form ks t g ins stage ms inner.fires later.fires is a.1 a.0 b.1),
-             subst (LaterAdds u w d form ks (Enter t g ins stage)) (sym sums-are) (adds.of_graph d form ks t g ins stage ms (sum_of inner) (sum_of later) is a.0 a.2 b.2)))
+        go false is = (
+          x.0 + y.0,
+          λ d le.
+              let a = x.1 d (omega (arith, le)) in
+              let b = y.1 d (omega (arith, le)) in (
+                enters d form ks t g ins stage ms rs is a.0 b.0,
+                subst (LaterFires u d form ks (Enter t g ins stage)) (sym fires-are) (of_graph d form ks t g ins stage ms inner.fires later.fires is a.1 a.0 b.1),
+                subst (LaterAdds u w d form ks (Enter t g ins stage)) (sym sums-are) (adds.of_graph d form ks t g ins stage ms (sum_of inner) (sum_of later) is a.0 a.2 b.2),
+              ),
+        )
         go true is = (suc (x.0 + y.0), λ d le. deep d le)
           where
             deep : (d : ℕ) → suc (x.0 + y.0) ≤ d → Leads u d form ks (Enter t g ins stage) rs × LaterFires u d form ks (Enter t g ins stage) c.fires × LaterAdds u w d form ks (Enter t g ins stage) (sum_of c)
             deep zero le = absurd (omega (arith, le))
             deep (suc d) le =
                 let a = x.1 d (omega (arith, le)) in
-                let b = y.1 d (omega (arith, le)) in
-                (enters_deeper d form ks t g ins stage ms rs is a.0 b.0,
-                 subst (LaterFires u (suc d) form ks (Enter t g ins stage)) (sym fires-are) (of_deeper d form ks t g ins stage ms inner.fires later.fires is a.1 a.0 b.1),
-                 subst (LaterAdds u w (suc d) form ks (Enter t g ins stage)) (sym sums-are) (adds.of_deeper d form ks t g ins stage ms (sum_of inner) (sum_of later) is a.0 a.2 b.2))
+                let b = y.1 d (omega (arith, le)) in (
+                  enters_deeper d form ks t g ins stage ms rs is a.0 b.0,
+                  subst (LaterFires u (suc d) form ks (Enter t g ins stage)) (sym fires-are) (of_deeper d form ks t g ins stage ms inner.fires later.fires is a.1 a.0 b.1),
+                  subst (LaterAdds u w (suc d) form ks (Enter t g ins stage)) (sym sums-are) (adds.of_deeper d form ks t g ins stage ms (sum_of inner) (sum_of later) is a.0 a.2 b.2),
+                )
 
     pub yields-bear : (n : ℕ) (form : Form) (ks : List Carried) (next : Next) (rs : List Carried) (c : Total T) → Yields T u order n form ks next rs c → Leading form ks next rs c
     yields-bear zero form ks next rs c h = absurd h
-    yields-bear (suc n) form ks (Leave outs) rs c h =
-        (0, λ d le. (subst (Leads u d form ks (Leave outs)) (sym h.0) (leaves d form ks outs), subst (LaterFires u d form ks (Leave outs)) (sym (ap (λ (x : Total T). x.fires) h.1)) (of_leaving d form ks outs),
-            subst (LaterAdds u w d form ks (Leave outs)) (sym (none-read c h.1)) (adds.of_leaving d form ks outs)))
+    yields-bear (suc n) form ks (Leave outs) rs c h = (
+      0,
+      λ d le. (
+        subst (Leads u d form ks (Leave outs)) (sym h.0) (leaves d form ks outs),
+        subst (LaterFires u d form ks (Leave outs)) (sym (ap (λ (x : Total T). x.fires) h.1)) (of_leaving d form ks outs),
+        subst (LaterAdds u w d form ks (Leave outs)) (sym (none-read c h.1)) (adds.of_leaving d form ks outs),
+      ),
+    )
     yields-bear (suc n) form ks (Enter t g ins stage) rs c h =
         enter-bears form ks t g ins stage rs h.0 c h.1 h.2 (graph-bears (Yields T u order n) (yields-bear n) g ins h.0 h.1 h.3) (yields-bear n form ks (follow form ks stage h.0) rs h.2 h.4) h.5
     yields-bear (suc n) form ks (Iterate g row rows ms) rs c h =
         let x = rows-bear (Yields T u order n) (yields-bear n) g (row ∷ rows) h.0 h.1 h.3 in
         let y = yields-bear n form ks (gather form ks ms h.0) rs h.2 h.4 in
-        let e : c.fires ≡ h.1.fires + h.2.fires = ap (λ (x : Total T). x.fires) h.5 ∙ omega arith in
-        (x.0 + y.0, λ d le.
-            let a = x.1 d (omega (arith, le)) in
-            let b = y.1 d (omega (arith, le)) in
-            (iterates d form ks g row rows ms h.0 rs a.0 b.0,
-             subst (LaterFires u d form ks (Iterate g row rows ms)) (sym e) (of_iterations d form ks g row rows ms h.0 h.1.fires h.2.fires a.1 a.0 b.1),
-             subst (LaterAdds u w d form ks (Iterate g row rows ms)) (sym (two-read c h.1 h.2 0 h.5)) (adds.of_iterations d form ks g row rows ms h.0 (sum_of h.1) (sum_of h.2) a.0 a.2 b.2)))
+        let e : c.fires ≡ h.1.fires + h.2.fires = ap (λ (x : Total T). x.fires) h.5 ∙ omega arith in (
+          x.0 + y.0,
+          λ d le.
+              let a = x.1 d (omega (arith, le)) in
+              let b = y.1 d (omega (arith, le)) in (
+                iterates d form ks g row rows ms h.0 rs a.0 b.0,
+                subst (LaterFires u d form ks (Iterate g row rows ms)) (sym e) (of_iterations d form ks g row rows ms h.0 h.1.fires h.2.fires a.1 a.0 b.1),
+                subst (LaterAdds u w d form ks (Iterate g row rows ms)) (sym (two-read c h.1 h.2 0 h.5)) (adds.of_iterations d form ks g row rows ms h.0 (sum_of h.1) (sum_of h.2) a.0 a.2 b.2),
+              ),
+        )
 
     -- all three from some depth on
     pub graph-from : (n g : ℕ) (ins rs : List Carried) (c : Total T) → GraphYields T u order (Yields T u order n) g ins rs c → From (λ d. Means u d g ins rs × Costs u d g ins c.fires × GraphAdds u w d g ins (sum_of c))

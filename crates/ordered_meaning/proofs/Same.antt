@@ -48,9 +48,11 @@ sums-of-record w u order orderly inorder g ins rs t = (there, from)
         let y = yields-where-costed (counting w) u order ok h.0 g ins t.fires h.2 in
         let x = recorded (counting w) u order ok y.0 g ins y.1 y.2 y.3 w (itself w) in
         let same = one-meaning u g ins y.1 rs x.0 h.0 x.1 h.1 in
-        let sum = one (counting w) u order ok y.0 g ins y.1 y.2 y.3 w (itself w) h.0 t.sum h.3 in
-        (y.0, subst (GraphYields (counting w) u order (Yields (counting w) u order y.0) g ins rs) (total-is y.2 t y.4 sum)
-            (subst (λ z. GraphYields (counting w) u order (Yields (counting w) u order y.0) g ins z y.2) same y.3))
+        let sum = one (counting w) u order ok y.0 g ins y.1 y.2 y.3 w (itself w) h.0 t.sum h.3 in (
+          y.0,
+          subst (GraphYields (counting w) u order (Yields (counting w) u order y.0) g ins rs) (total-is y.2 t y.4 sum)
+              (subst (λ z. GraphYields (counting w) u order (Yields (counting w) u order y.0) g ins z y.2) same y.3),
+        )
 
 -- ---- copies and writes
 
@@ -90,9 +92,13 @@ module _ (s : Storage) (u : Network) (order : ℕ → List Vertex) (ok : (g : �
   from-record g ins rs c copied written h =
       let y = yields-where-costed (moved s) u order ok h.0 g ins c h.2 in
       let x = moved-recorded y.0 g ins y.1 y.2 y.3 in
-      let same = one-meaning u g ins y.1 rs x.0 h.0 x.1 h.1 in
-      (y.2, (y.0, subst (λ z. GraphYields (moved s) u order (Yields (moved s) u order y.0) g ins z y.2) same y.3), y.4,
-       copies-one y.0 g ins y.1 y.2 y.3 h.0 copied h.3, writes-one y.0 g ins y.1 y.2 y.3 h.0 written h.4)
+      let same = one-meaning u g ins y.1 rs x.0 h.0 x.1 h.1 in (
+        y.2,
+        (y.0, subst (λ z. GraphYields (moved s) u order (Yields (moved s) u order y.0) g ins z y.2) same y.3),
+        y.4,
+        copies-one y.0 g ins y.1 y.2 y.3 h.0 copied h.3,
+        writes-one y.0 g ins y.1 y.2 y.3 h.0 written h.4,
+      )
 
   pub the-same : AreTheSame s u order
   the-same =

@@ -63,9 +63,11 @@ module _ (rank : ℕ → ℕ) where
 
   rises-along : (before : List ℕ) (vs : List Vertex) → Rising vs → EachNode (Waits before vs) vs → LabelsOnce vs → ((n : ℕ) → IsIn n before → IsLabel vs n → ⊥) → IsAlong before vs
   rises-along before [] rises h once fresh = tt
-  rises-along before (v ∷ vs) rises h once fresh =
-      ((λ n i. first n (h.0 n i).1 (h.0 n i).0), (λ i. fresh v.label i (inl refl)),
-       rises-along (v.label ∷ before) vs rises.1 (each-mapped (Waits before (v ∷ vs)) (Waits (v.label ∷ before) vs) (λ w x n i. (moved n (x n i).0, (x n i).1)) vs h.1) once.1 apart)
+  rises-along before (v ∷ vs) rises h once fresh = (
+    (λ n i. first n (h.0 n i).1 (h.0 n i).0),
+    (λ i. fresh v.label i (inl refl)),
+    rises-along (v.label ∷ before) vs rises.1 (each-mapped (Waits before (v ∷ vs)) (Waits (v.label ∷ before) vs) (λ w x n i. (moved n (x n i).0, (x n i).1)) vs h.1) once.1 apart,
+  )
     where
       first : (n : ℕ) → rank n < rank v.label → IsIn n before ⊎ IsLabel (v ∷ vs) n → IsIn n before
       first n lt (inl i) = i
@@ -93,10 +95,11 @@ sorted net orderly named =
     let b = back vs net.nodes s in
     let all : (n : ℕ) → IsLabel net.nodes n → IsLabel vs n = label-shuffled net.nodes vs b in
     let waiting = each-mapped (λ v. ((n : ℕ) → IsIn n (waits v) → IsLabel net.nodes n) × ((n : ℕ) → IsIn n (waits v) → r.rank n < r.rank v.label)) (Waits r.rank [] vs) (λ v h n i. (inr (all n (h.0 n i)), h.1 n i)) net.nodes
-          (both (λ v. (n : ℕ) → IsIn n (waits v) → IsLabel net.nodes n) (λ v. (n : ℕ) → IsIn n (waits v) → r.rank n < r.rank v.label) net.nodes orderly.named r.falls) in
-    (vs,
-     record {
-       nodes = each-shuffled (λ v. (v.label ≢ 0) × (at_label net.nodes v.label ≡ Some v)) net.nodes vs b (both (λ v. v.label ≢ 0) (λ v. at_label net.nodes v.label ≡ Some v) net.nodes named (all-found net.nodes orderly.once));
-       all = all;
-       along = rises-along r.rank [] vs (up-rises r.rank net.nodes) (each-shuffled (Waits r.rank [] vs) net.nodes vs b waiting) (once-shuffled net.nodes vs b orderly.once) (λ n h i. h);
-     })
+    (both (λ v. (n : ℕ) → IsIn n (waits v) → IsLabel net.nodes n) (λ v. (n : ℕ) → IsIn n (waits v) → r.rank n < r.rank v.label) net.nodes orderly.named r.falls) in (
+      vs,
+      record {
+        nodes = each-shuffled (λ v. (v.label ≢ 0) × (at_label net.nodes v.label ≡ Some v)) net.nodes vs b (both (λ v. v.label ≢ 0) (λ v. at_label net.nodes v.label ≡ Some v) net.nodes named (all-found net.nodes orderly.once));
+        all = all;
+        along = rises-along r.rank [] vs (up-rises r.rank net.nodes) (each-shuffled (Waits r.rank [] vs) net.nodes vs b waiting) (once-shuffled net.nodes vs b orderly.once) (λ n h i. h);
+      },
+    )

@@ -63,8 +63,7 @@ module _ (g : Net) (marks : Marks) (sound : AreMarksSound g marks) where
   takers-last before gone [] lab along none closed taken =
       (none-is-taken gone 1 g.results (λ j l p at d. let x = taken l p d in none (closed x.0.label 0 x.3 (sound.no_result l p x.0 x.1 x.2 j at))), sound.alone)
   takers-last before gone (v ∷ vs) lab along none closed taken =
-      let there : at_label g.nodes v.label ≡ Some v = ap (at_label g.nodes) lab.0.1 ∙ lab.0.2 in
-      (
+      let there : at_label g.nodes v.label ≡ Some v = ap (at_label g.nodes) lab.0.1 ∙ lab.0.2 in (
         none-is-taken gone (first_port v.kind) v.ins (λ j l p at d. let x = taken l p d in read-after x.0 x.1 x.3 (sound.last l p x.0 x.1 x.2 v j there at)),
         (λ i j l p at takes also. alone i j (sound.last l p v i (record { node = there; labelled = (lab.0.0, lab.0.1); fills = at; takes = takes }) v j there also)),
         takers-last (v.label ∷ before) (taken_by (marks v.label) (first_port v.kind) v.ins gone) vs lab.1 along.2 not-zero (closed-with v before there along.0 closed) (taken-with v before gone there (lab.0.0, lab.0.1) taken),

@@ -103,8 +103,8 @@ module _ (u : Unit1) (p : Place) (ready : IsReady u) (sound : IsSound u) (there 
   waiting : (l i m j a b : ℕ) (x : Edged u p.graph l i a b) (y : Edged u p.graph m j a b) → x.edge.takes ≡ true → l ≢ 0 → (l ≡ m → i ≡ j → ⊥) → WaitsFor (nodes-of u p.graph) l m
   waiting l i m j a b x y t ne other =
       subst (λ z. WaitsFor (nodes-of u p.graph) z m) x.node (subst (λ z. WaitsFor (nodes-of u p.graph) x.edge.node z) y.node
-        (precedes y.edge.node x.edge.node
-          (taker-last u p x.edge y.edge sound there x.there y.there t (y.from ∙ sym x.from) (λ (s : y.edge ≡ x.edge). other (sym x.node ∙ (sym (ap (λ (e : Edge). e.node) s) ∙ y.node)) (sym x.port ∙ (sym (ap (λ (e : Edge). e.port) s) ∙ y.port))) (λ z. ne (sym x.node ∙ z))).0))
+      (precedes y.edge.node x.edge.node
+      (taker-last u p x.edge y.edge sound there x.there y.there t (y.from ∙ sym x.from) (λ (s : y.edge ≡ x.edge). other (sym x.node ∙ (sym (ap (λ (e : Edge). e.node) s) ∙ y.node)) (sym x.port ∙ (sym (ap (λ (e : Edge). e.port) s) ∙ y.port))) (λ z. ne (sym x.node ∙ z))).0))
 
   here : AreMarksSound (net_of u p.graph) (marks_of p.graph)
   here =
