@@ -1,18 +1,13 @@
 -- The ordered meaning, computed.
-use Rattle.std.proofs.Common.{◌≡◌, ℕ, zero, suc, ◌-◌, Bool, true, false, if◌then◌else◌, eqb, List, [], ◌∷◌, get_or, Option, Some, None, inl, inr, refl, sym, ap, ◌∙◌, subst}
-use Rattle.std.proofs.lemmas.Bool.{eqb-true}
-use Rattle.graph_meaning.specs.Carried.{Carried, Unfilled}
+use Rattle.std.proofs.Common.{◌≡◌, ℕ, zero, suc, List, [], ◌∷◌, Option, Some, None, refl, sym, ap, ◌∙◌, subst}
+use Rattle.graph_meaning.specs.Carried.{Carried}
 use Rattle.graph_meaning.specs.NodeValues.{op}
 use Rattle.graph_meaning.specs.Entered.{entry_fires}
 use Rattle.graph_meaning.specs.Forms.{Form, Next, Enter, Iterate, Leave, next_of, first, follow, gather}
 use Rattle.graph_meaning.specs.Demand.{Source, Port, Fixed, Kind, Plain, Whole, Vertex, Network, and_then}
 use Rattle.graph_meaning.proofs.PlainValues.{and-then-some}
-use Rattle.ordered_meaning.specs.Ordered.{Bindings, Inputs, Fired, Binds, ReadsAll, Tally, Total, nothing, with_both, and_results, Rest, KindYields, NodesYield, GraphYields, RowsYield, Yields, MeansInOrder}
-
-abbrev pub bound : Bindings → ℕ → ℕ → Option Carried
-bound (Inputs ks) zero p = Some (get_or ks (p - 1) Unfilled)
-bound (Inputs ks) (suc l) p = None
-bound (Fired label rs others) l p = if eqb l label then Some (get_or rs (p - 1) Unfilled) else bound others l p
+use Rattle.ordered_meaning.proofs.Bound.{same-some, none-some}
+use Rattle.ordered_meaning.specs.Ordered.{Bindings, Inputs, Fired, bound, ReadsAll, Tally, Total, nothing, with_both, and_results, Rest, KindYields, NodesYield, GraphYields, RowsYield, Yields, MeansInOrder}
 
 abbrev pub read : Bindings → Source → Option Carried
 read env (Fixed c) = Some c
@@ -22,21 +17,6 @@ abbrev pub read_all : Bindings → List Source → Option (List Carried)
 read_all env [] = Some []
 read_all env (o ∷ os) = and_then (read env o) (λ k. and_then (read_all env os) (λ ks. Some (k ∷ ks)))
 
-same-some : {A : Type 0} (a b : A) → Some a ≡ Some b → a ≡ b
-same-some a b e = cc
-
-none-some : {A : Type 0} (a : A) → None ≡ Some a → ⊥
-none-some a e = absurd cc
-
-bound-binds : (env : Bindings) (l p : ℕ) (k : Carried) → bound env l p ≡ Some k → Binds env l p k
-bound-binds (Inputs ks) zero p k e = (refl, sym (same-some (get_or ks (p - 1) Unfilled) k e))
-bound-binds (Inputs ks) (suc l) p k e = absurd (none-some k e)
-bound-binds (Fired label rs others) l p k e = go (eqb l label) refl e (bound-binds others l p k)
-  where
-    go : (b : Bool) → eqb l label ≡ b → (if b then Some (get_or rs (p - 1) Unfilled) else bound others l p) ≡ Some k → (bound others l p ≡ Some k → Binds others l p k) → Binds (Fired label rs others) l p k
-    go true s h rest = inl (eqb-true l label s, sym (same-some (get_or rs (p - 1) Unfilled) k h))
-    go false s h rest = inr (rest h)
-
 all-read : (env : Bindings) (os : List Source) (ks : List Carried) → read_all env os ≡ Some ks → ReadsAll env os ks
 all-read env [] ks e = subst (ReadsAll env []) (same-some [] ks e) tt
 all-read env (Fixed c ∷ os) ks e =
@@ -45,7 +25,7 @@ all-read env (Fixed c ∷ os) ks e =
 all-read env (Port l p ∷ os) ks e =
     let x = and-then-some (bound env l p) (λ k. and_then (read_all env os) (λ ks. Some (k ∷ ks))) ks e in
     let y = and-then-some (read_all env os) (λ ks. Some (x.0 ∷ ks)) ks x.2 in
-    subst (ReadsAll env (Port l p ∷ os)) (same-some (x.0 ∷ y.0) ks y.2) (bound-binds env l p x.0 x.1, all-read env os y.0 y.1)
+    subst (ReadsAll env (Port l p ∷ os)) (same-some (x.0 ∷ y.0) ks y.2) (x.1, all-read env os y.0 y.1)
 
 module _ (T : Tally) (u : Network) (order : ℕ → List Vertex) where
   -- results with a total

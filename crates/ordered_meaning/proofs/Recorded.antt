@@ -1,6 +1,6 @@
 -- What goes in an order has the results, the cost and the sums of the definitions of record.
-use Rattle.std.proofs.Common.{◌≡◌, ℕ, zero, suc, ◌+◌, ◌≤◌, Bool, true, false, List, [], ◌∷◌, Some, inl, inr, refl, sym, ap, ◌∙◌, subst, arith}
-use Rattle.graph_meaning.specs.Carried.{Carried}
+use Rattle.std.proofs.Common.{◌⊎◌, get_or, ◌-◌, ◌≡◌, ℕ, zero, suc, ◌+◌, ◌≤◌, Bool, true, false, List, [], ◌∷◌, Some, inl, inr, refl, sym, ap, ◌∙◌, subst, arith}
+use Rattle.graph_meaning.specs.Carried.{Carried, Unfilled}
 use Rattle.graph_meaning.specs.Entered.{entry_fires}
 use Rattle.graph_meaning.specs.Forms.{Form, Next, Stage, Enter, Iterate, Leave, next_of, first, follow, gather}
 use Rattle.graph_meaning.specs.Demand.{Source, Port, Fixed, Kind, Plain, Whole, Vertex, Network, EachNode, at_label}
@@ -8,7 +8,8 @@ use Rattle.graph_meaning.specs.Plain.{is_deeper, Carries, fixed, input, output, 
 use Rattle.graph_meaning.specs.Storage.{Weights, NodesAdd, InnerAdds, LaterAdds, RowsAdd, GraphAdds}
 use Rattle.graph_meaning.specs.Storage as adds
 use Rattle.graph_meaning.proofs.SumsOnce.{sum-one}
-use Rattle.ordered_meaning.specs.Ordered.{Bindings, Inputs, Fired, Binds, ReadsAll, Tally, Total, nothing, with_both, and_results, Rest, KindYields, NodesYield, GraphYields, RowsYield, Yields}
+use Rattle.ordered_meaning.specs.Ordered.{Bindings, Inputs, Fired, bound, ReadsAll, Tally, Total, nothing, with_both, and_results, Rest, KindYields, NodesYield, GraphYields, RowsYield, Yields}
+use Rattle.ordered_meaning.proofs.Bound.{same-some, none-some, bound-by}
 use Rattle.ordered_meaning.proofs.Shuffled.{Shuffled, same, swapped, under, joined, IsListed}
 
 -- the sum, read as a number, is one by these weights
@@ -111,7 +112,7 @@ module _ (T : Tally) (w : Weights) (r : Reading T w) where
     module _ (rest : Rest T) (bears : (form : Form) (ks : List Carried) (next : Next) (rs : List Carried) (c : Total T) → rest form ks next rs c → Leading form ks next rs c) where
       module _ (g : ℕ) (ins : List Carried) where
         abbrev pub Stands : Bindings → Type 0
-        Stands env = (l p : ℕ) (k : Carried) → Binds env l p k → From (λ d. Carries u d g ins (Port l p) k)
+        Stands env = (l p : ℕ) (k : Carried) → bound env l p ≡ Some k → From (λ d. Carries u d g ins (Port l p) k)
 
         pub read-all : (env : Bindings) → Stands env → (os : List Source) (ks : List Carried) → ReadsAll env os ks → From (λ d. CarryAll u d g ins os ks)
         read-all env h [] [] r = (0, λ d le. no_port d g ins)
@@ -126,7 +127,8 @@ module _ (T : Tally) (w : Weights) (r : Reading T w) where
             (x.0 + y.0, λ d le. port d g ins (Port l p) os k ks (y.1 d (omega (arith, le))) (x.1 d (omega (arith, le))))
 
         pub stands-inputs : Stands (Inputs ins)
-        stands-inputs l p k h = (0, λ d le. subst (λ z. Carries u d g ins (Port z p) k) (sym h.0) (subst (λ z. Carries u d g ins (Port 0 p) z) (sym h.1) (input d g ins p)))
+        stands-inputs zero p k h = (0, λ d le. subst (Carries u d g ins (Port 0 p)) (same-some (get_or ins (p - 1) Unfilled) k h) (input d g ins p))
+        stands-inputs (suc l) p k h = absurd (none-some k h)
 
         kind-bears : (k : Kind) (os : List Source) (ks rs : List Carried) (c : Total T) → From (λ d. CarryAll u d g ins os ks) → KindYields T rest k ks rs c
             → From (λ d. Outputs u d k ks rs × InnerFires u d g ins k os c.fires × InnerAdds u w d k ks (sum_of c))
@@ -170,13 +172,16 @@ module _ (T : Tally) (w : Weights) (r : Reading T w) where
             )
           where
             outs : (rs ks : List Carried) → From (λ d. CarryAll u d g ins v.ins ks) → From (λ d. Outputs u d v.kind ks rs × InnerFires u d g ins v.kind v.ins go.1.fires × InnerAdds u w d v.kind ks (sum_of go.1)) → Stands (Fired v.label rs env)
-            outs rs ks r k l p x (inr has) = h l p x has
-            outs rs ks r k l p x (inl b) = (
-              r.0 + k.0,
-              λ d le. subst (λ z. Carries u d g ins (Port z p) x) (sym (b.0 ∙ lab.0.1))
-                  (subst (λ z. Carries u d g ins (Port (suc lab.0.0) p) z) (sym b.1)
-                  (output d g ins lab.0.0 p v ks rs lab.0.2 (r.1 d (omega (arith, le))) ((k.1 d (omega (arith, le))).0))),
-            )
+            outs rs ks r k l p x has = one (bound-by v.label rs env l p x has)
+              where
+                one : ((l ≡ v.label) × (x ≡ get_or rs (p - 1) Unfilled)) ⊎ ((l ≡ v.label → ⊥) × (bound env l p ≡ Some x)) → From (λ d. Carries u d g ins (Port l p) x)
+                one (inr b) = h l p x b.1
+                one (inl b) = (
+                  r.0 + k.0,
+                  λ d le. subst (λ z. Carries u d g ins (Port z p) x) (sym (b.0 ∙ lab.0.1))
+                      (subst (λ z. Carries u d g ins (Port (suc lab.0.0) p) z) (sym b.1)
+                      (output d g ins lab.0.0 p v ks rs lab.0.2 (r.1 d (omega (arith, le))) ((k.1 d (omega (arith, le))).0))),
+                )
 
       pub graph-bears : (g : ℕ) (ins rs : List Carried) (c : Total T) → GraphYields T u order rest g ins rs c → From (λ d. Means u d g ins rs × Costs u d g ins c.fires × GraphAdds u w d g ins (sum_of c))
       graph-bears g ins rs c h =

@@ -4,7 +4,7 @@
 -- A node reads its operands among the values that are bound so far, and binds its outputs. So nothing is demanded, and results,
 -- firings and sums come by one recursion. What a compound node enters stands in the same table of forms by which the
 -- definition of record goes. What stands here with a number of steps stands with every greater one.
-use Rattle.std.specs.Prelude.{◌≡◌, ℕ, zero, suc, ◌+◌, ◌-◌, ◌⊎◌, List, [], ◌∷◌, get_or}
+use Rattle.std.specs.Prelude.{◌≡◌, ℕ, zero, suc, ◌+◌, ◌-◌, eqb, if◌then◌else◌, List, [], ◌∷◌, get_or, Option, Some, None}
 use Rattle.graph_meaning.specs.Carried.{Carried, Unfilled}
 use Rattle.graph_meaning.specs.NodeValues.{op}
 use Rattle.graph_meaning.specs.Forms.{Form, Next, Enter, Iterate, Leave, next_of, first, follow, gather}
@@ -20,13 +20,14 @@ pub data Bindings : Type 0 where
 
 -- What an output carries, where node 0 stands for the inputs of the graph. A port that a node or graph does not have carries
 -- nothing.
-abbrev pub Binds : Bindings → (node port : ℕ) → Carried → Type 0
-Binds (Inputs ks) l p k = (l ≡ 0) × (k ≡ get_or ks (p - 1) Unfilled)
-Binds (Fired label rs others) l p k = ((l ≡ label) × (k ≡ get_or rs (p - 1) Unfilled)) ⊎ Binds others l p k
+abbrev pub bound : Bindings → (node port : ℕ) → Option Carried
+bound (Inputs ks) zero p = Some (get_or ks (p - 1) Unfilled)
+bound (Inputs ks) (suc l) p = None
+bound (Fired label rs others) l p = if eqb l label then Some (get_or rs (p - 1) Unfilled) else bound others l p
 
 abbrev pub Reads : Bindings → Source → Carried → Type 0
 Reads env (Fixed c) k = k ≡ c
-Reads env (Port l p) k = Binds env l p k
+Reads env (Port l p) k = bound env l p ≡ Some k
 
 abbrev pub ReadsAll : Bindings → List Source → List Carried → Type 0
 ReadsAll env [] [] = Unit {0}
