@@ -70,20 +70,24 @@ if_lowered test one_arm other ts env n q =
 abbrev pub tag_case : Wire → List Lowering → List ℕ → List ℕ → Lowering
 tag_case u fs arms ts n q = tag_case_on u (new_graphs q fs) arms ts n q
 
--- the arm of each tag of the union
-abbrev pub arms_of : Case → List ℕ
-arms_of c = c.choices
+-- the arm of each of the tags of the union, which has so many
+abbrev pub arms_of : Case → ℕ → List ℕ
+arms_of c tags = c.choices
 
--- the first tag of an arm, from 0
-abbrev pub first_tag : ℕ → ℕ → List ℕ → ℕ
-first_tag arm tag [] = tag
-first_tag arm tag (a ∷ rest) = if nat_eq a arm then tag else first_tag arm (suc tag) rest
+-- the place of the first of these that is this arm, from a place on
+abbrev pub first_place : ℕ → ℕ → List ℕ → ℕ
+first_place arm tag [] = tag
+first_place arm tag (a ∷ rest) = if nat_eq a arm then tag else first_place arm (suc tag) rest
+
+-- the first tag of an arm
+abbrev pub first_tag : Case → ℕ → ℕ
+first_tag c arm = first_place arm 0 c.choices
 
 module _ (forms : List Form) where
   -- the names in an arm: the content of the union is in force in the first so many
   abbrev pub arm_names : Case → ℕ → ℕ → List Wire → List Wire
   arm_names c type arm env =
-      if nat_lt arm c.named then map into env ++ wire (Port 0 0 1) (One (content_of forms type (first_tag arm 0 (arms_of c)))) ∷ [] else map into env
+      if nat_lt arm c.named then map into env ++ wire (Port 0 0 1) (One (content_of forms type (first_tag c arm))) ∷ [] else map into env
 
   abbrev pub arms_from : Case → ℕ → ℕ → List Lowers → List Wire → List Lowering
   arms_from c type arm [] env = []
@@ -92,7 +96,8 @@ module _ (forms : List Form) where
   -- the arms in order, `otherwise` last, on a union
   abbrev pub case_lowered : Case → List (List Lowers) → List ℕ → List Wire → Lowers
   case_lowered c arms ts ws env =
-      tag_case (wire_at ws 0) (arms_from c (type_of (wire_at ws 0).ty) 0 (map all_lowered arms) env) (arms_of c) ts
+      let type = type_of (wire_at ws 0).ty in
+      tag_case (wire_at ws 0) (arms_from c type 0 (map all_lowered arms) env) (arms_of c (tag_count forms type)) ts
 
   -- the arm of each of so many tags from one on: the first for this tag, the second for all others
   abbrev pub two_arms : ℕ → ℕ → ℕ → List ℕ

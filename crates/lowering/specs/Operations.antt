@@ -1,7 +1,6 @@
 -- Names, constants and operations: each operation is one node, made behind its operands from left to right (SISAL Language Reference
 -- Manual 1.2, operations; IF1 manual M-170, simple nodes).
 use Rattle.std.specs.Prelude.{ℕ, zero, suc, List, [], ◌∷◌, ◌++◌, map, drop, slice_get, unwrap_or, nat_eq, if◌then◌else◌, pos}
-use Rattle.flow_value.specs.declared.operation.Scalar1.TheVariants as unary
 use Rattle.if1_graph.specs.declared.op.Simple.{Simple}
 use Rattle.if1_graph.specs.declared.op.Simple.TheVariants as simple
 use Rattle.if1_graph.specs.Units.{greatest}
@@ -9,7 +8,7 @@ use Rattle.sisal_tree.specs.declared.expr.Constant.{Constant}
 use Rattle.sisal_tree.specs.declared.expr.Constant.TheVariants as constant
 use Rattle.value_ops.specs.declared.operation.Operation.{Operation}
 use Rattle.value_ops.specs.declared.operation.Operation.TheVariants as operation
-use Rattle.lowering.specs.Feeds.{Literal, Absent, Carried, One, Many, Callee, Wire, wire}
+use Rattle.lowering.specs.Feeds.{Literal, Absent, One, Wire, wire}
 use Rattle.lowering.specs.Graphs.{Row, Lowering, only, andthen, a_node}
 
 -- what a phrase becomes, by what the names in force stand for

@@ -1,6 +1,6 @@
 -- The graphs of a program: a graph for each function in the order of the text, and behind each the graphs inside of it. Its inputs are
 -- the parameters; a function that another text has gives an error for each result (SISAL Language Reference Manual 1.2, programs).
-use Rattle.std.specs.Prelude.{ℕ, suc, zero, ◌+◌, List, [], ◌∷◌, ◌++◌, map, get_or, slice_get, Option, Some, None}
+use Rattle.std.specs.Prelude.{ℕ, suc, zero, List, [], ◌∷◌, map, get_or, slice_get, Option, Some, None}
 use Rattle.if1_graph.specs.declared.op.Simple.TheVariants as simple
 use Rattle.type_table.specs.declared.form.Form.{Form}
 use Rattle.typed_tree.specs.declared.expr.TypedExpr.{TypedExpr}

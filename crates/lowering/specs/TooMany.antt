@@ -1,9 +1,9 @@
 -- Which programs have no unit, as its table or its graphs would be too large; the line is that of the function in which this shows.
-use Rattle.std.specs.Prelude.{ℕ, ◌+◌, Bool, ◌||◌, nat_lt, List, [], ◌∷◌, ◌++◌, length, Option, Some, None, if◌then◌else◌}
+use Rattle.std.specs.Prelude.{ℕ, ◌+◌, Bool, ◌||◌, nat_lt, List, [], ◌∷◌, length, Option, Some, None, if◌then◌else◌}
 use Rattle.std.specs.List.{list_any}
 use Rattle.typed_tree.specs.declared.program.Function.{Function}
 use Rattle.typed_tree.specs.declared.program.Program.{Program}
-use Rattle.lowering.specs.Graphs.{Lowered, LoweredGraph, size, closed_graphs}
+use Rattle.lowering.specs.Graphs.{Lowered, size, closed_graphs}
 use Rattle.lowering.specs.Programs.{functions_lowered}
 use Rattle.lowering.specs.Types.{Table, Need, basics, needs}
 
