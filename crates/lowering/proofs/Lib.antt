@@ -1,0 +1,6 @@
+mod Words
+mod OperationExamples
+mod ChoiceExamples
+mod LoopExamples
+mod TurnExamples
+mod ProgramExamples

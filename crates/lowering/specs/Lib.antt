@@ -1,0 +1,9 @@
+pub mod Feeds
+pub mod Graphs
+pub mod Operations
+pub mod Choices
+pub mod Loops
+pub mod Phrases
+pub mod Programs
+pub mod Types
+pub mod TooMany
