@@ -146,6 +146,14 @@ IsSumOne = (u : Network) (w : Weights) (g : ℕ) (ins : List Carried) (n m s t :
 abbrev pub IsCostOne : Type 0
 IsCostOne = (u : Network) (g : ℕ) (ins : List Carried) (n m c d : ℕ) → Costs u n g ins c → Costs u m g ins d → c ≡ d
 
+-- the cost that a depth of calls and turns gives, every greater one gives
+abbrev pub IsPlainCostStable : Type 0
+IsPlainCostStable = (u : Network) (g : ℕ) (ins : List Carried) (c n m : ℕ) → n ≤ m → Costs u n g ins c → Costs u m g ins c
+
+-- and so each sum by its recursion
+abbrev pub IsSumStable : Type 0
+IsSumStable = (u : Network) (w : Weights) (g : ℕ) (ins : List Carried) (s n m : ℕ) → n ≤ m → GraphAdds u w n g ins s → GraphAdds u w m g ins s
+
 -- Where the own item of a node may be claimed, every node for which it waits along data edges and ordering lists, itself or
 -- by others, has its last item made.
 abbrev pub AreUsersFinished : Type 0

@@ -1,5 +1,5 @@
 //! The laws of a graph's meaning, of its cost, and of its histories.
-ghost use Rattle.graph_meaning.specs.Laws.{AreValuesStable, AreCostsStable, DoTreesGrow, IsCostTheSum, IsCostOfAnyCut, IsMeantWhereCosted, AreExecutionsConfluent, AreExecutionsNeverStuck, AreRunsConfluent, AreRunsNeverStuck, AreUnitsOrderly, HaveUnitsOneEnd, AreOrdersRightWithoutLists, AreFoundByNumber, AreOutputsCounted, IsLeastPortGiven, AreDepthsOfOneMeaning, IsMeaningOne, AreDepthsOfOneCost, IsMeaningStable, IsNothingCalledAtZero, AreSumsDefined, AreCopiesDefined, IsSumOne, IsCostOne, AreUsersFinished, AreUnitCopiesDefined, AreUnitCopiesOne, AreUnmarkedCopied, HaveSoundUnitsOneEnd, AreTakersLast};
+ghost use Rattle.graph_meaning.specs.Laws.{AreValuesStable, AreCostsStable, DoTreesGrow, IsCostTheSum, IsCostOfAnyCut, IsMeantWhereCosted, AreExecutionsConfluent, AreExecutionsNeverStuck, AreRunsConfluent, AreRunsNeverStuck, AreUnitsOrderly, HaveUnitsOneEnd, AreOrdersRightWithoutLists, AreFoundByNumber, AreOutputsCounted, IsLeastPortGiven, AreDepthsOfOneMeaning, IsMeaningOne, AreDepthsOfOneCost, IsMeaningStable, IsPlainCostStable, IsSumStable, IsNothingCalledAtZero, AreSumsDefined, AreCopiesDefined, IsSumOne, IsCostOne, AreUsersFinished, AreUnitCopiesDefined, AreUnitCopiesOne, AreUnmarkedCopied, HaveSoundUnitsOneEnd, AreTakersLast};
 
 /// The results of a graph that one depth gives are given at every greater one.
 pub fn values_are_stable()
@@ -124,6 +124,16 @@ pub fn the_sum_is_one()
 /// No two depths of calls and turns give different costs.
 pub fn the_cost_is_one()
     ensures { IsCostOne }
+{}
+
+/// The cost that a depth of calls and turns gives, every greater one gives.
+pub fn the_plain_cost_is_stable()
+    ensures { IsPlainCostStable }
+{}
+
+/// So is it with each sum by the recursion of the cost.
+pub fn the_sum_is_stable()
+    ensures { IsSumStable }
 {}
 
 /// Where a node may be claimed, every node for which it waits has finished.

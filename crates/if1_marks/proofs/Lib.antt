@@ -4,6 +4,8 @@ pub mod Consumed
 pub mod Lent
 pub mod Taken
 pub mod Unlisted
+pub mod Ways
+pub mod Known
 pub mod Examples
 pub mod Blameless
 pub mod Faultless

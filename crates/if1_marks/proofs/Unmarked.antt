@@ -112,7 +112,7 @@ label-same n = ap (λ (x : Node-F Graph Node). x.label) (unmarked-node-at n)
 name-same : (g : Graph) → (out-Graph (unmarked g)).name ≡ (out-Graph g).name
 name-same g = ap (λ (x : Graph-F Graph Node). x.name) (unmarked-at g)
 
-found-mapped : {A B : Type 0} (f : A → B) (p : B → Bool) (q : A → Bool) → ((x : A) → p (f x) ≡ q x) → (xs : List A) → find p (map f xs) ≡ option_map f (find q xs)
+pub found-mapped : {A B : Type 0} (f : A → B) (p : B → Bool) (q : A → Bool) → ((x : A) → p (f x) ≡ q x) → (xs : List A) → find p (map f xs) ≡ option_map f (find q xs)
 found-mapped f p q same [] = refl
 found-mapped f p q same (x ∷ xs) =
     ap (λ b. cond b (Some (f x)) (find p (map f xs))) (same x)

@@ -2,6 +2,7 @@ pub mod Aggregates
 pub mod Given
 pub mod Owned
 pub mod Orders
+pub mod Ways
 pub mod Sound
 pub mod Faults
 pub mod Unmarked

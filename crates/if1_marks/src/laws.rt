@@ -1,5 +1,5 @@
 //! The laws of the storage rules.
-ghost use Rattle.if1_marks.specs.Laws.{IsGivenByEdge, IsConsumedWhereGiven, AreLent, IsTakenOnce, IsTakerLast, IsTakenAlone, IsSoundInOrder, IsReadyInOrder, IsUnmarkedSound, AreSoundFaultless, AreFaultlessSound, AreMarksNotLookedAt, AreUnmarkedWithout};
+ghost use Rattle.if1_marks.specs.Laws.{IsGivenByEdge, IsConsumedWhereGiven, AreLent, AreWaysFound, IsOrderKnown, IsTakenOnce, IsTakerLast, IsTakenAlone, IsSoundInOrder, IsReadyInOrder, IsUnmarkedSound, AreSoundFaultless, AreFaultlessSound, AreMarksNotLookedAt, AreUnmarkedWithout};
 
 /// An input of a graph is given exactly where a consuming edge that leads to no Call leaves it.
 pub fn given_inputs_have_a_consuming_edge()
@@ -15,6 +15,16 @@ pub fn compound_nodes_consume_what_is_given()
 /// What is lent is not owned.
 pub fn what_is_lent_is_not_owned()
     ensures { AreLent }
+{}
+
+/// A way along links is found by the numbers to which links lead.
+pub fn ways_are_found()
+    ensures { AreWaysFound }
+{}
+
+/// Of each two nodes of a graph it is known whether the one comes before the other.
+pub fn the_order_is_known()
+    ensures { IsOrderKnown }
 {}
 
 /// In sound marks no two edges take from one port.
