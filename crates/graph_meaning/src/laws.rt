@@ -1,5 +1,5 @@
 //! The laws of a graph's meaning, of its cost, and of its histories.
-ghost use Rattle.graph_meaning.specs.Laws.{AreValuesStable, AreCostsStable, DoTreesGrow, IsCostTheSum, IsCostOfAnyCut, IsMeantWhereCosted, AreExecutionsConfluent, AreExecutionsNeverStuck, AreRunsConfluent, AreRunsNeverStuck, AreUnitsOrderly, HaveUnitsOneEnd, AreOrdersRightWithoutLists, AreFoundByNumber, AreOutputsCounted, IsLeastPortGiven, AreDepthsOfOneMeaning, IsMeaningOne, AreDepthsOfOneCost, IsMeaningStable, IsPlainCostStable, IsSumStable, IsNothingCalledAtZero, AreSumsDefined, AreCopiesDefined, IsSumOne, IsCostOne, AreUsersFinished, AreUnitCopiesDefined, AreUnitCopiesOne, AreUnmarkedCopied, HaveSoundUnitsOneEnd, AreTakersLast};
+ghost use Rattle.graph_meaning.specs.Laws.{AreValuesStable, AreCostsStable, DoTreesGrow, IsCostTheSum, IsCostOfAnyCut, IsMeantWhereCosted, AreExecutionsConfluent, AreExecutionsNeverStuck, AreRunsConfluent, AreRunsNeverStuck, AreUnitsOrderly, HaveUnitsOneEnd, AreOrdersRightWithoutLists, AreFoundByNumber, AreOutputsCounted, IsLeastPortGiven, AreDepthsOfOneMeaning, AreCarriedOnce, IsMeaningOne, AreDepthsOfOneCost, IsMeaningStable, IsPlainCostStable, IsSumStable, IsNothingCalledAtZero, AreSumsDefined, AreCopiesDefined, IsSumOne, IsCostOne, AreUsersFinished, AreUnitCopiesDefined, AreUnitCopiesOne, AreUnmarkedCopied, HaveSoundUnitsOneEnd, AreTakersLast};
 
 /// The results of a graph that one depth gives are given at every greater one.
 pub fn values_are_stable()
@@ -84,6 +84,11 @@ pub fn the_error_of_the_least_port_is_given()
 /// Some depth of calls and turns gives the results of a graph exactly where some depth of steps does.
 pub fn depths_have_one_meaning()
     ensures { AreDepthsOfOneMeaning }
+{}
+
+/// What is carried by any list of ports is one, whatever depths of calls and turns give it.
+pub fn what_ports_carry_is_one()
+    ensures { AreCarriedOnce }
 {}
 
 /// No two depths of calls and turns give different results.

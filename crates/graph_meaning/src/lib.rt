@@ -14,4 +14,5 @@ pub use laws::{
     the_meaning_is_stable, the_plain_cost_is_stable, the_sum_is_one, the_sum_is_stable, trees_grow,
     unmarked_consuming_edges_are_copied, users_are_finished_before_a_taker,
     values_are_given_where_the_cost_is, values_are_stable,
+    what_ports_carry_is_one,
 };

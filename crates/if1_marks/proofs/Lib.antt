@@ -11,3 +11,8 @@ pub mod Blameless
 pub mod Faultless
 pub mod SoundExamples
 pub mod Unmarked
+pub mod AlikeLists
+pub mod AlikeGraphs
+pub mod AlikePorts
+pub mod AlikeTypes
+pub mod AlikeUnits

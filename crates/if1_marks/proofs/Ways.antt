@@ -1,5 +1,5 @@
 -- Ways are found.
-use Rattle.std.proofs.Common.{◌≡◌, ◌≢◌, ℕ, Bool, true, false, ◌&&◌, ◌||◌, List, [], ◌∷◌, Contains, ◌⊎◌, inl, inr, refl, sym, subst}
+use Rattle.std.proofs.Common.{◌≡◌, ℕ, true, ◌&&◌, List, [], ◌∷◌, Contains, ◌⊎◌, inl, inr, sym, subst}
 use Rattle.std.proofs.lemmas.Bool.{or_cases, or_left, or_right, and_parts, and_from}
 use Rattle.if1_marks.proofs.Lists.{here-or-there, in-none}
 use Rattle.if1_marks.specs.Ways.{Links, Leads, link, on, leads_by}

@@ -6,4 +6,5 @@ pub mod Ways
 pub mod Sound
 pub mod Faults
 pub mod Unmarked
+pub mod Alike
 pub mod Laws
