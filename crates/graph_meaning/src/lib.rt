@@ -13,6 +13,5 @@ pub use laws::{
     the_cost_is_one, the_cost_is_the_sum, the_error_of_the_least_port_is_given, the_meaning_is_one,
     the_meaning_is_stable, the_plain_cost_is_stable, the_sum_is_one, the_sum_is_stable, trees_grow,
     unmarked_consuming_edges_are_copied, users_are_finished_before_a_taker,
-    values_are_given_where_the_cost_is, values_are_stable,
-    what_ports_carry_is_one,
+    values_are_given_where_the_cost_is, values_are_stable, what_ports_carry_is_one,
 };
