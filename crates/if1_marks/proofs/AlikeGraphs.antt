@@ -212,7 +212,7 @@ want-same g l port =
 pub carried-same : (l port : ℕ) (u : Unit1) (g : Graph) → carried (unmarked_unit u) (unmarked g) l port ≡ carried u g l port
 carried-same l port u g = ap (λ o. o >>= λ e. sort_at u.types e.ty) (edge-into-same g l port) ∙ bound-same untaken (λ e. sort_at u.types e.ty) (λ e. refl) (edge_into g l port)
 
-named-same : (gs : List Graph) (name : List ℕ) → function_named (map unmarked gs) name ≡ option_map unmarked (function_named gs name)
+pub named-same : (gs : List Graph) (name : List ℕ) → function_named (map unmarked gs) name ≡ option_map unmarked (function_named gs name)
 named-same gs name = found-mapped unmarked (λ g. bytes_eq (out-Graph g).name name) (λ g. bytes_eq (out-Graph g).name name) (λ g. ap (λ s. bytes_eq s name) (name-same g)) gs
 
 pub named-like : (u v : Unit1) → Alike u v → (name : List ℕ) → option_map unmarked (function_named u.graphs name) ≡ option_map unmarked (function_named v.graphs name)
