@@ -1,0 +1,2 @@
+pub mod AlikeNets
+pub mod AlikeRuns
