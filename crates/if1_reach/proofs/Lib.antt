@@ -1,0 +1,4 @@
+pub mod Searches
+pub mod Ways
+pub mod Links
+pub mod Labelled

@@ -1,0 +1,3 @@
+pub mod Searches
+pub mod Nets
+pub mod Paths
