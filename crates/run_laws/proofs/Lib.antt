@@ -10,5 +10,6 @@ pub mod Ends
 pub mod BackLoops
 pub mod BackForAlls
 pub mod Backward
+pub mod Stopping
 pub mod Lent
 pub mod Weighing

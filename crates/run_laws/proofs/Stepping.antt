@@ -37,7 +37,7 @@ module _ (limit : ℕ) (code : Code) where
       go true e = inl (ltb-true fires limit e)
       go false e = inr refl
 
-  over-ends : (s : State) → step limit code s ≡ Over → (k : ℕ) (rs : List Carried) (f : ℕ) → EndsIn k limit code s rs f → ⊥
+  pub over-ends : (s : State) → step limit code s ≡ Over → (k : ℕ) (rs : List Carried) (f : ℕ) → EndsIn k limit code s rs f → ⊥
   over-ends s e zero rs f h = two (sym e ∙ h)
     where
       two : Over ≡ Ends rs f → ⊥

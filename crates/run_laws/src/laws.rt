@@ -1,5 +1,6 @@
 //! The laws of the machine.
 ghost use Rattle.run_laws.specs.Laws.{DoesItAll, AreEndsRecorded, IsExact};
+ghost use Rattle.run_laws.specs.Stopping.{IsStopping, IsDecided};
 ghost use Rattle.run_laws.specs.Lent.{StaysTrue};
 ghost use Rattle.run_laws.specs.Weighing.{GiveTheSameTotals};
 
@@ -18,6 +19,17 @@ pub fn ends_are_of_record()
 /// Where the cost of record is within the limit, the machine ends with the results of record at it.
 pub fn the_machine_is_exact()
     ensures { IsExact }
+{}
+
+/// A machine whose code stays inside comes to its end or to the limit.
+pub fn the_machine_stops()
+    ensures { IsStopping }
+{}
+
+/// A run ends with the results of record at their cost, within the limit, or it comes to the limit, and
+/// every cost is beyond it.
+pub fn runs_are_decided()
+    ensures { IsDecided }
 {}
 
 /// What is known of cells at each place, that one is the element of another, stays true.
