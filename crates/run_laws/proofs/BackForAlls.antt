@@ -21,7 +21,7 @@ use Rattle.run_laws.proofs.Ends.{Fewer, WentFrom, WentOn, any-went, enters, leav
 use Rattle.run_laws.proofs.ForAlls.{IsSpread, Over, Spreading, adds-go, after-next, each-goes, each-leaves, goes_over, goes_wrong, lent-returns, low, plain-many, row-on, row_cells, spread-goes, spread-later, spreading}
 use Rattle.run_laws.proofs.Rows.{drop-none}
 use Rattle.run_laws.proofs.Stepping.{counts, does, end-next, within}
-use Rattle.run_laws.specs.Lent.{AreLong}
+use Rattle.run_laws.specs.Facts.{AreLong}
 
 module _ (X : Layout) (limit : ℕ) (coded : AreCoded X) (RS : List Carried) (END : ℕ) where
   module _ (room : ℕ) (args : List Operand) (generator body returns m : ℕ) (own : List Carried → List Carried → ℕ) (w a b lo : ℕ) (x : Over X limit room args generator body returns m own w a b lo) where

@@ -22,7 +22,7 @@ use Rattle.run_laws.proofs.Cells.{HoldsAll, Same, all-later, as-many, cells-held
 use Rattle.run_laws.proofs.Passing.{Below, Closed, Part, PartOf, any-closes, any-part, below-less, closed-as, copies-pass, errors-close, of-two, part-of, part-runs, then-closed}
 use Rattle.run_laws.proofs.Rows.{all-next, append-length, are-long, drop-none, elements-length, map-length, row-held, row-length, rows-held, write-above}
 use Rattle.run_laws.proofs.Stepping.{comes-as, comes-then, counts, does, one-step}
-use Rattle.run_laws.specs.Lent.{AreLong}
+use Rattle.run_laws.specs.Facts.{AreLong}
 
 -- what a generator's multiples lead to
 pub data Spreading (F : Form) (body returns many : ℕ) (ks ms : List Carried) (turns : ℕ) (next : Next) (c : Choice) : Type 0 where

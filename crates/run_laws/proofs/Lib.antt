@@ -11,5 +11,5 @@ pub mod BackLoops
 pub mod BackForAlls
 pub mod Backward
 pub mod Stopping
-pub mod Lent
+pub mod Facts
 pub mod Weighing

@@ -11,7 +11,7 @@ use Rattle.run_code.specs.Collections.{alone, behind, behind_all}
 use Rattle.run_code.specs.Machine.{begun, counter, elements}
 use Rattle.run_code.specs.Refolds.{AllLong}
 use Rattle.run_laws.proofs.Cells.{HoldsAll, as-many, held-cells, write-in}
-use Rattle.run_laws.specs.Lent.{AreLong}
+use Rattle.run_laws.specs.Facts.{AreLong}
 
 pub write-above : (out w : ℕ) (rs : List Carried) (cells : Cells) (j : ℕ) → out + w ≤ j → write out w rs cells j ≡ cells j
 write-above out w rs cells j le =

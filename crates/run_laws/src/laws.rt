@@ -1,7 +1,7 @@
 //! The laws of the machine.
 ghost use Rattle.run_laws.specs.Laws.{DoesItAll, AreEndsRecorded, IsExact};
 ghost use Rattle.run_laws.specs.Stopping.{IsStopping, IsDecided};
-ghost use Rattle.run_laws.specs.Lent.{StaysTrue};
+ghost use Rattle.run_laws.specs.Facts.{StaysTrue};
 ghost use Rattle.run_laws.specs.Weighing.{GiveTheSameTotals};
 
 /// Where the ordered meaning gives results at a cost within the limit, the machine ends with them at that
