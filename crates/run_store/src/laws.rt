@@ -1,0 +1,12 @@
+//! The laws of the machine whose cells own their values.
+ghost use Rattle.run_store.specs.Effects.{AreEffects, DoLead};
+
+/// Each step of the machine on values is its effect on what it reads.
+pub fn steps_are_effects()
+    ensures { AreEffects }
+{}
+
+/// What a step writes lies where it may lead.
+pub fn steps_lead_where_they_say()
+    ensures { DoLead }
+{}
