@@ -73,7 +73,7 @@ module _ (facts : ℕ → List Fact) where
       either f (inr h) = true-by base (write (base + out) w rs cells) cells f (λ c t. write-out base out w rs cells c (h.1 c t)) (pick (IsTrue base cells) f (facts pc) h.0 known)
 
   -- what can be read so is what the cell has
-  read-is : (pc base : ℕ) (cells : Cells) (c : ℕ) (p : Path) → AllOf (IsTrue base cells) (facts pc) → IsRead facts pc c p → cells (base + c) ≡ through cells base p
+  pub read-is : (pc base : ℕ) (cells : Cells) (c : ℕ) (p : Path) → AllOf (IsTrue base cells) (facts pc) → IsRead facts pc c p → cells (base + c) ≡ through cells base p
   read-is pc base cells c p known (inl e) = sym (ap (through cells base) e)
   read-is pc base cells c p known (inr h) = pick (IsTrue base cells) (Through c p) (facts pc) h known
 

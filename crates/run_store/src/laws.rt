@@ -1,5 +1,6 @@
 //! The laws of the machine whose cells own their values.
 ghost use Rattle.run_store.specs.Effects.{AreEffects, DoLead};
+ghost use Rattle.run_store.specs.Refines.{Refines};
 
 /// Each step of the machine on values is its effect on what it reads.
 pub fn steps_are_effects()
@@ -9,4 +10,10 @@ pub fn steps_are_effects()
 /// What a step writes lies where it may lead.
 pub fn steps_lead_where_they_say()
     ensures { DoLead }
+{}
+
+/// Each step of the machine whose cells own their values is a step of the machine on values, with its
+/// copies.
+pub fn the_machine_that_owns_refines()
+    ensures { Refines }
 {}

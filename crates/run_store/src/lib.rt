@@ -4,4 +4,4 @@
 
 mod laws;
 
-pub use laws::{steps_are_effects, steps_lead_where_they_say};
+pub use laws::{steps_are_effects, steps_lead_where_they_say, the_machine_that_owns_refines};
