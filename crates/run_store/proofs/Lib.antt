@@ -1,3 +1,4 @@
 pub mod Effects
 pub mod Fitting
 pub mod Refining
+pub mod Supply

@@ -1,3 +1,4 @@
 pub mod Effects
 pub mod Stored
 pub mod Refines
+pub mod Lively

@@ -1,6 +1,7 @@
 //! The laws of the machine whose cells own their values.
 ghost use Rattle.run_store.specs.Effects.{AreEffects, DoLead};
 ghost use Rattle.run_store.specs.Refines.{Refines};
+ghost use Rattle.run_store.specs.Lively.{IsNeverStuck};
 
 /// Each step of the machine on values is its effect on what it reads.
 pub fn steps_are_effects()
@@ -16,4 +17,9 @@ pub fn steps_lead_where_they_say()
 /// copies.
 pub fn the_machine_that_owns_refines()
     ensures { Refines }
+{}
+
+/// No step reads a cell that is empty, and none takes what is lent.
+pub fn the_machine_that_owns_is_never_stuck()
+    ensures { IsNeverStuck }
 {}

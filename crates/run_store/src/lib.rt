@@ -4,4 +4,7 @@
 
 mod laws;
 
-pub use laws::{steps_are_effects, steps_lead_where_they_say, the_machine_that_owns_refines};
+pub use laws::{
+    steps_are_effects, steps_lead_where_they_say, the_machine_that_owns_is_never_stuck,
+    the_machine_that_owns_refines,
+};
