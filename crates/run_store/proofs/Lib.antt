@@ -2,3 +2,4 @@ pub mod Effects
 pub mod Fitting
 pub mod Refining
 pub mod Supply
+pub mod Whole

@@ -2,3 +2,4 @@ pub mod Effects
 pub mod Stored
 pub mod Refines
 pub mod Lively
+pub mod Whole

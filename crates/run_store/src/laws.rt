@@ -2,6 +2,7 @@
 ghost use Rattle.run_store.specs.Effects.{AreEffects, DoLead};
 ghost use Rattle.run_store.specs.Refines.{Refines};
 ghost use Rattle.run_store.specs.Lively.{IsNeverStuck};
+ghost use Rattle.run_store.specs.Whole.{DoRunsBegin, IsStoreExact, AreStoreEndsRecorded, AreStoreRunsDecided};
 
 /// Each step of the machine on values is its effect on what it reads.
 pub fn steps_are_effects()
@@ -22,4 +23,25 @@ pub fn the_machine_that_owns_refines()
 /// No step reads a cell that is empty, and none takes what is lent.
 pub fn the_machine_that_owns_is_never_stuck()
     ensures { IsNeverStuck }
+{}
+
+/// Where the cost of record is within the limit, the machine ends with the results, the cost and the
+/// copies of record.
+pub fn the_machine_that_owns_is_exact()
+    ensures { IsStoreExact }
+{}
+
+/// Where it ends, its results, its firings and its copies are those of record.
+pub fn ends_that_own_are_of_record()
+    ensures { AreStoreEndsRecorded }
+{}
+
+/// Where its code stays inside, a run ends so, or it comes to the limit, and every cost is beyond it.
+pub fn runs_that_own_are_decided()
+    ensures { AreStoreRunsDecided }
+{}
+
+/// A run begins with its arguments in the first cells, each its own.
+pub fn runs_that_own_begin()
+    ensures { DoRunsBegin }
 {}

@@ -5,6 +5,7 @@
 mod laws;
 
 pub use laws::{
-    steps_are_effects, steps_lead_where_they_say, the_machine_that_owns_is_never_stuck,
-    the_machine_that_owns_refines,
+    ends_that_own_are_of_record, runs_that_own_are_decided, runs_that_own_begin, steps_are_effects,
+    steps_lead_where_they_say, the_machine_that_owns_is_exact,
+    the_machine_that_owns_is_never_stuck, the_machine_that_owns_refines,
 };
