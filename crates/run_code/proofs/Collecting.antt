@@ -176,11 +176,12 @@ made-of-columns = (sifts-made, finals-made)
 
 pub nodes-same : NodesGiveTheSame
 nodes-same m j mask ks rows within h =
-    let e = sifts-made m j mask rows within h in
-    ((λ s many. gathers s j mask ks (columns m rows) many ∙ ap (λ k. op simple.AGather s (ks ++ k ∷ [])) (sym e)),
-     (λ g s many. reduces g s j mask ks (columns m rows) many ∙ ap (λ k. op (simple.Reduce g) s (ks ++ k ∷ [])) (sym e)),
-     (λ s many. finals s j mask ks (columns m rows) many ∙ ap (λ k. op simple.FinalValue s (ks ++ k ∷ [])) (sym e)),
-     (λ s s' many. lasts s s' m j ks rows within.0 h many))
+    let e = sifts-made m j mask rows within h in (
+      (λ s many. gathers s j mask ks (columns m rows) many ∙ ap (λ k. op simple.AGather s (ks ++ k ∷ [])) (sym e)),
+      (λ g s many. reduces g s j mask ks (columns m rows) many ∙ ap (λ k. op (simple.Reduce g) s (ks ++ k ∷ [])) (sym e)),
+      (λ s many. finals s j mask ks (columns m rows) many ∙ ap (λ k. op simple.FinalValue s (ks ++ k ∷ [])) (sym e)),
+      (λ s s' many. lasts s s' m j ks rows within.0 h many),
+    )
 
 pub copies-put : CopiesArePut
 copies-put s g l m j mask k rs rows within h =

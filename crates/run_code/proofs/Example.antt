@@ -11,7 +11,6 @@ use Rattle.graph_meaning.specs.Forms.{columns}
 use Rattle.graph_meaning.specs.Forms as form
 use Rattle.graph_meaning.specs.Demand.{Source, Port, Fixed, Plain, Whole, Vertex, Network}
 use Rattle.graph_meaning.specs.Storage.{Weights, kept_of}
-use Rattle.ordered_meaning.specs.Orders.{IsInOrder}
 use Rattle.run_code.proofs.Collecting.{kept-rows, nodes-same}
 use Rattle.run_code.specs.Cells.{At, Lit, Operand}
 use Rattle.run_code.specs.Coded.{AreCoded, ForAllIs, FunctionIs, GraphIs, Layout, PartIs, Places, Puts, a_for_all, a_node, a_part, no_node, scalar, the_for_all}
@@ -90,8 +89,16 @@ steps =
 abbrev made : Layout
 made =
     record {
-      weights = weights; network = net; order = order; width = λ v. 1; code = λ pc. get_or steps pc Count; weigh = λ pc ks rs. put_at pc ks;
-      functions = 0 ∷ []; entry = λ f. 0; size = λ f. 7; params = λ f. 1;
+      weights = weights;
+      network = net;
+      order = order;
+      width = λ v. 1;
+      code = λ pc. get_or steps pc Count;
+      weigh = λ pc ks rs. put_at pc ks;
+      functions = 0 ∷ [];
+      entry = λ f. 0;
+      size = λ f. 7;
+      params = λ f. 1;
     }
 
 -- the inputs of a graph, and the first output of its node
@@ -114,23 +121,23 @@ in-order (suc (suc (suc g))) = ((positive 0, (λ p k. k), tt, tt), (inl (refl, 0
 generating : GraphIs made 7 (At 0 ∷ []) 1 2 3 2 (At 2 ∷ [])
 generating =
     a_part (At 0 ∷ []) 1 (order 1) (net 1).results 2 3 2 (places_by (At 0 ∷ []) 2) (λ p. refl) (in-order 1)
-      (a_node 1 (places_by (At 0 ∷ []) 2) range [] 2 3 3 2 3 (puts (At 0 ∷ []) 2) (omega arith)
-        (scalar (Lit one ∷ At 0 ∷ []) simple.RangeGenerate shape.Plain (λ ks rs. 0) 1 2 2 refl (λ ks rs. refl)) (no_node 1 (places_by (At 0 ∷ []) 2) 3 3))
-      (At 2 ∷ []) refl
+    (a_node 1 (places_by (At 0 ∷ []) 2) range [] 2 3 3 2 3 (puts (At 0 ∷ []) 2) (omega arith)
+    (scalar (Lit one ∷ At 0 ∷ []) simple.RangeGenerate shape.Plain (λ ks rs. 0) 1 2 2 refl (λ ks rs. refl)) (no_node 1 (places_by (At 0 ∷ []) 2) 3 3))
+    (At 2 ∷ []) refl
 
 turning : GraphIs made 7 (At 0 ∷ At 5 ∷ []) 2 4 5 6 (At 6 ∷ Lit truth ∷ [])
 turning =
     a_part (At 0 ∷ At 5 ∷ []) 2 (order 2) (net 2).results 4 5 6 (places_by (At 0 ∷ At 5 ∷ []) 6) (λ p. refl) (in-order 2)
-      (a_node 2 (places_by (At 0 ∷ At 5 ∷ []) 6) twice [] 4 5 5 6 7 (puts (At 0 ∷ At 5 ∷ []) 6) (omega arith)
-        (scalar (At 5 ∷ At 5 ∷ []) (simple.Two two.Plus) shape.Plain (λ ks rs. 0) 1 4 6 refl (λ ks rs. refl)) (no_node 2 (places_by (At 0 ∷ At 5 ∷ []) 6) 5 7))
-      (At 6 ∷ Lit truth ∷ []) refl
+    (a_node 2 (places_by (At 0 ∷ At 5 ∷ []) 6) twice [] 4 5 5 6 7 (puts (At 0 ∷ At 5 ∷ []) 6) (omega arith)
+    (scalar (At 5 ∷ At 5 ∷ []) (simple.Two two.Plus) shape.Plain (λ ks rs. 0) 1 4 6 refl (λ ks rs. refl)) (no_node 2 (places_by (At 0 ∷ At 5 ∷ []) 6) 5 7))
+    (At 6 ∷ Lit truth ∷ []) refl
 
 returning : PartIs made 7 (At 0 ∷ At 2 ∷ At 3 ∷ []) 9 others wanted 7 8 4 (At 4 ∷ [])
 returning =
     a_part (At 0 ∷ At 2 ∷ At 3 ∷ []) 9 others wanted 7 8 4 (places_by (At 0 ∷ At 2 ∷ At 3 ∷ []) 4) (λ p. refl) ((positive 0, (λ p k. k), tt, tt), (inl (refl, 0, omega arith, refl), tt))
-      (a_node 9 (places_by (At 0 ∷ At 2 ∷ At 3 ∷ []) 4) gather' [] 7 8 8 4 5 (puts (At 0 ∷ At 2 ∷ At 3 ∷ []) 4) (omega arith)
-        (scalar (Lit one ∷ At 3 ∷ []) simple.AGather shape.Plain (λ ks rs. 0) 1 7 4 refl (λ ks rs. refl)) (no_node 9 (places_by (At 0 ∷ At 2 ∷ At 3 ∷ []) 4) 8 5))
-      (At 4 ∷ []) refl
+    (a_node 9 (places_by (At 0 ∷ At 2 ∷ At 3 ∷ []) 4) gather' [] 7 8 8 4 5 (puts (At 0 ∷ At 2 ∷ At 3 ∷ []) 4) (omega arith)
+    (scalar (Lit one ∷ At 3 ∷ []) simple.AGather shape.Plain (λ ks rs. 0) 1 7 4 refl (λ ks rs. refl)) (no_node 9 (places_by (At 0 ∷ At 2 ∷ At 3 ∷ []) 4) 8 5))
+    (At 4 ∷ []) refl
 
 -- the copies of record, by what is put
 copies : (ks : List Carried) (rows : List (List Carried)) → length ks ≡ 1 → AllLong 2 rows → kept_of (drop 1 (ks ++ reads (Sifts 0 (Some 1)) (columns 2 rows))) ≡ 0 + rows_sum (put_leaves (Sifts 0 (Some 1))) rows
@@ -146,19 +153,21 @@ refolded =
     record {
       nodes = one_refolded gather gather' [] [] (put_leaves (Sifts 0 (Some 1))) (λ row. 0)
           (a_fold gather gather' 0 (Fixed one ∷ []) simple.AGather simple.AGather shape.Plain shape.Plain (Sifts 0 (Some 1)) 0 (put_leaves (Sifts 0 (Some 1))) refl refl refl refl refl refl tt refl
-            (λ ks rows e long. (nodes-same 2 0 (Some 1) ks rows (omega arith, omega arith) long).0 shape.Plain e)
-            (λ ks rs rows e long. copies ks rows e long))
+          (λ ks rows e long. (nodes-same 2 0 (Some 1) ks rows (omega arith, omega arith) long).0 shape.Plain e)
+          (λ ks rs rows e long. copies ks rows e long))
           none_refolded;
-      results = refl; plainly = tt; weighs = λ rs. refl;
+      results = refl;
+      plainly = tt;
+      weighs = λ rs. refl;
     }
 
 the_over : ForAllIs made 7 (At 0 ∷ []) 1 2 3 2 (λ ks rs. 0) 1 0 9 1
 the_over =
     the_for_all (At 0 ∷ []) 1 2 3 2 (λ ks rs. 0) 1 0 9 1 [] 2 1 1 3 6 4 5 7 8 9 others wanted cs (λ row. put_leaves (Sifts 0 (Some 1)) row + 0) (At 2 ∷ []) (At 6 ∷ Lit truth ∷ []) (At 4 ∷ []) (At 0 ∷ []) (At 0 ∷ [])
-      (record { counts = refl; copies = refl; weighs = λ ks rs. refl; fits = omega arith }) generating refl (λ ks. refl) refl refl refl
-      (inl refl, tt) turning refl (λ ks. sym (none-more (put_leaves (Sifts 0 (Some 1)) ks))) refl
-      ((omega arith, omega arith), tt) refolded
-      (inl refl, tt) returning (record { moves = refl; weighs = λ ks. refl })
+    (record { counts = refl; copies = refl; weighs = λ ks rs. refl; fits = omega arith }) generating refl (λ ks. refl) refl refl refl
+    (inl refl, tt) turning refl (λ ks. sym (none-more (put_leaves (Sifts 0 (Some 1)) ks))) refl
+    ((omega arith, omega arith), tt) refolded
+    (inl refl, tt) returning (record { moves = refl; weighs = λ ks. refl })
 
 abbrev outer : Places
 outer zero p = if ltb (p - 1) 1 then At (p - 1) else Lit Unfilled
@@ -170,13 +179,13 @@ not-less a b le false e = refl
 
 pub coded : AreCoded made
 coded f (inl e) = subst (FunctionIs made) (sym e) (record {
-    places = outer;
-    end = 9;
-    ordered = in-order 0;
-    inputs = λ p lt. ap (λ b. if b then At (p - 1) else Lit Unfilled) (lt-ltb (p - 1) 1 lt);
-    wanting = λ p le. not-less (p - 1) 1 le (ltb (p - 1) 1) refl;
-    nodes = a_node 0 outer over [] 0 9 9 1 2 (λ i lt. let z : 1 ≡ 1 + i = omega (arith, lt) in ap At z) (omega arith) (a_for_all (At 0 ∷ []) 1 2 3 2 (λ ks rs. 0) 1 0 9 1 the_over) (no_node 0 outer 9 2);
-    leaves = refl;
-    weighs = λ ks. refl;
-  })
+  places = outer;
+  end = 9;
+  ordered = in-order 0;
+  inputs = λ p lt. ap (λ b. if b then At (p - 1) else Lit Unfilled) (lt-ltb (p - 1) 1 lt);
+  wanting = λ p le. not-less (p - 1) 1 le (ltb (p - 1) 1) refl;
+  nodes = a_node 0 outer over [] 0 9 9 1 2 (λ i lt. let z : 1 ≡ 1 + i = omega (arith, lt) in ap At z) (omega arith) (a_for_all (At 0 ∷ []) 1 2 3 2 (λ ks rs. 0) 1 0 9 1 the_over) (no_node 0 outer 9 2);
+  leaves = refl;
+  weighs = λ ks. refl;
+})
 coded f (inr h) = absurd h

@@ -88,7 +88,7 @@ puts-where j q (r ∷ rs) vs = go (keep_of masking.When (val_of (get_or r q Unfi
 
     go : (keep : Keep) → ((ws : List Val) → puts (Sifts j (Some q)) rs (Many ws) ≡ sift (first_failure (both j q rs)) (ws ++ kept_values (both j q rs)))
         → puts (Sifts j (Some q)) rs (behind_where keep (Many vs) (get_or r j Unfilled))
-          ≡ sift (first_failure ((val_of (get_or r j Unfilled), keep) ∷ both j q rs)) (vs ++ kept_values ((val_of (get_or r j Unfilled), keep) ∷ both j q rs))
+        ≡ sift (first_failure ((val_of (get_or r j Unfilled), keep) ∷ both j q rs)) (vs ++ kept_values ((val_of (get_or r j Unfilled), keep) ∷ both j q rs))
     go Kept more = more (vs ++ val_of (get_or r j Unfilled) ∷ []) ∙ ap (sift (first_failure (both j q rs))) (one-more vs (val_of (get_or r j Unfilled)) (kept_values (both j q rs)))
     go Dropped more = more vs
     go (Failed c) more = puts-spoiled j q rs c

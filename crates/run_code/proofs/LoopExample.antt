@@ -89,8 +89,16 @@ steps =
 abbrev pub made : Layout
 made =
     record {
-      weights = nothing_weighs; network = net; order = order; width = width; code = λ pc. get_or steps pc Count; weigh = λ pc ks rs. 0;
-      functions = 0 ∷ []; entry = λ f. 0; size = λ f. 9; params = λ f. 1;
+      weights = nothing_weighs;
+      network = net;
+      order = order;
+      width = width;
+      code = λ pc. get_or steps pc Count;
+      weigh = λ pc ks rs. 0;
+      functions = 0 ∷ [];
+      entry = λ f. 0;
+      size = λ f. 9;
+      params = λ f. 1;
     }
 
 -- the inputs of a graph, and nodes with one output each from a cell on
@@ -123,31 +131,33 @@ not-one p (inr k) = k
 returning : PartIs made 9 (At 0 ∷ At 3 ∷ At 6 ∷ []) 5 others wanted 6 8 7 (At 7 ∷ At 8 ∷ [])
 returning =
     a_part lent 5 others wanted 6 8 7 (places_by lent 7) (λ p. refl) ((positive 0, (λ p k. k), tt, (positive 1, (λ p k. not-one p k), tt, tt)), (inr (inl (refl, 0, omega arith, refl)), (inl (refl, 0, omega arith, refl), tt)))
-      (a_node 5 (places_by lent 7) last' (gather' ∷ []) 6 7 8 7 8 (puts lent 7 0) (omega arith) (scalar (At 3 ∷ []) simple.NoOp shape.Plain (λ ks rs. 0) 1 6 7 refl (λ ks rs. refl))
-        (a_node 5 (places_by lent 7) gather' [] 7 8 8 8 9 (puts lent 7 1) (omega arith) (scalar (Lit one ∷ At 6 ∷ []) simple.AGather shape.Plain (λ ks rs. 0) 1 7 8 refl (λ ks rs. refl)) (no_node 5 (places_by lent 7) 8 9)))
-      (At 7 ∷ At 8 ∷ []) refl
+    (a_node 5 (places_by lent 7) last' (gather' ∷ []) 6 7 8 7 8 (puts lent 7 0) (omega arith) (scalar (At 3 ∷ []) simple.NoOp shape.Plain (λ ks rs. 0) 1 6 7 refl (λ ks rs. refl))
+    (a_node 5 (places_by lent 7) gather' [] 7 8 8 8 9 (puts lent 7 1) (omega arith) (scalar (Lit one ∷ At 6 ∷ []) simple.AGather shape.Plain (λ ks rs. 0) 1 7 8 refl (λ ks rs. refl)) (no_node 5 (places_by lent 7) 8 9)))
+    (At 7 ∷ At 8 ∷ []) refl
 
 refolded : Refolds nothing_weighs 1 2 cs 4 5 (order 4) (net 4).results others wanted (λ row. 0 + (0 + 0))
 refolded =
     record {
       nodes = one_refolded last last' (gather ∷ []) (gather' ∷ []) (λ row. 0) (λ row. 0 + 0)
           (a_fold last last' 0 [] simple.FinalValue simple.NoOp shape.Plain shape.Plain (Final 0) 0 (λ row. 0) refl refl refl refl refl refl tt refl (λ ks rows e long. lasts shape.Plain shape.Plain 2 0 ks rows (omega arith) long e)
-            (λ ks rs rows e long. let z = sum-none rows in omega (arith, z)))
+          (λ ks rs rows e long. let z = sum-none rows in omega (arith, z)))
           (one_refolded gather gather' [] [] (λ row. 0) (λ row. 0)
-            (a_fold gather gather' 1 (Fixed one ∷ []) simple.AGather simple.AGather shape.Plain shape.Plain (Sifts 0 (Some 1)) 1 (λ row. 0) refl refl refl refl refl refl tt refl (λ ks rows e long. (nodes-same 2 0 (Some 1) ks rows (omega arith, omega arith) long).0 shape.Plain e)
-              (λ ks rs rows e long. let z = sum-none rows in omega (arith, z)))
-            none_refolded);
-      results = refl; plainly = tt; weighs = λ rs. refl;
+          (a_fold gather gather' 1 (Fixed one ∷ []) simple.AGather simple.AGather shape.Plain shape.Plain (Sifts 0 (Some 1)) 1 (λ row. 0) refl refl refl refl refl refl tt refl (λ ks rows e long. (nodes-same 2 0 (Some 1) ks rows (omega arith, omega arith) long).0 shape.Plain e)
+          (λ ks rs rows e long. let z = sum-none rows in omega (arith, z)))
+          none_refolded);
+      results = refl;
+      plainly = tt;
+      weighs = λ rs. refl;
     }
 
 loops : LoopIs made 9 true (At 0 ∷ []) 1 2 3 4 (λ ks rs. 0) 2 0 9 1
 loops =
     the_loop true (At 0 ∷ []) 1 2 3 4 (λ ks rs. 0) 2 0 9 1 [] 3 2 2 2 3 4 4 5 5 6 8 5 others wanted cs (λ row. 0 + (0 + 0)) (At 4) (Lit one ∷ Lit (truth true) ∷ []) (At 0 ∷ Lit (truth false) ∷ []) (At 7 ∷ At 8 ∷ []) (At 0 ∷ []) (At 0 ∷ []) (At 0 ∷ []) (At 3 ∷ At 6 ∷ [])
-      (record { counts = refl; copies = refl; weighs = λ ks rs. refl; fits = omega arith }) beginning refl (λ ks. refl) refl refl (refl, refl)
-      (inl refl, tt) testing (λ ks. refl) refl
-      (inl refl, tt) turning refl (λ ks. refl) refl
-      (omega arith, ((omega arith, omega arith), tt)) refolded (λ row. refl)
-      (inl refl, tt) (inr refl, (refl, tt)) returning (record { moves = refl; weighs = λ ks. refl })
+    (record { counts = refl; copies = refl; weighs = λ ks rs. refl; fits = omega arith }) beginning refl (λ ks. refl) refl refl (refl, refl)
+    (inl refl, tt) testing (λ ks. refl) refl
+    (inl refl, tt) turning refl (λ ks. refl) refl
+    (omega arith, ((omega arith, omega arith), tt)) refolded (λ row. refl)
+    (inl refl, tt) (inr refl, (refl, tt)) returning (record { moves = refl; weighs = λ ks. refl })
 
 abbrev outer : Places
 outer zero p = if ltb (p - 1) 1 then At (p - 1) else Lit Unfilled
@@ -159,13 +169,13 @@ not-less a b le false e = refl
 
 pub coded : AreCoded made
 coded f (inl e) = subst (FunctionIs made) (sym e) (record {
-    places = outer;
-    end = 9;
-    ordered = ((positive 0, (λ p k. k), tt, tt), (inl (refl, 0, omega arith, refl), (inl (refl, 1, omega arith, refl), tt)));
-    inputs = λ p lt. ap (λ b. if b then At (p - 1) else Lit Unfilled) (lt-ltb (p - 1) 1 lt);
-    wanting = λ p le. not-less (p - 1) 1 le (ltb (p - 1) 1) refl;
-    nodes = a_node 0 outer turns [] 0 9 9 1 3 (λ i lt. let z : suc i ≡ 1 + i = omega arith in ap At z) (omega arith) (a_loop true (At 0 ∷ []) 1 2 3 4 (λ ks rs. 0) 2 0 9 1 loops) (no_node 0 outer 9 3);
-    leaves = refl;
-    weighs = λ ks. refl;
-  })
+  places = outer;
+  end = 9;
+  ordered = ((positive 0, (λ p k. k), tt, tt), (inl (refl, 0, omega arith, refl), (inl (refl, 1, omega arith, refl), tt)));
+  inputs = λ p lt. ap (λ b. if b then At (p - 1) else Lit Unfilled) (lt-ltb (p - 1) 1 lt);
+  wanting = λ p le. not-less (p - 1) 1 le (ltb (p - 1) 1) refl;
+  nodes = a_node 0 outer turns [] 0 9 9 1 3 (λ i lt. let z : suc i ≡ 1 + i = omega arith in ap At z) (omega arith) (a_loop true (At 0 ∷ []) 1 2 3 4 (λ ks rs. 0) 2 0 9 1 loops) (no_node 0 outer 9 3);
+  leaves = refl;
+  weighs = λ ks. refl;
+})
 coded f (inr h) = absurd h

@@ -1,5 +1,5 @@
 -- The returns goes on columns where the other graph goes on what is collected, and the other way round.
-use Rattle.std.proofs.Common.{◌≡◌, ℕ, zero, suc, ◌+◌, ◌-◌, ◌<◌, eqb, Bool, true, false, if◌then◌else◌, List, [], ◌∷◌, ◌++◌, length, get_or, slice_get, Some, None, inl, inr, refl, sym, ap, ◌∙◌, subst, arith}
+use Rattle.std.proofs.Common.{◌≡◌, ℕ, zero, suc, ◌+◌, ◌-◌, ◌<◌, eqb, Bool, true, false, if◌then◌else◌, List, [], ◌∷◌, ◌++◌, length, get_or, slice_get, Some, None, refl, sym, ap, ◌∙◌, subst, arith}
 use Rattle.graph_meaning.specs.Carried.{Carried, Unfilled}
 use Rattle.graph_meaning.specs.NodeValues.{op}
 use Rattle.graph_meaning.specs.Forms.{columns}
@@ -134,9 +134,10 @@ module _ (W : Weights) (plain m : ℕ) (cs : List Collect) (r r' : ℕ) (rest : 
   pair-reads : (env : Bindings) (before : List Source) (xs : List Carried) (j q k k' : ℕ) → slice_get cs k ≡ Some (Sifts j None) → slice_get cs k' ≡ Some (Sifts q None) → j < m → q < m → Based other env → ReadsAll env before xs
       → ReadsAll env (before ++ Port 0 (suc (plain + k)) ∷ Port 0 (suc (plain + k')) ∷ []) (xs ++ reads (Sifts j (Some q)) (columns m rows))
   pair-reads env before xs j q k k' at_k at_k' jm qm based h =
-      reads-join env before (Port 0 (suc (plain + k)) ∷ Port 0 (suc (plain + k')) ∷ []) xs (reads (Sifts j (Some q)) (columns m rows)) h
-        (port-has plain ks₀ (collected cs rows) env k many based ∙ ap Some (whole j k at_k jm),
-         (port-has plain ks₀ (collected cs rows) env k' many based ∙ ap Some (whole q k' at_k' qm), tt))
+      reads-join env before (Port 0 (suc (plain + k)) ∷ Port 0 (suc (plain + k')) ∷ []) xs (reads (Sifts j (Some q)) (columns m rows)) h (
+        port-has plain ks₀ (collected cs rows) env k many based ∙ ap Some (whole j k at_k jm),
+        (port-has plain ks₀ (collected cs rows) env k' many based ∙ ap Some (whole q k' at_k' qm), tt),
+      )
 
   -- ---- from columns to what is collected
 
@@ -192,7 +193,6 @@ module _ (W : Weights) (plain m : ℕ) (cs : List Collect) (r r' : ℕ) (rest : 
   label-of : (v v' : Vertex) (e : List Carried → ℕ) → Refolded W plain m cs r r' v v' e → (l : ℕ) × (v.label ≡ suc l) × (v'.label ≡ v.label)
   label-of _ _ _ (unchanged v l label plainly same) = (l, label, refl)
   label-of _ _ _ (a_fold v v' l before row row' shape shape' c k e label label' kind kind' are are' plainly at_k gives weighs) = (l, label, label')
-
   label-of _ _ _ (a_pair v v' l before row shape j q k k' label label' kind kind' are are' plainly at_k at_k' jm qm same) = (l, label, label')
 
   to-nodes : (vs vs' : List Vertex) (extra : List Carried → ℕ) → AreRefolded W plain m cs r r' vs vs' extra → (env after : Bindings) (c : Total (counting W)) → Based ins env → NodesYield (counting W) rest r env vs after c
@@ -237,10 +237,12 @@ module _ (W : Weights) (plain m : ℕ) (cs : List Collect) (r r' : ℕ) (rest : 
       let rsum = results-sum W c nodes (W.of_results r rs) goes.4 in
       let yf = y.fires in
       let ys = y.sum in
-      let w = x.weighs rs in
-      (and_results (counting W) y.total (W.of_results r' rs),
-       (regiven other goes.0, y.total, y.goes, subst (λ z. ReadsAll (regiven other goes.0) z rs) (sym x.results) (reads-over plain ins other agree goes.0 y.based outs rs x.plainly goes.3), refl),
-       omega (arith, rf, yf), omega (arith, rsum, ys, w))
+      let w = x.weighs rs in (
+        and_results (counting W) y.total (W.of_results r' rs),
+        (regiven other goes.0, y.total, y.goes, subst (λ z. ReadsAll (regiven other goes.0) z rs) (sym x.results) (reads-over plain ins other agree goes.0 y.based outs rs x.plainly goes.3), refl),
+        omega (arith, rf, yf),
+        omega (arith, rsum, ys, w),
+      )
 
   -- ---- and back
 
@@ -259,26 +261,30 @@ module _ (W : Weights) (plain m : ℕ) (cs : List Collect) (r r' : ℕ) (rest : 
       let s = reads-split env before (Port 0 (suc (plain + k)) ∷ []) node.operands (subst (λ z. ReadsAll env z node.operands) are' node.reads) in
       let ys = alone-read plain ks₀ (collected cs rows) env k s.1 many based s.4 ∙ ap (λ z. z ∷ []) (get-made cs k c rows at_k) in
       let operands : node.operands ≡ s.0 ++ made c rows ∷ [] = s.2 ∙ ap (λ z. s.0 ++ z) ys in
-      let goes = subst (λ z. KindYields (counting W) rest z node.operands rs inner) kind' node.gives in
-      (record {
-        operands = s.0 ++ reads c cols;
-        reads = subst (λ z. ReadsAll (regiven ins env) z (s.0 ++ reads c cols)) (sym are)
-            (reads-join (regiven ins env) before (ports_of plain c) s.0 (reads c cols) (reads-over plain other ins agree' env based before s.0 plainly s.3) (ports-has plain ks₀ cols (regiven ins env) c many (regiven-based other ins env based)));
-        gives = subst (λ z. KindYields (counting W) rest z (s.0 ++ reads c cols) rs inner) (sym kind) (goes.0 ∙ (ap (op row' shape') operands ∙ sym (gives s.0 rows s.5 long)), goes.1);
-      }, weighs s.0 rs rows s.5 long ∙ ap (λ z. W.of_node r' v' z rs + rows_sum e rows) (sym operands))
+      let goes = subst (λ z. KindYields (counting W) rest z node.operands rs inner) kind' node.gives in (
+        record {
+          operands = s.0 ++ reads c cols;
+          reads = subst (λ z. ReadsAll (regiven ins env) z (s.0 ++ reads c cols)) (sym are)
+              (reads-join (regiven ins env) before (ports_of plain c) s.0 (reads c cols) (reads-over plain other ins agree' env based before s.0 plainly s.3) (ports-has plain ks₀ cols (regiven ins env) c many (regiven-based other ins env based)));
+          gives = subst (λ z. KindYields (counting W) rest z (s.0 ++ reads c cols) rs inner) (sym kind) (goes.0 ∙ (ap (op row' shape') operands ∙ sym (gives s.0 rows s.5 long)), goes.1);
+        },
+        weighs s.0 rs rows s.5 long ∙ ap (λ z. W.of_node r' v' z rs + rows_sum e rows) (sym operands),
+      )
   from-node _ _ _ (a_pair v v' l before row shape j q k k' label label' kind kind' are are' plainly at_k at_k' jm qm same) env rs inner based node =
       let s = reads-split env before (Port 0 (suc (plain + k)) ∷ Port 0 (suc (plain + k')) ∷ []) node.operands (subst (λ z. ReadsAll env z node.operands) are' node.reads) in
       let ys = both-read env k k' s.1 based s.4 ∙ (ap (λ z. z ∷ get_or (collected cs rows) k' Unfilled ∷ []) (whole j k at_k jm) ∙ ap (λ z. get_or (columns m rows) j Unfilled ∷ z ∷ []) (whole q k' at_k' qm)) in
       let operands : node.operands ≡ s.0 ++ reads (Sifts j (Some q)) cols = s.2 ∙ ap (λ z. s.0 ++ z) ys in
       let goes = subst (λ z. KindYields (counting W) rest z node.operands rs inner) kind' node.gives in
       let z = sum-none rows in
-      let e = same (s.0 ++ reads (Sifts j (Some q)) cols) rs ∙ ap (λ z. W.of_node r' v' z rs) (sym operands) in
-      (record {
-        operands = s.0 ++ reads (Sifts j (Some q)) cols;
-        reads = subst (λ z. ReadsAll (regiven ins env) z (s.0 ++ reads (Sifts j (Some q)) cols)) (sym are)
-            (reads-join (regiven ins env) before (ports_of plain (Sifts j (Some q))) s.0 (reads (Sifts j (Some q)) cols) (reads-over plain other ins agree' env based before s.0 plainly s.3) (ports-has plain ks₀ cols (regiven ins env) (Sifts j (Some q)) many (regiven-based other ins env based)));
-        gives = subst (λ z. KindYields (counting W) rest z (s.0 ++ reads (Sifts j (Some q)) cols) rs inner) (sym kind) (goes.0 ∙ ap (op row shape) operands, goes.1);
-      }, omega (arith, z, e))
+      let e = same (s.0 ++ reads (Sifts j (Some q)) cols) rs ∙ ap (λ z. W.of_node r' v' z rs) (sym operands) in (
+        record {
+          operands = s.0 ++ reads (Sifts j (Some q)) cols;
+          reads = subst (λ z. ReadsAll (regiven ins env) z (s.0 ++ reads (Sifts j (Some q)) cols)) (sym are)
+              (reads-join (regiven ins env) before (ports_of plain (Sifts j (Some q))) s.0 (reads (Sifts j (Some q)) cols) (reads-over plain other ins agree' env based before s.0 plainly s.3) (ports-has plain ks₀ cols (regiven ins env) (Sifts j (Some q)) many (regiven-based other ins env based)));
+          gives = subst (λ z. KindYields (counting W) rest z (s.0 ++ reads (Sifts j (Some q)) cols) rs inner) (sym kind) (goes.0 ∙ ap (op row shape) operands, goes.1);
+        },
+        omega (arith, z, e),
+      )
 
   record Back (env after : Bindings) (vs : List Vertex) (c' : Total (counting W)) (more : ℕ) : Type 0 where
     pub total : Total (counting W)
@@ -325,7 +331,9 @@ module _ (W : Weights) (plain m : ℕ) (cs : List Collect) (r r' : ℕ) (rest : 
       let rsum = results-sum W c' nodes (W.of_results r' rs) goes.4 in
       let yf = y.fires in
       let ys = y.sum in
-      let w = x.weighs rs in
-      (and_results (counting W) y.total (W.of_results r rs),
-       (regiven ins goes.0, y.total, y.goes, reads-over plain other ins agree' goes.0 y.based outs rs x.plainly (subst (λ z. ReadsAll goes.0 z rs) x.results goes.3), refl),
-       omega (arith, rf, yf), omega (arith, rsum, ys, w))
+      let w = x.weighs rs in (
+        and_results (counting W) y.total (W.of_results r rs),
+        (regiven ins goes.0, y.total, y.goes, reads-over plain other ins agree' goes.0 y.based outs rs x.plainly (subst (λ z. ReadsAll goes.0 z rs) x.results goes.3), refl),
+        omega (arith, rf, yf),
+        omega (arith, rsum, ys, w),
+      )

@@ -27,9 +27,9 @@ abbrev pub NodesGiveTheSame : Type 0
 NodesGiveTheSame =
     (m j : ℕ) (mask : Option ℕ) (ks : List Carried) (rows : List (List Carried)) → IsWithin m (Sifts j mask) → AllLong m rows
     → ((s : Shape) → length ks ≡ 1 → op simple.AGather s (ks ++ reads (Sifts j mask) (columns m rows)) ≡ op simple.AGather s (ks ++ made (Sifts j mask) rows ∷ []))
-      × ((g : Grouping) (s : Shape) → length ks ≡ 1 → op (simple.Reduce g) s (ks ++ reads (Sifts j mask) (columns m rows)) ≡ op (simple.Reduce g) s (ks ++ made (Sifts j mask) rows ∷ []))
-      × ((s : Shape) → length ks ≡ 0 → op simple.FinalValue s (ks ++ reads (Sifts j mask) (columns m rows)) ≡ op simple.FinalValue s (ks ++ made (Sifts j mask) rows ∷ []))
-      × ((s s' : Shape) → length ks ≡ 0 → op simple.FinalValue s (ks ++ reads (Final j) (columns m rows)) ≡ op simple.NoOp s' (ks ++ made (Final j) rows ∷ []))
+    × ((g : Grouping) (s : Shape) → length ks ≡ 1 → op (simple.Reduce g) s (ks ++ reads (Sifts j mask) (columns m rows)) ≡ op (simple.Reduce g) s (ks ++ made (Sifts j mask) rows ∷ []))
+    × ((s : Shape) → length ks ≡ 0 → op simple.FinalValue s (ks ++ reads (Sifts j mask) (columns m rows)) ≡ op simple.FinalValue s (ks ++ made (Sifts j mask) rows ∷ []))
+    × ((s s' : Shape) → length ks ≡ 0 → op simple.FinalValue s (ks ++ reads (Final j) (columns m rows)) ≡ op simple.NoOp s' (ks ++ made (Final j) rows ∷ []))
 
 -- the leaves of what a row puts
 abbrev pub put_leaves : Collect → List Carried → ℕ
@@ -46,9 +46,9 @@ row_copied s g l port c row = where_left s g l port (put_leaves c row)
 abbrev pub CopiesArePut : Type 0
 CopiesArePut = (s : Storage) (g l m j : ℕ) (mask : Option ℕ) (k : Carried) (rs : List Carried) (rows : List (List Carried)) → IsWithin m (Sifts j mask) → AllLong m rows
     → (copied_by s g l simple.AGather (k ∷ reads (Sifts j mask) (columns m rows)) rs ≡ rows_sum (row_copied s g l 2 (Sifts j mask)) rows)
-      × ((gr : Grouping) → copied_by s g l (simple.Reduce gr) (k ∷ reads (Sifts j mask) (columns m rows)) rs ≡ rows_sum (row_copied s g l 2 (Sifts j mask)) rows)
-      × ((q : ℕ) → mask ≡ Some q → copied_by s g l simple.FinalValue (reads (Sifts j mask) (columns m rows)) rs ≡ rows_sum (row_copied s g l 1 (Sifts j mask)) rows)
-      × (copied_by s g l simple.FinalValue (reads (Final j) (columns m rows)) rs ≡ where_left s g l 1 (leaves_at (λ port. true) 1 rs))
+    × ((gr : Grouping) → copied_by s g l (simple.Reduce gr) (k ∷ reads (Sifts j mask) (columns m rows)) rs ≡ rows_sum (row_copied s g l 2 (Sifts j mask)) rows)
+    × ((q : ℕ) → mask ≡ Some q → copied_by s g l simple.FinalValue (reads (Sifts j mask) (columns m rows)) rs ≡ rows_sum (row_copied s g l 1 (Sifts j mask)) rows)
+    × (copied_by s g l simple.FinalValue (reads (Final j) (columns m rows)) rs ≡ where_left s g l 1 (leaves_at (λ port. true) 1 rs))
 
 -- the collection that the cells of a clause stand for
 abbrev pub of_clause : List Cell → Carried

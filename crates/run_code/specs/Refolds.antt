@@ -46,7 +46,7 @@ module _ (W : Weights) (plain m : ℕ) (cs : List Collect) (r r' : ℕ) where
         → AllPlain plain before → slice_get cs k ≡ Some c
         → ((ks : List Carried) (rows : List (List Carried)) → length ks ≡ length before → AllLong m rows → op row shape (ks ++ reads c (columns m rows)) ≡ op row' shape' (ks ++ made c rows ∷ []))
         → ((ks rs : List Carried) (rows : List (List Carried)) → length ks ≡ length before → AllLong m rows
-            → W.of_node r v (ks ++ reads c (columns m rows)) rs ≡ W.of_node r' v' (ks ++ made c rows ∷ []) rs + rows_sum e rows)
+        → W.of_node r v (ks ++ reads c (columns m rows)) rs ≡ W.of_node r' v' (ks ++ made c rows ∷ []) rs + rows_sum e rows)
         → Refolded v v' e
     -- a multiple and its mask are both collected whole, and the node reads both
     a_pair : (v v' : Vertex) (l : ℕ) (before : List Source) (row : Simple) (shape : Shape) (j q k k' : ℕ)

@@ -66,8 +66,16 @@ module _ (X : Layout) (limit : ℕ) (coded : AreCoded X) (RS : List Carried) (EN
         → AreLong (places_of ms) ms → i + k ≡ places_of ms → Spread' base cells ks ms cols i → E j (at x.turns base cells calls fires) → RowsWent base cells calls fires ks ms cols k i j
     rows-went zero j most base cells calls fires ks ms cols i lim long full h ends =
         record {
-          steps = 0; lists = []; cost = nothing (counting X.weights); goes = (refl, refl); within = omega (arith, lim); last = cells;
-          kept = subst (Spread' base cells ks ms cols) (omega arith) h; long = tt; left = j; less = omega arith;
+          steps = 0;
+          lists = [];
+          cost = nothing (counting X.weights);
+          goes = (refl, refl);
+          within = omega (arith, lim);
+          last = cells;
+          kept = subst (Spread' base cells ks ms cols) (omega arith) h;
+          long = tt;
+          left = j;
+          less = omega arith;
           ends = subst (λ z. E j (at x.turns base cells calls z)) (omega arith) ends;
         }
     rows-went (suc k) j most base cells calls fires ks ms cols i lim long full h ends =
@@ -76,12 +84,12 @@ module _ (X : Layout) (limit : ℕ) (coded : AreCoded X) (RS : List Carried) (EN
         let goes_is = each-goes X limit room args generator body returns m own w a b lo x base cells calls fires ks ms cols i h lt in
         let less_than = within limit X.code (Each x.n x.mid top x.turn x.leave) x.turns base cells calls fires (λ f. at x.turn base now calls f) x.each_is goes_is j RS END ends in
         let z = end-next limit X.code (at x.turns base cells calls fires) (at x.turn base now calls (suc fires))
-              (does limit X.code (Each x.n x.mid top x.turn x.leave) x.turns base cells calls fires (Goes (at x.turn base now calls (suc fires))) x.each_is (goes_is ∙ counts limit X.code fires (λ f. Goes (at x.turn base now calls f)) less_than)) j RS END ends in
+        (does limit X.code (Each x.n x.mid top x.turn x.leave) x.turns base cells calls fires (Goes (at x.turn base now calls (suc fires))) x.each_is (goes_is ∙ counts limit X.code fires (λ f. Goes (at x.turn base now calls f)) less_than)) j RS END ends in
         let e₁ = z.1 in
         let row = row-on X limit room args generator body returns m own w a b lo x base cells ks ms cols i h long lt in
         let p = part-went X limit coded RS END z.0 (most z.0 (omega (arith, e₁))) room (x.for_body ++ cells_at (suc top) x.n) body x.turn x.turned (suc top + x.n) x.nexts x.turning base now calls (suc fires) (ks ++ elements i ms) (omega (arith, less_than)) row.lent z.2 in
         let d = adds-go X limit room args generator body returns m own w a b lo x base p.cells' calls (suc fires + p.cost.fires) ks ms cols p.rs (suc i)
-              (spread-later X limit room args generator body returns m own w a b lo x base p.cells' now ks ms cols (suc i) (λ j lt. p.same j (omega (arith, lt))) row.kept) p.told in
+        (spread-later X limit room args generator body returns m own w a b lo x base p.cells' now ks ms cols (suc i) (λ j lt. p.same j (omega (arith, lt))) row.kept) p.told in
         let e = end-next limit X.code (at x.turned base p.cells' calls (suc fires + p.cost.fires)) (at x.turns base d.last calls (suc fires + p.cost.fires)) d.went p.left RS END p.ends in
         let e₂ = e.1 in
         let e₃ = p.less in
@@ -93,11 +101,17 @@ module _ (X : Layout) (limit : ℕ) (coded : AreCoded X) (RS : List Carried) (EN
           steps = n;
           lists = p.rs ∷ q.lists;
           cost = with_both (counting X.weights) 1 0 p.cost q.cost;
-          goes = (p.rs, q.lists, p.cost, q.cost,
-              graph-on (counting X.weights) X.network X.order (yields X p.steps) (yields X n) (yields-on (counting X.weights) X.network X.order p.steps n (omega arith)) body (ks ++ elements i ms) p.rs p.cost p.goes,
-              subst (λ z. RowsYield (counting X.weights) X.network X.order (yields X n) body z q.lists q.cost) (sym (after-next X limit room args generator body returns m own w a b lo x k ks ms i))
+          goes = (
+            p.rs,
+            q.lists,
+            p.cost,
+            q.cost,
+            graph-on (counting X.weights) X.network X.order (yields X p.steps) (yields X n) (yields-on (counting X.weights) X.network X.order p.steps n (omega arith)) body (ks ++ elements i ms) p.rs p.cost p.goes,
+            subst (λ z. RowsYield (counting X.weights) X.network X.order (yields X n) body z q.lists q.cost) (sym (after-next X limit room args generator body returns m own w a b lo x k ks ms i))
                 (rows-on (counting X.weights) X.network X.order (yields X q.steps) (yields X n) (yields-on (counting X.weights) X.network X.order q.steps n (omega arith)) body (rows_after k ks ms (suc i)) q.lists q.cost q.goes),
-              refl, refl);
+            refl,
+            refl,
+          );
           within = omega (arith, w');
           last = q.last;
           kept = subst (Spread' base q.last ks ms (puts_all x.cs q.lists (put_all x.cs p.rs cols))) (omega arith) q.kept;
@@ -112,10 +126,10 @@ module _ (X : Layout) (limit : ℕ) (coded : AreCoded X) (RS : List Carried) (EN
     returning-went j most base cells calls fires ks ms lists i lim long full h ends =
         let cols = collected x.cs lists in
         let z = end-next limit X.code (at x.turns base cells calls fires) (at x.leave base cells calls fires)
-              (does limit X.code (Each x.n x.mid top x.turn x.leave) x.turns base cells calls fires (Goes (at x.leave base cells calls fires)) x.each_is (each-leaves X limit room args generator body returns m own w a b lo x base cells calls fires ks ms cols i h full)) j RS END ends in
+        (does limit X.code (Each x.n x.mid top x.turn x.leave) x.turns base cells calls fires (Goes (at x.leave base cells calls fires)) x.each_is (each-leaves X limit room args generator body returns m own w a b lo x base cells calls fires ks ms cols i h full)) j RS END ends in
         let less = z.1 in
         let p = any-went X limit coded RS END z.0 (most z.0 (omega (arith, less))) room ((x.for_returns ++ cells_at x.mid x.n) ++ cells_at (x.mid + x.n) x.k) x.other x.nodes x.results x.leave x.left top x.lasts x.returning base cells calls fires ((ks ++ ms) ++ cols) lim
-              (lent-returns X limit room args generator body returns m own w a b lo x base cells ks ms cols i h) z.2 in
+        (lent-returns X limit room args generator body returns m own w a b lo x base cells ks ms cols i h) z.2 in
         let g = from-collected X.weights (length args + x.n) m x.cs returns x.other (yields X p.steps) (ks ++ ms) lists (plain-many X limit room args generator body returns m own w a b lo x base cells ks ms cols i h) long (X.order returns) x.nodes (X.network returns).results x.results x.extra x.refolds p.rs p.cost p.goes in
         let gf = g.2 in
         let w' = p.within in
@@ -143,10 +157,15 @@ module _ (X : Layout) (limit : ℕ) (coded : AreCoded X) (RS : List Carried) (EN
           steps = suc n;
           outs = y.outs;
           cost = with_both (counting X.weights) 0 0 r.cost y.cost;
-          goes = (r.lists, r.cost, y.cost,
-              subst (λ z. RowsYield (counting X.weights) X.network X.order (yields X n) body (map (λ r. ks ++ r) (rows_of (suc k) z)) r.lists r.cost) (drop-none (map items ms))
+          goes = (
+            r.lists,
+            r.cost,
+            y.cost,
+            subst (λ z. RowsYield (counting X.weights) X.network X.order (yields X n) body (map (λ r. ks ++ r) (rows_of (suc k) z)) r.lists r.cost) (drop-none (map items ms))
                 (rows-on (counting X.weights) X.network X.order (yields X r.steps) (yields X n) (yields-on (counting X.weights) X.network X.order r.steps n (omega arith)) body (rows_after (suc k) ks ms 0) r.lists r.cost r.goes),
-              yields-on (counting X.weights) X.network X.order y.steps n (omega arith) F ks (gather F ks ms r.lists) y.outs y.cost y.goes, refl);
+            yields-on (counting X.weights) X.network X.order y.steps n (omega arith) F ks (gather F ks ms r.lists) y.outs y.cost y.goes,
+            refl,
+          );
           within = omega (arith, w');
         }
 
@@ -158,7 +177,7 @@ module _ (X : Layout) (limit : ℕ) (coded : AreCoded X) (RS : List Carried) (EN
         let z = end-next limit X.code (at x.made base cells calls fires) (at x.turns base s.last calls fires) s.went j RS END ends in
         let less = z.1 in
         on-as X limit coded RS END F ks next (spread body returns m ks ms (rows_of (places_of ms) (map items ms))) fires next_is
-          (spread-went (places_of ms) z.0 (λ i at_most. most i (omega (arith, at_most, less))) base s.last calls fires ks ms lim long refl s.kept z.2)
+        (spread-went (places_of ms) z.0 (λ i at_most. most i (omega (arith, at_most, less))) base s.last calls fires ks ms lim long refl s.kept z.2)
     made-went j most base cells calls fires ks ms next lim outer inner told (goes_wrong e next_is to) ends =
         leaves-on X limit coded RS END F ks (errors w e) next fires next_is lim
 
@@ -174,9 +193,9 @@ module _ (X : Layout) (limit : ℕ) (coded : AreCoded X) (RS : List Carried) (EN
         let same₂ : Same (base + lo) p.cells' s.cells' = λ j lt. p.same j (omega (arith, lt, l)) in
         let less' = p.less in
         let y = made-went p.left (λ i at_most. fewer i (omega (arith, at_most, less', less))) base p.cells' calls (suc fires + p.cost.fires) ks p.rs (iterate F body returns m ks p.rs (first_spoiled p.rs)) p.within
-              (all-later p.cells' s.cells' base lo lo args ks (omega arith) same₂ (all-later s.cells' cells base lo lo args ks (omega arith) same₁ held))
-              (all-later p.cells' s.cells' base x.mid x.mid (own_cells x.picks args (lo + w)) ks (omega arith) p.same s.held) p.told
-              (spreading F body returns m ks p.rs x.turns) p.ends in
+        (all-later p.cells' s.cells' base lo lo args ks (omega arith) same₂ (all-later s.cells' cells base lo lo args ks (omega arith) same₁ held))
+        (all-later p.cells' s.cells' base x.mid x.mid (own_cells x.picks args (lo + w)) ks (omega arith) p.same s.held) p.told
+        (spreading F body returns m ks p.rs x.turns) p.ends in
         let w' = y.within in
         record {
           steps = suc (p.steps + y.steps);

@@ -44,7 +44,7 @@ module _ (X : Layout) (limit : ℕ) (coded : AreCoded X) (RS : List Carried) (EN
     returning-went j went base cells calls fires ks ls turns lim h ends =
         let rows = forth (ls ∷ turns) in
         let p = any-went X limit coded RS END j went room (x.for_returns ++ x.stand) x.other x.nodes x.results x.leave x.left N x.lasts x.returning base cells calls fires (ks ++ collected x.cs rows) lim
-              (lent-returns X limit room early args init test body returns own w a b lo x base cells ks ls turns h) ends in
+        (lent-returns X limit room early args init test body returns own w a b lo x base cells ks ls turns h) ends in
         let g = from-collected X.weights (length args) x.n x.cs returns x.other (yields X p.steps) ks rows (args-many X limit room early args init test body returns own w a b lo x base cells ks ls turns h) h.long (X.order returns) x.nodes (X.network returns).results x.results x.extra x.refolds p.rs p.cost p.goes in
         let gf = g.2 in
         let w' = p.within in
@@ -69,7 +69,7 @@ module _ (X : Layout) (limit : ℕ) (coded : AreCoded X) (RS : List Carried) (EN
         → E j (at x.turn base cells calls (suc fires)) → On ks (Enter true body (ks ++ ls) (Turning (ls ∷ turns))) fires
     turning-went bound tests j le most base cells calls fires ks ls turns lim h ends =
         let p = part-went X limit coded RS END j (most j (omega arith)) room (x.for_body ++ cells_at x.mid x.n) body x.turn x.turned N x.nexts x.turning base cells calls (suc fires) (ks ++ ls) lim
-              (lent X limit room early args init test body returns own w a b lo x x.for_body x.body_lent base cells ks ls turns h x.mid x.n ls h.loop_values) ends in
+        (lent X limit room early args init test body returns own w a b lo x x.for_body x.body_lent base cells ks ls turns h x.mid x.n ls h.loop_values) ends in
         let kept = kept-later X limit room early args init test body returns own w a b lo x base p.cells' cells ks ls turns p.same h in
         let k = turn-keeps X limit room early args init test body returns own w a b lo x base p.cells' calls (suc fires + p.cost.fires) ks ls p.rs turns kept p.told in
         let e = end-next limit X.code (at x.turned base p.cells' calls (suc fires + p.cost.fires)) (at x.tests base k.last calls (suc fires + p.cost.fires)) k.keep p.left RS END p.ends in
@@ -91,31 +91,31 @@ module _ (X : Layout) (limit : ℕ) (coded : AreCoded X) (RS : List Carried) (EN
         → E j (at x.tested base cells calls fires) → On ks next fires
     choosing-went bound tests j le most base cells calls fires ks ls turns next lim h (done next_is to) ends =
         let z = end-next limit X.code (at x.tested base cells calls fires) (at x.leave base cells calls fires)
-              (does limit X.code (Test x.go x.turn x.leave lo w b) x.tested base cells calls fires (Goes (at x.leave base cells calls fires)) x.chooses (ap (λ y. chosen limit y lo w b base cells calls fires) to)) j RS END ends in
+        (does limit X.code (Test x.go x.turn x.leave lo w b) x.tested base cells calls fires (Goes (at x.leave base cells calls fires)) x.chooses (ap (λ y. chosen limit y lo w b base cells calls fires) to)) j RS END ends in
         let less = z.1 in
         on-as X limit coded RS END F ks next (Enter false returns (ks ++ turn_columns (ls ∷ turns)) Returning) fires next_is
-          (returning-went z.0 (most z.0 (omega (arith, less))) base cells calls fires ks ls turns lim h z.2)
+        (returning-went z.0 (most z.0 (omega (arith, less))) base cells calls fires ks ls turns lim h z.2)
     choosing-went bound tests j le most base cells calls fires ks ls turns next lim h (spoiled e next_is to) ends =
         leaves-on X limit coded RS END F ks (errors w e) next fires (next_is ∙ ap (λ k. Leave (errors k e)) (loop-outputs early init test body returns w)) lim
     choosing-went bound tests j le most base cells calls fires ks ls turns next lim h (again next_is to) ends =
         let lt = within limit X.code (Test x.go x.turn x.leave lo w b) x.tested base cells calls fires (λ f. at x.turn base cells calls f) x.chooses (ap (λ y. chosen limit y lo w b base cells calls fires) to) j RS END ends in
         let z = end-next limit X.code (at x.tested base cells calls fires) (at x.turn base cells calls (suc fires))
-              (does limit X.code (Test x.go x.turn x.leave lo w b) x.tested base cells calls fires (Goes (at x.turn base cells calls (suc fires))) x.chooses
-              (ap (λ y. chosen limit y lo w b base cells calls fires) to ∙ counts limit X.code fires (λ f. Goes (at x.turn base cells calls f)) lt)) j RS END ends in
+        (does limit X.code (Test x.go x.turn x.leave lo w b) x.tested base cells calls fires (Goes (at x.turn base cells calls (suc fires))) x.chooses
+        (ap (λ y. chosen limit y lo w b base cells calls fires) to ∙ counts limit X.code fires (λ f. Goes (at x.turn base cells calls f)) lt)) j RS END ends in
         let less = z.1 in
         on-as X limit coded RS END F ks next (Enter true body (ks ++ ls) (Turning (ls ∷ turns))) fires next_is
-          (turning-went bound tests z.0 (omega (arith, less, le)) (λ i at_most. most i (omega (arith, at_most, less))) base cells calls fires ks ls turns (omega (arith, lt)) h z.2)
+        (turning-went bound tests z.0 (omega (arith, less, le)) (λ i at_most. most i (omega (arith, at_most, less))) base cells calls fires ks ls turns (omega (arith, lt)) h z.2)
 
     testing-went : (bound : ℕ) → TestsWent bound
     testing-went zero j lt most base cells calls fires ks ls turns lim h ends = absurd (omega (arith, lt))
     testing-went (suc bound) j lt most base cells calls fires ks ls turns lim h ends =
         let p = part-went X limit coded RS END j (most j (omega arith)) room (x.for_test ++ cells_at x.mid x.n) test x.tests x.tested N (x.go ∷ []) x.testing base cells calls fires (ks ++ ls) lim
-              (lent X limit room early args init test body returns own w a b lo x x.for_test x.test_lent base cells ks ls turns h x.mid x.n ls h.loop_values) ends in
+        (lent X limit room early args init test body returns own w a b lo x x.for_test x.test_lent base cells ks ls turns h x.mid x.n ls h.loop_values) ends in
         let kept = kept-later X limit room early args init test body returns own w a b lo x base p.cells' cells ks ls turns p.same h in
         let v = val_of (look p.cells' base x.go) in
         let less = p.less in
         let y = choosing-went bound (testing-went bound) p.left (omega (arith, less, lt)) (λ i at_most. most i (omega (arith, at_most, less))) base p.cells' calls (fires + p.cost.fires) ks ls turns (tested F body returns ks ls turns v) p.within kept
-              (chose F body returns ks ls turns x.turn x.leave v) p.ends in
+        (chose F body returns ks ls turns x.turn x.leave v) p.ends in
         let w' = y.within in
         record {
           steps = suc (p.steps + y.steps);
@@ -123,7 +123,7 @@ module _ (X : Layout) (limit : ℕ) (coded : AreCoded X) (RS : List Carried) (EN
           cost = with_both (counting X.weights) 0 0 p.cost y.cost;
           goes = enters X limit coded RS END F ks false test (ks ++ ls) (Testing (ls ∷ turns)) p.rs y.outs p.cost y.cost p.steps y.steps p.goes
               (subst (λ q. yields X y.steps F ks (follow F ks (Testing (ls ∷ turns)) q) y.outs y.cost) p.told
-                (subst (λ q. yields X y.steps F ks q y.outs y.cost) (sym (followed early init test body returns w ks (Testing (ls ∷ turns)) (look p.cells' base x.go ∷ []))) y.goes));
+              (subst (λ q. yields X y.steps F ks q y.outs y.cost) (sym (followed early init test body returns w ks (Testing (ls ∷ turns)) (look p.cells' base x.go ∷ []))) y.goes));
           within = omega (arith, w');
         }
 
@@ -135,7 +135,7 @@ module _ (X : Layout) (limit : ℕ) (coded : AreCoded X) (RS : List Carried) (EN
     starting-went true is j most base cells calls fires ks ls lim h ends =
         let lt = within limit X.code Count x.starts base cells calls fires (λ f. at (suc x.starts) base cells calls f) is.0 refl j RS END ends in
         let z = end-next limit X.code (at x.starts base cells calls fires) (at (suc x.starts) base cells calls (suc fires))
-              (does limit X.code Count x.starts base cells calls fires (Goes (at (suc x.starts) base cells calls (suc fires))) is.0 (counts limit X.code fires (λ f. Goes (at (suc x.starts) base cells calls f)) lt)) j RS END ends in
+        (does limit X.code Count x.starts base cells calls fires (Goes (at (suc x.starts) base cells calls (suc fires))) is.0 (counts limit X.code fires (λ f. Goes (at (suc x.starts) base cells calls f)) lt)) j RS END ends in
         let less = z.1 in
         turning-went (suc z.0) (testing-went (suc z.0)) z.0 (omega arith) (λ i at_most. most i (omega (arith, at_most, less))) base cells calls fires ks ls [] (omega (arith, lt)) h (subst (λ p. E z.0 (at p base cells calls (suc fires))) (sym is.1) z.2)
 
@@ -150,8 +150,8 @@ module _ (X : Layout) (limit : ℕ) (coded : AreCoded X) (RS : List Carried) (EN
         let same₁ : Same (base + lo) s.cells' cells = λ j lt. s.same j (omega (arith, lt)) in
         let same₂ : Same (base + lo) p.cells' s.cells' = λ j lt. p.same j (omega (arith, lt, l)) in
         let q = begin-keeps X limit room early args init test body returns own w a b lo x base p.cells' calls (suc fires + p.cost.fires) ks p.rs
-              (all-later p.cells' s.cells' base lo lo args ks (omega arith) same₂ (all-later s.cells' cells base lo lo args ks (omega arith) same₁ held))
-              (all-later p.cells' s.cells' base x.mid x.mid (own_cells x.picks args (lo + w)) ks (omega arith) p.same s.held) p.told in
+        (all-later p.cells' s.cells' base lo lo args ks (omega arith) same₂ (all-later s.cells' cells base lo lo args ks (omega arith) same₁ held))
+        (all-later p.cells' s.cells' base x.mid x.mid (own_cells x.picks args (lo + w)) ks (omega arith) p.same s.held) p.told in
         let e = end-next limit X.code (at x.begun base p.cells' calls (suc fires + p.cost.fires)) (at x.starts base q.last calls (suc fires + p.cost.fires)) q.keep p.left RS END p.ends in
         let less' = e.1 in
         let less'' = p.less in

@@ -11,17 +11,16 @@ use Rattle.graph_meaning.specs.Forms.{Form, Next, First, next_of, arm_in, Enter,
 use Rattle.graph_meaning.specs.Forms as form
 use Rattle.graph_meaning.specs.Demand.{Kind, Whole, Vertex}
 use Rattle.graph_meaning.specs.Plain.{Means, Costs}
-use Rattle.graph_meaning.specs.Storage.{Weights}
 use Rattle.ordered_meaning.proofs.Growing.{kind-on, nodes-on, yields-on}
-use Rattle.ordered_meaning.proofs.Recorded.{Reading, recorded}
+use Rattle.ordered_meaning.proofs.Recorded.{recorded}
 use Rattle.ordered_meaning.specs.Laws.{counting}
-use Rattle.ordered_meaning.specs.Ordered.{Fired, Inputs, Bindings, and_results, bound, nothing, with_both}
+use Rattle.ordered_meaning.specs.Ordered.{Fired, Inputs, Bindings, and_results, nothing, with_both}
 use Rattle.ordered_meaning.proofs.Same.{itself}
 use Rattle.ordered_meaning.proofs.Shuffled.{all-listed}
 use Rattle.ordered_meaning.proofs.Complete.{yields-where-costed}
 use Rattle.run_code.specs.Cells.{At, Cells, Operand, look, own_cells, write}
 use Rattle.run_code.specs.Coded.{AreCoded, ArmsAre, Layout, NodeIs, NodesAre, Places, Starts, a_call, a_for_all, a_loop, a_node, a_select, a_tag_case, loop_form, no_node, operand, scalar, yields}
-use Rattle.run_code.specs.Known.{IsReadable, Known, known_after}
+use Rattle.run_code.specs.Known.{IsReadable, Known}
 use Rattle.run_code.specs.Machine.{EndsIn, Frame, Goes, State, arm_by, at, choice, chosen, tagged}
 use Rattle.run_code.specs.Steps.{Branch, Call, Fire, Tag}
 use Rattle.run_laws.proofs.BackForAlls.{for-all-went}
@@ -62,10 +61,10 @@ module _ (X : Layout) (limit : ℕ) (coded : AreCoded X) (RS : List Carried) (EN
       let eq = look-all cells base lo args ks held in
       let n = as-many cells base lo args ks held in
       let next = end-next limit X.code (at a base cells calls fires) (at (X.entry f) (base + room) first (o ∷ calls) (suc fires))
-            (does limit X.code (Call (X.entry f) room args lo w) a base cells calls fires (Goes (at (X.entry f) (base + room) first (o ∷ calls) (suc fires))) is
-            (counts limit X.code fires (λ x. Goes (at (X.entry f) (base + room) first (o ∷ calls) x)) lt)) k RS END ends in
+      (does limit X.code (Call (X.entry f) room args lo w) a base cells calls fires (Goes (at (X.entry f) (base + room) first (o ∷ calls) (suc fires))) is
+      (counts limit X.code fires (λ x. Goes (at (X.entry f) (base + room) first (o ∷ calls) x)) lt)) k RS END ends in
       let good = good-passed first (base + room) (X.params f) fn.places ks (sym n ∙ many) fn.inputs fn.wanting
-            (λ i lt. write-in (base + room) (length args) (map (look cells base) args) cells i (omega (arith, lt, many)) ∙ ap (λ x. get_or x i Unfilled) eq) in
+      (λ i lt. write-in (base + room) (length args) (map (look cells base) args) cells i (omega (arith, lt, many)) ∙ ap (λ x. get_or x i Unfilled) eq) in
       let less = next.1 in
       let ord = fn.ordered in
       let r = fewer next.0 (omega (arith, less)) (X.size f) f fn.places (X.order f) (X.entry f) fn.end (X.params f) fn.nodes [] ord.0 (base + room) first (o ∷ calls) (suc fires) (Inputs ks) (omega (arith, lt)) good (tells-inputs ks) next.2 in
@@ -73,7 +72,9 @@ module _ (X : Layout) (limit : ℕ) (coded : AreCoded X) (RS : List Carried) (EN
       let w' = r.within in
       let inner = and_results (counting X.weights) r.cost (X.weights.of_results f res.0) in
       record {
-        steps = suc (r.steps + 1); outs = res.0; cost = with_both (counting X.weights) 0 0 inner (nothing (counting X.weights));
+        steps = suc (r.steps + 1);
+        outs = res.0;
+        cost = with_both (counting X.weights) 0 0 inner (nothing (counting X.weights));
         goes = enters X limit coded RS END (form.Call f) ks false f ks Called res.0 res.0 inner (nothing (counting X.weights)) r.steps 1 (graph-of X limit coded RS END f ks (suc fires) r.steps r (omega arith) res.0 res.1) (refl, refl);
         within = omega (arith, w');
       }
@@ -86,10 +87,10 @@ module _ (X : Layout) (limit : ℕ) (coded : AreCoded X) (RS : List Carried) (EN
       leaves-on X limit coded RS END (form.Select s gs w) ks (errors w e) next fires next_is lim
   chosen-went k most room args s gs w m b lo up targets selector is base cells calls fires ks next lim held (arm g t next_is to body) ends =
       let x = end-next limit X.code (at m base cells calls fires) (at t base cells calls fires)
-            (does limit X.code (Branch selector targets lo w b) m base cells calls fires (Goes (at t base cells calls fires)) is (ap (λ y. chosen limit y lo w b base cells calls fires) to)) k RS END ends in
+      (does limit X.code (Branch selector targets lo w b) m base cells calls fires (Goes (at t base cells calls fires)) is (ap (λ y. chosen limit y lo w b base cells calls fires) to)) k RS END ends in
       let less = x.1 in
       on-as X limit coded RS END (form.Select s gs w) ks next (Enter false g ks Chosen) fires next_is
-        (last-went X limit coded RS END x.0 (most x.0 (omega (arith, less))) (form.Select s gs w) Chosen ks ks (λ ms. refl) room args g t body.end up body.froms body.part base cells calls fires lim held x.2)
+      (last-went X limit coded RS END x.0 (most x.0 (omega (arith, less))) (form.Select s gs w) Chosen ks ks (λ ms. refl) room args g t body.end up body.froms body.part base cells calls fires lim held x.2)
 
   select-went : (k : ℕ) → Few k → (room : ℕ) (args : List Operand) (s : ℕ) (gs : List ℕ) (own : List Carried → List Carried → ℕ) (w a b lo : ℕ) (picks : List Bool) (mid m : ℕ) (selector : Operand) (targets : List ℕ)
       → Starts X a lo w picks args own mid → Part X limit room (own_cells picks args (lo + w)) s (suc (suc a)) m mid (selector ∷ []) → X.code m ≡ Branch selector targets lo w b
@@ -104,7 +105,7 @@ module _ (X : Layout) (limit : ℕ) (coded : AreCoded X) (RS : List Carried) (EN
       let less' = p.less in
       let v = val_of (look p.cells' base selector) in
       let y = chosen-went p.left (λ i at_most. fewer i (omega (arith, at_most, less, less'))) room mine s gs w m b lo mid targets selector branch base p.cells' calls (suc fires + p.cost.fires) ks (select (form.Select s gs w) gs ks v) p.within
-            (all-later p.cells' st.cells' base mid mid mine ks (omega arith) p.same st.held) (selected X limit room mine s gs targets w b lo mid arms ks v) p.ends in
+      (all-later p.cells' st.cells' base mid mid mine ks (omega arith) p.same st.held) (selected X limit room mine s gs targets w b lo mid arms ks v) p.ends in
       let w' = y.within in
       record {
         steps = suc (p.steps + y.steps);
@@ -124,12 +125,12 @@ module _ (X : Layout) (limit : ℕ) (coded : AreCoded X) (RS : List Carried) (EN
   tag-chosen k most room others gs w t b lo mid union targets is base cells calls fires x ks first lim seen held (into g to_place v first_is to body) ends =
       let now = write (base + mid) 1 (Value v ∷ []) cells in
       let y = end-next limit X.code (at t base cells calls fires) (at to_place base now calls fires)
-            (does limit X.code (Tag union targets mid lo w b) t base cells calls fires (Goes (at to_place base now calls fires)) is
-              (ap (λ y. tagged (arm_by targets (values.out-Val (val_of y))) mid lo w b base cells calls fires) seen ∙ ap (λ y. tagged y mid lo w b base cells calls fires) to)) k RS END ends in
+      (does limit X.code (Tag union targets mid lo w b) t base cells calls fires (Goes (at to_place base now calls fires)) is
+      (ap (λ y. tagged (arm_by targets (values.out-Val (val_of y))) mid lo w b base cells calls fires) seen ∙ ap (λ y. tagged y mid lo w b base cells calls fires) to)) k RS END ends in
       let less = y.1 in
       on-as X limit coded RS END (form.TagCase gs w) (x ∷ ks) (next_of first) (Enter false g (Value v ∷ ks) Chosen) fires (ap next_of first_is)
-        (last-went X limit coded RS END y.0 (most y.0 (omega (arith, less))) (form.TagCase gs w) Chosen (x ∷ ks) (Value v ∷ ks) (λ ms. refl) room (At mid ∷ others) g to_place body.end (suc mid) body.froms body.part base now calls fires lim
-          (content-held X limit cells base mid others ks v held) y.2)
+      (last-went X limit coded RS END y.0 (most y.0 (omega (arith, less))) (form.TagCase gs w) Chosen (x ∷ ks) (Value v ∷ ks) (λ ms. refl) room (At mid ∷ others) g to_place body.end (suc mid) body.froms body.part base now calls fires lim
+      (content-held X limit cells base mid others ks v held) y.2)
 
   tag-went : (k : ℕ) → Few k → (room : ℕ) (args : List Operand) (gs : List ℕ) (own : List Carried → List Carried → ℕ) (w a b lo : ℕ) (picks : List Bool) (mid : ℕ) (union : Operand) (others : List Operand) (targets : List ℕ)
       → Starts X a lo w picks args own mid → own_cells picks args (lo + w) ≡ union ∷ others → X.code (suc (suc a)) ≡ Tag union targets mid lo w b → ArmsAre X room (At mid ∷ others) gs targets w b lo (suc mid)
@@ -144,7 +145,7 @@ module _ (X : Layout) (limit : ℕ) (coded : AreCoded X) (RS : List Carried) (EN
       let less = st.fewer in
       let h = union-held X limit st.cells' base mid (own_cells picks args (lo + w)) union others x ks split st.held in
       tag-chosen st.left (λ i at_most. fewer i (omega (arith, at_most, less))) room others gs w (suc (suc a)) b lo mid union targets is base st.cells' calls (suc fires) x ks (arm_in gs w ks (values.out-Val (val_of x))) (omega (arith, lt)) h.0 h.1
-        (tagged-by X limit room (At mid ∷ others) gs targets w b lo (suc mid) arms ks (values.out-Val (val_of x))) st.ends
+      (tagged-by X limit room (At mid ∷ others) gs targets w b lo (suc mid) arms ks (values.out-Val (val_of x))) st.ends
 
   -- ---- all kinds
 
@@ -152,26 +153,26 @@ module _ (X : Layout) (limit : ℕ) (coded : AreCoded X) (RS : List Carried) (EN
       → (base : ℕ) (cells : Cells) (calls : List Frame) (fires : ℕ) (ks : List Carried) → HoldsAll cells base lo args ks → E k (at a base cells calls fires) → WentKind X limit coded RS END kind ks fires
   node-went k fewer room _ _ _ _ _ _ _ (scalar args row shape own w a lo is weighs) base cells calls fires ks held ends =
       let lt = within limit X.code (Fire row shape args lo w) a base cells calls fires (λ x. at (suc a) base (write (base + lo) w (op row shape (map (look cells base) args)) cells) calls x) is refl k RS END ends in
-      record { steps = 0; outs = op row shape ks; cost = nothing (counting X.weights); goes = (refl, refl); within = omega (arith, lt); }
+      record { steps = 0; outs = op row shape ks; cost = nothing (counting X.weights); goes = (refl, refl); within = omega (arith, lt) }
   node-went k fewer room _ _ _ _ _ _ _ (a_call args f own w a lo in_f many fits is weighs) base cells calls fires ks held ends =
       of-whole (form.Call f) ks (Enter false f ks Called) fires refl (call-went k fewer room args f w a lo in_f many fits is base cells calls fires ks held ends)
   node-went k fewer room _ _ _ _ _ _ _ (a_select args s gs own w a b lo picks mid m selector targets starts part free branch arms) base cells calls fires ks held ends =
       of-whole (form.Select s gs w) ks (Enter false s ks Selecting) fires refl
-        (select-went k fewer room args s gs own w a b lo picks mid m selector targets starts (part-of X limit room (own_cells picks args (lo + w)) s (suc (suc a)) m mid (selector ∷ []) part) branch arms base cells calls fires ks held ends)
+      (select-went k fewer room args s gs own w a b lo picks mid m selector targets starts (part-of X limit room (own_cells picks args (lo + w)) s (suc (suc a)) m mid (selector ∷ []) part) branch arms base cells calls fires ks held ends)
   node-went k fewer room _ _ _ _ _ _ _ (a_tag_case args gs own w a b lo picks mid union others targets starts split is arms) base cells calls fires ks held ends =
       of-whole (form.TagCase gs w) ks (next_of (first (form.TagCase gs w) ks)) fires refl (tag-went k fewer room args gs own w a b lo picks mid union others targets starts split is arms base cells calls fires ks held ends)
   node-went k fewer room _ _ _ _ _ _ _ (a_loop early args init test body returns own w a b lo loop) base cells calls fires ks held ends =
       of-whole (loop_form early init test body returns w) ks (Enter false init ks Starting) fires (ap next_of (loop-first early init test body returns w ks))
-        (loop-went X limit coded RS END room early args init test body returns own w a b lo (loop-of X limit room early args init test body returns own w a b lo loop) k fewer base cells calls fires ks held ends)
+      (loop-went X limit coded RS END room early args init test body returns own w a b lo (loop-of X limit room early args init test body returns own w a b lo loop) k fewer base cells calls fires ks held ends)
   node-went k fewer room _ _ _ _ _ _ _ (a_for_all args generator body returns m own w a b lo over) base cells calls fires ks held ends =
       of-whole (form.ForAll generator body returns m w) ks (Enter false generator ks Generating) fires refl
-        (for-all-went X limit coded RS END room args generator body returns m own w a b lo (over-of X limit room args generator body returns m own w a b lo over) k fewer base cells calls fires ks held ends)
+      (for-all-went X limit coded RS END room args generator body returns m own w a b lo (over-of X limit room args generator body returns m own w a b lo over) k fewer base cells calls fires ks held ends)
 
   nodes-went : (k : ℕ) → Few k → (room g : ℕ) (places : Places) (vs : List Vertex) (a b lo : ℕ) → NodesAre X room g places vs a b lo
       → (j : ℕ) → j ≤ k → (known : Known) → IsReadable X.width known vs → (base : ℕ) (cells : Cells) (calls : List Frame) (fires : ℕ) (env : Bindings) → fires ≤ limit → Good cells base lo places known env → Tells known env
       → E j (at a base cells calls fires) → Went X limit coded RS END g env vs fires
   nodes-went k fewer room _ _ _ _ _ _ (no_node g places a lo) j le known ord base cells calls fires env lim good tells ends =
-      record { steps = 0; after = env; cost = nothing (counting X.weights); goes = (refl, refl); within = omega (arith, lim); }
+      record { steps = 0; after = env; cost = nothing (counting X.weights); goes = (refl, refl); within = omega (arith, lim) }
   nodes-went k fewer room _ _ _ _ _ _ (a_node g places v vs a m b lo next puts fits node nodes) j le known ord base cells calls fires env lim good tells ends =
       let ks = read-known known env tells v.ins ord.2 in
       let held = read-held cells base lo places known env good v.ins ord.2 ks.0 ks.1 in
@@ -187,9 +188,17 @@ module _ (X : Layout) (limit : ℕ) (coded : AreCoded X) (RS : List Carried) (EN
       let later = yields-on (counting X.weights) X.network X.order r.steps n (omega arith) in
       let w = r.within in
       record {
-        steps = n; after = r.after; cost = with_both (counting X.weights) 1 own x.cost r.cost;
-        goes = (x.outs, x.cost, r.cost, record { operands = ks.0; reads = ks.1; gives = kind-on (counting X.weights) X.network X.order (yields X x.steps) (yields X n) on v.kind ks.0 x.outs x.cost x.goes },
-          nodes-on (counting X.weights) X.network X.order (yields X r.steps) (yields X n) later g (Fired v.label x.outs env) vs r.after r.cost r.goes, refl);
+        steps = n;
+        after = r.after;
+        cost = with_both (counting X.weights) 1 own x.cost r.cost;
+        goes = (
+          x.outs,
+          x.cost,
+          r.cost,
+          record { operands = ks.0; reads = ks.1; gives = kind-on (counting X.weights) X.network X.order (yields X x.steps) (yields X n) on v.kind ks.0 x.outs x.cost x.goes },
+          nodes-on (counting X.weights) X.network X.order (yields X r.steps) (yields X n) later g (Fired v.label x.outs env) vs r.after r.cost r.goes,
+          refl,
+        );
         within = omega (arith, w);
       }
 
@@ -211,11 +220,12 @@ ends-recorded X limit coded orderly inorder k f ins rs c cells in_f many held en
     let d = all-done X limit coded r.steps f ins res.0 t cells in_f many held g (omega (arith, w)) in
     let e = end-after X.weigh limit X.code (at (X.entry f) 0 cells [] 0) d.0 d.1 d.2 k rs c ends in
     let same = one-end limit X.code e.0 d.0 res.0 rs t.fires c d.3 e.2 in
-    let x = recorded (counting X.weights) X.network X.order ok r.steps f ins res.0 t g X.weights (itself X.weights) in
-    (t.sum,
-     subst (λ y. EndsAdding X.weigh limit X.code (at (X.entry f) 0 cells [] 0) y c t.sum) same.0 (subst (λ y. EndsAdding X.weigh limit X.code (at (X.entry f) 0 cells [] 0) res.0 y t.sum) same.1 d),
-     (x.0, subst (λ y. Means X.network x.0 f ins y) same.0 x.1, subst (λ y. Costs X.network x.0 f ins y) same.1 x.2, x.3),
-     subst (λ y. y ≤ limit) same.1 (omega (arith, w)))
+    let x = recorded (counting X.weights) X.network X.order ok r.steps f ins res.0 t g X.weights (itself X.weights) in (
+      t.sum,
+      subst (λ y. EndsAdding X.weigh limit X.code (at (X.entry f) 0 cells [] 0) y c t.sum) same.0 (subst (λ y. EndsAdding X.weigh limit X.code (at (X.entry f) 0 cells [] 0) res.0 y t.sum) same.1 d),
+      (x.0, subst (λ y. Means X.network x.0 f ins y) same.0 x.1, subst (λ y. Costs X.network x.0 f ins y) same.1 x.2, x.3),
+      subst (λ y. y ≤ limit) same.1 (omega (arith, w)),
+    )
 
 pub exact : IsExact
 exact X limit coded orderly inorder f ins cells in_f many held e c costs le =

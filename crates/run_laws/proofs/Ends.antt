@@ -7,7 +7,6 @@ use Rattle.graph_meaning.specs.Demand.{Source, Kind, Vertex}
 use Rattle.ordered_meaning.proofs.Growing.{graph-on, nodes-on, yields-on}
 use Rattle.ordered_meaning.specs.Laws.{counting}
 use Rattle.ordered_meaning.specs.Ordered.{Inputs, Bindings, KindYields, NodesYield, ReadsAll, Total, and_results, nothing, with_both}
-use Rattle.ordered_meaning.specs.Orders.{IsInOrder}
 use Rattle.run_code.specs.Cells.{Cells, Operand, look, own_cells}
 use Rattle.run_code.specs.Coded.{AreCoded, Layout, NodesAre, Places, Starts, graph_yields, yields}
 use Rattle.run_code.specs.Known.{AreReadable, IsReadable, Known, known_after}
@@ -65,10 +64,14 @@ module _ (X : Layout) (limit : ℕ) (coded : AreCoded X) (RS : List Carried) (EN
   pub enters : (F : Form) (ks : List Carried) (t : Bool) (g : ℕ) (ins : List Carried) (stage : Stage) (ms outs : List Carried) (inner later : Total (counting X.weights)) (p q : ℕ)
       → graph_yields X p g ins ms inner → yields X q F ks (follow F ks stage ms) outs later
       → yields X (suc (p + q)) F ks (Enter t g ins stage) outs (with_both (counting X.weights) (entry_fires t) 0 inner later)
-  enters F ks t g ins stage ms outs inner later p q a b =
-      (ms, inner, later,
-       graph-on (counting X.weights) X.network X.order (yields X p) (yields X (p + q)) (yields-on (counting X.weights) X.network X.order p (p + q) (omega arith)) g ins ms inner a,
-       yields-on (counting X.weights) X.network X.order q (p + q) (omega arith) F ks (follow F ks stage ms) outs later b, refl)
+  enters F ks t g ins stage ms outs inner later p q a b = (
+    ms,
+    inner,
+    later,
+    graph-on (counting X.weights) X.network X.order (yields X p) (yields X (p + q)) (yields-on (counting X.weights) X.network X.order p (p + q) (omega arith)) g ins ms inner a,
+    yields-on (counting X.weights) X.network X.order q (p + q) (omega arith) F ks (follow F ks stage ms) outs later b,
+    refl,
+  )
 
   -- what nodes that went give
   pub any-results : (g : ℕ) (vs : List Vertex) (outs : List Source) (ks : List Carried) (fires : ℕ) (ord : AreReadable X.width vs outs) (r : Went g (Inputs ks) vs fires) → (rs : List Carried) × ReadsAll r.after outs rs

@@ -58,7 +58,7 @@ module _ (facts : ℕ → List Fact) where
   stays-true : (pc next out w base : ℕ) (rs : List Carried) (cells : Cells) → Stays facts pc next out w → AllOf (IsTrue base cells) (facts pc) → AllOf (IsTrue base (write (base + out) w rs cells)) (facts next)
   stays-true pc next out w base rs cells stays all =
       each-of (λ f. Is f (facts pc) × IsApart f out w) (IsTrue base (write (base + out) w rs cells)) (facts next)
-        (λ f h. true-by base (write (base + out) w rs cells) cells f (λ c t. write-out base out w rs cells c (h.1 c t)) (pick (IsTrue base cells) f (facts pc) h.0 all)) stays
+      (λ f h. true-by base (write (base + out) w rs cells) cells f (λ c t. write-out base out w rs cells c (h.1 c t)) (pick (IsTrue base cells) f (facts pc) h.0 all)) stays
 
   stays-same : (pc next base : ℕ) (cells : Cells) → Stays facts pc next 0 0 → AllOf (IsTrue base cells) (facts pc) → AllOf (IsTrue base cells) (facts next)
   stays-same pc next base cells stays all = each-of (λ f. Is f (facts pc) × IsApart f 0 0) (IsTrue base cells) (facts next) (λ f h. pick (IsTrue base cells) f (facts pc) h.0 all) stays
@@ -94,17 +94,18 @@ module _ (facts : ℕ → List Fact) where
       let q = m.0 in
       let lt = m.3 in
       subst (IsTrue base (write (base + out) w rs cells)) (sym m.8)
-        (written-through out w base q rs cells m.2 (cells (base + m.1)) (omega (arith, lt, le))
-          (given q m.3 m.5 ∙ (looked-at base cells froms q m.5 ∙ ap (look cells base) m.4)) (read-is pc base cells m.1 m.2 known m.6) m.7)
+      (written-through out w base q rs cells m.2 (cells (base + m.1)) (omega (arith, lt, le))
+      (given q m.3 m.5 ∙ (looked-at base cells froms q m.5 ∙ ap (look cells base) m.4)) (read-is pc base cells m.1 m.2 known m.6) m.7)
 
   waits-on : (base : ℕ) (calls : List Frame) (cells old : Cells) → Same base cells old → Waits facts base calls old → Waits facts base calls cells
   waits-on base [] cells old same h = tt
   waits-on base (o ∷ os) cells old same h =
-      let le = h.0 in
-      (h.0,
-       each-of (λ f. IsTrue o.base old f × IsApart f o.out o.width × ((c : ℕ) → Touches f c → o.base + c < base)) (λ f. IsTrue o.base cells f × IsApart f o.out o.width × ((c : ℕ) → Touches f c → o.base + c < base)) (facts o.pc)
-         (λ f x. (true-by o.base cells old f (λ c t. same (o.base + c) (x.2 c t)) x.0, x.1, x.2)) h.1,
-       waits-on o.base os cells old (λ j lt. same j (omega (arith, lt, le))) h.2)
+      let le = h.0 in (
+        h.0,
+        each-of (λ f. IsTrue o.base old f × IsApart f o.out o.width × ((c : ℕ) → Touches f c → o.base + c < base)) (λ f. IsTrue o.base cells f × IsApart f o.out o.width × ((c : ℕ) → Touches f c → o.base + c < base)) (facts o.pc)
+            (λ f x. (true-by o.base cells old f (λ c t. same (o.base + c) (x.2 c t)) x.0, x.1, x.2)) h.1,
+        waits-on o.base os cells old (λ j lt. same j (omega (arith, lt, le))) h.2,
+      )
 
   above : (base out w : ℕ) (rs : List Carried) (cells : Cells) → Same base (write (base + out) w rs cells) cells
   above base out w rs cells j lt = write-below (base + out) w rs cells j (omega (arith, lt))
@@ -221,8 +222,8 @@ module _ (facts : ℕ → List Fact) where
       made-long : are_as_long ms ≡ true → IsTrue base now (AsLong to n)
       made-long long =
           let given : cells_from now (base + to) n ≡ ms =
-                same-from now first (base + to) n (λ j lt. write-below (base + (to + (length ms + length cs))) 1 (counter 0 ∷ []) first ((base + to) + j) (omega (arith, lt, e)))
-                ∙ (ap (λ x. cells_from (write (base + to) (x + length cs) (ms ++ nothing_in cs) cells) (base + to) n) e ∙ written-from base to n (length cs) ms (nothing_in cs) cells e) in
+          same-from now first (base + to) n (λ j lt. write-below (base + (to + (length ms + length cs))) 1 (counter 0 ∷ []) first ((base + to) + j) (omega (arith, lt, e)))
+          ∙ (ap (λ x. cells_from (write (base + to) (x + length cs) (ms ++ nothing_in cs) cells) (base + to) n) e ∙ written-from base to n (length cs) ms (nothing_in cs) cells e) in
           subst (λ z. AreLong (places_of z) z) (sym given) (are-long ms long)
 
       moved : (f : Fact) → IsMoved facts pc froms n to (suc (n + length cs)) f → IsTrue base now f
@@ -264,9 +265,9 @@ module _ (facts : ℕ → List Fact) where
 
       by-size : (b : Bool) → are_as_long ms ≡ b → IsFine facts (spread_to (sized b turns) ms cs to out w next base cells calls fires)
       by-size true long = record {
-          here = each-of (λ f. (f ≡ AsLong to n) ⊎ (IsMoved facts pc froms n to (suc (n + length cs)) f ⊎ Still facts pc to (suc (n + length cs)) f)) (IsTrue base now) (facts turns) (either long) knows.0;
-          waiting = waits-on base calls now first (above base (to + (length ms + length cs)) 1 (counter 0 ∷ []) first) (waits-on base calls first cells (above base to (length ms + length cs) (ms ++ nothing_in cs) cells) k.waiting);
-        }
+        here = each-of (λ f. (f ≡ AsLong to n) ⊎ (IsMoved facts pc froms n to (suc (n + length cs)) f ⊎ Still facts pc to (suc (n + length cs)) f)) (IsTrue base now) (facts turns) (either long) knows.0;
+        waiting = waits-on base calls now first (above base (to + (length ms + length cs)) 1 (counter 0 ∷ []) first) (waits-on base calls first cells (above base to (length ms + length cs) (ms ++ nothing_in cs) cells) k.waiting);
+      }
       by-size false long = writes pc next out w base (errors w _) cells calls fires knows.1 k fires
 
       go : (o : Option Cause) → IsFine facts (spread_to (spreads o ms turns) ms cs to out w next base cells calls fires)
@@ -330,11 +331,11 @@ module _ (facts : ℕ → List Fact) where
           let long = pick (IsTrue base cells) (AsLong from n) (facts pc) x.3 k.here in
           let many = from-length cells (base + from) n in
           subst (IsTrue base now) (sym x.6)
-            ((ap now (omega arith) ∙ write-in (base + count) (suc n) rs cells (suc q) (omega (arith, less)))
-             ∙ (one-of i (places_of ms) ms q long lt (omega (arith, less, many))
-               ∙ (ap (element i) (from-at cells (base + from) n q less ∙ (ap cells (omega arith) ∙ read-is pc base cells (from + q) p k.here x.4))
-                 ∙ (ap (element i) (sym (through-same base now cells p (λ c u. write-out base count (suc n) rs cells c (x.5 c u))))
-                   ∙ (ap (λ z. element z (through now base p)) one-less ∙ sym (ap (λ z. element (begun z - 1) (through now base p)) counted-is))))))
+          ((ap now (omega arith) ∙ write-in (base + count) (suc n) rs cells (suc q) (omega (arith, less)))
+          ∙ (one-of i (places_of ms) ms q long lt (omega (arith, less, many))
+          ∙ (ap (element i) (from-at cells (base + from) n q less ∙ (ap cells (omega arith) ∙ read-is pc base cells (from + q) p k.here x.4))
+          ∙ (ap (element i) (sym (through-same base now cells p (λ c u. write-out base count (suc n) rs cells c (x.5 c u))))
+          ∙ (ap (λ z. element z (through now base p)) one-less ∙ sym (ap (λ z. element (begun z - 1) (through now base p)) counted-is))))))
 
       go : (b : Bool) → ltb i (places_of ms) ≡ b → IsFine facts (each b i ms limit n count turn leave base cells calls fires)
       go false e = goes pc leave base cells calls fires knows.1 k fires
@@ -348,11 +349,16 @@ module _ (facts : ℕ → List Fact) where
       let now = write (base + size) (length args) (map (look cells base) args) cells in
       record {
         here = subst (AllOf (IsTrue (base + size) now)) (sym knows.0) tt;
-        waiting = (omega arith,
-            each-of (λ f. Still facts pc out w f × ((c : ℕ) → Touches f c → c < size)) (λ f. IsTrue base now f × IsApart f out w × ((c : ℕ) → Touches f c → base + c < base + size)) (facts (suc pc))
-              (λ f x. (true-by base now cells f (λ c t. let lt = x.1 c t in write-below (base + size) (length args) (map (look cells base) args) cells (base + c) (omega (arith, lt))) (pick (IsTrue base cells) f (facts pc) x.0.0 k.here),
-                       x.0.1, (λ c t. let lt = x.1 c t in omega (arith, lt)))) knows.1,
-            waits-on base calls now cells (above base size (length args) (map (look cells base) args) cells) k.waiting);
+        waiting = (
+          omega arith,
+          each-of (λ f. Still facts pc out w f × ((c : ℕ) → Touches f c → c < size)) (λ f. IsTrue base now f × IsApart f out w × ((c : ℕ) → Touches f c → base + c < base + size)) (facts (suc pc))
+              (λ f x. (
+                true-by base now cells f (λ c t. let lt = x.1 c t in write-below (base + size) (length args) (map (look cells base) args) cells (base + c) (omega (arith, lt))) (pick (IsTrue base cells) f (facts pc) x.0.0 k.here),
+                x.0.1,
+                (λ c t. let lt = x.1 c t in omega (arith, lt)),
+              )) knows.1,
+          waits-on base calls now cells (above base size (length args) (map (look cells base) args) cells) k.waiting,
+        );
       }
 
   return-fine : (pc base : ℕ) (rs : List Carried) (cells : Cells) (calls : List Frame) (fires : ℕ) → Waits facts base calls cells → IsFine facts (returned rs calls cells fires)
@@ -368,14 +374,14 @@ module _ (facts : ℕ → List Fact) where
   step-fine limit pc base cells calls fires (Fire row shape ins out w) knows k =
       let rs = op row shape (map (look cells base) ins) in
       counted-fine limit fires (λ f. at (suc pc) base (write (base + out) w rs cells) calls f)
-        (λ f. writes-new (λ f. (row ≡ simple.AScatter) × IsScattered facts pc ins out w f) pc (suc pc) out w base rs cells calls fires (λ f m. scattered-true f m.0 m.1) knows k f)
+      (λ f. writes-new (λ f. (row ≡ simple.AScatter) × IsScattered facts pc ins out w f) pc (suc pc) out w base rs cells calls fires (λ f m. scattered-true f m.0 m.1) knows k f)
     where
       scattered-true : (f : Fact) → row ≡ simple.AScatter → IsScattered facts pc ins out w f → IsTrue base (write (base + out) w (op row shape (map (look cells base) ins)) cells) f
       scattered-true f is m =
           subst (IsTrue base (write (base + out) w (op row shape (map (look cells base) ins)) cells)) (first-place ∙ sym m.6)
-            (written-through out w base 0 (op row shape (map (look cells base) ins)) cells (Scattered m.1) (scattered (cells (base + m.0))) m.2
-              (ap (λ z. get_or (op z shape (map (look cells base) ins)) 0 Unfilled) is ∙ ap (λ z. get_or (op simple.AScatter shape (map (look cells base) z)) 0 Unfilled) m.3)
-              (ap scattered (read-is pc base cells m.0 m.1 k.here m.4)) m.5)
+          (written-through out w base 0 (op row shape (map (look cells base) ins)) cells (Scattered m.1) (scattered (cells (base + m.0))) m.2
+          (ap (λ z. get_or (op z shape (map (look cells base) ins)) 0 Unfilled) is ∙ ap (λ z. get_or (op simple.AScatter shape (map (look cells base) z)) 0 Unfilled) m.3)
+          (ap scattered (read-is pc base cells m.0 m.1 k.here m.4)) m.5)
         where
           first-place : Through (out + 0) (Scattered m.1) ≡ Through out (Scattered m.1)
           first-place = let e : out + 0 ≡ out = omega arith in ap (λ z. Through z (Scattered m.1)) e
@@ -385,14 +391,14 @@ module _ (facts : ℕ → List Fact) where
       writes-new (IsMoved facts pc froms w out w) pc next out w base rs cells calls fires (moved-true pc w out w base froms rs cells (omega arith) (λ q lt less. refl) k.here) knows k fires
   step-fine limit pc base cells calls fires (Tag union ts out out' w next) knows k =
       tag-form (λ f. (c : ℕ) × (p : Path) × (union ≡ At c) × IsRead facts pc c p × LeadsApart p out 1 × (f ≡ Through out (Content p))) pc out out' w next base cells calls fires ts knows.0 knows.1 k (values.out-Val (val_of (look cells base union)))
-        (λ tag v e f m. content-true tag v e f m)
+      (λ tag v e f m. content-true tag v e f m)
     where
       content-true : (tag : ℕ) (v : Val) → values.out-Val (val_of (look cells base union)) ≡ Val-F.Uni tag v → (f : Fact) → (c : ℕ) × (p : Path) × (union ≡ At c) × IsRead facts pc c p × LeadsApart p out 1 × (f ≡ Through out (Content p))
           → IsTrue base (write (base + out) 1 (Value v ∷ []) cells) f
       content-true tag v e f m =
           subst (IsTrue base (write (base + out) 1 (Value v ∷ []) cells)) (first-place ∙ sym m.5)
-            (written-through out 1 base 0 (Value v ∷ []) cells (Content m.1) (Value v) (omega arith) refl
-              (sym (ap content_in e) ∙ ap content (ap (look cells base) m.2 ∙ read-is pc base cells m.0 m.1 k.here m.3)) m.4)
+          (written-through out 1 base 0 (Value v ∷ []) cells (Content m.1) (Value v) (omega arith) refl
+          (sym (ap content_in e) ∙ ap content (ap (look cells base) m.2 ∙ read-is pc base cells m.0 m.1 k.here m.3)) m.4)
         where
           first-place : Through (out + 0) (Content m.1) ≡ Through out (Content m.1)
           first-place = let e : out + 0 ≡ out = omega arith in ap (λ z. Through z (Content m.1)) e
@@ -408,7 +414,7 @@ module _ (facts : ℕ → List Fact) where
       writes pc next out (length cs) base (put_all cs (map (look cells base) froms) (cells_from cells (base + out) (length cs))) cells calls fires knows k fires
   step-fine limit pc base cells calls fires (Call entry size args out w) knows k =
       counted-fine limit fires (λ f. at entry (base + size) (write (base + size) (length args) (map (look cells base) args) cells) (record { pc = suc pc; base = base; out = out; width = w } ∷ calls) f)
-        (λ f. call-fine limit pc entry size out w base args cells calls fires knows k f)
+      (λ f. call-fine limit pc entry size out w base args cells calls fires knows k f)
   step-fine limit pc base cells calls fires (Return froms) knows k = return-fine pc base (map (look cells base) froms) cells calls fires k.waiting
 
 pub stays-known : StaysTrue

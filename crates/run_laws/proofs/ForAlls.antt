@@ -84,12 +84,45 @@ module _ (X : Layout) (limit : ℕ) where
   pub over-of : (room : ℕ) (args : List Operand) (generator body returns m : ℕ) (own : List Carried → List Carried → ℕ) (w a b lo : ℕ)
       → ForAllIs X room args generator body returns m own w a b lo → Over room args generator body returns m own w a b lo
   over-of room _ _ _ _ _ _ _ _ _ _ (the_for_all args generator body returns m own w a b lo picks mid n k made turns turn turned leave left other nodes results cs extra lists nexts lasts for_body for_returns
-        start generating spreads_are made_weighs lists_many cs_many each_is body_lent turning adds turn_weighs turn_many within refolds returns_lent returning hands) =
+      start generating spreads_are made_weighs lists_many cs_many each_is body_lent turning adds turn_weighs turn_many within refolds returns_lent returning hands) =
       record {
-        picks = picks; mid = mid; n = n; k = k; other = other; nodes = nodes; results = results; cs = cs; extra = extra; cs_many = cs_many; within = within; refolds = refolds; made = made; turns = turns; turn = turn; turned = turned; leave = leave; left = left; lists = lists; nexts = nexts; lasts = lasts; for_body = for_body; for_returns = for_returns;
-        start = start; generating = part-of X limit room (own_cells picks args (lo + w)) generator (suc (suc a)) made mid lists generating; spreads_are = spreads_are; made_weighs = made_weighs; lists_many = lists_many;
-        each_is = each_is; body_lent = body_lent; turning = part-of X limit room (for_body ++ cells_at (suc (mid + (n + k))) n) body turn turned (suc (mid + (n + k)) + n) nexts turning; adds = adds; turn_weighs = turn_weighs; turn_many = turn_many;
-        returns_lent = returns_lent; returning = any-part X limit room ((for_returns ++ cells_at mid n) ++ cells_at (mid + n) k) other nodes results leave left (mid + (n + k)) lasts returning; hands = hands;
+        picks = picks;
+        mid = mid;
+        n = n;
+        k = k;
+        other = other;
+        nodes = nodes;
+        results = results;
+        cs = cs;
+        extra = extra;
+        cs_many = cs_many;
+        within = within;
+        refolds = refolds;
+        made = made;
+        turns = turns;
+        turn = turn;
+        turned = turned;
+        leave = leave;
+        left = left;
+        lists = lists;
+        nexts = nexts;
+        lasts = lasts;
+        for_body = for_body;
+        for_returns = for_returns;
+        start = start;
+        generating = part-of X limit room (own_cells picks args (lo + w)) generator (suc (suc a)) made mid lists generating;
+        spreads_are = spreads_are;
+        made_weighs = made_weighs;
+        lists_many = lists_many;
+        each_is = each_is;
+        body_lent = body_lent;
+        turning = part-of X limit room (for_body ++ cells_at (suc (mid + (n + k))) n) body turn turned (suc (mid + (n + k)) + n) nexts turning;
+        adds = adds;
+        turn_weighs = turn_weighs;
+        turn_many = turn_many;
+        returns_lent = returns_lent;
+        returning = any-part X limit room ((for_returns ++ cells_at mid n) ++ cells_at (mid + n) k) other nodes results leave left (mid + (n + k)) lasts returning;
+        hands = hands;
       }
 
   module _ (room : ℕ) (args : List Operand) (generator body returns m : ℕ) (own : List Carried → List Carried → ℕ) (w a b lo : ℕ) (x : Over room args generator body returns m own w a b lo) where
@@ -144,9 +177,9 @@ module _ (X : Layout) (limit : ℕ) where
         let first = write (base + x.mid) (x.n + x.k) (ms ++ none) cells in
         let last = write (base + top) 1 (counter 0 ∷ []) first in
         let does_spread = ap (λ z. spread_to (spreads (first_spoiled z) z x.turns) z x.cs x.mid lo w b base cells calls fires) told
-              ∙ (ap (λ z. spread_to z ms x.cs x.mid lo w b base cells calls fires) to
-                ∙ (ap (λ k. Goes (at x.turns base (write (base + (x.mid + (k + length x.cs))) 1 (counter 0 ∷ []) (write (base + x.mid) (k + length x.cs) (ms ++ none) cells)) calls fires)) many
-                  ∙ ap (λ k. Goes (at x.turns base (write (base + (x.mid + (x.n + k))) 1 (counter 0 ∷ []) (write (base + x.mid) (x.n + k) (ms ++ none) cells)) calls fires)) x.cs_many)) in
+        ∙ (ap (λ z. spread_to z ms x.cs x.mid lo w b base cells calls fires) to
+        ∙ (ap (λ k. Goes (at x.turns base (write (base + (x.mid + (k + length x.cs))) 1 (counter 0 ∷ []) (write (base + x.mid) (k + length x.cs) (ms ++ none) cells)) calls fires)) many
+        ∙ ap (λ k. Goes (at x.turns base (write (base + (x.mid + (x.n + k))) 1 (counter 0 ∷ []) (write (base + x.mid) (x.n + k) (ms ++ none) cells)) calls fires)) x.cs_many)) in
         let rows = rows-held cells base x.mid x.n x.k ms none top many none_many (omega arith) in
         let above : Same (base + top) last first = λ j lt. write-below (base + top) 1 (counter 0 ∷ []) first j lt in
         let same : Same (base + x.mid) last cells = λ j lt. above j (omega (arith, lt)) ∙ write-below (base + x.mid) (x.n + x.k) (ms ++ none) cells j lt in
@@ -241,8 +274,8 @@ module _ (X : Layout) (limit : ℕ) where
         let ms' = put_all x.cs rs cols in
         let last = write (base + (x.mid + x.n)) x.k ms' cells in
         let does_add = ap (λ k. Goes (at x.turns base (write (base + (x.mid + x.n)) k (put_all x.cs (map (look cells base) x.nexts) (cells_from cells (base + (x.mid + x.n)) k)) cells) calls fires)) x.cs_many
-              ∙ (ap (λ z. Goes (at x.turns base (write (base + (x.mid + x.n)) x.k (put_all x.cs z (cells_from cells (base + (x.mid + x.n)) x.k)) cells) calls fires)) told
-                ∙ ap (λ z. Goes (at x.turns base (write (base + (x.mid + x.n)) x.k (put_all x.cs rs z) cells) calls fires)) (cells-held cells base top (x.mid + x.n) x.k cols h.built)) in
+        ∙ (ap (λ z. Goes (at x.turns base (write (base + (x.mid + x.n)) x.k (put_all x.cs z (cells_from cells (base + (x.mid + x.n)) x.k)) cells) calls fires)) told
+        ∙ ap (λ z. Goes (at x.turns base (write (base + (x.mid + x.n)) x.k (put_all x.cs rs z) cells) calls fires)) (cells-held cells base top (x.mid + x.n) x.k cols h.built)) in
         let same : Same (base + (x.mid + x.n)) last cells = λ j lt. write-below (base + (x.mid + x.n)) x.k ms' cells j lt in
         record {
           last = last;
@@ -312,22 +345,22 @@ module _ (X : Layout) (limit : ℕ) where
         let now = row_cells base cells ms i in
         let row = row-on base cells ks ms cols i h long lt in
         let begins = one-step X.weigh limit X.code x.turns base cells calls fires (at x.turn base now calls (suc fires)) (Each x.n x.mid top x.turn x.leave) 0 x.each_is
-              (each-goes base cells calls fires ks ms cols i h lt ∙ counts limit X.code fires (λ f. Goes (at x.turn base now calls f)) (omega (arith, le, bf))) refl in
+        (each-goes base cells calls fires ks ms cols i h lt ∙ counts limit X.code fires (λ f. Goes (at x.turn base now calls f)) (omega (arith, le, bf))) refl in
         let r = part-runs X limit (suc n) n (omega arith) below room (x.for_body ++ cells_at (suc top) x.n) body x.turn x.turned (suc top + x.n) x.nexts x.turning base now calls (suc fires) (ks ++ elements i ms) rs one
-              row.lent goes.4 (omega (arith, le, bf)) in
+        row.lent goes.4 (omega (arith, le, bf)) in
         let whole = r.whole in
         let l = low in
         let d = adds-go base r.cells' calls (suc fires + one.fires) ks ms cols rs (suc i) (spread-later base r.cells' now ks ms cols (suc i) (λ j lt. r.same j (omega (arith, lt))) row.kept) r.told in
         let q = rows-pass n below k base d.last calls (suc fires + one.fires) ks ms (put_all x.cs rs cols) (suc i) others later long (omega (arith, full)) d.kept
-              (subst (λ z. RowsYield (counting X.weights) X.network X.order (yields X n) body z others later) (after-next k ks ms i) goes.5) (omega (arith, le, bf)) in
+        (subst (λ z. RowsYield (counting X.weights) X.network X.order (yields X n) body z others later) (after-next k ks ms i) goes.5) (omega (arith, le, bf)) in
         let later' = later.sum + rows_sum x.extra others in
         let split : rows_sum x.extra more ≡ x.extra rs + rows_sum x.extra others = ap (rows_sum x.extra) goes.6 in
         record {
           last = q.last;
           comes = comes-as X.weigh limit X.code (at x.turns base cells calls fires) x.turns base q.last calls ((suc fires + one.fires) + later.fires) (fires + c.fires) (0 + (r.sum + ((X.weights.of_results body rs + x.extra rs) + later'))) (c.sum + rows_sum x.extra more) (omega (arith, bf)) (omega (arith, bs, whole, split))
               (comes-then X.weigh limit X.code (at x.turns base cells calls fires) (at x.turn base now calls (suc fires)) (at x.turns base q.last calls ((suc fires + one.fires) + later.fires)) 0 (r.sum + ((X.weights.of_results body rs + x.extra rs) + later')) begins
-                (comes-then X.weigh limit X.code (at x.turn base now calls (suc fires)) (at x.turned base r.cells' calls (suc fires + one.fires)) (at x.turns base q.last calls ((suc fires + one.fires) + later.fires)) r.sum ((X.weights.of_results body rs + x.extra rs) + later') r.comes
-                  (comes-then X.weigh limit X.code (at x.turned base r.cells' calls (suc fires + one.fires)) (at x.turns base d.last calls (suc fires + one.fires)) (at x.turns base q.last calls ((suc fires + one.fires) + later.fires)) (X.weights.of_results body rs + x.extra rs) later' d.comes q.comes)));
+              (comes-then X.weigh limit X.code (at x.turn base now calls (suc fires)) (at x.turned base r.cells' calls (suc fires + one.fires)) (at x.turns base q.last calls ((suc fires + one.fires) + later.fires)) r.sum ((X.weights.of_results body rs + x.extra rs) + later') r.comes
+              (comes-then X.weigh limit X.code (at x.turned base r.cells' calls (suc fires + one.fires)) (at x.turns base d.last calls (suc fires + one.fires)) (at x.turns base q.last calls ((suc fires + one.fires) + later.fires)) (X.weights.of_results body rs + x.extra rs) later' d.comes q.comes)));
           same = λ j lt. q.same j lt ∙ (d.same j lt ∙ (r.same j (omega (arith, lt, l)) ∙ row.same j lt));
           kept = subst (λ z. IsSpread base q.last ks ms (puts_all x.cs z cols) (i + suc k)) (sym goes.6) (subst (IsSpread base q.last ks ms (puts_all x.cs others (put_all x.cs rs cols))) (omega arith) q.kept);
           long = subst (AllLong m) (sym goes.6) (d.long, q.long);
@@ -340,7 +373,7 @@ module _ (X : Layout) (limit : ℕ) where
     lent-returns base cells ks ms cols i h =
         let l = low in
         held-both cells base top (x.for_returns ++ cells_at x.mid x.n) (cells_at (x.mid + x.n) x.k) (ks ++ ms) cols
-          (held-both cells base top x.for_returns (cells_at x.mid x.n) ks ms (of-two cells base lo x.mid top args mine x.for_returns ks x.returns_lent (omega (arith, l)) (omega arith) h.outer h.inner) h.given) h.built
+        (held-both cells base top x.for_returns (cells_at x.mid x.n) ks ms (of-two cells base lo x.mid top args mine x.for_returns ks x.returns_lent (omega (arith, l)) (omega arith) h.outer h.inner) h.given) h.built
 
     pub plain-many : (base : ℕ) (cells : Cells) (ks ms cols : List Carried) (i : ℕ) → IsSpread base cells ks ms cols i → length (ks ++ ms) ≡ length args + x.n
     plain-many base cells ks ms cols i h =
@@ -368,12 +401,14 @@ module _ (X : Layout) (limit : ℕ) where
         let gf = g.2 in
         let gs = g.3 in
         let q = any-closes X limit (suc (suc n)) (suc n) (omega arith) below room ((x.for_returns ++ cells_at x.mid x.n) ++ cells_at (x.mid + x.n) x.k) x.other x.nodes x.results x.leave x.left top x.lasts x.returning lo w b x.hands (omega (arith, l))
-              base cells calls fires ((ks ++ ms) ++ cols) goes.0 g.0 (lent-returns base cells ks ms cols i h) g.1 (omega (arith, le, bf, zf, gf)) in
-        let jump = one-step X.weigh limit X.code x.turns base cells calls fires (at x.leave base cells calls fires) (Each x.n x.mid top x.turn x.leave) 0 x.each_is (each-leaves base cells calls fires ks ms cols i h full) refl in
-        (g.0.sum, omega (arith, bs, zs, gs),
-         subst (λ z. Closed X limit w b lo x.turns base cells calls fires (fires + c.fires) g.0.sum z) (sym goes.4.0)
-          (closed-as X limit w b lo x.turns base cells calls fires (fires + g.0.fires) (fires + c.fires) (0 + g.0.sum) g.0.sum goes.0 (omega (arith, bf, zf, gf)) (omega arith)
-          (then-closed X limit w b lo x.turns x.leave base cells cells calls fires fires (fires + g.0.fires) 0 g.0.sum goes.0 jump (λ j lt. refl) q)))
+        base cells calls fires ((ks ++ ms) ++ cols) goes.0 g.0 (lent-returns base cells ks ms cols i h) g.1 (omega (arith, le, bf, zf, gf)) in
+        let jump = one-step X.weigh limit X.code x.turns base cells calls fires (at x.leave base cells calls fires) (Each x.n x.mid top x.turn x.leave) 0 x.each_is (each-leaves base cells calls fires ks ms cols i h full) refl in (
+          g.0.sum,
+          omega (arith, bs, zs, gs),
+          subst (λ z. Closed X limit w b lo x.turns base cells calls fires (fires + c.fires) g.0.sum z) (sym goes.4.0)
+              (closed-as X limit w b lo x.turns base cells calls fires (fires + g.0.fires) (fires + c.fires) (0 + g.0.sum) g.0.sum goes.0 (omega (arith, bf, zf, gf)) (omega arith)
+              (then-closed X limit w b lo x.turns x.leave base cells cells calls fires fires (fires + g.0.fires) 0 g.0.sum goes.0 jump (λ j lt. refl) q)),
+        )
 
     -- from the first look at the count on
     spread-closes : (n : ℕ) → Below X limit n → (k : ℕ) (base : ℕ) (cells : Cells) (calls : List Frame) (fires : ℕ) (ks ms : List Carried) (rs : List Carried) (c : Total (counting X.weights))
@@ -392,12 +427,12 @@ module _ (X : Layout) (limit : ℕ) where
         let bf = both-fire X.weights c inner later 0 0 goes.5 in
         let bs = both-sum X.weights c inner later 0 0 goes.5 in
         let r = rows-pass n below (suc k) base cells calls fires ks ms (nothing_in x.cs) 0 lists inner long (omega (arith, full)) h
-              (subst (λ z. RowsYield (counting X.weights) X.network X.order (yields X n) body (map (λ r. ks ++ r) (rows_of (suc k) z)) lists inner) (sym (drop-none (map items ms))) goes.3) (omega (arith, le, bf)) in
+        (subst (λ z. RowsYield (counting X.weights) X.network X.order (yields X n) body (map (λ r. ks ++ r) (rows_of (suc k) z)) lists inner) (sym (drop-none (map items ms))) goes.3) (omega (arith, le, bf)) in
         let kept = subst (λ z. IsSpread base r.last ks ms z (0 + suc k)) (all-made x.cs lists) r.kept in
         let q = returning-closes n (below-less X limit (suc n) n (omega arith) below) base r.last calls (fires + inner.fires) ks ms lists (0 + suc k) rs later r.long (omega (arith, full)) kept goes.4 (omega (arith, le, bf)) in
         let e = q.1 in
         closed-as X limit w b lo x.turns base cells calls fires ((fires + inner.fires) + later.fires) (fires + c.fires) ((inner.sum + rows_sum x.extra lists) + q.0) c.sum rs (omega (arith, bf)) (omega (arith, bs, e))
-          (then-closed X limit w b lo x.turns x.turns base cells r.last calls fires (fires + inner.fires) ((fires + inner.fires) + later.fires) (inner.sum + rows_sum x.extra lists) q.0 rs r.comes r.same q.2)
+        (then-closed X limit w b lo x.turns x.turns base cells r.last calls fires (fires + inner.fires) ((fires + inner.fires) + later.fires) (inner.sum + rows_sum x.extra lists) q.0 rs r.comes r.same q.2)
 
     -- after the generator
     made-closes : (n : ℕ) → Below X limit n → (base : ℕ) (cells : Cells) (calls : List Frame) (fires : ℕ) (ks ms : List Carried) (rs : List Carried) (c : Total (counting X.weights)) (next : Next)
@@ -413,9 +448,9 @@ module _ (X : Layout) (limit : ℕ) where
         let zf = nothing-fires X.weights c out.1 in
         let zs = nothing-sum X.weights c out.1 in
         closed-as X limit w b lo x.made base cells calls fires fires (fires + c.fires) (X.weights.of_results generator ms) (X.weights.of_results generator ms + c.sum) rs (omega (arith, zf)) (omega (arith, zs))
-          (errors-close X limit w b lo x.made base cells calls fires (X.weights.of_results generator ms) (Spread x.lists x.cs x.mid x.turns lo w b) e rs x.spreads_are
-            (ap (λ z. spread_to (spreads (first_spoiled z) z x.turns) z x.cs x.mid lo w b base cells calls fires) told ∙ ap (λ z. spread_to z ms x.cs x.mid lo w b base cells calls fires) to)
-            (x.made_weighs (map (look cells base) x.lists) ∙ ap (X.weights.of_results generator) told) out.0)
+        (errors-close X limit w b lo x.made base cells calls fires (X.weights.of_results generator ms) (Spread x.lists x.cs x.mid x.turns lo w b) e rs x.spreads_are
+        (ap (λ z. spread_to (spreads (first_spoiled z) z x.turns) z x.cs x.mid lo w b base cells calls fires) told ∙ ap (λ z. spread_to z ms x.cs x.mid lo w b base cells calls fires) to)
+        (x.made_weighs (map (look cells base) x.lists) ∙ ap (X.weights.of_results generator) told) out.0)
 
     pub for-all-passes : (n : ℕ) → Below X limit (suc n) → (base : ℕ) (cells : Cells) (calls : List Frame) (fires : ℕ) (ks rs : List Carried) (c : Total (counting X.weights))
         → HoldsAll cells base lo args ks → yields X (suc n) F ks (Enter false generator ks Generating) rs c → fires + (1 + c.fires) ≤ limit
@@ -433,8 +468,8 @@ module _ (X : Layout) (limit : ℕ) where
         let same₁ : Same (base + lo) p.cells' cells = λ j lt. p.same j (omega (arith, lt)) in
         let same₂ : Same (base + lo) r.cells' p.cells' = λ j lt. r.same j (omega (arith, lt, l)) in
         let q = made-closes n (below-less X limit (suc n) n (omega arith) below) base r.cells' calls (suc fires + inner.fires) ks ms rs later (iterate F body returns m ks ms (first_spoiled ms))
-              (all-later r.cells' p.cells' base lo lo args ks (omega arith) same₂ (all-later p.cells' cells base lo lo args ks (omega arith) same₁ held)) (all-later r.cells' p.cells' base x.mid x.mid mine ks (omega arith) r.same p.held) r.told
-              (spreading F body returns m ks ms x.turns) goes.4 (omega (arith, le, bf)) in
+        (all-later r.cells' p.cells' base lo lo args ks (omega arith) same₂ (all-later p.cells' cells base lo lo args ks (omega arith) same₁ held)) (all-later r.cells' p.cells' base x.mid x.mid mine ks (omega arith) r.same p.held) r.told
+        (spreading F body returns m ks ms x.turns) goes.4 (omega (arith, le, bf)) in
         closed-as X limit w b lo a base cells calls fires ((suc fires + inner.fires) + later.fires) (fires + (1 + c.fires)) (own ks rs + (r.sum + (X.weights.of_results generator ms + later.sum))) (own ks rs + c.sum) rs (omega (arith, bf)) (omega (arith, bs, whole))
-          (then-closed X limit w b lo a (suc (suc a)) base cells p.cells' calls fires (suc fires) ((suc fires + inner.fires) + later.fires) (own ks rs) (r.sum + (X.weights.of_results generator ms + later.sum)) rs p.comes same₁
-            (then-closed X limit w b lo (suc (suc a)) x.made base p.cells' r.cells' calls (suc fires) (suc fires + inner.fires) ((suc fires + inner.fires) + later.fires) r.sum (X.weights.of_results generator ms + later.sum) rs r.comes same₂ q))
+        (then-closed X limit w b lo a (suc (suc a)) base cells p.cells' calls fires (suc fires) ((suc fires + inner.fires) + later.fires) (own ks rs) (r.sum + (X.weights.of_results generator ms + later.sum)) rs p.comes same₁
+        (then-closed X limit w b lo (suc (suc a)) x.made base p.cells' r.cells' calls (suc fires) (suc fires + inner.fires) ((suc fires + inner.fires) + later.fires) r.sum (X.weights.of_results generator ms + later.sum) rs r.comes same₂ q))

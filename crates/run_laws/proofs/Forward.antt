@@ -12,8 +12,8 @@ use Rattle.graph_meaning.specs.Entered.{IsIn}
 use Rattle.graph_meaning.specs.Forms.{Form, Next, First, Begins, Skips, next_of, enter_arm, arm_in, Enter, Iterate, Leave, Called, Chosen, Selecting, Starting, select, enter_chosen, errors, outputs_of, follow, first}
 use Rattle.graph_meaning.specs.Forms as form
 use Rattle.ordered_meaning.specs.Laws.{counting}
-use Rattle.ordered_meaning.specs.Ordered.{Fired, Inputs, Total, bound, nothing}
-use Rattle.run_code.specs.Known.{Known, IsReadable, known_after}
+use Rattle.ordered_meaning.specs.Ordered.{Fired, Inputs, Total, nothing}
+use Rattle.run_code.specs.Known.{known_after}
 use Rattle.run_code.proofs.Totals.{both-fire, both-sum, nothing-fires, nothing-sum, results-fire, results-sum}
 use Rattle.run_code.proofs.Values.{by-form}
 use Rattle.run_code.specs.Cells.{At, Cells, Operand, look, own_cells, write}
@@ -130,13 +130,13 @@ module _ (X : Layout) (limit : ℕ) where
       let zf = nothing-fires X.weights c out.1 in
       let zs = nothing-sum X.weights c out.1 in
       closed-as X limit w b lo m base cells calls fires fires (fires + c.fires) 0 c.sum rs (omega (arith, zf)) (omega (arith, zs))
-        (errors-close X limit w b lo m base cells calls fires 0 (Branch selector targets lo w b) e rs is (ap (λ y. chosen limit y lo w b base cells calls fires) to) refl out.0)
+      (errors-close X limit w b lo m base cells calls fires 0 (Branch selector targets lo w b) e rs is (ap (λ y. chosen limit y lo w b base cells calls fires) to) refl out.0)
   chosen-closes (suc n) below room args s gs w m b lo up targets selector is rise base cells calls fires ks rs c next held (arm g t next_is to body) goes le =
       let q = last-closes X limit (suc n) below (form.Select s gs w) Chosen ks ks (λ ms. refl) room args g t body.end up body.froms body.part lo w b body.hands rise base cells calls fires rs c held
-            (subst (λ y. yields X (suc n) (form.Select s gs w) ks y rs c) next_is goes) le in
+      (subst (λ y. yields X (suc n) (form.Select s gs w) ks y rs c) next_is goes) le in
       let jump = one-step X.weigh limit X.code m base cells calls fires (at t base cells calls fires) (Branch selector targets lo w b) 0 is (ap (λ y. chosen limit y lo w b base cells calls fires) to) refl in
       closed-as X limit w b lo m base cells calls fires (fires + c.fires) (fires + c.fires) (0 + c.sum) c.sum rs refl (omega arith)
-        (then-closed X limit w b lo m t base cells cells calls fires fires (fires + c.fires) 0 c.sum rs jump (λ j lt. refl) q)
+      (then-closed X limit w b lo m t base cells cells calls fires fires (fires + c.fires) 0 c.sum rs jump (λ j lt. refl) q)
 
   select-passes : (n : ℕ) → Below X limit (suc n) → (room : ℕ) (args : List Operand) (s : ℕ) (gs : List ℕ) (own : List Carried → List Carried → ℕ) (w a b lo : ℕ) (picks : List Bool) (mid m : ℕ) (selector : Operand) (targets : List ℕ)
       → Starts X a lo w picks args own mid → Part X limit room (own_cells picks args (lo + w)) s (suc (suc a)) m mid (selector ∷ []) → Free X s → X.code m ≡ Branch selector targets lo w b
@@ -158,10 +158,10 @@ module _ (X : Layout) (limit : ℕ) where
       let next = subst (λ x. yields X n (form.Select s gs w) ks (follow (form.Select s gs w) ks Selecting x) rs later) (sym r.told) goes.4 in
       let v = val_of (look r.cells' base selector) in
       let q = chosen-closes n (below-less X limit (suc n) n (omega arith) below) room mine s gs w m b lo mid targets selector branch (omega (arith, fits)) base r.cells' calls (suc fires + inner.fires) ks rs later (select (form.Select s gs w) gs ks v)
-            (all-later r.cells' p.cells' base mid mid mine ks (omega arith) r.same p.held) (selected room mine s gs targets w b lo mid arms ks v) next (omega (arith, le, bf)) in
+      (all-later r.cells' p.cells' base mid mid mine ks (omega arith) r.same p.held) (selected room mine s gs targets w b lo mid arms ks v) next (omega (arith, le, bf)) in
       closed-as X limit w b lo a base cells calls fires ((suc fires + inner.fires) + later.fires) (fires + (1 + c.fires)) (own ks rs + (r.sum + later.sum)) (own ks rs + c.sum) rs (omega (arith, bf)) (omega (arith, bs, whole, z))
-        (then-closed X limit w b lo a (suc (suc a)) base cells p.cells' calls fires (suc fires) ((suc fires + inner.fires) + later.fires) (own ks rs) (r.sum + later.sum) rs p.comes (λ j lt. p.same j (omega (arith, lt)))
-          (then-closed X limit w b lo (suc (suc a)) m base p.cells' r.cells' calls (suc fires) (suc fires + inner.fires) ((suc fires + inner.fires) + later.fires) r.sum later.sum rs r.comes (λ j lt. r.same j (omega (arith, lt, fits))) q))
+      (then-closed X limit w b lo a (suc (suc a)) base cells p.cells' calls fires (suc fires) ((suc fires + inner.fires) + later.fires) (own ks rs) (r.sum + later.sum) rs p.comes (λ j lt. p.same j (omega (arith, lt)))
+      (then-closed X limit w b lo (suc (suc a)) m base p.cells' r.cells' calls (suc fires) (suc fires + inner.fires) ((suc fires + inner.fires) + later.fires) r.sum later.sum rs r.comes (λ j lt. r.same j (omega (arith, lt, fits))) q))
 
   -- ---- a TagCase
 
@@ -192,16 +192,16 @@ module _ (X : Layout) (limit : ℕ) where
       let zf = nothing-fires X.weights c out.1 in
       let zs = nothing-sum X.weights c out.1 in
       closed-as X limit w b lo t base cells calls fires fires (fires + c.fires) 0 c.sum rs (omega (arith, zf)) (omega (arith, zs))
-        (errors-close X limit w b lo t base cells calls fires 0 (Tag union targets mid lo w b) e rs is
-          (ap (λ y. tagged (arm_by targets (values.out-Val (val_of y))) mid lo w b base cells calls fires) seen ∙ ap (λ y. tagged y mid lo w b base cells calls fires) to) refl out.0)
+      (errors-close X limit w b lo t base cells calls fires 0 (Tag union targets mid lo w b) e rs is
+      (ap (λ y. tagged (arm_by targets (values.out-Val (val_of y))) mid lo w b base cells calls fires) seen ∙ ap (λ y. tagged y mid lo w b base cells calls fires) to) refl out.0)
   tag-closes (suc n) below room others gs w t b lo mid union targets is rise base cells calls fires k ks rs c first seen held (into g to_place v first_is to body) goes le =
       let now = write (base + mid) 1 (Value v ∷ []) cells in
       let q = last-closes X limit (suc n) below (form.TagCase gs w) Chosen (k ∷ ks) (Value v ∷ ks) (λ ms. refl) room (At mid ∷ others) g to_place body.end (suc mid) body.froms body.part lo w b body.hands (omega (arith, rise)) base now calls fires rs c
-            (content-held cells base mid others ks v held) (subst (λ y. yields X (suc n) (form.TagCase gs w) (k ∷ ks) (next_of y) rs c) first_is goes) le in
+      (content-held cells base mid others ks v held) (subst (λ y. yields X (suc n) (form.TagCase gs w) (k ∷ ks) (next_of y) rs c) first_is goes) le in
       let jump = one-step X.weigh limit X.code t base cells calls fires (at to_place base now calls fires) (Tag union targets mid lo w b) 0 is
-            (ap (λ y. tagged (arm_by targets (values.out-Val (val_of y))) mid lo w b base cells calls fires) seen ∙ ap (λ y. tagged y mid lo w b base cells calls fires) to) refl in
+      (ap (λ y. tagged (arm_by targets (values.out-Val (val_of y))) mid lo w b base cells calls fires) seen ∙ ap (λ y. tagged y mid lo w b base cells calls fires) to) refl in
       closed-as X limit w b lo t base cells calls fires (fires + c.fires) (fires + c.fires) (0 + c.sum) c.sum rs refl (omega arith)
-        (then-closed X limit w b lo t to_place base cells now calls fires fires (fires + c.fires) 0 c.sum rs jump (λ j lt. write-below (base + mid) 1 (Value v ∷ []) cells j (omega (arith, lt, rise))) q)
+      (then-closed X limit w b lo t to_place base cells now calls fires fires (fires + c.fires) 0 c.sum rs jump (λ j lt. write-below (base + mid) 1 (Value v ∷ []) cells j (omega (arith, lt, rise))) q)
 
   tag-passes : (n : ℕ) → Below X limit n → (room : ℕ) (args : List Operand) (gs : List ℕ) (own : List Carried → List Carried → ℕ) (w a b lo : ℕ) (picks : List Bool) (mid : ℕ) (union : Operand) (others : List Operand) (targets : List ℕ)
       → Starts X a lo w picks args own mid → own_cells picks args (lo + w) ≡ union ∷ others → X.code (suc (suc a)) ≡ Tag union targets mid lo w b → ArmsAre X room (At mid ∷ others) gs targets w b lo (suc mid)
@@ -216,9 +216,9 @@ module _ (X : Layout) (limit : ℕ) where
       let p = copies-pass X limit args own w a lo mid picks start base cells calls fires (k ∷ ks) rs held (omega (arith, le)) in
       let h = union-held p.cells' base mid (own_cells picks args (lo + w)) union others k ks split p.held in
       let q = tag-closes n below room others gs w (suc (suc a)) b lo mid union targets is (omega (arith, fits)) base p.cells' calls (suc fires) k ks rs c (arm_in gs w ks (values.out-Val (val_of k))) h.0 h.1
-            (tagged-by room (At mid ∷ others) gs targets w b lo (suc mid) arms ks (values.out-Val (val_of k))) goes (omega (arith, le)) in
+      (tagged-by room (At mid ∷ others) gs targets w b lo (suc mid) arms ks (values.out-Val (val_of k))) goes (omega (arith, le)) in
       closed-as X limit w b lo a base cells calls fires (suc fires + c.fires) (fires + (1 + c.fires)) (own (k ∷ ks) rs + c.sum) (own (k ∷ ks) rs + c.sum) rs (omega arith) refl
-        (then-closed X limit w b lo a (suc (suc a)) base cells p.cells' calls fires (suc fires) (suc fires + c.fires) (own (k ∷ ks) rs) c.sum rs p.comes (λ j lt. p.same j (omega (arith, lt))) q)
+      (then-closed X limit w b lo a (suc (suc a)) base cells p.cells' calls fires (suc fires) (suc fires + c.fires) (own (k ∷ ks) rs) c.sum rs p.comes (λ j lt. p.same j (omega (arith, lt))) q)
 
   -- ---- all kinds
 
@@ -238,20 +238,20 @@ module _ (X : Layout) (limit : ℕ) where
         let rf = results-fire X.weights c inner (X.weights.of_results f rs) goes.4 in
         let rsum = results-sum X.weights c inner (X.weights.of_results f rs) goes.4 in
         let enters = one-step X.weigh limit X.code a base cells calls fires (at (X.entry f) (base + room) first (o ∷ calls) (suc fires)) (Call (X.entry f) room args lo w) (own ks rs) is
-              (counts limit X.code fires (λ x. Goes (at (X.entry f) (base + room) first (o ∷ calls) x)) (omega (arith, le))) (ap (λ x. X.weigh a x []) eq ∙ weighs ks rs) in
+        (counts limit X.code fires (λ x. Goes (at (X.entry f) (base + room) first (o ∷ calls) x)) (omega (arith, le))) (ap (λ x. X.weigh a x []) eq ∙ weighs ks rs) in
         let good = good-passed first (base + room) (X.params f) fn.places ks (sym n ∙ many) fn.inputs fn.wanting
-              (λ i lt. write-in (base + room) (length args) (map (look cells base) args) cells i (omega (arith, lt, many)) ∙ ap (λ x. get_or x i Unfilled) eq) in
+        (λ i lt. write-in (base + room) (length args) (map (look cells base) args) cells i (omega (arith, lt, many)) ∙ ap (λ x. get_or x i Unfilled) eq) in
         let r = below (X.size f) f fn.places (X.order f) (X.entry f) fn.end (X.params f) fn.nodes [] ordered.0 (base + room) first (o ∷ calls) (suc fires) (Inputs ks) goes.0 inner good goes.2 (omega (arith, le, rf)) in
         let froms = map (operand fn.places) (X.network f).results in
         let res = look-all r.cells' (base + room) r.top froms rs (read-held r.cells' (base + room) r.top fn.places (known_after X.width [] (X.order f)) goes.0 r.good (X.network f).results ordered.1 rs goes.3) in
         let last = write (base + lo) w (map (look r.cells' (base + room)) froms) r.cells' in
         let leaves = one-step X.weigh limit X.code fn.end (base + room) r.cells' (o ∷ calls) (suc fires + inner.fires) (at (suc a) base last calls (suc fires + inner.fires)) (Return froms) (X.weights.of_results f rs) fn.leaves refl
-              (fn.weighs (map (look r.cells' (base + room)) froms) ∙ ap (λ x. X.weights.of_results f x) res) in
+        (fn.weighs (map (look r.cells' (base + room)) froms) ∙ ap (λ x. X.weights.of_results f x) res) in
         record {
           cells' = last;
           comes = comes-as X.weigh limit X.code (at a base cells calls fires) (suc a) base last calls (suc fires + inner.fires) (fires + (1 + c.fires)) (own ks rs + (inner.sum + X.weights.of_results f rs)) (own ks rs + c.sum) (omega (arith, rf)) (omega (arith, rsum))
               (comes-then X.weigh limit X.code (at a base cells calls fires) (at (X.entry f) (base + room) first (o ∷ calls) (suc fires)) (at (suc a) base last calls (suc fires + inner.fires)) (own ks rs) (inner.sum + X.weights.of_results f rs) enters
-                (comes-then X.weigh limit X.code (at (X.entry f) (base + room) first (o ∷ calls) (suc fires)) (at fn.end (base + room) r.cells' (o ∷ calls) (suc fires + inner.fires)) (at (suc a) base last calls (suc fires + inner.fires)) inner.sum (X.weights.of_results f rs) r.comes leaves));
+              (comes-then X.weigh limit X.code (at (X.entry f) (base + room) first (o ∷ calls) (suc fires)) (at fn.end (base + room) r.cells' (o ∷ calls) (suc fires + inner.fires)) (at (suc a) base last calls (suc fires + inner.fires)) inner.sum (X.weights.of_results f rs) r.comes leaves));
           same = λ j lt. write-below (base + lo) w (map (look r.cells' (base + room)) froms) r.cells' j lt
               ∙ (r.same j (omega (arith, lt, fits)) ∙ write-below (base + room) (length args) (map (look cells base) args) cells j (omega (arith, lt, fits)));
           outs = λ i lt. writes-outs base lo w (map (look r.cells' (base + room)) froms) r.cells' i lt ∙ ap (λ x. get_or x i Unfilled) res;
@@ -270,7 +270,7 @@ module _ (X : Layout) (limit : ℕ) where
         let bs = both-sum X.weights c inner goes.2 0 0 goes.5 in
         let g = subst (λ x. graph_yields X (suc n) f ks x inner) (sym goes.4.0) goes.3 in
         closed-as X limit w (suc a) lo a base cells calls fires (fires + (1 + inner.fires)) (fires + (1 + c.fires)) (own ks rs + inner.sum) (own ks rs + c.sum) rs (omega (arith, bf, zf)) (omega (arith, bs, zs))
-          (call-passes (suc n) (below (suc n) (omega arith)) room args f own w a lo in_f many fits is weighs base cells calls fires ks rs inner held g (omega (arith, le, bf, zf)))
+        (call-passes (suc n) (below (suc n) (omega arith)) room args f own w a lo in_f many fits is weighs base cells calls fires ks rs inner held g (omega (arith, le, bf, zf)))
     node-passes zero below room _ _ _ _ _ _ _ (a_select args s gs own w a b lo picks mid m selector targets start part free branch arms) base cells calls fires ks rs c held goes le = absurd goes
     node-passes (suc n) below room _ _ _ _ _ _ _ (a_select args s gs own w a b lo picks mid m selector targets start part free branch arms) base cells calls fires ks rs c held goes le =
         select-passes n below room args s gs own w a b lo picks mid m selector targets start (part-of X limit room (own_cells picks args (lo + w)) s (suc (suc a)) m mid (selector ∷ []) part) free branch arms base cells calls fires ks rs c held goes le
@@ -279,7 +279,7 @@ module _ (X : Layout) (limit : ℕ) where
     node-passes zero below room _ _ _ _ _ _ _ (a_loop early args init test body returns own w a b lo loop) base cells calls fires ks rs c held goes le = absurd goes
     node-passes (suc n) below room _ _ _ _ _ _ _ (a_loop early args init test body returns own w a b lo loop) base cells calls fires ks rs c held goes le =
         loop-passes X limit room early args init test body returns own w a b lo (loop-of X limit room early args init test body returns own w a b lo loop) n below base cells calls fires ks rs c held
-          (subst (λ y. yields X (suc n) (loop_form early init test body returns w) ks (next_of y) rs c) (loop-first early init test body returns w ks) goes) le
+        (subst (λ y. yields X (suc n) (loop_form early init test body returns w) ks (next_of y) rs c) (loop-first early init test body returns w ks) goes) le
     node-passes zero below room _ _ _ _ _ _ _ (a_for_all args generator body returns m own w a b lo over) base cells calls fires ks rs c held goes le = absurd goes
     node-passes (suc n) below room _ _ _ _ _ _ _ (a_for_all args generator body returns m own w a b lo over) base cells calls fires ks rs c held goes le =
         for-all-passes X limit room args generator body returns m own w a b lo (over-of X limit room args generator body returns m own w a b lo over) n below base cells calls fires ks rs c held goes le
@@ -288,9 +288,14 @@ module _ (X : Layout) (limit : ℕ) where
     nodes-pass n below room _ _ _ _ _ _ (no_node g places a lo) known ord base cells calls fires env after c good goes le =
         let zf = nothing-fires X.weights c goes.1 in
         let zs = nothing-sum X.weights c goes.1 in
-        record { cells' = cells; top = lo; rises = omega arith;
+        record {
+          cells' = cells;
+          top = lo;
+          rises = omega arith;
           comes = comes-as X.weigh limit X.code (at a base cells calls fires) a base cells calls fires (fires + c.fires) 0 c.sum (omega (arith, zf)) (sym zs) (stays (at a base cells calls fires));
-          same = λ j lt. refl; good = subst (Good cells base lo places known) (sym goes.0) good; }
+          same = λ j lt. refl;
+          good = subst (Good cells base lo places known) (sym goes.0) good;
+        }
     nodes-pass n below room _ _ _ _ _ _ (a_node g places v vs a m b lo next puts fits node nodes) known ord base cells calls fires env after c good goes le =
         let rs = goes.0 in
         let one = goes.1 in
@@ -300,14 +305,19 @@ module _ (X : Layout) (limit : ℕ) where
         let bf = both-fire X.weights c one later 1 own goes.5 in
         let bs = both-sum X.weights c one later 1 own goes.5 in
         let p = node-passes n below room (map (operand places) v.ins) v.kind (X.weights.of_node g v) (X.width v) a m lo node base cells calls fires x.operands rs one
-              (read-held cells base lo places known env good v.ins ord.2 x.operands x.reads) x.gives (omega (arith, le, bf)) in
+        (read-held cells base lo places known env good v.ins ord.2 x.operands x.reads) x.gives (omega (arith, le, bf)) in
         let good' = good-bound p.cells' base lo next (X.width v) v.label rs places known env ord.0 ord.1 puts fits p.outs (good-later p.cells' cells base lo next places known env (omega (arith, fits)) p.same good) in
         let r = nodes-pass n below room g places vs m b next nodes ((v.label, X.width v) ∷ known) ord.3 base p.cells' calls (fires + (1 + one.fires)) (Fired v.label rs env) after later good' goes.4 (omega (arith, le, bf)) in
         let up = r.rises in
-        record { cells' = r.cells'; top = r.top; rises = omega (arith, fits, up);
+        record {
+          cells' = r.cells';
+          top = r.top;
+          rises = omega (arith, fits, up);
           comes = comes-as X.weigh limit X.code (at a base cells calls fires) b base r.cells' calls ((fires + (1 + one.fires)) + later.fires) (fires + c.fires) ((own + one.sum) + later.sum) c.sum (omega (arith, bf)) (omega (arith, bs))
               (comes-then X.weigh limit X.code (at a base cells calls fires) (at m base p.cells' calls (fires + (1 + one.fires))) (at b base r.cells' calls ((fires + (1 + one.fires)) + later.fires)) (own + one.sum) later.sum p.comes r.comes);
-          same = same-then (base + lo) (base + next) cells p.cells' r.cells' (omega (arith, fits)) p.same r.same; good = r.good; }
+          same = same-then (base + lo) (base + next) cells p.cells' r.cells' (omega (arith, fits)) p.same r.same;
+          good = r.good;
+        }
 
     pub forward : (n : ℕ) → Below X limit n
     forward zero m lt = absurd (omega (arith, lt))
@@ -321,12 +331,14 @@ all-done X limit coded n f ins rs c cells in_f many held goes le =
     let rf = results-fire X.weights c inner (X.weights.of_results f rs) goes.4 in
     let rsum = results-sum X.weights c inner (X.weights.of_results f rs) goes.4 in
     let r = forward X limit coded (suc n) n (omega arith) (X.size f) f fn.places (X.order f) (X.entry f) fn.end (X.params f) fn.nodes [] ordered.0 0 cells [] 0 (Inputs ins) goes.0 inner
-          (good-passed cells 0 (X.params f) fn.places ins many fn.inputs fn.wanting (λ i lt. ap cells (omega arith) ∙ held i (omega (arith, lt, many)))) goes.2 (omega (arith, le, rf)) in
+    (good-passed cells 0 (X.params f) fn.places ins many fn.inputs fn.wanting (λ i lt. ap cells (omega arith) ∙ held i (omega (arith, lt, many)))) goes.2 (omega (arith, le, rf)) in
     let froms = map (operand fn.places) (X.network f).results in
     let res = look-all r.cells' 0 r.top froms rs (read-held r.cells' 0 r.top fn.places (known_after X.width [] (X.order f)) goes.0 r.good (X.network f).results ordered.1 rs goes.3) in
     let adds : added X.weigh (X.code fn.end) fn.end 0 r.cells' ≡ X.weights.of_results f rs =
-          ap (λ z. added X.weigh z fn.end 0 r.cells') fn.leaves ∙ (fn.weighs (map (look r.cells' 0) froms) ∙ ap (λ x. X.weights.of_results f x) res) in
-    (at fn.end 0 r.cells' [] c.fires, inner.sum,
-     comes-as X.weigh limit X.code (at (X.entry f) 0 cells [] 0) fn.end 0 r.cells' [] (0 + inner.fires) c.fires inner.sum inner.sum (omega (arith, rf)) refl r.comes,
-     does limit X.code (Return froms) fn.end 0 r.cells' [] c.fires (Ends rs c.fires) fn.leaves (ap (λ x. Ends x c.fires) res),
-     rsum ∙ ap (λ x. inner.sum + x) (sym adds))
+    ap (λ z. added X.weigh z fn.end 0 r.cells') fn.leaves ∙ (fn.weighs (map (look r.cells' 0) froms) ∙ ap (λ x. X.weights.of_results f x) res) in (
+      at fn.end 0 r.cells' [] c.fires,
+      inner.sum,
+      comes-as X.weigh limit X.code (at (X.entry f) 0 cells [] 0) fn.end 0 r.cells' [] (0 + inner.fires) c.fires inner.sum inner.sum (omega (arith, rf)) refl r.comes,
+      does limit X.code (Return froms) fn.end 0 r.cells' [] c.fires (Ends rs c.fires) fn.leaves (ap (λ x. Ends x c.fires) res),
+      rsum ∙ ap (λ x. inner.sum + x) (sym adds),
+    )

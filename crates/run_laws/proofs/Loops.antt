@@ -149,14 +149,56 @@ module _ (X : Layout) (limit : ℕ) where
   pub loop-of : (room : ℕ) (early : Bool) (args : List Operand) (init test body returns : ℕ) (own : List Carried → List Carried → ℕ) (w a b lo : ℕ)
       → LoopIs X room early args init test body returns own w a b lo → Loop room early args init test body returns own w a b lo
   loop-of room _ _ _ _ _ _ _ _ _ _ _ (the_loop early args init test body returns own w a b lo picks mid n k begun starts turn turned tests tested leave left other nodes results cs extra go firsts nexts lasts for_test for_body for_returns stand
-        start first begins first_weighs first_many cs_many goes_in test_lent testing free chooses body_lent turning keeps turn_weighs turn_many within refolds no_extra returns_lent stands returning hands) =
+      start first begins first_weighs first_many cs_many goes_in test_lent testing free chooses body_lent turning keeps turn_weighs turn_many within refolds no_extra returns_lent stands returning hands) =
       record {
-        picks = picks; mid = mid; n = n; k = k; other = other; nodes = nodes; results = results; cs = cs; extra = extra; cs_many = cs_many; within = within; refolds = refolds; no_extra = no_extra; begun = begun; starts = starts; turn = turn; turned = turned; tests = tests; tested = tested; leave = leave; left = left; go = go;
-        firsts = firsts; nexts = nexts; lasts = lasts; for_test = for_test; for_body = for_body; for_returns = for_returns; stand = stand; stands = stands;
-        start = start; first = part-of X limit room (own_cells picks args (lo + w)) init (suc (suc a)) begun mid firsts first; begins = begins; first_weighs = first_weighs; first_many = first_many; goes_in = goes_in;
-        test_lent = test_lent; testing = part-of X limit room (for_test ++ cells_at mid n) test tests tested (mid + (n + k)) (go ∷ []) testing; free = free; chooses = chooses;
-        body_lent = body_lent; turning = part-of X limit room (for_body ++ cells_at mid n) body turn turned (mid + (n + k)) nexts turning; keeps = keeps; turn_weighs = turn_weighs; turn_many = turn_many;
-        returns_lent = returns_lent; returning = any-part X limit room (for_returns ++ stand) other nodes results leave left (mid + (n + k)) lasts returning; hands = hands;
+        picks = picks;
+        mid = mid;
+        n = n;
+        k = k;
+        other = other;
+        nodes = nodes;
+        results = results;
+        cs = cs;
+        extra = extra;
+        cs_many = cs_many;
+        within = within;
+        refolds = refolds;
+        no_extra = no_extra;
+        begun = begun;
+        starts = starts;
+        turn = turn;
+        turned = turned;
+        tests = tests;
+        tested = tested;
+        leave = leave;
+        left = left;
+        go = go;
+        firsts = firsts;
+        nexts = nexts;
+        lasts = lasts;
+        for_test = for_test;
+        for_body = for_body;
+        for_returns = for_returns;
+        stand = stand;
+        stands = stands;
+        start = start;
+        first = part-of X limit room (own_cells picks args (lo + w)) init (suc (suc a)) begun mid firsts first;
+        begins = begins;
+        first_weighs = first_weighs;
+        first_many = first_many;
+        goes_in = goes_in;
+        test_lent = test_lent;
+        testing = part-of X limit room (for_test ++ cells_at mid n) test tests tested (mid + (n + k)) (go ∷ []) testing;
+        free = free;
+        chooses = chooses;
+        body_lent = body_lent;
+        turning = part-of X limit room (for_body ++ cells_at mid n) body turn turned (mid + (n + k)) nexts turning;
+        keeps = keeps;
+        turn_weighs = turn_weighs;
+        turn_many = turn_many;
+        returns_lent = returns_lent;
+        returning = any-part X limit room (for_returns ++ stand) other nodes results leave left (mid + (n + k)) lasts returning;
+        hands = hands;
       }
 
   module _ (room : ℕ) (early : Bool) (args : List Operand) (init test body returns : ℕ) (own : List Carried → List Carried → ℕ) (w a b lo : ℕ) (x : Loop room early args init test body returns own w a b lo) where
@@ -219,9 +261,9 @@ module _ (X : Layout) (limit : ℕ) where
         let ms_many : length ms ≡ x.k = put-long x.cs new (so_far ls turns) (old_many ∙ sym x.cs_many) ∙ x.cs_many in
         let last = write (base + x.mid) (x.n + x.k) (new ++ ms) cells in
         let does_keep = ap (λ k. Goes (at x.tests base (write (base + x.mid) (k + length x.cs) (map (look cells base) froms ++ put_all x.cs (map (look cells base) froms) (cells_from cells (base + (x.mid + k)) (length x.cs))) cells) calls fires)) x.turn_many
-              ∙ (ap (λ k. Goes (at x.tests base (write (base + x.mid) (x.n + k) (map (look cells base) froms ++ put_all x.cs (map (look cells base) froms) (cells_from cells (base + (x.mid + x.n)) k)) cells) calls fires)) x.cs_many
-              ∙ (ap (λ z. Goes (at x.tests base (write (base + x.mid) (x.n + x.k) (z ++ put_all x.cs z (cells_from cells (base + (x.mid + x.n)) x.k)) cells) calls fires)) told
-                ∙ ap (λ z. Goes (at x.tests base (write (base + x.mid) (x.n + x.k) (new ++ put_all x.cs new z) cells) calls fires)) (cells-held cells base top (x.mid + x.n) x.k (so_far ls turns) h.multiples))) in
+        ∙ (ap (λ k. Goes (at x.tests base (write (base + x.mid) (x.n + k) (map (look cells base) froms ++ put_all x.cs (map (look cells base) froms) (cells_from cells (base + (x.mid + x.n)) k)) cells) calls fires)) x.cs_many
+        ∙ (ap (λ z. Goes (at x.tests base (write (base + x.mid) (x.n + x.k) (z ++ put_all x.cs z (cells_from cells (base + (x.mid + x.n)) x.k)) cells) calls fires)) told
+        ∙ ap (λ z. Goes (at x.tests base (write (base + x.mid) (x.n + x.k) (new ++ put_all x.cs new z) cells) calls fires)) (cells-held cells base top (x.mid + x.n) x.k (so_far ls turns) h.multiples))) in
         let now = rows-held cells base x.mid x.n x.k new ms top new_many ms_many (omega arith) in
         let same : Same (base + x.mid) last cells = λ j lt. write-below (base + x.mid) (x.n + x.k) (new ++ ms) cells j (omega (arith, lt)) in
         record {
@@ -249,8 +291,8 @@ module _ (X : Layout) (limit : ℕ) where
         let ms_many : length ms ≡ x.k = put-long x.cs new (nothing_in x.cs) (nothing-long x.cs) ∙ x.cs_many in
         let last = write (base + x.mid) (x.n + x.k) (new ++ ms) cells in
         let does_keep = ap (λ k. Goes (at x.starts base (write (base + x.mid) (k + length x.cs) (map (look cells base) froms ++ put_all x.cs (map (look cells base) froms) (nothing_in x.cs)) cells) calls fires)) x.first_many
-              ∙ (ap (λ k. Goes (at x.starts base (write (base + x.mid) (x.n + k) (map (look cells base) froms ++ put_all x.cs (map (look cells base) froms) (nothing_in x.cs)) cells) calls fires)) x.cs_many
-                ∙ ap (λ z. Goes (at x.starts base (write (base + x.mid) (x.n + x.k) (z ++ put_all x.cs z (nothing_in x.cs)) cells) calls fires)) told) in
+        ∙ (ap (λ k. Goes (at x.starts base (write (base + x.mid) (x.n + k) (map (look cells base) froms ++ put_all x.cs (map (look cells base) froms) (nothing_in x.cs)) cells) calls fires)) x.cs_many
+        ∙ ap (λ z. Goes (at x.starts base (write (base + x.mid) (x.n + x.k) (z ++ put_all x.cs z (nothing_in x.cs)) cells) calls fires)) told) in
         let now = rows-held cells base x.mid x.n x.k new ms top new_many ms_many (omega arith) in
         let same : Same (base + x.mid) last cells = λ j lt. write-below (base + x.mid) (x.n + x.k) (new ++ ms) cells j (omega (arith, lt)) in
         record {
@@ -276,8 +318,8 @@ module _ (X : Layout) (limit : ℕ) where
         let l = low in
         let held = subst (HoldsAll cells base top (cells_at (x.mid + x.n) x.k)) (all-made x.cs (forth (ls ∷ turns))) h.multiples in
         held-both cells base top x.for_returns x.stand ks (collected x.cs (forth (ls ∷ turns))) (of-two cells base lo x.mid top args mine x.for_returns ks x.returns_lent (omega (arith, l)) (omega arith) h.outer h.inner)
-          (stand-held cells base top x.mid x.n ls (forth turns) x.cs x.stand (x.mid + x.n) x.stands x.within h.loop_values
-            (subst (λ q. HoldsAll cells base top (cells_at (x.mid + x.n) q) (collected x.cs (forth (ls ∷ turns)))) (sym x.cs_many) held))
+        (stand-held cells base top x.mid x.n ls (forth turns) x.cs x.stand (x.mid + x.n) x.stands x.within h.loop_values
+        (subst (λ q. HoldsAll cells base top (cells_at (x.mid + x.n) q) (collected x.cs (forth (ls ∷ turns)))) (sym x.cs_many) held))
 
     pub args-many : (base : ℕ) (cells : Cells) (ks ls : List Carried) (turns : List (List Carried)) → IsKept base cells ks ls turns → length ks ≡ length args
     args-many base cells ks ls turns h = sym (as-many cells base lo args ks h.outer)
@@ -302,14 +344,14 @@ module _ (X : Layout) (limit : ℕ) where
         let l = low in
         let rows = forth (ls ∷ turns) in
         let g = to-collected X.weights (length args) x.n x.cs returns x.other (yields X (suc n)) ks rows (args-many base cells ks ls turns h) h.long (X.order returns) x.nodes (X.network returns).results x.results x.extra x.refolds goes.0 inner
-              (subst (λ z. graph_yields X (suc n) returns (ks ++ z) goes.0 inner) (turns-columns x.n ls turns h.long) goes.3) in
+        (subst (λ z. graph_yields X (suc n) returns (ks ++ z) goes.0 inner) (turns-columns x.n ls turns h.long) goes.3) in
         let gf = g.2 in
         let gs = g.3 in
         let none = no-sum rows in
         let q = any-closes X limit (suc (suc n)) (suc n) (omega arith) below room (x.for_returns ++ x.stand) x.other x.nodes x.results x.leave x.left top x.lasts x.returning lo w b x.hands (omega (arith, l))
-              base cells calls fires (ks ++ collected x.cs rows) goes.0 g.0 (lent-returns base cells ks ls turns h) g.1 (omega (arith, le, bf, zf, gf)) in
+        base cells calls fires (ks ++ collected x.cs rows) goes.0 g.0 (lent-returns base cells ks ls turns h) g.1 (omega (arith, le, bf, zf, gf)) in
         closed-as X limit w b lo x.leave base cells calls fires (fires + g.0.fires) (fires + c.fires) g.0.sum c.sum rs (omega (arith, bf, zf, gf)) (omega (arith, bs, zs, gs, none))
-          (subst (λ z. Closed X limit w b lo x.leave base cells calls fires (fires + g.0.fires) g.0.sum z) (sym out.0) q)
+        (subst (λ z. Closed X limit w b lo x.leave base cells calls fires (fires + g.0.fires) g.0.sum z) (sym out.0) q)
 
     -- ---- from the test on
 
@@ -331,13 +373,13 @@ module _ (X : Layout) (limit : ℕ) where
         let next = subst (λ y. yields X n F ks y rs later) (followed early init test body returns w ks (Turning (ls ∷ turns)) new) goes.4 in
         let l = low in
         let r = part-runs X limit (suc n) n (omega arith) below room (x.for_body ++ cells_at x.mid x.n) body x.turn x.turned top x.nexts x.turning base cells calls (suc fires) (ks ++ ls) new inner
-              (lent x.for_body x.body_lent base cells ks ls turns h x.mid x.n ls h.loop_values) goes.3 (omega (arith, le, bf)) in
+        (lent x.for_body x.body_lent base cells ks ls turns h x.mid x.n ls h.loop_values) goes.3 (omega (arith, le, bf)) in
         let whole = r.whole in
         let k = turn-keeps base r.cells' calls (suc fires + inner.fires) ks ls new turns (kept-later base r.cells' cells ks ls turns r.same h) r.told in
         let q = tests (below-less X limit (suc n) n (omega arith) below) base k.last calls (suc fires + inner.fires) ks new (ls ∷ turns) rs later k.kept next (omega (arith, le, bf)) in
         closed-as X limit w b lo x.turn base cells calls (suc fires) ((suc fires + inner.fires) + later.fires) (fires + c.fires) (r.sum + (X.weights.of_results body new + later.sum)) c.sum rs (omega (arith, bf)) (omega (arith, bs, whole))
-          (then-closed X limit w b lo x.turn x.turned base cells r.cells' calls (suc fires) (suc fires + inner.fires) ((suc fires + inner.fires) + later.fires) r.sum (X.weights.of_results body new + later.sum) rs r.comes (λ j lt. r.same j (omega (arith, lt, l)))
-            (then-closed X limit w b lo x.turned x.tests base r.cells' k.last calls (suc fires + inner.fires) (suc fires + inner.fires) ((suc fires + inner.fires) + later.fires) (X.weights.of_results body new) later.sum rs k.comes k.same q))
+        (then-closed X limit w b lo x.turn x.turned base cells r.cells' calls (suc fires) (suc fires + inner.fires) ((suc fires + inner.fires) + later.fires) r.sum (X.weights.of_results body new + later.sum) rs r.comes (λ j lt. r.same j (omega (arith, lt, l)))
+        (then-closed X limit w b lo x.turned x.tests base r.cells' k.last calls (suc fires + inner.fires) (suc fires + inner.fires) ((suc fires + inner.fires) + later.fires) (X.weights.of_results body new) later.sum rs k.comes k.same q))
 
     -- after the test's value
     choosing-closes : (n : ℕ) → Tests n → Below X limit (suc n) → (base : ℕ) (cells : Cells) (calls : List Frame) (fires : ℕ) (ks ls : List Carried) (turns : List (List Carried)) (rs : List Carried) (c : Total (counting X.weights)) (next : Next)
@@ -347,22 +389,22 @@ module _ (X : Layout) (limit : ℕ) where
         let q = returning-closes (suc n) below base cells calls fires ks ls turns rs c h (subst (λ y. yields X (suc n) F ks y rs c) next_is goes) le in
         let jump = one-step X.weigh limit X.code x.tested base cells calls fires (at x.leave base cells calls fires) (Test x.go x.turn x.leave lo w b) 0 x.chooses (ap (λ y. chosen limit y lo w b base cells calls fires) to) refl in
         closed-as X limit w b lo x.tested base cells calls fires (fires + c.fires) (fires + c.fires) (0 + c.sum) c.sum rs refl (omega arith)
-          (then-closed X limit w b lo x.tested x.leave base cells cells calls fires fires (fires + c.fires) 0 c.sum rs jump (λ j lt. refl) q)
+        (then-closed X limit w b lo x.tested x.leave base cells cells calls fires fires (fires + c.fires) 0 c.sum rs jump (λ j lt. refl) q)
     choosing-closes n tests below base cells calls fires ks ls turns rs c next h (spoiled e next_is to) goes le =
         let out = subst (λ y. yields X (suc n) F ks y rs c) next_is goes in
         let zf = nothing-fires X.weights c out.1 in
         let zs = nothing-sum X.weights c out.1 in
         closed-as X limit w b lo x.tested base cells calls fires fires (fires + c.fires) 0 c.sum rs (omega (arith, zf)) (omega (arith, zs))
-          (errors-close X limit w b lo x.tested base cells calls fires 0 (Test x.go x.turn x.leave lo w b) e rs x.chooses (ap (λ y. chosen limit y lo w b base cells calls fires) to) refl
-            (out.0 ∙ ap (λ k. errors k e) (loop-outputs early init test body returns w)))
+        (errors-close X limit w b lo x.tested base cells calls fires 0 (Test x.go x.turn x.leave lo w b) e rs x.chooses (ap (λ y. chosen limit y lo w b base cells calls fires) to) refl
+        (out.0 ∙ ap (λ k. errors k e) (loop-outputs early init test body returns w)))
     choosing-closes n tests below base cells calls fires ks ls turns rs c next h (again next_is to) goes le =
         let y = subst (λ y. yields X (suc n) F ks y rs c) next_is goes in
         let bf = both-fire X.weights c y.1 y.2 1 0 y.5 in
         let q = turning-closes n tests below base cells calls fires ks ls turns rs c h y le in
         let jump = one-step X.weigh limit X.code x.tested base cells calls fires (at x.turn base cells calls (suc fires)) (Test x.go x.turn x.leave lo w b) 0 x.chooses
-              (ap (λ y. chosen limit y lo w b base cells calls fires) to ∙ counts limit X.code fires (λ f. Goes (at x.turn base cells calls f)) (omega (arith, le, bf))) refl in
+        (ap (λ y. chosen limit y lo w b base cells calls fires) to ∙ counts limit X.code fires (λ f. Goes (at x.turn base cells calls f)) (omega (arith, le, bf))) refl in
         closed-as X limit w b lo x.tested base cells calls fires (fires + c.fires) (fires + c.fires) (0 + c.sum) c.sum rs refl (omega arith)
-          (then-closed X limit w b lo x.tested x.turn base cells cells calls fires (suc fires) (fires + c.fires) 0 c.sum rs jump (λ j lt. refl) q)
+        (then-closed X limit w b lo x.tested x.turn base cells cells calls fires (suc fires) (fires + c.fires) 0 c.sum rs jump (λ j lt. refl) q)
 
     testing-closes : (n : ℕ) → Tests n
     testing-closes zero below base cells calls fires ks ls turns rs c h goes le = absurd goes
@@ -374,16 +416,16 @@ module _ (X : Layout) (limit : ℕ) where
         let bs = both-sum X.weights c inner later 0 0 goes.5 in
         let l = low in
         let r = part-runs X limit (suc (suc n)) (suc n) (omega arith) below room (x.for_test ++ cells_at x.mid x.n) test x.tests x.tested top (x.go ∷ []) x.testing base cells calls fires (ks ++ ls) goes.0 inner
-              (lent x.for_test x.test_lent base cells ks ls turns h x.mid x.n ls h.loop_values) goes.3 (omega (arith, le, bf)) in
+        (lent x.for_test x.test_lent base cells ks ls turns h x.mid x.n ls h.loop_values) goes.3 (omega (arith, le, bf)) in
         let whole = r.whole in
         let z = x.free goes.0 in
         let next = subst (λ y. yields X (suc n) F ks y rs later) (followed early init test body returns w ks (Testing (ls ∷ turns)) (look r.cells' base x.go ∷ []))
-              (subst (λ y. yields X (suc n) F ks (follow F ks (Testing (ls ∷ turns)) y) rs later) (sym r.told) goes.4) in
+        (subst (λ y. yields X (suc n) F ks (follow F ks (Testing (ls ∷ turns)) y) rs later) (sym r.told) goes.4) in
         let v = val_of (look r.cells' base x.go) in
         let q = choosing-closes n (testing-closes n) (below-less X limit (suc (suc n)) (suc n) (omega arith) below) base r.cells' calls (fires + inner.fires) ks ls turns rs later (tested F body returns ks ls turns v) (kept-later base r.cells' cells ks ls turns r.same h)
-              (chose F body returns ks ls turns x.turn x.leave v) next (omega (arith, le, bf)) in
+        (chose F body returns ks ls turns x.turn x.leave v) next (omega (arith, le, bf)) in
         closed-as X limit w b lo x.tests base cells calls fires ((fires + inner.fires) + later.fires) (fires + c.fires) (r.sum + later.sum) c.sum rs (omega (arith, bf)) (omega (arith, bs, whole, z))
-          (then-closed X limit w b lo x.tests x.tested base cells r.cells' calls fires (fires + inner.fires) ((fires + inner.fires) + later.fires) r.sum later.sum rs r.comes (λ j lt. r.same j (omega (arith, lt, l))) q)
+        (then-closed X limit w b lo x.tests x.tested base cells r.cells' calls fires (fires + inner.fires) ((fires + inner.fires) + later.fires) r.sum later.sum rs r.comes (λ j lt. r.same j (omega (arith, lt, l))) q)
 
     -- from where the loop values were begun
     starting-closes : (n : ℕ) (e : Bool) → GoesIn X e x.starts x.turn x.tests → Below X limit n → (base : ℕ) (cells : Cells) (calls : List Frame) (fires : ℕ) (ks ls rs : List Carried) (c : Total (counting X.weights))
@@ -396,8 +438,8 @@ module _ (X : Layout) (limit : ℕ) where
         let q = turning-closes n (testing-closes n) below base cells calls fires ks ls [] rs c h goes le in
         let count = one-step X.weigh limit X.code x.starts base cells calls fires (at (suc x.starts) base cells calls (suc fires)) Count 0 is.0 (counts limit X.code fires (λ f. Goes (at (suc x.starts) base cells calls f)) (omega (arith, le, bf))) refl in
         closed-as X limit w b lo x.starts base cells calls fires (fires + c.fires) (fires + c.fires) (0 + c.sum) c.sum rs refl (omega arith)
-          (then-closed X limit w b lo x.starts (suc x.starts) base cells cells calls fires (suc fires) (fires + c.fires) 0 c.sum rs count (λ j lt. refl)
-            (subst (λ p. Closed X limit w b lo p base cells calls (suc fires) (fires + c.fires) c.sum rs) is.1 q))
+        (then-closed X limit w b lo x.starts (suc x.starts) base cells cells calls fires (suc fires) (fires + c.fires) 0 c.sum rs count (λ j lt. refl)
+        (subst (λ p. Closed X limit w b lo p base cells calls (suc fires) (fires + c.fires) c.sum rs) is.1 q))
 
     pub loop-passes : (n : ℕ) → Below X limit (suc n) → (base : ℕ) (cells : Cells) (calls : List Frame) (fires : ℕ) (ks rs : List Carried) (c : Total (counting X.weights))
         → HoldsAll cells base lo args ks → yields X (suc n) F ks (Enter false init ks Starting) rs c → fires + (1 + c.fires) ≤ limit
@@ -416,9 +458,9 @@ module _ (X : Layout) (limit : ℕ) where
         let same₁ : Same (base + lo) p.cells' cells = λ j lt. p.same j (omega (arith, lt)) in
         let same₂ : Same (base + lo) r.cells' p.cells' = λ j lt. r.same j (omega (arith, lt, l)) in
         let k = begin-keeps base r.cells' calls (suc fires + inner.fires) ks new (all-later r.cells' p.cells' base lo lo args ks (omega arith) same₂ (all-later p.cells' cells base lo lo args ks (omega arith) same₁ held))
-              (all-later r.cells' p.cells' base x.mid x.mid mine ks (omega arith) r.same p.held) r.told in
+        (all-later r.cells' p.cells' base x.mid x.mid mine ks (omega arith) r.same p.held) r.told in
         let q = starting-closes n early x.goes_in (below-less X limit (suc n) n (omega arith) below) base k.last calls (suc fires + inner.fires) ks new rs later k.kept next (omega (arith, le, bf)) in
         closed-as X limit w b lo a base cells calls fires ((suc fires + inner.fires) + later.fires) (fires + (1 + c.fires)) (own ks rs + (r.sum + (X.weights.of_results init new + later.sum))) (own ks rs + c.sum) rs (omega (arith, bf)) (omega (arith, bs, whole))
-          (then-closed X limit w b lo a (suc (suc a)) base cells p.cells' calls fires (suc fires) ((suc fires + inner.fires) + later.fires) (own ks rs) (r.sum + (X.weights.of_results init new + later.sum)) rs p.comes same₁
-            (then-closed X limit w b lo (suc (suc a)) x.begun base p.cells' r.cells' calls (suc fires) (suc fires + inner.fires) ((suc fires + inner.fires) + later.fires) r.sum (X.weights.of_results init new + later.sum) rs r.comes same₂
-              (then-closed X limit w b lo x.begun x.starts base r.cells' k.last calls (suc fires + inner.fires) (suc fires + inner.fires) ((suc fires + inner.fires) + later.fires) (X.weights.of_results init new) later.sum rs k.comes k.same q)))
+        (then-closed X limit w b lo a (suc (suc a)) base cells p.cells' calls fires (suc fires) ((suc fires + inner.fires) + later.fires) (own ks rs) (r.sum + (X.weights.of_results init new + later.sum)) rs p.comes same₁
+        (then-closed X limit w b lo (suc (suc a)) x.begun base p.cells' r.cells' calls (suc fires) (suc fires + inner.fires) ((suc fires + inner.fires) + later.fires) r.sum (X.weights.of_results init new + later.sum) rs r.comes same₂
+        (then-closed X limit w b lo x.begun x.starts base r.cells' k.last calls (suc fires + inner.fires) (suc fires + inner.fires) ((suc fires + inner.fires) + later.fires) (X.weights.of_results init new) later.sum rs k.comes k.same q)))

@@ -6,7 +6,6 @@ use Rattle.graph_meaning.specs.Forms.{Form, Stage, Enter, Leave, errors, follow}
 use Rattle.graph_meaning.specs.Demand.{Source, Kind, Vertex}
 use Rattle.ordered_meaning.specs.Laws.{counting}
 use Rattle.ordered_meaning.specs.Ordered.{Inputs, Bindings, GraphYields, KindYields, NodesYield, Rest, Total}
-use Rattle.ordered_meaning.specs.Orders.{IsInOrder}
 use Rattle.run_code.specs.Known.{Known, IsReadable, AreReadable, known_after}
 use Rattle.run_code.proofs.Totals.{both-fire, both-sum, nothing-fires, nothing-sum, results-fire, results-sum}
 use Rattle.run_code.specs.Cells.{Cells, Operand, look, own_cells, picked, write}
@@ -159,7 +158,7 @@ module _ (X : Layout) (limit : ℕ) where
       let whole = r.whole in
       let last = write (base + lo) w (map (look r.cells' base) froms) r.cells' in
       let moves = one-step X.weigh limit X.code e base r.cells' calls (fires + c.fires) (at b base last calls (fires + c.fires)) (Move froms lo w b) (X.weights.of_results g rs) hands.moves refl
-            (hands.weighs (map (look r.cells' base) froms) ∙ ap (X.weights.of_results g) r.told) in
+      (hands.weighs (map (look r.cells' base) froms) ∙ ap (X.weights.of_results g) r.told) in
       record {
         cells' = last;
         comes = comes-as X.weigh limit X.code (at a base cells calls fires) b base last calls (fires + c.fires) (fires + c.fires) (r.sum + X.weights.of_results g rs) c.sum refl (sym whole)
@@ -190,7 +189,7 @@ module _ (X : Layout) (limit : ℕ) where
       let bs = both-sum X.weights c inner later 0 0 goes.5 in
       let q = any-closes (suc (suc n)) (suc n) (omega arith) below room args g (X.order g) (X.network g).results a e up froms p lo w b hands rise base cells calls fires ins goes.0 inner held goes.3 (omega (arith, le, bf, zf)) in
       closed-as w b lo a base cells calls fires (fires + inner.fires) (fires + c.fires) inner.sum c.sum rs (omega (arith, bf, zf)) (omega (arith, bs, zs))
-        (subst (λ x. Closed w b lo a base cells calls fires (fires + inner.fires) inner.sum x) (sym out.0) q)
+      (subst (λ x. Closed w b lo a base cells calls fires (fires + inner.fires) inner.sum x) (sym out.0) q)
 
   -- ---- the count and the copies before the parts
 

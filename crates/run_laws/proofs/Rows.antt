@@ -33,8 +33,8 @@ row-length cells base lo i n ks h = sym (as-many cells base lo (cells_at i n) ks
 pub row-held : (cells : Cells) (base out n : ℕ) (ks : List Carried) (top : ℕ) → length ks ≡ n → out + n ≤ top → HoldsAll (write (base + out) n ks cells) base top (cells_at out n) ks
 row-held cells base out n ks top e le =
     subst (λ x. HoldsAll (write (base + out) n ks cells) base top (cells_at out x) ks) e
-      (held-cells (write (base + out) n ks cells) base top out ks (omega (arith, e, le))
-        (λ j lt. ap (write (base + out) n ks cells) (omega arith) ∙ write-in (base + out) n ks cells j (omega (arith, lt, e))))
+    (held-cells (write (base + out) n ks cells) base top out ks (omega (arith, e, le))
+    (λ j lt. ap (write (base + out) n ks cells) (omega arith) ∙ write-in (base + out) n ks cells j (omega (arith, lt, e))))
 
 pub append-length : (xs ys : List Carried) → length (xs ++ ys) ≡ length xs + length ys
 append-length [] ys = omega arith
@@ -51,7 +51,8 @@ rows-held cells base out n m ks ms top e f le = (
       (λ j lt. ap now (omega arith) ∙ (write-in (base + out) (n + m) (ks ++ ms) cells j (omega (arith, lt, e)) ∙ get-first ks ms j lt))),
   subst (λ x. HoldsAll now base top (cells_at (out + n) x) ms) f (held-cells now base top (out + n) ms (omega (arith, f, le))
       (λ j lt. ap now (omega arith) ∙ (write-in (base + out) (n + m) (ks ++ ms) cells (n + j) (omega (arith, lt, f))
-      ∙ (ap (λ x. get_or (ks ++ ms) (x + j) Unfilled) (sym e) ∙ get-second ks ms j)))))
+      ∙ (ap (λ x. get_or (ks ++ ms) (x + j) Unfilled) (sym e) ∙ get-second ks ms j)))),
+)
   where
     now : Cells
     now = write (base + out) (n + m) (ks ++ ms) cells

@@ -8,7 +8,6 @@ use Rattle.flow_value.specs.declared.value.Val.TheOpen.{Val-F}
 use Rattle.flow_value.specs.declared.value.Val.TheViews as values
 use Rattle.graph_meaning.specs.Carried.{Carried, Value, val_of}
 use Rattle.graph_meaning.specs.NodeValues.{op}
-use Rattle.graph_meaning.specs.Entered.{IsIn}
 use Rattle.graph_meaning.specs.Forms.{errors, first_spoiled, are_as_long, places_of}
 use Rattle.graph_meaning.specs.Plain.{Costs}
 use Rattle.run_code.specs.Cells.{Cells, look, write, cells_from}
@@ -19,8 +18,8 @@ use Rattle.run_code.specs.Steps.{Step, Fire, Count, Move, Tag, Branch, Test, Kee
 use Rattle.run_code.proofs.Values.{by-form}
 use Rattle.run_laws.specs.Inside.{IsAhead, AreAhead, Stays, IsInside}
 use Rattle.run_laws.specs.Stopping.{IsAt, AreAt, IsPlaced, ComesToLimit, Stops, open_left, to_come, IsStopping, IsDecided}
-use Rattle.run_laws.specs.Laws.{EndsAdding, entered, IsRecorded}
-use Rattle.run_laws.proofs.Stepping.{end-after, end-next, over-ends}
+use Rattle.run_laws.specs.Laws.{entered, IsRecorded}
+use Rattle.run_laws.proofs.Stepping.{end-after, over-ends}
 use Rattle.run_laws.proofs.Backward.{ends-recorded, exact}
 
 -- ---- numbers
@@ -293,7 +292,7 @@ decided X end many limit coded inside orderly inorder f ins cells in_f as_many h
 
     go : Stops X limit s
         → ((k : ℕ) × (rs : List Carried) × (c : ℕ) × (sum : ℕ) × EndsIn k limit X.code s rs c × IsRecorded X f ins rs c sum × (c ≤ limit))
-          ⊎ (ComesToLimit X limit s × ((d c : ℕ) → Costs X.network d f ins c → limit < c))
+        ⊎ (ComesToLimit X limit s × ((d c : ℕ) → Costs X.network d f ins c → limit < c))
     go (inl h) =
         let x = ends-recorded X limit coded orderly inorder h.0 f ins h.1 h.2 cells in_f as_many held h.3 in
         inl (h.0, h.1, h.2, x.0, h.3, x.2, x.3)

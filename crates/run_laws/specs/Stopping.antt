@@ -1,5 +1,5 @@
 -- A machine whose code stays inside stops, and so each run is decided.
-use Rattle.std.specs.Prelude.{◌≡◌, ℕ, suc, ◌+◌, ◌*◌, ◌-◌, ◌<◌, ◌≤◌, ◌⊎◌, List, [], ◌∷◌, length}
+use Rattle.std.specs.Prelude.{◌≡◌, ℕ, ◌+◌, ◌*◌, ◌-◌, ◌<◌, ◌≤◌, ◌⊎◌, List, [], ◌∷◌, length}
 use Rattle.graph_meaning.specs.Carried.{Carried}
 use Rattle.graph_meaning.specs.Demand.{AreOrderly}
 use Rattle.graph_meaning.specs.Entered.{IsIn}
@@ -50,4 +50,4 @@ abbrev pub IsDecided : Type 0
 IsDecided = (X : Layout) (end : ℕ → ℕ) (many limit : ℕ) → AreCoded X → IsInside X end many → AreOrderly X.network → AreInOrder X.network X.order
     → (f : ℕ) (ins : List Carried) (cells : Cells) → IsIn f X.functions → length ins ≡ X.params f → Hold cells ins
     → ((k : ℕ) × (rs : List Carried) × (c : ℕ) × (sum : ℕ) × EndsIn k limit X.code (entered X f cells) rs c × IsRecorded X f ins rs c sum × (c ≤ limit))
-      ⊎ (ComesToLimit X limit (entered X f cells) × ((d c : ℕ) → Costs X.network d f ins c → limit < c))
+    ⊎ (ComesToLimit X limit (entered X f cells) × ((d c : ℕ) → Costs X.network d f ins c → limit < c))
