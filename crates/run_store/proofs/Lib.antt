@@ -3,3 +3,4 @@ pub mod Fitting
 pub mod Refining
 pub mod Supply
 pub mod Whole
+pub mod Example
