@@ -1,8 +1,8 @@
 -- Code whose cells own their values: a ForAll over the arrays of an array, which adds 1 behind each and gathers them. The elements and
 -- their multiple are read where the argument stands and have no cells of their own. Each element is copied where it is changed, and
 -- what is collected is moved.
-use Rattle.std.proofs.Common.{◌≡◌, ℕ, zero, suc, ◌+◌, ◌-◌, ◌<◌, ◌≤◌, ◌⊎◌, ◌&&◌, ◌||◌, not, if◌then◌else◌, eqb, leb, ltb, List, [], ◌∷◌, ◌++◌, length, drop, Some, None, get_or, pos, inl, inr, refl, sym, ap, ◌∙◌, subst, arith, Bool, true, false}
-use Rattle.std.proofs.lemmas.Bool.{lt-ltb, ltb-true, leb-true, eqb-true, eqb-false, eq-eqb}
+use Rattle.std.proofs.Common.{◌≡◌, ℕ, zero, suc, ◌+◌, ◌-◌, ◌<◌, ◌≤◌, ◌⊎◌, ◌&&◌, ◌||◌, not, if◌then◌else◌, eqb, leb, ltb, List, [], ◌∷◌, None, get_or, pos, inl, inr, refl, sym, ap, ◌∙◌, subst, arith, Bool, true, false}
+use Rattle.std.proofs.lemmas.Bool.{lt-ltb, ltb-true, leb-true, eqb-true, eq-eqb}
 use Rattle.flow_value.specs.declared.value.Val.TheVariants as val
 use Rattle.if1_graph.specs.declared.op.Simple.TheVariants as simple
 use Rattle.graph_meaning.specs.Carried.{Carried, Value, Unfilled}
@@ -10,7 +10,7 @@ use Rattle.graph_meaning.specs.Entered.{IsIn}
 use Rattle.graph_meaning.specs.Forms.{columns}
 use Rattle.graph_meaning.specs.Forms as form
 use Rattle.graph_meaning.specs.NodeValues as shape
-use Rattle.graph_meaning.specs.Demand.{Source, Port, Fixed, Plain, Whole, Vertex, Network}
+use Rattle.graph_meaning.specs.Demand.{Port, Fixed, Plain, Whole, Vertex, Network}
 use Rattle.graph_meaning.specs.Storage.{Storage, copying, leaves_at, leaves_of}
 use Rattle.run_code.proofs.Collecting.{nodes-same}
 use Rattle.run_code.proofs.Refolding.{sum-none}
@@ -18,14 +18,14 @@ use Rattle.run_code.specs.Cells.{Operand, At, Lit}
 use Rattle.run_code.specs.Coded.{AreCoded, ForAllIs, FunctionIs, GraphIs, Layout, PartIs, Places, Puts, a_for_all, a_node, a_part, no_node, scalar, the_for_all}
 use Rattle.run_code.specs.Collections.{Collect, Sifts}
 use Rattle.run_code.specs.Known.{AreReadable}
-use Rattle.run_code.specs.Refolds.{AllLong, Refolds, a_fold, none_refolded, one_refolded, reads, rows_sum}
+use Rattle.run_code.specs.Refolds.{Refolds, a_fold, none_refolded, one_refolded}
 use Rattle.run_code.specs.Steps.{Step, Fire, Count, Move, Spread, Each, Add, Return}
-use Rattle.run_laws.specs.Facts.{Path, Here, Scattered, Counted, Uses, Fact, Through, AsLong, Touches, AllOf, Is, Preserves}
+use Rattle.run_laws.specs.Facts.{Path, Here, Scattered, Counted, Uses, Fact, Through, AsLong, Touches, Preserves}
 use Rattle.run_laws.specs.Weighing.{AreAlike}
-use Rattle.run_store.specs.Effects.{reads_of, leads, IsOneOf}
-use Rattle.run_store.specs.Lively.{Live, IsLive, Follows, IsLively}
+use Rattle.run_store.specs.Effects.{reads_of, IsOneOf}
+use Rattle.run_store.specs.Lively.{Live, Follows, IsLively}
 use Rattle.run_store.specs.Refines.{IsTaken, IsHandled}
-use Rattle.run_store.specs.Stored.{Mode, Looks, Copies, Takes, LooksAt, CopiesOf, mode_at, tail, Handling, copied}
+use Rattle.run_store.specs.Stored.{Mode, Looks, Copies, Takes, LooksAt, CopiesOf, tail, Handling, copied}
 use Rattle.run_store.specs.Whole.{IsStoredCode}
 
 -- ---- the graphs
@@ -58,8 +58,12 @@ net g = record { nodes = node_of g ∷ []; results = Port 1 1 ∷ [] }
 abbrev pub storage : Storage
 storage =
     record {
-      is_aggregate = λ g l port. eqb g 2 && (eqb l 1 && eqb port 1); is_taken = λ g l port. false; is_given = λ g l port. false; is_made = λ g l port. false;
-      is_used = λ g l port. true; is_joined = λ g l. false;
+      is_aggregate = λ g l port. eqb g 2 && (eqb l 1 && eqb port 1);
+      is_taken = λ g l port. false;
+      is_given = λ g l port. false;
+      is_made = λ g l port. false;
+      is_used = λ g l port. true;
+      is_joined = λ g l. false;
     }
 
 -- ---- the code
@@ -79,8 +83,16 @@ weigh_at _ ks rs = 0
 abbrev pub laid : Layout
 laid =
     record {
-      weights = copying storage; network = net; order = λ g. node_of g ∷ []; width = λ v. 1; code = λ pc. get_or steps pc (Return []); weigh = weigh_at;
-      functions = 0 ∷ []; entry = λ f. 0; size = λ f. 7; params = λ f. 1;
+      weights = copying storage;
+      network = net;
+      order = λ g. node_of g ∷ [];
+      width = λ v. 1;
+      code = λ pc. get_or steps pc (Return []);
+      weigh = weigh_at;
+      functions = 0 ∷ [];
+      entry = λ f. 0;
+      size = λ f. 7;
+      params = λ f. 1;
     }
 
 -- ---- it does its graphs
@@ -112,42 +124,44 @@ in-order (suc (suc (suc g))) = ((positive 0, (λ p k. k), tt, tt), (inl (refl, 0
 generating : GraphIs laid 7 (At 0 ∷ []) 1 2 3 2 (At 2 ∷ [])
 generating =
     a_part (At 0 ∷ []) 1 (scatter ∷ []) (net 1).results 2 3 2 (places_by (At 0 ∷ []) 2) (λ p. refl) (in-order 1)
-      (a_node 1 (places_by (At 0 ∷ []) 2) scatter [] 2 3 3 2 3 (puts (At 0 ∷ []) 2) (omega arith)
-        (scalar (At 0 ∷ []) simple.AScatter shape.Plain ((copying storage).of_node 1 scatter) 1 2 2 refl (λ ks rs. sym (none-left _ (λ p. and-false _) 1 ks))) (no_node 1 (places_by (At 0 ∷ []) 2) 3 3))
-      (At 2 ∷ []) refl
+    (a_node 1 (places_by (At 0 ∷ []) 2) scatter [] 2 3 3 2 3 (puts (At 0 ∷ []) 2) (omega arith)
+    (scalar (At 0 ∷ []) simple.AScatter shape.Plain ((copying storage).of_node 1 scatter) 1 2 2 refl (λ ks rs. sym (none-left _ (λ p. and-false _) 1 ks))) (no_node 1 (places_by (At 0 ∷ []) 2) 3 3))
+    (At 2 ∷ []) refl
 
 turning : GraphIs laid 7 (At 0 ∷ At 5 ∷ []) 2 4 5 6 (At 6 ∷ [])
 turning =
     a_part (At 0 ∷ At 5 ∷ []) 2 (longer ∷ []) (net 2).results 4 5 6 (places_by (At 0 ∷ At 5 ∷ []) 6) (λ p. refl) (in-order 2)
-      (a_node 2 (places_by (At 0 ∷ At 5 ∷ []) 6) longer [] 4 5 5 6 7 (puts (At 0 ∷ At 5 ∷ []) 6) (omega arith)
-        (scalar (At 5 ∷ Lit one ∷ []) simple.AAddH shape.Plain ((copying storage).of_node 2 longer) 1 4 6 refl (λ ks rs. refl)) (no_node 2 (places_by (At 0 ∷ At 5 ∷ []) 6) 5 7))
-      (At 6 ∷ []) refl
+    (a_node 2 (places_by (At 0 ∷ At 5 ∷ []) 6) longer [] 4 5 5 6 7 (puts (At 0 ∷ At 5 ∷ []) 6) (omega arith)
+    (scalar (At 5 ∷ Lit one ∷ []) simple.AAddH shape.Plain ((copying storage).of_node 2 longer) 1 4 6 refl (λ ks rs. refl)) (no_node 2 (places_by (At 0 ∷ At 5 ∷ []) 6) 5 7))
+    (At 6 ∷ []) refl
 
 returning : PartIs laid 7 (At 0 ∷ At 2 ∷ At 3 ∷ []) 9 (gather ∷ []) (Port 1 1 ∷ []) 7 8 4 (At 4 ∷ [])
 returning =
     a_part (At 0 ∷ At 2 ∷ At 3 ∷ []) 9 (gather ∷ []) (Port 1 1 ∷ []) 7 8 4 (places_by (At 0 ∷ At 2 ∷ At 3 ∷ []) 4) (λ p. refl) (in-order 3)
-      (a_node 9 (places_by (At 0 ∷ At 2 ∷ At 3 ∷ []) 4) gather [] 7 8 8 4 5 (puts (At 0 ∷ At 2 ∷ At 3 ∷ []) 4) (omega arith)
-        (scalar (Lit one ∷ At 3 ∷ []) simple.AGather shape.Plain ((copying storage).of_node 9 gather) 1 7 4 refl (λ ks rs. refl)) (no_node 9 (places_by (At 0 ∷ At 2 ∷ At 3 ∷ []) 4) 8 5))
-      (At 4 ∷ []) refl
+    (a_node 9 (places_by (At 0 ∷ At 2 ∷ At 3 ∷ []) 4) gather [] 7 8 8 4 5 (puts (At 0 ∷ At 2 ∷ At 3 ∷ []) 4) (omega arith)
+    (scalar (Lit one ∷ At 3 ∷ []) simple.AGather shape.Plain ((copying storage).of_node 9 gather) 1 7 4 refl (λ ks rs. refl)) (no_node 9 (places_by (At 0 ∷ At 2 ∷ At 3 ∷ []) 4) 8 5))
+    (At 4 ∷ []) refl
 
 refolded : Refolds (copying storage) 2 1 cs 3 9 (gather ∷ []) (net 3).results (gather ∷ []) (Port 1 1 ∷ []) (λ row. 0 + 0)
 refolded =
     record {
       nodes = one_refolded gather gather [] [] (λ row. 0) (λ row. 0)
           (a_fold gather gather 0 (Fixed one ∷ []) simple.AGather simple.AGather shape.Plain shape.Plain (Sifts 0 None) 0 (λ row. 0) refl refl refl refl refl refl tt refl
-            (λ ks rows e long. (nodes-same 1 0 None ks rows (omega arith, tt) long).0 shape.Plain e)
-            (λ ks rs rows e long. let z = sum-none rows in omega (arith, z)))
+          (λ ks rows e long. (nodes-same 1 0 None ks rows (omega arith, tt) long).0 shape.Plain e)
+          (λ ks rs rows e long. let z = sum-none rows in omega (arith, z)))
           none_refolded;
-      results = refl; plainly = tt; weighs = λ rs. none-left _ (λ p. refl) 1 rs ∙ sym (none-left _ (λ p. refl) 1 rs);
+      results = refl;
+      plainly = tt;
+      weighs = λ rs. none-left _ (λ p. refl) 1 rs ∙ sym (none-left _ (λ p. refl) 1 rs);
     }
 
 the_over : ForAllIs laid 7 (At 0 ∷ []) 1 2 3 1 ((copying storage).of_node 0 over) 1 0 9 1
 the_over =
     the_for_all (At 0 ∷ []) 1 2 3 1 ((copying storage).of_node 0 over) 1 0 9 1 [] 2 1 1 3 6 4 5 7 8 9 (gather ∷ []) (Port 1 1 ∷ []) cs (λ row. 0 + 0) (At 2 ∷ []) (At 6 ∷ []) (At 4 ∷ []) (At 0 ∷ []) (At 0 ∷ [])
-      (record { counts = refl; copies = refl; weighs = λ ks rs. sym (none-left _ (λ p. refl) 1 ks); fits = omega arith }) generating refl (λ ks. sym (none-left _ (λ p. refl) 1 ks)) refl refl refl
-      (inl refl, tt) turning refl (λ ks. let z = none-left _ (λ p. refl) 1 ks in omega (arith, z)) refl
-      (omega arith, tt) refolded
-      (inl refl, tt) returning (record { moves = refl; weighs = λ ks. sym (none-left _ (λ p. refl) 1 ks) })
+    (record { counts = refl; copies = refl; weighs = λ ks rs. sym (none-left _ (λ p. refl) 1 ks); fits = omega arith }) generating refl (λ ks. sym (none-left _ (λ p. refl) 1 ks)) refl refl refl
+    (inl refl, tt) turning refl (λ ks. let z = none-left _ (λ p. refl) 1 ks in omega (arith, z)) refl
+    (omega arith, tt) refolded
+    (inl refl, tt) returning (record { moves = refl; weighs = λ ks. sym (none-left _ (λ p. refl) 1 ks) })
 
 abbrev outer : Places
 outer zero p = if ltb (p - 1) 1 then At (p - 1) else Lit Unfilled
@@ -159,15 +173,15 @@ not-less a b le false e = refl
 
 coded : AreCoded laid
 coded f (inl e) = subst (FunctionIs laid) (sym e) (record {
-    places = outer;
-    end = 9;
-    ordered = in-order 0;
-    inputs = λ p lt. ap (λ b. if b then At (p - 1) else Lit Unfilled) (lt-ltb (p - 1) 1 lt);
-    wanting = λ p le. not-less (p - 1) 1 le (ltb (p - 1) 1) refl;
-    nodes = a_node 0 outer over [] 0 9 9 1 2 (λ i lt. let z : 1 ≡ 1 + i = omega (arith, lt) in ap At z) (omega arith) (a_for_all (At 0 ∷ []) 1 2 3 1 ((copying storage).of_node 0 over) 1 0 9 1 the_over) (no_node 0 outer 9 2);
-    leaves = refl;
-    weighs = λ ks. sym (none-left _ (λ p. refl) 1 ks);
-  })
+  places = outer;
+  end = 9;
+  ordered = in-order 0;
+  inputs = λ p lt. ap (λ b. if b then At (p - 1) else Lit Unfilled) (lt-ltb (p - 1) 1 lt);
+  wanting = λ p le. not-less (p - 1) 1 le (ltb (p - 1) 1) refl;
+  nodes = a_node 0 outer over [] 0 9 9 1 2 (λ i lt. let z : 1 ≡ 1 + i = omega (arith, lt) in ap At z) (omega arith) (a_for_all (At 0 ∷ []) 1 2 3 1 ((copying storage).of_node 0 over) 1 0 9 1 the_over) (no_node 0 outer 9 2);
+  leaves = refl;
+  weighs = λ ks. sym (none-left _ (λ p. refl) 1 ks);
+})
 coded f (inr h) = absurd h
 
 -- ---- how its steps handle their operands
@@ -393,8 +407,8 @@ leads-one : (pc next out w : ℕ) → Tested live_lists pc next out w → Tested
 leads-one pc next out w a b n o v (inl h) =
     subst (λ z. Follows live (handling pc) (reads_of (laid.code pc)) pc z o v × Follows own (handling pc) (reads_of (laid.code pc)) pc z o v) (sym h.0)
     (subst (λ z. Follows live (handling pc) (reads_of (laid.code pc)) pc next z v × Follows own (handling pc) (reads_of (laid.code pc)) pc next z v) (sym h.1)
-      (subst (λ z. Follows live (handling pc) (reads_of (laid.code pc)) pc next out z × Follows own (handling pc) (reads_of (laid.code pc)) pc next out z) (sym h.2)
-        (followed live_lists pc next out w a, followed own_lists pc next out w b)))
+    (subst (λ z. Follows live (handling pc) (reads_of (laid.code pc)) pc next out z × Follows own (handling pc) (reads_of (laid.code pc)) pc next out z) (sym h.2)
+    (followed live_lists pc next out w a, followed own_lists pc next out w b)))
 leads-one pc next out w a b n o v (inr h) = absurd h
 
 leads-two : (pc next out w next' out' w' : ℕ) → Tested live_lists pc next out w → Tested own_lists pc next out w → Tested live_lists pc next' out' w' → Tested own_lists pc next' out' w' → (n o v : ℕ) → IsOneOf n o v ((next, out, w) ∷ (next', out', w') ∷ [])

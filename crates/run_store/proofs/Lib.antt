@@ -3,4 +3,5 @@ pub mod Fitting
 pub mod Refining
 pub mod Supply
 pub mod Whole
+pub mod Ports
 pub mod Example

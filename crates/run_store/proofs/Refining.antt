@@ -1,21 +1,20 @@
 -- Each step of the machine whose cells own their values is a step of the machine on values.
-use Rattle.std.proofs.Common.{◌≡◌, ℕ, zero, suc, ◌+◌, ◌<◌, ◌≤◌, ◌⊎◌, ◌&&◌, inl, inr, Bool, true, false, if◌then◌else◌, List, [], ◌∷◌, ◌++◌, length, map, take, get_or, refl, sym, ap, ◌∙◌, subst, arith, ltb}
-use Rattle.flow_value.specs.declared.cause.Cause.{Cause}
+use Rattle.std.proofs.Common.{◌≡◌, ℕ, suc, ◌+◌, ◌<◌, ◌≤◌, ◌⊎◌, inl, inr, Bool, true, false, if◌then◌else◌, List, [], ◌∷◌, ◌++◌, length, map, get_or, refl, sym, ap, ◌∙◌, subst, arith, ltb}
 use Rattle.flow_value.specs.declared.value.Val.TheViews.{out-Val}
 use Rattle.graph_meaning.specs.Carried.{Carried, Value, Unfilled, val_of}
 use Rattle.graph_meaning.specs.Forms.{errors, first_spoiled, places_of}
 use Rattle.graph_meaning.specs.NodeValues.{op}
 use Rattle.run_code.specs.Cells.{Operand, At, Lit, Cells, look, write, cells_at}
-use Rattle.run_code.specs.Collections.{Collect, put_all, nothing_in, since}
-use Rattle.run_code.specs.Machine.{Frame, State, at, Outcome, Goes, Ends, Over, counted, Choice, To, Again, Fails, choice, tested_by, Arm, Into, Spoils, arm_by, begun, spreads, counter, returned, doing, step, Weigh, added}
-use Rattle.run_code.specs.Steps.{Step, Fire, Count, Move, Tag, Branch, Test, Keep, Spread, Each, Add, Call, Return, Code}
-use Rattle.run_laws.specs.Facts.{Path, Uses, Fact, AllOf, IsTrue, IsRead, through}
+use Rattle.run_code.specs.Collections.{Collect, nothing_in}
+use Rattle.run_code.specs.Machine.{Frame, State, at, Goes, Over, Choice, To, Again, Fails, choice, tested_by, Arm, Into, Spoils, arm_by, begun, spreads, counter, returned, doing, Weigh, added}
+use Rattle.run_code.specs.Steps.{Step, Fire, Count, Move, Tag, Branch, Test, Keep, Spread, Each, Add, Call, Return}
+use Rattle.run_laws.specs.Facts.{Path, Fact, AllOf, IsTrue, IsRead}
 use Rattle.run_laws.proofs.Facts.{read-is}
-use Rattle.run_store.specs.Effects.{reads_of, Effect, Writes, Enters, Leaves, one_of, tag_effect, choice_effect, spread_effect, each_effect, effect, counted_if, apply}
+use Rattle.run_store.specs.Effects.{reads_of, Effect, Writes, Enters, one_of, tag_effect, choice_effect, spread_effect, each_effect, effect, counted_if, apply}
 use Rattle.run_store.specs.Stored.{View, Whole, Cell, Refers, Heap, Mode, Looks, Copies, Takes, LooksAt, CopiesOf, mode_at, tail, Handling, path_in, is_open, seen_in, seen, seen_all, passes, is_full, is_owner, can_be, are_ready, taken, cleared, Hand, Gift, Loan, is_plain, unless_plain, looked_lent, path_lent, lent_by, handed_by, handed, put_from, all_kept, copied, put_copied, copied_by_step, Stored, StoredOutcome, Onward, Finished, AtLimit, Stuck, on, counted_stored, returned_stored, apply_stored, where_ready, doing_stored, step_stored}
 use Rattle.run_store.specs.Stored as stored
 use Rattle.run_store.specs.Refines.{Fits, AreBelow, IsTaken, IsLentThrough, IsLent, HasPath, HavePaths, LendsInside, IsWeighed, IsHandled, Matches, Refines}
-use Rattle.run_store.proofs.Effects.{effects, first-read, all-read, map-many}
+use Rattle.run_store.proofs.Effects.{effects, first-read, all-read}
 use Rattle.run_store.proofs.Fitting.{Loose, puts-fit, puts-below, all-leave, left-refers, taken-fits, below-as, gone-fits, gone-below, value-is, both-true, path-is, IsLoan, cell-lent, path-lends}
 
 -- ---- what is seen is what is looked at
@@ -69,7 +68,7 @@ module _ (facts : ℕ → List Fact) (pc base : ℕ) (h : Heap) (cells : Cells) 
     passed ms (a ∷ args) rs n x ready lent values =
         let b = both-true (can_be h base (mode_at ms) a) (are_ready h base (tail ms) args) ready in
         go (handed_by h base (mode_at ms) a) refl b.0
-          (passed (tail ms) args rs (suc n) x.1 b.1 (λ i t. lent i (inr t)) (λ p. ap (λ z. get_or rs z Unfilled) (omega arith) ∙ values (suc p)))
+        (passed (tail ms) args rs (suc n) x.1 b.1 (λ i t. lent i (inr t)) (λ p. ap (λ z. get_or rs z Unfilled) (omega arith) ∙ values (suc p)))
       where
         given : (plain : Bool) (o : Hand) (j : ℕ) (v : View) → unless_plain plain o ≡ Loan j v → o ≡ Loan j v
         given true o j v e = absurd cc
@@ -171,7 +170,7 @@ module _ (limit copies : ℕ) where
     writes-match keeps c next out w rs hands fires =
         let kept : ℕ → Bool = λ i. keeps (out + i) in
         counts-match c fires (λ n. on next base (put_from kept (base + out) 0 w [] rs (taken base ms args h)) calls n copies) (λ n. at next base (write (base + out) w rs cells) calls n)
-          (λ n. (refl, refl, refl, refl, refl, puts-fit kept base (base + out) w (omega arith) [] rs (taken base ms args h) cells (taken-fits h cells base ms args f) tt, put-under kept base (base + out) w [] rs (omega arith)))
+        (λ n. (refl, refl, refl, refl, refl, puts-fit kept base (base + out) w (omega arith) [] rs (taken base ms args h) cells (taken-fits h cells base ms args f) tt, put-under kept base (base + out) w [] rs (omega arith)))
 
     fits-higher : (top : ℕ) (now : Heap) → base ≤ top → Fits base now cells → Fits top now cells
     fits-higher top now le g = record { agrees = g.agrees; refers = λ i j v p. let x = g.refers i j v p in let lt = x.0 in (omega (arith, lt, le), x.1, x.2) }
@@ -182,20 +181,34 @@ module _ (limit copies : ℕ) where
         let o : Frame = record { pc = suc pc; base = base; out = out; width = w } in
         let now = put_from all_kept (base + size) 0 (length ks) hands ks (taken base ms args h) in
         counts-match true fires (λ n. on entry (base + size) now (o ∷ calls) n copies) (λ n. at entry (base + size) (write (base + size) (length ks) ks cells) (o ∷ calls) n)
-          (λ n. (refl, refl, refl, refl, refl,
-            puts-fit all_kept (base + size) (base + size) (length ks) (omega arith) hands ks (taken base ms args h) cells (fits-higher (base + size) (taken base ms args h) (omega arith) (taken-fits h cells base ms args f)) loose,
-            (omega arith,
-             (λ i j v lt p. (f.refers i j v (left-refers (taken base ms args h) h (all-leave base ms args h) i j v (sym (puts-below all_kept (base + size) 0 (length ks) hands ks (taken base ms args h) i lt) ∙ p))).0),
-             put-under all_kept base (base + size) (length ks) hands ks (omega arith))))
+        (λ n. (
+          refl,
+          refl,
+          refl,
+          refl,
+          refl,
+          puts-fit all_kept (base + size) (base + size) (length ks) (omega arith) hands ks (taken base ms args h) cells (fits-higher (base + size) (taken base ms args h) (omega arith) (taken-fits h cells base ms args f)) loose,
+          (
+            omega arith,
+            (λ i j v lt p. (f.refers i j v (left-refers (taken base ms args h) h (all-leave base ms args h) i j v (sym (puts-below all_kept (base + size) 0 (length ks) hands ks (taken base ms args h) i lt) ∙ p))).0),
+            put-under all_kept base (base + size) (length ks) hands ks (omega arith),
+          ),
+        ))
 
   leaves-match : (base pc : ℕ) (h : Heap) (cells : Cells) (calls : List Frame) (ms : List Mode) (args : List Operand) (f : Fits base h cells) (b : AreBelow base calls h) (rs : List Carried) (fires : ℕ)
       → Matches copies (returned_stored rs calls (cleared base (taken base ms args h)) fires copies) (returned rs calls cells fires)
   leaves-match base pc h cells [] ms args f b rs fires = (refl, refl, refl)
   leaves-match base pc h cells (o ∷ os) ms args f b rs fires =
       let gone = cleared base (taken base ms args h) in
-      let out = o.base + o.out in
-      (refl, refl, refl, refl, refl, puts-fit all_kept o.base out o.width (omega arith) [] rs gone cells (gone-fits h cells base o os ms args f b) tt,
-       gone-below h cells base o os ms args f b (put_from all_kept out 0 o.width [] rs gone) (λ i lt. puts-below all_kept out 0 o.width [] rs gone i (omega (arith, lt))))
+      let out = o.base + o.out in (
+        refl,
+        refl,
+        refl,
+        refl,
+        refl,
+        puts-fit all_kept o.base out o.width (omega arith) [] rs gone cells (gone-fits h cells base o os ms args f b) tt,
+        gone-below h cells base o os ms args f b (put_from all_kept out 0 o.width [] rs gone) (λ i lt. puts-below all_kept out 0 o.width [] rs gone i (omega (arith, lt))),
+      )
 
 -- ---- each step
 
@@ -203,13 +216,13 @@ module _ (weigh : Weigh) (limit : ℕ) (facts : ℕ → List Fact) (pc base : �
   -- where its operands are ready, and are those of the machine on values
   ready-match : (x : Step) → IsHandled weigh facts pc x H → are_ready h base H.modes (reads_of x) ≡ true
       → Matches (copies + added weigh x pc base cells)
-          (apply_stored limit (effect x pc (seen_all h base H.modes (reads_of x))) H.keeps (handed h base H.modes (reads_of x)) pc base (taken base H.modes (reads_of x) h) calls fires
-            (copies + copied_by_step weigh x pc H (seen_all h base H.modes (reads_of x)) (effect x pc (seen_all h base H.modes (reads_of x)))))
-          (doing limit x pc base cells calls fires)
+      (apply_stored limit (effect x pc (seen_all h base H.modes (reads_of x))) H.keeps (handed h base H.modes (reads_of x)) pc base (taken base H.modes (reads_of x) h) calls fires
+      (copies + copied_by_step weigh x pc H (seen_all h base H.modes (reads_of x)) (effect x pc (seen_all h base H.modes (reads_of x)))))
+      (doing limit x pc base cells calls fires)
   ready-match x ok ready =
       subst (λ z. Matches (copies + added weigh x pc base cells) (apply_stored limit (effect x pc z) H.keeps hands pc base now calls fires (copies + copied_by_step weigh x pc H z (effect x pc z))) (doing limit x pc base cells calls fires)) (sym same)
-        (subst (λ z. Matches (copies + added weigh x pc base cells) (apply_stored limit (effect x pc ks) H.keeps hands pc base now calls fires (copies + z)) (doing limit x pc base cells calls fires)) (sym (copies-are weigh H pc base cells x ok.weighed))
-          (subst (Matches total (apply_stored limit (effect x pc ks) H.keeps hands pc base now calls fires total)) (sym (effects limit x pc base cells calls fires)) (by-kind (kinds x pc ks))))
+      (subst (λ z. Matches (copies + added weigh x pc base cells) (apply_stored limit (effect x pc ks) H.keeps hands pc base now calls fires (copies + z)) (doing limit x pc base cells calls fires)) (sym (copies-are weigh H pc base cells x ok.weighed))
+      (subst (Matches total (apply_stored limit (effect x pc ks) H.keeps hands pc base now calls fires total)) (sym (effects limit x pc base cells calls fires)) (by-kind (kinds x pc ks))))
     where
       ks : List Carried
       ks = map (look cells base) (reads_of x)
@@ -236,22 +249,22 @@ module _ (weigh : Weigh) (limit : ℕ) (facts : ℕ → List Fact) (pc base : �
       by-kind : Writing x pc ks ⊎ (Calling x ⊎ Leaving x) → Matches total (apply_stored limit (effect x pc ks) H.keeps hands pc base now calls fires total) (apply limit (effect x pc ks) pc base cells calls fires)
       by-kind (inl y) =
           subst (λ z. Matches total (apply_stored limit z H.keeps hands pc base now calls fires total) (apply limit z pc base cells calls fires)) (sym y.5)
-            (writes-match limit total base pc h cells calls H.modes (reads_of x) f b H.keeps y.0 y.1 y.2 y.3 y.4 hands fires)
+          (writes-match limit total base pc h cells calls H.modes (reads_of x) f b H.keeps y.0 y.1 y.2 y.3 y.4 hands fires)
       by-kind (inr (inl y)) =
           subst (λ z. Matches total (apply_stored limit z H.keeps hands pc base now calls fires total) (apply limit z pc base cells calls fires)) (sym (ap (λ z. effect z pc ks) y.5))
-            (enters-match limit total base pc h cells calls H.modes (reads_of x) f b H.keeps y.0 y.1 y.3 y.4 ks hands fires (loan y.0 y.1 y.3 y.4 y.2 y.5))
+          (enters-match limit total base pc h cells calls H.modes (reads_of x) f b H.keeps y.0 y.1 y.3 y.4 ks hands fires (loan y.0 y.1 y.3 y.4 y.2 y.5))
       by-kind (inr (inr y)) =
           subst (λ z. Matches total (apply_stored limit z H.keeps hands pc base now calls fires total) (apply limit z pc base cells calls fires)) (sym (ap (λ z. effect z pc ks) y.1))
-            (leaves-match limit total base pc h cells calls H.modes (reads_of x) f b ks fires)
+          (leaves-match limit total base pc h cells calls H.modes (reads_of x) f b ks fires)
 
   pub does-match : (x : Step) → IsHandled weigh facts pc x H → Matches (copies + added weigh x pc base cells) (doing_stored weigh limit x H pc base h calls fires copies) (doing limit x pc base cells calls fires)
   does-match x ok = go (are_ready h base H.modes (reads_of x)) refl
     where
       go : (r : Bool) → are_ready h base H.modes (reads_of x) ≡ r
           → Matches (copies + added weigh x pc base cells)
-              (where_ready r (apply_stored limit (effect x pc (seen_all h base H.modes (reads_of x))) H.keeps (handed h base H.modes (reads_of x)) pc base (taken base H.modes (reads_of x) h) calls fires
-                (copies + copied_by_step weigh x pc H (seen_all h base H.modes (reads_of x)) (effect x pc (seen_all h base H.modes (reads_of x))))))
-              (doing limit x pc base cells calls fires)
+          (where_ready r (apply_stored limit (effect x pc (seen_all h base H.modes (reads_of x))) H.keeps (handed h base H.modes (reads_of x)) pc base (taken base H.modes (reads_of x) h) calls fires
+          (copies + copied_by_step weigh x pc H (seen_all h base H.modes (reads_of x)) (effect x pc (seen_all h base H.modes (reads_of x))))))
+          (doing limit x pc base cells calls fires)
       go false e = tt
       go true e = ready-match x ok e
 

@@ -1,17 +1,17 @@
 -- No step reads a cell that is empty, and none takes what is lent.
-use Rattle.std.proofs.Common.{◌≡◌, ℕ, zero, suc, ◌+◌, ◌-◌, ◌<◌, ◌≤◌, ◌⊎◌, ◌&&◌, inl, inr, Bool, true, false, if◌then◌else◌, List, [], ◌∷◌, length, map, get_or, refl, sym, ap, ◌∙◌, subst, arith, ltb, leb, eqb}
+use Rattle.std.proofs.Common.{◌≡◌, ℕ, zero, suc, ◌+◌, ◌-◌, ◌<◌, ◌≤◌, ◌⊎◌, ◌&&◌, inl, inr, Bool, true, false, if◌then◌else◌, List, [], ◌∷◌, length, get_or, refl, sym, ap, ◌∙◌, subst, arith, ltb, leb, eqb}
 use Rattle.std.proofs.lemmas.Bool.{lt-leb, leb-true, leb-false, eq-eqb, ne_eqb, ltb-true, ltb-false}
 use Rattle.graph_meaning.specs.Carried.{Carried, Unfilled}
 use Rattle.run_code.specs.Cells.{Operand, At, Lit}
 use Rattle.run_code.specs.Machine.{Frame, Weigh}
-use Rattle.run_code.specs.Steps.{Step, Call, Return, Code}
+use Rattle.run_code.specs.Steps.{Step, Call}
 use Rattle.run_laws.specs.Facts.{Path, Here, Scattered, Content, Counted, Uses}
-use Rattle.run_store.specs.Effects.{reads_of, Effect, Writes, Enters, Leaves, effect, leads, IsOneOf}
-use Rattle.run_store.specs.Stored.{View, Cell, Empty, Owns, Refers, Heap, Mode, Looks, Copies, Takes, LooksAt, CopiesOf, mode_at, tail, set, Handling, is_open, seen, seen_all, Hand, Gift, Loan, is_plain, unless_plain, looked_lent, handed_by, handed, taken, cleared, placed, hand_in, put_from, all_kept, copied_by_step, Stored, StoredOutcome, Onward, Finished, AtLimit, Stuck, on, is_full, is_owner, can_be, are_ready, where_ready, counted_stored, returned_stored, apply_stored, doing_stored, step_stored}
+use Rattle.run_store.specs.Effects.{reads_of, Enters, effect}
+use Rattle.run_store.specs.Stored.{Cell, Empty, Owns, Refers, Heap, Mode, Looks, Copies, Takes, LooksAt, CopiesOf, mode_at, tail, set, Handling, is_open, seen, seen_all, Hand, Gift, Loan, is_plain, unless_plain, looked_lent, handed, taken, cleared, placed, hand_in, put_from, all_kept, copied_by_step, Stored, Onward, AtLimit, on, is_full, is_owner, can_be, are_ready, where_ready, counted_stored, returned_stored, apply_stored, doing_stored}
 use Rattle.run_store.specs.Refines.{IsTaken}
 use Rattle.run_store.specs.Lively.{Live, IsLive, MayBe, AllMayBe, Follows, Returns, IsGiven, CallsLively, IsLively, AreWaiting, ArePassed, IsSupplied, IsSafe, IsNeverStuck}
 use Rattle.run_store.proofs.Effects.{do-lead}
-use Rattle.run_store.proofs.Fitting.{set-other, all-below, untaken}
+use Rattle.run_store.proofs.Fitting.{all-below, untaken}
 use Rattle.run_store.proofs.Refining.{Writing, Calling, Leaving, kinds}
 
 -- ---- what is put passes a test, and nothing else is emptied
@@ -190,9 +190,12 @@ module _ (test : Cell → Bool) (is : IsTest test) (some : Live) (H : Handling) 
   call-supplies pc base entry size args out w many h calls hands rs passed inside follows =
       record {
         here = λ i l. let x = inside i l in put-passes test is all_kept (base + size) many hands rs (taken base H.modes args h) ((base + size) + i) i x.0 refl refl x.1;
-        waiting = (omega arith, (λ i l. go i (follows i l)),
-            wait-as base calls (put_from all_kept (base + size) 0 many hands rs (taken base H.modes args h)) h
-            (λ j lt f. under j (omega (arith, lt)) (ap test (all-below base H.modes args h j lt) ∙ f)) passed.waiting);
+        waiting = (
+          omega arith,
+          (λ i l. go i (follows i l)),
+          wait-as base calls (put_from all_kept (base + size) 0 many hands rs (taken base H.modes args h)) h
+              (λ j lt f. under j (omega (arith, lt)) (ap test (all-below base H.modes args h j lt) ∙ f)) passed.waiting,
+        );
       }
     where
       under : (j : ℕ) → j < base + size → test (taken base H.modes args h j) ≡ true → test (put_from all_kept (base + size) 0 many hands rs (taken base H.modes args h) j) ≡ true
@@ -263,11 +266,11 @@ module _ (live own : Live) where
         by-kind (inl y) =
             let follows = lively.leads_on y.1 y.2 y.3 (do-lead x pc ks y.0 y.1 y.2 y.3 y.4 y.5) in
             subst (λ z. IsSafe live own (apply_stored limit z H.keeps hands pc base now calls fires n)) (sym y.5)
-              (counts-safe y.0 limit fires (λ f. on y.1 base (put_from (λ i. H.keeps (y.2 + i)) (base + y.2) 0 y.3 [] y.4 now) calls f n)
-                (λ f. record {
-                  full = put-supplies is_full full-test live H pc base h calls full y.1 y.2 y.3 (reads_of x) y.4 follows.0;
-                  owned = put-supplies is_owner owner-test own H pc base h calls owned y.1 y.2 y.3 (reads_of x) y.4 follows.1;
-                }))
+            (counts-safe y.0 limit fires (λ f. on y.1 base (put_from (λ i. H.keeps (y.2 + i)) (base + y.2) 0 y.3 [] y.4 now) calls f n)
+            (λ f. record {
+              full = put-supplies is_full full-test live H pc base h calls full y.1 y.2 y.3 (reads_of x) y.4 follows.0;
+              owned = put-supplies is_owner owner-test own H pc base h calls owned y.1 y.2 y.3 (reads_of x) y.4 follows.1;
+            }))
         by-kind (inr (inl y)) = subst (λ z. IsSafe live own (apply_stored limit z H.keeps hands pc base now calls fires n)) (sym (ap (λ z. effect z pc ks) y.5)) (called y.0 y.1 y.2 y.3 y.4 y.5)
           where
             called : (entry size : ℕ) (args : List Operand) (out w : ℕ) → x ≡ Call entry size args out w → IsSafe live own (apply_stored limit (Enters entry size out w ks) H.keeps hands pc base now calls fires n)
@@ -276,14 +279,14 @@ module _ (live own : Live) where
                 let as_many : length ks ≡ length args = many ∙ ap (λ z. length (reads_of z)) is in
                 let same : reads_of x ≡ args = ap reads_of is in
                 subst (λ z. IsSafe live own (apply_stored limit (Enters entry size out w ks) H.keeps (handed h base H.modes z) pc base (taken base H.modes z h) calls fires n)) (sym same)
-                  (counts-safe true limit fires
-                    (λ f. on entry (base + size) (put_from all_kept (base + size) 0 (length ks) (handed h base H.modes args) ks (taken base H.modes args h)) (record { pc = suc pc; base = base; out = out; width = w } ∷ calls) f n)
-                    (λ f. record {
-                      full = call-supplies is_full full-test live H pc base entry size args out w (length ks) h calls (handed h base H.modes args) ks full
-                          (λ i z. (subst (λ k. i < k) (sym as_many) (l.0 i z), fine-full (get_or (handed h base H.modes args) i Gift))) l.2;
-                      owned = call-supplies is_owner owner-test own H pc base entry size args out w (length ks) h calls (handed h base H.modes args) ks owned
-                          (λ i z. let g = l.1 i z in (subst (λ k. i < k) (sym as_many) g.0, fine-given is_owner h base H.modes args i g.1)) l.3;
-                    }))
+                (counts-safe true limit fires
+                (λ f. on entry (base + size) (put_from all_kept (base + size) 0 (length ks) (handed h base H.modes args) ks (taken base H.modes args h)) (record { pc = suc pc; base = base; out = out; width = w } ∷ calls) f n)
+                (λ f. record {
+                  full = call-supplies is_full full-test live H pc base entry size args out w (length ks) h calls (handed h base H.modes args) ks full
+                      (λ i z. (subst (λ k. i < k) (sym as_many) (l.0 i z), fine-full (get_or (handed h base H.modes args) i Gift))) l.2;
+                  owned = call-supplies is_owner owner-test own H pc base entry size args out w (length ks) h calls (handed h base H.modes args) ks owned
+                      (λ i z. let g = l.1 i z in (subst (λ k. i < k) (sym as_many) g.0, fine-given is_owner h base H.modes args i g.1)) l.3;
+                }))
         by-kind (inr (inr y)) = subst (λ z. IsSafe live own (apply_stored limit z H.keeps hands pc base now calls fires n)) (sym (ap (λ z. effect z pc ks) y.1)) (left calls full.waiting owned.waiting)
           where
             left : (os : List Frame) → AreWaiting is_full live base os h → AreWaiting is_owner own base os h → IsSafe live own (returned_stored ks os (cleared base now) fires n)
@@ -297,9 +300,9 @@ module _ (live own : Live) where
     pub does-safe : (x : Step) → IsLively live own H pc x → IsSafe live own (doing_stored weigh limit x H pc base h calls fires copies)
     does-safe x lively =
         subst (λ b. IsSafe live own (where_ready b (apply_stored limit (effect x pc (seen_all h base H.modes (reads_of x))) H.keeps (handed h base H.modes (reads_of x)) pc base (taken base H.modes (reads_of x) h) calls fires
-            (copies + copied_by_step weigh x pc H (seen_all h base H.modes (reads_of x)) (effect x pc (seen_all h base H.modes (reads_of x)))))))
-          (sym (all-ready pc base h H.modes (reads_of x) full.here owned.here lively.reads))
-          (applied-safe x lively (seen_all h base H.modes (reads_of x)) (seen-many H.modes (reads_of x)) (copies + copied_by_step weigh x pc H (seen_all h base H.modes (reads_of x)) (effect x pc (seen_all h base H.modes (reads_of x)))))
+        (copies + copied_by_step weigh x pc H (seen_all h base H.modes (reads_of x)) (effect x pc (seen_all h base H.modes (reads_of x)))))))
+        (sym (all-ready pc base h H.modes (reads_of x) full.here owned.here lively.reads))
+        (applied-safe x lively (seen_all h base H.modes (reads_of x)) (seen-many H.modes (reads_of x)) (copies + copied_by_step weigh x pc H (seen_all h base H.modes (reads_of x)) (effect x pc (seen_all h base H.modes (reads_of x)))))
 
 pub never-stuck : IsNeverStuck
 never-stuck weigh limit code handling live own lively s supplied =

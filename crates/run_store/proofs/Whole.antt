@@ -1,15 +1,12 @@
 -- Whole runs of the machine whose cells own their values are whole runs of the machine on values.
-use Rattle.std.proofs.Common.{◌≡◌, ℕ, zero, suc, ◌+◌, ◌<◌, ◌≤◌, ◌⊎◌, inl, inr, Bool, true, false, if◌then◌else◌, ltb, get_or, List, [], ◌∷◌, length, refl, sym, ap, ◌∙◌, subst, arith}
+use Rattle.std.proofs.Common.{◌≡◌, ℕ, suc, ◌+◌, ◌<◌, ◌≤◌, ◌⊎◌, inl, inr, Bool, true, false, if◌then◌else◌, ltb, get_or, List, length, refl, sym, ap, ◌∙◌, subst, arith}
 use Rattle.std.proofs.lemmas.Bool.{lt-ltb}
 use Rattle.graph_meaning.specs.Carried.{Carried, Unfilled}
-use Rattle.graph_meaning.specs.Demand.{AreOrderly}
-use Rattle.graph_meaning.specs.Entered.{IsIn}
-use Rattle.graph_meaning.specs.Plain.{Means, Costs}
-use Rattle.graph_meaning.specs.Storage.{Storage, copying, capped, GraphAdds, Copies}
-use Rattle.ordered_meaning.specs.Orders.{AreInOrder}
+use Rattle.graph_meaning.specs.Plain.{Costs}
+use Rattle.graph_meaning.specs.Storage.{Storage, copying}
 use Rattle.run_code.specs.Cells.{Cells}
 use Rattle.run_code.specs.Coded.{Layout}
-use Rattle.run_code.specs.Machine.{Frame, State, at, Outcome, Goes, Ends, Over, step, EndsIn, Weigh, added, Reaches, stays, goes_on}
+use Rattle.run_code.specs.Machine.{State, at, Outcome, Goes, Ends, Over, step, EndsIn, Weigh, added, Reaches, stays, goes_on}
 use Rattle.run_code.specs.Steps.{Code}
 use Rattle.run_laws.proofs.Backward.{ends-recorded, exact}
 use Rattle.run_laws.proofs.Facts.{stays-known}
@@ -20,9 +17,9 @@ use Rattle.run_laws.specs.Laws.{EndsAdding, entered, IsRecorded}
 use Rattle.run_laws.specs.Stopping.{ComesToLimit}
 use Rattle.run_store.proofs.Refining.{refines}
 use Rattle.run_store.proofs.Supply.{never-stuck}
-use Rattle.run_store.specs.Lively.{Live, IsLive, IsLively, IsSupplied, IsSafe}
+use Rattle.run_store.specs.Lively.{Live, IsLively, IsSupplied, IsSafe}
 use Rattle.run_store.specs.Refines.{Fits, AreBelow, IsHandled, Matches}
-use Rattle.run_store.specs.Stored.{View, Empty, Owns, Refers, Heap, owned_in, IsOwner, is_full, is_owner, Handling, Stored, StoredOutcome, Onward, Finished, AtLimit, Stuck, on, step_stored}
+use Rattle.run_store.specs.Stored.{View, Empty, Owns, Refers, Heap, owned_in, IsOwner, is_full, is_owner, Handling, Stored, StoredOutcome, Onward, Finished, AtLimit, Stuck, step_stored}
 use Rattle.run_store.specs.Whole.{ReachesStored, rests, walks, EndsStored, StopsStored, IsStoredCode, entered_stored, Begins, first_cells, DoRunsBegin, IsCopied, IsStoreExact, AreStoreEndsRecorded, AreStoreRunsDecided}
 
 module _ (weigh : Weigh) (limit : ℕ) (code : Code) (handling : ℕ → Handling) (facts : ℕ → List Fact) (live own : Live)
@@ -167,7 +164,13 @@ module _ (s : Storage) (X : Layout) (handling : ℕ → Handling) (facts : ℕ �
   alike : Alike X.weigh limit X.code handling facts live own is.handled is.preserves is.lively begun start
   alike =
       record {
-        pc_is = refl; base_is = refl; calls_are = refl; fires_are = refl; fits = begins.fits; below = tt; supplied = begins.supplied;
+        pc_is = refl;
+        base_is = refl;
+        calls_are = refl;
+        fires_are = refl;
+        fits = begins.fits;
+        below = tt;
+        supplied = begins.supplied;
         known = record { here = begins.known; waiting = tt };
       }
 
@@ -215,9 +218,9 @@ store-decided s X handling facts live own end many limit is inside orderly inord
     go (decided X end many limit is.coded inside orderly inorder f ins cells in_f as_many begins.hold)
   where
     go : ((k : ℕ) × (rs : List Carried) × (c : ℕ) × (sum : ℕ) × EndsIn k limit X.code (entered X f cells) rs c × IsRecorded X f ins rs c sum × (c ≤ limit))
-          ⊎ (ComesToLimit X limit (entered X f cells) × ((d c : ℕ) → Costs X.network d f ins c → limit < c))
+        ⊎ (ComesToLimit X limit (entered X f cells) × ((d c : ℕ) → Costs X.network d f ins c → limit < c))
         → ((rs : List Carried) × (c : ℕ) × (copies : ℕ) × EndsStored X handling limit (entered_stored X f h) rs c copies × IsCopied s X f ins rs c copies × (c ≤ limit))
-          ⊎ (StopsStored X handling limit (entered_stored X f h) × ((d c : ℕ) → Costs X.network d f ins c → limit < c))
+        ⊎ (StopsStored X handling limit (entered_stored X f h) × ((d c : ℕ) → Costs X.network d f ins c → limit < c))
     go (inl x) =
         let r = ends-recorded X limit is.coded orderly inorder x.0 f ins x.1 x.2 cells in_f as_many begins.hold x.4 in
         inl (x.1, x.2, r.0, ends-stored s X handling facts live own limit is f ins h cells begins x.1 x.2 r.0 r.1, copies-of s X handling facts live own limit is f ins h cells begins x.1 x.2 r.0 r.2, r.3)

@@ -3,3 +3,4 @@ pub mod Stored
 pub mod Refines
 pub mod Lively
 pub mod Whole
+pub mod Ports

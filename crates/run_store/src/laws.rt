@@ -2,6 +2,7 @@
 ghost use Rattle.run_store.specs.Effects.{AreEffects, DoLead};
 ghost use Rattle.run_store.specs.Refines.{Refines};
 ghost use Rattle.run_store.specs.Lively.{IsNeverStuck};
+ghost use Rattle.run_store.specs.Ports.{AreNodesLivelyInOrder};
 ghost use Rattle.run_store.specs.Whole.{DoRunsBegin, IsStoreExact, AreStoreEndsRecorded, AreStoreRunsDecided};
 
 /// Each step of the machine on values is its effect on what it reads.
@@ -44,4 +45,10 @@ pub fn runs_that_own_are_decided()
 /// A run begins with its arguments in the first cells, each its own.
 pub fn runs_that_own_begin()
     ensures { DoRunsBegin }
+{}
+
+/// Where each taker is the last user of its port, no node of the graph reads a cell that was taken, and
+/// what is live behind a node was live before it or is one of its outputs.
+pub fn nodes_are_lively_where_takers_are_last()
+    ensures { AreNodesLivelyInOrder }
 {}

@@ -5,7 +5,7 @@
 mod laws;
 
 pub use laws::{
-    ends_that_own_are_of_record, runs_that_own_are_decided, runs_that_own_begin, steps_are_effects,
+    ends_that_own_are_of_record, nodes_are_lively_where_takers_are_last, runs_that_own_are_decided, runs_that_own_begin, steps_are_effects,
     steps_lead_where_they_say, the_machine_that_owns_is_exact,
     the_machine_that_owns_is_never_stuck, the_machine_that_owns_refines,
 };
