@@ -39,7 +39,7 @@ pub tells-inputs : (ins : List Carried) → Tells [] (Inputs ins)
 tells-inputs ins = ((λ p. (get_or ins (p - 1) Unfilled, refl)), λ l p h. absurd h)
 
 -- what is bound stays so, if by another value
-still-bound : (label : ℕ) (rs : List Carried) (env : Bindings) (l p : ℕ) → (k : Carried) × (bound env l p ≡ Some k) → (k : Carried) × (bound (Fired label rs env) l p ≡ Some k)
+pub still-bound : (label : ℕ) (rs : List Carried) (env : Bindings) (l p : ℕ) → (k : Carried) × (bound env l p ≡ Some k) → (k : Carried) × (bound (Fired label rs env) l p ≡ Some k)
 still-bound label rs env l p x = go (eqb l label)
   where
     go : (b : Bool) → (k : Carried) × ((if b then Some (get_or rs (p - 1) Unfilled) else bound env l p) ≡ Some k)

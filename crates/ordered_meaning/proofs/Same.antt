@@ -27,11 +27,10 @@ use Rattle.ordered_meaning.proofs.Complete.{yields-where-costed}
 
 -- ---- sums by weights
 
-pub itself : (w : Weights) → Reading (counting w) w
+abbrev pub itself : (w : Weights) → Reading (counting w) w
 itself w = record { reads = λ x. x; none_is = refl; plus_is = λ a b. refl; node_is = λ g v ks rs. refl; results_is = λ g rs. refl }
 
 pub sums-of-record : AreSumsOfRecord
-unfolding itself
 sums-of-record w u order orderly inorder g ins rs t = (there, from)
   where
     ok : (g : ℕ) → IsListed (u g) (order g)
