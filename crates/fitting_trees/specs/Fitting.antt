@@ -110,7 +110,7 @@ pub data Row : Operation → List Ty → Ty → Type 0 where
   a_record : (ms : List Member) → length ms ≤ 4194304 → Row op.Record (map (λ m. m.1) ms) (ty.Rec ms)
   union : (ms : List Member) (tag : ℕ) (m : Member) → slice_get ms tag ≡ Some m → Row (op.Union tag) (m.1 ∷ []) (ty.Uni ms)
   field : (ms : List Member) (place : ℕ) (m : Member) → slice_get ms place ≡ Some m → Row (op.Field place) (ty.Rec ms ∷ []) m.1
-  change : (ms : List Member) (places : List ℕ) (tys : List Ty) → AreFields ms places tys → Row (op.Change places) (ty.Rec ms ∷ tys) (ty.Rec ms)
+  change : (ms : List Member) (place : ℕ) (places : List ℕ) (tys : List Ty) → AreFields ms (place ∷ places) tys → Row (op.Change (place ∷ places)) (ty.Rec ms ∷ tys) (ty.Rec ms)
   is_tag : (ms : List Member) (tag : ℕ) (m : Member) → slice_get ms tag ≡ Some m → Row (op.IsTag tag) (ty.Uni ms ∷ []) ty.Bool
 
 -- ---- loops
@@ -180,10 +180,10 @@ module _ (numbers : List ℕ → List Ty → Type 0) (fs : List Header) where
           → DefsFit γ us δ → AllFit (γ ++ δ) ts tys → numbers ns tys → Fits γ (with l ns (typed.Let us ts)) tys
       if_else : {γ tys : List Ty} {l : ℕ} {ns : List ℕ} {ts us vs : List TypedExpr}
           → AllFit γ ts (ty.Bool ∷ []) → AllFit γ us tys → AllFit γ vs tys → numbers ns tys → Fits γ (with l ns (typed.If ts us vs)) tys
-      -- each tag has an arm, and each arm that sees the content has a tag
+      -- there is an arm, each tag has one, and each arm that sees the content has a tag
       tag_case : {γ tys : List Ty} (ms : List Member) (contents : List Ty) {l : ℕ} {ns : List ℕ} {c : Case} {ts : List TypedExpr} {arms : List (List TypedExpr)}
           → AllFit γ ts (ty.Uni ms ∷ []) → ArmsFit γ c.named arms contents tys → TagsFit (length arms) contents ms c.choices
-          → ((k : ℕ) → k < c.named → Contains c.choices k) → numbers ns tys → Fits γ (with l ns (typed.Case c ts arms)) tys
+          → ((k : ℕ) → k < c.named → Contains c.choices k) → 1 ≤ length arms → numbers ns tys → Fits γ (with l ns (typed.Case c ts arms)) tys
       product : {γ tys names δ row made : List Ty} {l : ℕ} {ns : List ℕ} {p : Product} {bounds : List TypedExpr} {us : List (List TypedExpr)} {ts : List TypedExpr}
           → AllFit γ bounds tys → Goes p.sources tys names → DefsFit (γ ++ names) us δ → AllFit ((γ ++ names) ++ δ) ts row → AreMade p.clauses row made
           → numbers ns made → Fits γ (with l ns (typed.Product p bounds us ts)) made

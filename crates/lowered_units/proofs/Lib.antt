@@ -1,1 +1,3 @@
 pub mod OneUnit
+pub mod Built
+pub mod BuiltForms
