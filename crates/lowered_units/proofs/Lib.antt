@@ -1,3 +1,5 @@
 pub mod OneUnit
 pub mod Built
 pub mod BuiltForms
+pub mod BuiltLoops
+pub mod BuiltTrees
