@@ -5,3 +5,5 @@ pub mod BuiltLoops
 pub mod BuiltTrees
 pub mod Tables
 pub mod Literals
+pub mod Rights
+pub mod Heads
