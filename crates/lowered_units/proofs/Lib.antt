@@ -7,3 +7,5 @@ pub mod Tables
 pub mod Literals
 pub mod Rights
 pub mod Heads
+pub mod Entries
+pub mod Blocks
