@@ -9,3 +9,4 @@ pub mod Rights
 pub mod Heads
 pub mod Entries
 pub mod Blocks
+pub mod Codes

@@ -129,17 +129,18 @@ abbrev pub called_name : Program → Option Function → List ℕ
 called_name p None = []
 called_name p (Some f) = name_of p f
 
+abbrev pub simple_node : ℕ → ℕ → ListedNode
+simple_node label op = record { label = label; op = op; parts = []; assoc = []; before = []; name = [] }
+
+abbrev pub listed_node : ℕ → Action → ListedNode
+listed_node label (Row op) = simple_node label (simple_code op)
+listed_node label (Call f) = simple_node label (simple_code simple.Call)
+listed_node label (Whole c graphs arms given outputs) = record { label = label; op = compound_code c; parts = graphs; assoc = arms; before = []; name = [] }
+
+-- nodes from a label on
 abbrev pub listed_nodes : ℕ → List LoweredNode → List ListedNode
 listed_nodes label [] = []
-listed_nodes label (v ∷ vs) = listed_node v.action ∷ listed_nodes (suc label) vs
-  where
-    simple_node : ℕ → ListedNode
-    simple_node op = record { label = label; op = op; parts = []; assoc = []; before = []; name = [] }
-
-    listed_node : Action → ListedNode
-    listed_node (Row op) = simple_node (simple_code op)
-    listed_node (Call f) = simple_node (simple_code simple.Call)
-    listed_node (Whole c graphs arms given outputs) = record { label = label; op = compound_code c; parts = graphs; assoc = arms; before = []; name = [] }
+listed_nodes label (v ∷ vs) = listed_node label v.action ∷ listed_nodes (suc label) vs
 
 -- in a program
 module _ (p : Program) where
