@@ -150,12 +150,12 @@ module _ (p : Program) where
           | inr f ↦ ap (λ b. cond b (Some (edge node m (label_of p w.ty) o)) (find (to_port j) (edges_into p node (suc m) ws))) f.0
           ]
 
-  over-ports : (f g : ℕ → Source) (k n : ℕ) → ((j : ℕ) → k ≤ j → f j ≡ g j) → map f (count_from k n) ≡ map g (count_from k n)
+  pub over-ports : (f g : ℕ → Source) (k n : ℕ) → ((j : ℕ) → k ≤ j → f j ≡ g j) → map f (count_from k n) ≡ map g (count_from k n)
   over-ports f g k zero h = refl
   over-ports f g k (suc n) h = ap (λ x. x ∷ map f (count_from (suc k) n)) (h k (omega arith)) ∙ ap (λ l. g k ∷ l) (over-ports f g (suc k) n (λ j l. h j (omega (arith, l))))
 
   module _ (u : Unit1) (is : u.types ≡ entries_from p 1 (table p)) (functions : ℕ) where
-    abbrev source_for : (ℕ → Option Want) → List Edge → ℕ → Source
+    abbrev pub source_for : (ℕ → Option Want) → List Edge → ℕ → Source
     source_for want es port = source_by u (want port) (find (to_port port) es)
 
     good-source : (w : Option Want) (f : Feed) (t : Carried) (node k : ℕ) → IsValueWant w → IsGoodFeed p.types functions f t → (es : List Edge)

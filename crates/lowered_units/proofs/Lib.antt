@@ -10,3 +10,5 @@ pub mod Heads
 pub mod Entries
 pub mod Blocks
 pub mod Codes
+pub mod Named
+pub mod Nets
