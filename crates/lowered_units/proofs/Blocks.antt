@@ -56,16 +56,16 @@ filter-same : (n : ℕ) (es : List Edge) → AreInto n es → filter (to_node n)
 filter-same n [] h = refl
 filter-same n (e ∷ es) h =
     elim (eqb_tells e.node n) [
-      inl t ↦ ap (λ b. cond b (e ∷ filter (to_node n) es) (filter (to_node n) es)) t.0 ∙ ap (λ l. e ∷ l) (filter-same n es h.1)
-    | inr f ↦ absurd (f.1 h.0)
+      | inl t ↦ ap (λ b. cond b (e ∷ filter (to_node n) es) (filter (to_node n) es)) t.0 ∙ ap (λ l. e ∷ l) (filter-same n es h.1)
+      | inr f ↦ absurd (f.1 h.0)
     ]
 
 filter-other : (n l : ℕ) (es : List Edge) → AreInto n es → (n ≡ l → ⊥) → filter (to_node l) es ≡ []
 filter-other n l [] h d = refl
 filter-other n l (e ∷ es) h d =
     elim (eqb_tells e.node l) [
-      inl t ↦ absurd (d (sym h.0 ∙ t.1))
-    | inr f ↦ ap (λ b. cond b (e ∷ filter (to_node l) es) (filter (to_node l) es)) f.0 ∙ filter-other n l es h.1 d
+      | inl t ↦ absurd (d (sym h.0 ∙ t.1))
+      | inr f ↦ ap (λ b. cond b (e ∷ filter (to_node l) es) (filter (to_node l) es)) f.0 ∙ filter-other n l es h.1 d
     ]
 
 module _ (p : Program) where
@@ -95,9 +95,11 @@ module _ (p : Program) where
     where
       same : Some x ≡ Some v → x ≡ v
       same e = cc
+
       nil-right : (es : List Edge) → es ++ [] ≡ es
       nil-right [] = refl
       nil-right (e ∷ es) = ap (λ l. e ∷ l) (nil-right es)
+
       none-later : (from : ℕ) (vs : List LoweredNode) (n : ℕ) → n < from → 1 ≤ n → filter (to_node n) (edges_of p from vs results) ≡ []
       none-later from [] n h one = filter-other 0 n (edges_into p 0 1 results) (block-into 0 1 results) (λ e. omega (arith, e, one))
       none-later from (x ∷ vs) n h one =
@@ -127,15 +129,15 @@ module _ (p : Program) where
   find-skips None node k ty j es h = refl
   find-skips (Some o) node k ty j es h =
       elim (eqb_tells k j) [
-        inl t ↦ absurd (omega (arith, t.1, h))
-      | inr f ↦ ap (λ b. cond b (Some (edge node k ty o)) (find (to_port j) es)) f.0
+        | inl t ↦ absurd (omega (arith, t.1, h))
+        | inr f ↦ ap (λ b. cond b (Some (edge node k ty o)) (find (to_port j) es)) f.0
       ]
 
   find-here : (node k ty : ℕ) (o : Origin) (es : List Edge) → find (to_port k) (edge node k ty o ∷ es) ≡ Some (edge node k ty o)
   find-here node k ty o es =
       elim (eqb_tells k k) [
-        inl t ↦ ap (λ b. cond b (Some (edge node k ty o)) (find (to_port k) es)) t.0
-      | inr f ↦ absurd (f.1 refl)
+        | inl t ↦ ap (λ b. cond b (Some (edge node k ty o)) (find (to_port k) es)) t.0
+        | inr f ↦ absurd (f.1 refl)
       ]
 
   find-below : (node m j : ℕ) (ws : List Wire) → j < m → find (to_port j) (edges_into p node m ws) ≡ None
@@ -146,8 +148,8 @@ module _ (p : Program) where
       skip None = refl
       skip (Some o) =
           elim (eqb_tells m j) [
-            inl t ↦ absurd (omega (arith, t.1, h))
-          | inr f ↦ ap (λ b. cond b (Some (edge node m (label_of p w.ty) o)) (find (to_port j) (edges_into p node (suc m) ws))) f.0
+            | inl t ↦ absurd (omega (arith, t.1, h))
+            | inr f ↦ ap (λ b. cond b (Some (edge node m (label_of p w.ty) o)) (find (to_port j) (edges_into p node (suc m) ws))) f.0
           ]
 
   pub over-ports : (f g : ℕ → Source) (k n : ℕ) → ((j : ℕ) → k ≤ j → f j ≡ g j) → map f (count_from k n) ≡ map g (count_from k n)
@@ -186,8 +188,8 @@ module _ (p : Program) where
     block-sources want node k (w ∷ x ∷ ws) h v =
         ap (λ s. s ∷ map (source_for want (edges_into p node k (w ∷ x ∷ ws))) (count_from (suc k) (length (x ∷ ws))))
         (elim h.0 [
-          inl g ↦ good-source (want k) w.feed w.ty node k (v k (omega arith)) g (edges_into p node (suc k) (x ∷ ws))
-        | inr g ↦ gap-source (want k) w.feed w.ty node k g (x ∷ ws)
+          | inl g ↦ good-source (want k) w.feed w.ty node k (v k (omega arith)) g (edges_into p node (suc k) (x ∷ ws))
+          | inr g ↦ gap-source (want k) w.feed w.ty node k g (x ∷ ws)
         ])
         ∙ ap (λ l. source_of w.feed ∷ l) (later-ports want w node k (edges_into p node (suc k) (x ∷ ws)) (length (x ∷ ws)) ∙ block-sources want node (suc k) (x ∷ ws) h.1 (λ j l. v j (omega (arith, l))))
 

@@ -83,7 +83,6 @@ module _ (forms : List Form) (functions : ℕ) (basics : HasBasics forms) where
   pub one-good : IsGood forms functions one
   one-good = (integer-in, subst (IsConstantOf (constant.Integer (pos 1))) (sym basics.integers) refl)
 
-
   pub row-to : (op : Simple) (ws : List Wire) (ts : List ℕ) → IsPlainRow op → AreFilled forms functions ws → AreTypes forms functions (map One ts) → Gives forms functions (length ts) (row_lowered op ws ts)
   row-to op ws ts p h k =
       gives-as (length (map One ts)) (length ts) (row_lowered op ws ts) (length-map ts One)
@@ -145,8 +144,8 @@ module _ (forms : List Form) (functions : ℕ) (basics : HasBasics forms) where
   greatest-there x (y ∷ ys) =
       let rest = greatest-there y ys in
       elim (leb_tells x (greatest (y ∷ ys))) [
-        inl e ↦ (suc rest.0, rest.1 ∙ ap Some (omega (arith, e.1)))
-      | inr e ↦ (0, ap Some (omega (arith, e.1)))
+        | inl e ↦ (suc rest.0, rest.1 ∙ ap Some (omega (arith, e.1)))
+        | inr e ↦ (0, ap Some (omega (arith, e.1)))
       ]
 
   changed-filled : (p count : ℕ) (xs : List ℕ) (ws : List Wire) → AreGood forms functions ws → IsGood forms functions (at_place (p + count) xs ws) → AreFilled forms functions (changed p (suc count) xs ws)
@@ -231,10 +230,11 @@ module _ (forms : List Form) (functions : ℕ) (basics : HasBasics forms) where
   pub tag-case-to : (u : Wire) (f : Lowering) (fs : List Lowering) (arms ts : List ℕ) → IsGood forms functions u → EachGives (length ts) (f ∷ fs)
       → All (λ k. k < length (f ∷ fs)) arms → AreTypes forms functions (map One ts) → Gives forms functions (length ts) (tag_case u (f ∷ fs) arms ts)
   tag-case-to u _ _ arms ts g (gives_more f fs h r) l k n q =
-      let ms = new_graphs (q + size (new_graph f q)) fs in
-      (b_tag n q u (new_graph f q ∷ ms) arms ts g (graphs-built (length ts) (f ∷ fs) q (gives_more f fs h r)) ((h 0 (suc q)).1, graphs-count (length ts) fs (q + size (new_graph f q)) r)
-      (subst (λ z. All (λ k. k < z) arms) (ap suc (sym (length-graphs (q + size (new_graph f q)) fs))) l) k,
-      built.length-ports forms functions (suc n) 1 (map One ts) ∙ length-map ts One)
+      let ms = new_graphs (q + size (new_graph f q)) fs in (
+        b_tag n q u (new_graph f q ∷ ms) arms ts g (graphs-built (length ts) (f ∷ fs) q (gives_more f fs h r)) ((h 0 (suc q)).1, graphs-count (length ts) fs (q + size (new_graph f q)) r)
+            (subst (λ z. All (λ k. k < z) arms) (ap suc (sym (length-graphs (q + size (new_graph f q)) fs))) l) k,
+        built.length-ports forms functions (suc n) 1 (map One ts) ∙ length-map ts One,
+      )
 
   -- ---- choices
 
@@ -255,12 +255,14 @@ module _ (forms : List Form) (functions : ℕ) (basics : HasBasics forms) where
       let y = new_graph (all_lowered one (map into env)) (q + size s + size x) in
       let sh = selector-to test j t (map into env) inner 0 (suc q) in
       let xh = all-to other (length ts) e (map into env) inner 0 (suc (q + size s)) in
-      let yh = all-to one (length ts) o (map into env) inner 0 (suc (q + size s + size x)) in
-      (b_whole n q compound.Select (s ∷ x ∷ y ∷ []) (0 ∷ 1 ∷ 2 ∷ []) 0 ts
-      (a_graph q s (x ∷ y ∷ []) sh.0 (a_graph (q + size s) x (y ∷ []) xh.0 (a_graph (q + size s + size x) y [] yh.0 (no_graph (q + size s + size x + size y)))))
-      (xh.1, yh.1)
-      (numbers-below 0 3 (omega arith) (1 ∷ 2 ∷ []) (numbers-below 1 3 (omega arith) (2 ∷ []) (numbers-below 2 3 (omega arith) [] (All-nil (λ k. k < 3)))))
-      k, built.length-ports forms functions (suc n) 1 (map One ts) ∙ length-map ts One)
+      let yh = all-to one (length ts) o (map into env) inner 0 (suc (q + size s + size x)) in (
+        b_whole n q compound.Select (s ∷ x ∷ y ∷ []) (0 ∷ 1 ∷ 2 ∷ []) 0 ts
+            (a_graph q s (x ∷ y ∷ []) sh.0 (a_graph (q + size s) x (y ∷ []) xh.0 (a_graph (q + size s + size x) y [] yh.0 (no_graph (q + size s + size x + size y)))))
+            (xh.1, yh.1)
+            (numbers-below 0 3 (omega arith) (1 ∷ 2 ∷ []) (numbers-below 1 3 (omega arith) (2 ∷ []) (numbers-below 2 3 (omega arith) [] (All-nil (λ k. k < 3)))))
+            k,
+        built.length-ports forms functions (suc n) 1 (map One ts) ∙ length-map ts One,
+      )
 
   -- phrases that each give so many values
   pub data EachTo : ℕ → List Lowers → Type 0 where

@@ -195,12 +195,14 @@ module _ (forms : List Form) (functions : ℕ) (basics : HasBasics forms) where
       let bt = built.types-good forms functions b.values (built.values-good forms functions 0 (suc (q + size g)) b bh) in
       let ms = own_inputs (suc (length g.values)) (map many (types b.values)) in
       let r = new_graph (returns_lowered (bound_of forms ss (map into bounds)) cs ms ts) (q + size g + size b) in
-      let rh = returns-give (bound_of forms ss (map into bounds)) cs ms ts (bound-good ss (map into bounds) outer) (built.good-ports forms functions 0 (suc (length g.values)) (map many (types b.values)) (omega arith) (manys (types b.values) bt)) k e 0 (suc (q + size g + size b)) in
-      (b_whole n q compound.ForAll (g ∷ b ∷ r ∷ []) (0 ∷ 1 ∷ 2 ∷ []) (length b.values) ts
-      (a_graph q g (b ∷ r ∷ []) gh (a_graph (q + size g) b (r ∷ []) bh (a_graph (q + size g + size b) r [] rh.0 (no_graph (q + size g + size b + size r)))))
-      (refl, rh.1)
-      (forms_are.numbers-below forms functions basics 0 3 (omega arith) (1 ∷ 2 ∷ []) (forms_are.numbers-below forms functions basics 1 3 (omega arith) (2 ∷ []) (forms_are.numbers-below forms functions basics 2 3 (omega arith) [] (All-nil (λ k. k < 3)))))
-      k, built.length-ports forms functions (suc n) 1 (map One ts) ∙ length-map ts One)
+      let rh = returns-give (bound_of forms ss (map into bounds)) cs ms ts (bound-good ss (map into bounds) outer) (built.good-ports forms functions 0 (suc (length g.values)) (map many (types b.values)) (omega arith) (manys (types b.values) bt)) k e 0 (suc (q + size g + size b)) in (
+        b_whole n q compound.ForAll (g ∷ b ∷ r ∷ []) (0 ∷ 1 ∷ 2 ∷ []) (length b.values) ts
+            (a_graph q g (b ∷ r ∷ []) gh (a_graph (q + size g) b (r ∷ []) bh (a_graph (q + size g + size b) r [] rh.0 (no_graph (q + size g + size b + size r)))))
+            (refl, rh.1)
+            (forms_are.numbers-below forms functions basics 0 3 (omega arith) (1 ∷ 2 ∷ []) (forms_are.numbers-below forms functions basics 1 3 (omega arith) (2 ∷ []) (forms_are.numbers-below forms functions basics 2 3 (omega arith) [] (All-nil (λ k. k < 3)))))
+            k,
+        built.length-ports forms functions (suc n) 1 (map One ts) ∙ length-map ts One,
+      )
 
   pub product-to : (p : Product) (ds : List (List Lowers)) (j : ℕ) (gs : List Lowers) (l : ℕ) (ts : List ℕ) (bounds : List Wire) → DefsTo forms functions ds j → AllTo forms functions gs l → AreGood forms functions bounds → AreTypes forms functions (map One ts)
       → length p.clauses ≡ length ts → To forms functions (length ts) (product_lowered forms p ds gs ts bounds)
@@ -229,12 +231,14 @@ module _ (forms : List Form) (functions : ℕ) (basics : HasBasics forms) where
       let it = built.types-good forms functions i.values (built.values-good forms functions 0 (suc q) i ih) in
       let ls = own_inputs 1 (map many (types i.values)) in
       let r = new_graph (returns_lowered (Wired one) cs (map (wire_at ls) places) ts) (q + size i + size x + size b) in
-      let rh = returns-give (Wired one) cs (map (wire_at ls) places) ts (forms_are.one-good forms functions basics) (places-good ls places (built.good-ports forms functions 0 1 (map many (types i.values)) (omega arith) (manys (types i.values) it))) k e 0 (suc (q + size i + size x + size b)) in
-      (b_whole n q c (i ∷ x ∷ b ∷ r ∷ []) (0 ∷ 1 ∷ 2 ∷ 3 ∷ []) 0 ts
-      (a_graph q i (x ∷ b ∷ r ∷ []) ih (a_graph (q + size i) x (b ∷ r ∷ []) xh (a_graph (q + size i + size x) b (r ∷ []) bh (a_graph (q + size i + size x + size b) r [] rh.0 (no_graph (q + size i + size x + size b + size r))))))
-      (parts (length i.values) (length x.values) (length b.values) (length r.values) rh.1)
-      (forms_are.numbers-below forms functions basics 0 4 (omega arith) (1 ∷ 2 ∷ 3 ∷ []) (forms_are.numbers-below forms functions basics 1 4 (omega arith) (2 ∷ 3 ∷ []) (forms_are.numbers-below forms functions basics 2 4 (omega arith) (3 ∷ []) (forms_are.numbers-below forms functions basics 3 4 (omega arith) [] (All-nil (λ k. k < 4))))))
-      k, built.length-ports forms functions (suc n) 1 (map One ts) ∙ length-map ts One)
+      let rh = returns-give (Wired one) cs (map (wire_at ls) places) ts (forms_are.one-good forms functions basics) (places-good ls places (built.good-ports forms functions 0 1 (map many (types i.values)) (omega arith) (manys (types i.values) it))) k e 0 (suc (q + size i + size x + size b)) in (
+        b_whole n q c (i ∷ x ∷ b ∷ r ∷ []) (0 ∷ 1 ∷ 2 ∷ 3 ∷ []) 0 ts
+            (a_graph q i (x ∷ b ∷ r ∷ []) ih (a_graph (q + size i) x (b ∷ r ∷ []) xh (a_graph (q + size i + size x) b (r ∷ []) bh (a_graph (q + size i + size x + size b) r [] rh.0 (no_graph (q + size i + size x + size b + size r))))))
+            (parts (length i.values) (length x.values) (length b.values) (length r.values) rh.1)
+            (forms_are.numbers-below forms functions basics 0 4 (omega arith) (1 ∷ 2 ∷ 3 ∷ []) (forms_are.numbers-below forms functions basics 1 4 (omega arith) (2 ∷ 3 ∷ []) (forms_are.numbers-below forms functions basics 2 4 (omega arith) (3 ∷ []) (forms_are.numbers-below forms functions basics 3 4 (omega arith) [] (All-nil (λ k. k < 4))))))
+            k,
+        built.length-ports forms functions (suc n) 1 (map One ts) ∙ length-map ts One,
+      )
 
   extra-makes : (o : Option ℕ) (g : Lowers) (gs : List Lowers) → MakesTo g → EachMakes gs → EachMakes (extra o g ++ gs)
   extra-makes None g gs h r = makes_more g gs h r

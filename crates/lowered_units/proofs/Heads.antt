@@ -178,11 +178,11 @@ pub find-place : (ls : Listing) (ps : List Place) (q : ℕ) (x : ListedGraph) �
 find-place ls [] q x l h e = absurd h
 find-place ls (p ∷ ps) q x l h e =
     elim (eqb_tells (number_of p) q) [
-      inl t ↦ record { place = p; found = ap (λ b. cond b (Some p) (find (λ p. number_of p == q) ps)) t.0; number = t.1; lies = l.0 }
-    | inr f ↦ elim h [
-        inl s ↦ absurd (f.1 (sym (ap (λ (y : ListedGraph). y.number) s) ∙ e))
-      | inr i ↦
-          let rest = find-place ls ps q x l.1 i e in
-          record { place = rest.place; found = ap (λ b. cond b (Some p) (find (λ p. number_of p == q) ps)) f.0 ∙ rest.found; number = rest.number; lies = rest.lies }
+      | inl t ↦ record { place = p; found = ap (λ b. cond b (Some p) (find (λ p. number_of p == q) ps)) t.0; number = t.1; lies = l.0 }
+      | inr f ↦ elim h [
+        | inl s ↦ absurd (f.1 (sym (ap (λ (y : ListedGraph). y.number) s) ∙ e))
+        | inr i ↦
+            let rest = find-place ls ps q x l.1 i e in
+            record { place = rest.place; found = ap (λ b. cond b (Some p) (find (λ p. number_of p == q) ps)) f.0 ∙ rest.found; number = rest.number; lies = rest.lies }
       ]
     ]

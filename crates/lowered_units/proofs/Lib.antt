@@ -12,3 +12,5 @@ pub mod Blocks
 pub mod Codes
 pub mod Named
 pub mod Nets
+pub mod Programs
+pub mod Running

@@ -119,7 +119,6 @@ all_so p (suc n) c h l =
 abbrev char_text : ℕ → List ℕ
 char_text c = 39 ∷ item_text c ++ 39 ∷ []
 
-
 is_at : ℕ → Option ℕ → Bool
 is_at c None = false
 is_at c (Some d) = d == c

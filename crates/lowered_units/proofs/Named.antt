@@ -88,8 +88,8 @@ none-before label [] (v ∷ vs) m l h = absurd m
 none-before label (n ∷ ns) [] m l h = absurd m
 none-before label (n ∷ ns) (v ∷ vs) m l h =
     elim (eqb_tells (label_of n) l) [
-      inl t ↦ absurd (omega (arith, t.1, label-at label n v m.0, h))
-    | inr f ↦ ap (λ b. cond b (Some n) (node_at ns l)) f.0 ∙ none-before (suc label) ns vs m.1 l (omega (arith, h))
+      | inl t ↦ absurd (omega (arith, t.1, label-at label n v m.0, h))
+      | inr f ↦ ap (λ b. cond b (Some n) (node_at ns l)) f.0 ∙ none-before (suc label) ns vs m.1 l (omega (arith, h))
     ]
 
 pub standing : (label : ℕ) (ns : List Node) (vs : List LoweredNode) → Match label ns vs → (i : ℕ) (n : Node) (v : LoweredNode) → slice_get ns i ≡ Some n → slice_get vs i ≡ Some v → Standing ns (label + i) n v
@@ -109,8 +109,8 @@ standing label (x ∷ ns) (y ∷ vs) m (suc i) n v e k =
     let at : label_of x ≡ label = label-at label x y m.0 in
     record {
       found = elim (eqb_tells (label_of x) (label + suc i)) [
-        inl t ↦ absurd (omega (arith, t.1, at))
-      | inr f ↦ ap (λ b. cond b (Some x) (node_at ns (label + suc i))) f.0 ∙ (ap (node_at ns) (omega arith) ∙ rest.found)
+        | inl t ↦ absurd (omega (arith, t.1, at))
+        | inr f ↦ ap (λ b. cond b (Some x) (node_at ns (label + suc i))) f.0 ∙ (ap (node_at ns) (omega arith) ∙ rest.found)
       ];
       listed = rest.listed ∙ ap (λ l. listed_node l v.action) (omega arith);
       there = inr rest.there;
@@ -158,6 +158,7 @@ called p place q (x ∷ fs) (m ∷ ms) (g ∷ gs) l e i f s d =
       where
         down : (j k : ℕ) → suc j ≡ suc k → j ≡ k
         down j k e = omega (arith, e)
+
         other : (b : Bool) → bytes_eq (out-Graph g).name (name_of p f) ≡ b → b ≡ false
         other true e = absurd (never (d 0 x refl (sym name ∙ (bytes_eq-Decides (out-Graph g).name (name_of p f)).0 e)))
           where

@@ -143,10 +143,11 @@ module _ (p : Program) (u : Unit1) (is : u.types ≡ entries_from p 1 (table p))
 
       plain-does : (n : Node) (l : ℕ) (op : Simple) (ws : List Wire) → node_at (out-Graph g).nodes l ≡ Some n → label_of n ≡ l → (out-Node n).op ≡ simple_code op → units.edges_into g l ≡ edges_into p l 1 ws
           → IsPlainRow op → AreFilled p.types functions ws → Does n l (Row op) ws
-      plain-does n l op ws f lab e es h k =
-          (row-kind n op e ∙ (plain-kind u g (label_of n) op h ∙ (ap (λ i. Plain op (shape_of u g i op)) lab ∙ ap (Plain op) (a.shape l op))),
-          sources-as l (edges_into p l 1 ws) (λ port. wanted (operand_of op port)) (length ws) es (row-wants l n op f e) (block-width p functions l ws k)
-          ∙ block-sources p u is functions (λ port. wanted (operand_of op port)) l 1 ws k (λ j i. plain-want op j h))
+      plain-does n l op ws f lab e es h k = (
+        row-kind n op e ∙ (plain-kind u g (label_of n) op h ∙ (ap (λ i. Plain op (shape_of u g i op)) lab ∙ ap (Plain op) (a.shape l op))),
+        sources-as l (edges_into p l 1 ws) (λ port. wanted (operand_of op port)) (length ws) es (row-wants l n op f e) (block-width p functions l ws k)
+            ∙ block-sources p u is functions (λ port. wanted (operand_of op port)) l 1 ws k (λ j i. plain-want op j h),
+      )
 
       reduction-does : (n : Node) (l : ℕ) (r : Grouping) (name : List ℕ) (ws : List Wire) → node_at (out-Graph g).nodes l ≡ Some n → label_of n ≡ l → (out-Node n).op ≡ simple_code (simple.Reduce r)
           → units.edges_into g l ≡ edges_into p l 1 (wire (Named name) (One integer) ∷ ws) → AreGood p.types functions ws → Does n l (Row (simple.Reduce r)) (wire (Named name) (One integer) ∷ ws)
@@ -154,10 +155,11 @@ module _ (p : Program) (u : Unit1) (is : u.types ≡ entries_from p 1 (table p))
           let op = simple.Reduce r in
           let ty = type_label_of p (One integer) in
           let block = edge l 1 ty (origin.Lit name) ∷ edges_into p l 2 ws in
-          let filled = built.good-filled p.types functions ws k in
-          (row-kind n op e ∙ (reduce-kind u g (label_of n) r ∙ (ap (λ i. Plain op (shape_of u g i op)) lab ∙ ap (Plain op) (a.shape l op))),
-          sources-as l block (λ port. wanted (operand_of op port)) (suc (length ws)) es (row-wants l n op f e) (behind-width p functions l ty (origin.Lit name) ws filled)
-          ∙ ap (λ x. Fixed (Name name) ∷ x) (behind-sources p u is functions (λ port. wanted (operand_of op port)) l ty (origin.Lit name) ws filled (λ j i. later j i)))
+          let filled = built.good-filled p.types functions ws k in (
+            row-kind n op e ∙ (reduce-kind u g (label_of n) r ∙ (ap (λ i. Plain op (shape_of u g i op)) lab ∙ ap (Plain op) (a.shape l op))),
+            sources-as l block (λ port. wanted (operand_of op port)) (suc (length ws)) es (row-wants l n op f e) (behind-width p functions l ty (origin.Lit name) ws filled)
+                ∙ ap (λ x. Fixed (Name name) ∷ x) (behind-sources p u is functions (λ port. wanted (operand_of op port)) l ty (origin.Lit name) ws filled (λ j i. later j i)),
+          )
         where
           later : (j : ℕ) → 2 ≤ j → IsValueWant (wanted (operand_of (simple.Reduce r) j))
           later zero i = absurd (omega (arith, i))
@@ -172,10 +174,11 @@ module _ (p : Program) (u : Unit1) (is : u.types ≡ entries_from p 1 (table p))
           let block = edge l 1 ty (origin.Lit name) ∷ edges_into p l 2 ws in
           let filled = built.good-filled p.types functions ws k in
           let wants : ℕ → Option Want = λ port. wanted (operand_of simple.Call port) in
-          let literal : literal_at g l 1 ≡ Some name = ap (λ o. o >>= λ e. text_of e.from) (find-filtered l 1 (out-Graph g).edges ∙ ap (find (to_port 1)) es) in
-          (row-kind n simple.Call e ∙ (ap (λ i. Whole (form.Call (callee_number u g i))) lab ∙ ap (λ k. Whole (form.Call k)) (ap (λ o. number_or_zero (o >>= λ name. function_named u.graphs name)) literal ∙ calls f i)),
-          ap (drop 1) (sources-as l block wants (suc (length ws)) es (row-wants l n simple.Call s e) (behind-width p functions l ty (origin.Lit name) ws filled))
-          ∙ behind-sources p u is functions wants l ty (origin.Lit name) ws filled (λ j i. later j i))
+          let literal : literal_at g l 1 ≡ Some name = ap (λ o. o >>= λ e. text_of e.from) (find-filtered l 1 (out-Graph g).edges ∙ ap (find (to_port 1)) es) in (
+            row-kind n simple.Call e ∙ (ap (λ i. Whole (form.Call (callee_number u g i))) lab ∙ ap (λ k. Whole (form.Call k)) (ap (λ o. number_or_zero (o >>= λ name. function_named u.graphs name)) literal ∙ calls f i)),
+            ap (drop 1) (sources-as l block wants (suc (length ws)) es (row-wants l n simple.Call s e) (behind-width p functions l ty (origin.Lit name) ws filled))
+                ∙ behind-sources p u is functions wants l ty (origin.Lit name) ws filled (λ j i. later j i),
+          )
         where
           later : (j : ℕ) → 2 ≤ j → IsValueWant (wanted (operand_of simple.Call j))
           later zero i = absurd (omega (arith, i))
@@ -191,11 +194,12 @@ module _ (p : Program) (u : Unit1) (is : u.types ≡ entries_from p 1 (table p))
       whole-does n l c gs arms given outs ws there f e lists ns es k h =
           let filled = built.good-filled p.types functions ws k in
           let have : AreParts c (map results (out-Node n).subs) given outs =
-              subst (λ z. AreParts c z given outs) (sym (counts-of (out-Node n).subs (λ s i. a.parts n s there i) ∙ ap (map (count p.types functions (graph_at p))) ns)) h in
-          (whole-kind n c e ∙ ap Whole (ap (net.form_of c (out-Node n).subs) lists ∙ (form-is c (out-Node n).subs arms given outs have ∙ ap (λ z. form_of c z arms given outs) ns)),
-          whole-ins u g l c gs arms given outs
-          ∙ (sources-as l (edges_into p l 1 ws) (λ port. None) (length ws) es (whole-wants l n c f e) (block-width p functions l ws filled)
-          ∙ block-sources p u is functions (λ port. None) l 1 ws filled (λ j i. tt)))
+          subst (λ z. AreParts c z given outs) (sym (counts-of (out-Node n).subs (λ s i. a.parts n s there i) ∙ ap (map (count p.types functions (graph_at p))) ns)) h in (
+            whole-kind n c e ∙ ap Whole (ap (net.form_of c (out-Node n).subs) lists ∙ (form-is c (out-Node n).subs arms given outs have ∙ ap (λ z. form_of c z arms given outs) ns)),
+            whole-ins u g l c gs arms given outs
+                ∙ (sources-as l (edges_into p l 1 ws) (λ port. None) (length ws) es (whole-wants l n c f e) (block-width p functions l ws filled)
+                ∙ block-sources p u is functions (λ port. None) l 1 ws filled (λ j i. tt)),
+          )
 
       node-does : (n : Node) (l : ℕ) (act : Action) (ws : List Wire) → Standing (out-Graph g).nodes l n (node act ws) → label_of n ≡ l → units.edges_into g l ≡ node_edges p l act ws → RightNode act ws → Does n l act ws
       node-does n l (Row op) ws s lab es h = by op ws h (op-of n (listed_node l (Row op)) s.listed) es
@@ -210,6 +214,7 @@ module _ (p : Program) (u : Unit1) (is : u.types ≡ entries_from p 1 (table p))
               same-row : (x y : Simple) → Row x ≡ Row y → x ≡ y
               same-row x y e = cc
           filling op _ _ (fills_call f ws h k) e c es = absurd cc
+
           by : (op : Simple) (ws : List Wire) → Fills p.types functions (Row op) ws → (out-Node n).op ≡ simple_code op → units.edges_into g l ≡ edges_into p l 1 ws → Does n l (Row op) ws
           by op ws h c es = filling op ws (Row op) h refl c es
       node-does n l (Call f) ws s lab es h = filling ws (Call f) h refl es
@@ -267,8 +272,8 @@ module _ (p : Program) (u : Unit1) (is : u.types ≡ entries_from p 1 (table p))
           let ns = (out-Graph g).nodes in
           let m = match 1 ns d.nodes a.nodes in
           let nodes = all-vertices 1 ns d.nodes m
-              (λ i n v e k. node-vertex n (1 + i) v (standing 1 ns d.nodes m i n v e k) (ap (λ es. filter (to_node (1 + i)) es) a.edges ∙ edges-at p 1 d.nodes d.results i v (omega arith) k) (right-node d.nodes i v a.right.0 k)) in
+          (λ i n v e k. node-vertex n (1 + i) v (standing 1 ns d.nodes m i n v e k) (ap (λ es. filter (to_node (1 + i)) es) a.edges ∙ edges-at p 1 d.nodes d.results i v (omega arith) k) (right-node d.nodes i v a.right.0 k)) in
           let filled = built.good-filled p.types functions d.results a.right.1 in
           let results = sources-as 0 (edges_into p 0 1 d.results) (λ port. None) (length d.results) (ap (λ es. filter (to_node 0) es) a.edges ∙ results-at p 1 d.nodes d.results (omega arith)) (boundary-wants (none-before 1 ns d.nodes m 0 (omega arith))) (block-width p functions 0 d.results filled)
-              ∙ block-sources p u is functions (λ port. None) 0 1 d.results filled (λ j i. tt) in
+          ∙ block-sources p u is functions (λ port. None) 0 1 d.results filled (λ j i. tt) in
           λ j. record { nodes = nodes j; results = results j }

@@ -4,4 +4,4 @@
 
 mod laws;
 
-pub use laws::a_program_is_one_unit;
+pub use laws::{a_program_is_one_unit, translated_units_run_as_lowered};
