@@ -14,3 +14,5 @@ pub mod Named
 pub mod Nets
 pub mod Programs
 pub mod Running
+pub mod Ordered
+pub mod Canonical

@@ -95,7 +95,7 @@ signed_minus n h = ap (option_map (λ n. neg_ℤ (pos n))) (whole_decimal (suc n
 within : Option ℤ → Option ℤ
 within o = o >>= λ n. if fits_64 n then Some n else None
 
-integer_read : (z : ℤ) → fits_64 z ≡ true → integer (signed_decimal z) ≡ Some z
+pub integer_read : (z : ℤ) → fits_64 z ≡ true → integer (signed_decimal z) ≡ Some z
 integer_read (pos n) f =
     let e : signed (decimal n) ≡ Some (pos n) = signed_decimal_of n (omega (arith, ltb-true n (2 ^ 63) f)) in
     ap (λ (o : Option ℤ). o >>= λ n. if fits_64 n then Some n else None) e ∙ ap (λ (b : Bool). cond b (Some (pos n)) None) f
@@ -116,7 +116,7 @@ all_so p (suc n) c h l =
     let e = and_parts (p n) (all_below p n) h in
     elim (eqb_tells c n) [ inl t ↦ ap p t.1 ∙ e.0 | inr f ↦ let lt : c < n = omega (arith, l, f.1) in all_so p n c e.1 lt ]
 
-abbrev char_text : ℕ → List ℕ
+abbrev pub char_text : ℕ → List ℕ
 char_text c = 39 ∷ item_text c ++ 39 ∷ []
 
 is_at : ℕ → Option ℕ → Bool
@@ -135,7 +135,7 @@ unfolding is_at
 at_some c None h = absurd cc
 at_some c (Some d) h = let e = eqb_tells d c in elim e [ inl t ↦ ap Some t.1 | inr f ↦ absurd cc ]
 
-character_read : (c : ℕ) → c < 128 → character (char_text c) ≡ Some c
+pub character_read : (c : ℕ) → c < 128 → character (char_text c) ≡ Some c
 unfolding is_right
 character_read c h = at_some c (character (char_text c)) (all_so is_right 128 c all_right h)
 
@@ -154,10 +154,10 @@ value-wanted u (Some w) ty text h = refl
 
 module _ (p : Program) (u : Unit1) (is : u.types ≡ entries_from p 1 (table p)) where
   -- the first entries
-  types-begin : u.types ≡ entries_from p 1 (basics ++ (table-begins p).rest)
+  pub types-begin : u.types ≡ entries_from p 1 (basics ++ (table-begins p).rest)
   types-begin = is ∙ ap (entries_from p 1) (table-begins p).is
 
-  label-is : (t : ℕ) (f : Form) (l : ℕ) → slice_get p.types t ≡ Some f → (form_label p.types p.names (label_within p.types p.names 63) (Some f) (table p)).label ≡ l → label_of p (One t) ≡ l
+  pub label-is : (t : ℕ) (f : Form) (l : ℕ) → slice_get p.types t ≡ Some f → (form_label p.types p.names (label_within p.types p.names 63) (Some f) (table p)).label ≡ l → label_of p (One t) ≡ l
   label-is t f l e h = ap (λ o. (form_label p.types p.names (label_within p.types p.names 63) o (table p)).label) e ∙ h
 
   read-at : (w : Option Want) (l : ℕ) (text : List ℕ) → IsValueWant w → fixed u w l text ≡ or_explicit (entry_at (entries_from p 1 (basics ++ (table-begins p).rest)) l >>= λ t. of_basic (kind_at t.code) t text)

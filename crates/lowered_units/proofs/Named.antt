@@ -79,7 +79,7 @@ pub record Standing (ns : List Node) (label : ℕ) (n : Node) (v : LoweredNode) 
   pub listed : row_of n ≡ listed_node label v.action
   pub there : In n ns
 
-label-at : (label : ℕ) (n : Node) (v : LoweredNode) → row_of n ≡ listed_node label v.action → label_of n ≡ label
+pub label-at : (label : ℕ) (n : Node) (v : LoweredNode) → row_of n ≡ listed_node label v.action → label_of n ≡ label
 label-at label n v e = sym (label-is n) ∙ (ap (λ (x : ListedNode). x.label) e ∙ listed-label label v)
 
 pub none-before : (label : ℕ) (ns : List Node) (vs : List LoweredNode) → Match label ns vs → (l : ℕ) → l < label → node_at ns l ≡ None

@@ -51,10 +51,10 @@ use Rattle.lowered_units.proofs.Named.{row_of, Match, match, none-before, Standi
 row-is : (n : Node) → row_of n ≡ record { label = (out-Node n).label; op = (out-Node n).op; parts = map first_number (map listing (out-Node n).subs); assoc = (out-Node n).assoc; before = (out-Node n).before; name = (out-Node n).name }
 row-is n = ap (λ (i : NodeListing). i.node) (node-listing-at n)
 
-op-of : (n : Node) (x : ListedNode) → row_of n ≡ x → (out-Node n).op ≡ x.op
+pub op-of : (n : Node) (x : ListedNode) → row_of n ≡ x → (out-Node n).op ≡ x.op
 op-of n x e = ap (λ (y : ListedNode). y.op) (sym (row-is n) ∙ e)
 
-before-of : (n : Node) (x : ListedNode) → row_of n ≡ x → (out-Node n).before ≡ x.before
+pub before-of : (n : Node) (x : ListedNode) → row_of n ≡ x → (out-Node n).before ≡ x.before
 before-of n x e = ap (λ (y : ListedNode). y.before) (sym (row-is n) ∙ e)
 
 assoc-of : (n : Node) (x : ListedNode) → row_of n ≡ x → (out-Node n).assoc ≡ x.assoc
@@ -111,19 +111,19 @@ module _ (p : Program) (u : Unit1) (is : u.types ≡ entries_from p 1 (table p))
         (λ j h. ap (λ x. source_by u x (edge_into g l j)) (w j) ∙ ap (source_by u (wants j)) (find-filtered l j (out-Graph g).edges ∙ ap (find (to_port j)) e))
 
     -- the wants of a node of a label
-    row-wants : (l : ℕ) (n : Node) (op : Simple) → node_at (out-Graph g).nodes l ≡ Some n → (out-Node n).op ≡ simple_code op → (port : ℕ) → want_at g l port ≡ wanted (operand_of op port)
+    pub row-wants : (l : ℕ) (n : Node) (op : Simple) → node_at (out-Graph g).nodes l ≡ Some n → (out-Node n).op ≡ simple_code op → (port : ℕ) → want_at g l port ≡ wanted (operand_of op port)
     row-wants l n op f e port =
         ap (λ o. o >>= λ n. simple_at (out-Node n).op >>= λ op. operand_of op port >>= λ operand. Some operand.1) f
         ∙ (ap (λ o. simple_at o >>= λ op. operand_of op port >>= λ operand. Some operand.1) e
         ∙ ap (λ o. o >>= λ op. operand_of op port >>= λ operand. Some operand.1) (simple-is op))
 
-    whole-wants : (l : ℕ) (n : Node) (c : Compound) → node_at (out-Graph g).nodes l ≡ Some n → (out-Node n).op ≡ compound_code c → (port : ℕ) → want_at g l port ≡ None
+    pub whole-wants : (l : ℕ) (n : Node) (c : Compound) → node_at (out-Graph g).nodes l ≡ Some n → (out-Node n).op ≡ compound_code c → (port : ℕ) → want_at g l port ≡ None
     whole-wants l n c f e port =
         ap (λ o. o >>= λ n. simple_at (out-Node n).op >>= λ op. operand_of op port >>= λ operand. Some operand.1) f
         ∙ (ap (λ o. simple_at o >>= λ op. operand_of op port >>= λ operand. Some operand.1) e
         ∙ ap (λ o. o >>= λ op. operand_of op port >>= λ operand. Some operand.1) (no-simple c))
 
-    boundary-wants : node_at (out-Graph g).nodes 0 ≡ None → (port : ℕ) → want_at g 0 port ≡ None
+    pub boundary-wants : node_at (out-Graph g).nodes 0 ≡ None → (port : ℕ) → want_at g 0 port ≡ None
     boundary-wants f port = ap (λ o. o >>= λ n. simple_at (out-Node n).op >>= λ op. operand_of op port >>= λ operand. Some operand.1) f
 
     row-kind : (n : Node) (op : Simple) → (out-Node n).op ≡ simple_code op → net.kind_of u g n ≡ simple_kind u g (label_of n) op

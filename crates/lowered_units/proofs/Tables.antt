@@ -61,7 +61,7 @@ module _ (forms : List Form) (names : List (List ℕ)) where
   pub type-grows : (t : ℕ) (ts : Table) → Grows ts (type_label forms names t ts).table
   type-grows t ts = within-grows deepest t ts
 
-  tuple-grows : (tys : List ℕ) (ts : Table) → Grows ts (tuple_label forms names tys ts).table
+  pub tuple-grows : (tys : List ℕ) (ts : Table) → Grows ts (tuple_label forms names tys ts).table
   tuple-grows tys ts = members-grow (type_label forms names) type-grows 8 (map (λ t. ([], t)) tys) ts
 
   pub function-grows : (f : Function) (ts : Table) → Grows ts (function_label forms names f ts).table
