@@ -1,0 +1,25 @@
+-- What a typed unit's program meets: names are bound, literals are spelled, types stand in place, and no function is named twice.
+use Rattle.std.specs.Prelude.{◌≡◌, ℕ, List, All, Some, slice_get}
+use Rattle.if1_line.specs.Spelling.{IsName, IsQuotable}
+use Rattle.type_table.specs.Tables.{IsTable}
+use Rattle.typed_tree.specs.declared.program.Function.{Function}
+use Rattle.typed_tree.specs.declared.program.Program.{Program}
+use Rattle.fitting_trees.specs.Fitting.{Header, IsFittingTree}
+
+-- the function of a place has this name
+pub record HasName (p : Program) (place : ℕ) (name : List ℕ) : Type 0 where
+  pub function : Function
+  pub there : slice_get p.functions place ≡ Some function
+  pub spelled : slice_get p.names function.name ≡ Some name
+
+pub record IsFitting (p : Program) : Type 0 where
+  -- the types of the parameters and results of its functions
+  pub headers : List Header
+  pub tree : IsFittingTree p.types p.names headers p.functions
+  pub types : IsTable p.types
+  -- names are spelled by characters that stand in a text
+  pub visible : All IsName p.names
+  pub quotable : All IsQuotable p.names
+  -- each function has a name, and no two the same
+  pub named : All (λ f. (name : List ℕ) × (slice_get p.names f.name ≡ Some name)) p.functions
+  pub once : (i j : ℕ) (name : List ℕ) → HasName p i name → HasName p j name → i ≡ j

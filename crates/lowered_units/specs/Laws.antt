@@ -1,0 +1,24 @@
+-- What the laws on translated units say.
+use Rattle.std.specs.Prelude.{◌≡◌, ◌≤◌, ℕ, Some, All}
+use Rattle.typed_tree.specs.declared.program.Program.{Program}
+use Rattle.if1_graph.specs.declared.graph.Unit1.{Unit1}
+use Rattle.if1_graph.specs.Units.{levels, most_levels}
+use Rattle.graph_meaning.specs.Networks.{network}
+use Rattle.lowering.specs.Graphs.{LoweredGraph}
+use Rattle.lowering.specs.Programs.{graph_at, number_of}
+use Rattle.lowered_units.specs.Fitting.{IsFitting}
+use Rattle.lowered_units.specs.Networks.{net_of, shapes}
+use Rattle.lowered_units.specs.Units.{IsTranslated}
+
+-- a program has at most one unit
+abbrev pub IsOneUnit : Type 0
+IsOneUnit = (p : Program) (u v : Unit1) → IsTranslated p u → IsTranslated p v → u ≡ v
+
+-- the graphs of the unit nest at most 200 levels deep
+abbrev pub IsNested : Unit1 → Type 0
+IsNested u = All (λ g. levels g ≤ most_levels) u.graphs
+
+-- each graph of the unit runs as the lowered graph of its number
+abbrev pub AreLowered : Type 0
+AreLowered = (p : Program) (u : Unit1) → IsFitting p → IsTranslated p u → IsNested u
+    → (q : ℕ) (d : LoweredGraph) → graph_at p q ≡ Some d → network u q ≡ net_of (shapes u q) (number_of p) d

@@ -1,0 +1,13 @@
+//! The laws of translated units.
+ghost use Rattle.lowered_units.specs.Laws.{AreLowered, IsOneUnit};
+
+/// A program has at most one unit.
+pub fn a_program_is_one_unit()
+    ensures { IsOneUnit }
+{}
+
+/// Each graph of a translated unit runs as the lowered graph of its number: its nodes are the lowered
+/// nodes, with what fills their ports, and a call enters the graph of its function.
+pub fn translated_units_run_as_lowered()
+    ensures { AreLowered }
+{}
