@@ -205,6 +205,10 @@ pub is_empty_well : (a : Ty) (v : Val) → StreamKind a v → Of ty.Bool (op_val
 is_empty_well a _ (a_stream vs h) = list_stream ty.Bool (λ b. val.Bool (nat_eq (length b.items) 0)) (λ xs. val.Bool (nat_eq (length xs) 0)) vs (of_bool (nat_eq (length vs) 0))
 is_empty_well a _ (no_stream c) = of_error ty.Bool c
 
+pub is_empty_array_well : (a : Ty) (v : Val) → ArrKind a v → Of ty.Bool (op_value op.IsEmpty (v ∷ []))
+is_empty_array_well a _ (an_arr b h) = list_array ty.Bool (λ b. val.Bool (nat_eq (length b.items) 0)) (λ xs. val.Bool (nat_eq (length xs) 0)) b (of_bool (nat_eq (length b.items) 0))
+is_empty_array_well a _ (no_arr c) = of_error ty.Bool c
+
 pub is_tag_well : (ms : List Member) (tag : ℕ) (v : Val) → UniKind ms v → Of ty.Bool (op_value (op.IsTag tag) (v ∷ []))
 is_tag_well ms tag _ (a_uni t v q) = in_union ty.Bool (λ t v. val.Bool (nat_eq tag t)) t v (of_bool (nat_eq tag t))
 is_tag_well ms tag _ (no_uni c) = of_error ty.Bool c
@@ -416,6 +420,7 @@ row_well _ _ _ (is.set_low a) vs h = with_two (ty.Arr a) ty.Int (λ vs. Of (ty.A
 row_well _ _ _ (is.limit_low a) vs h = with_one (ty.Arr a) (λ vs. Of ty.Int (op_value op.LimitLow vs)) (λ v k. limit_low_well a v (as_arr a v k)) vs h
 row_well _ _ _ (is.first a) vs h = with_one (ty.Stream a) (λ vs. Of a (op_value op.First vs)) (λ v k. first_well a v (as_stream a v k)) vs h
 row_well _ _ _ (is.is_empty a) vs h = with_one (ty.Stream a) (λ vs. Of ty.Bool (op_value op.IsEmpty vs)) (λ v k. is_empty_well a v (as_stream a v k)) vs h
+row_well _ _ _ (is.is_empty_array a) vs h = with_one (ty.Arr a) (λ vs. Of ty.Bool (op_value op.IsEmpty vs)) (λ v k. is_empty_array_well a v (as_arr a v k)) vs h
 row_well _ _ _ (is.is_tag ms tag m e) vs h = with_one (ty.Uni ms) (λ vs. Of ty.Bool (op_value (op.IsTag tag) vs)) (λ v k. is_tag_well ms tag v (as_uni ms v k)) vs h
 row_well _ _ _ (is.union ms tag m e) vs h = with_one m.1 (λ vs. Of (ty.Uni ms) (op_value (op.Union tag) vs)) (λ v k. union_well ms tag m v e k) vs h
 row_well _ _ _ (is.a_record ms few) vs h = record_well ms vs few h

@@ -99,6 +99,7 @@ pub data Row : Operation → List Ty → Ty → Type 0 where
   size : (a : Ty) → Row op.Size (ty.Arr a ∷ []) ty.Int
   length_of : (a : Ty) → Row op.Size (ty.Stream a ∷ []) ty.Int
   is_empty : (a : Ty) → Row op.IsEmpty (ty.Stream a ∷ []) ty.Bool
+  is_empty_array : (a : Ty) → Row op.IsEmpty (ty.Arr a ∷ []) ty.Bool
   first : (a : Ty) → Row op.First (ty.Stream a ∷ []) a
   rest : (a : Ty) → Row op.Rest (ty.Stream a ∷ []) (ty.Stream a)
   catenate_arrays : (a : Ty) (tys : List Ty) → AreAll (ty.Arr a) tys → Row op.Catenate (ty.Arr a ∷ tys) (ty.Arr a)
