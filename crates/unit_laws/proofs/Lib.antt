@@ -6,3 +6,8 @@ pub mod TypedMultiples
 pub mod TypedLists
 pub mod TypedRecords
 pub mod TypedSimple
+pub mod TypedLiterals
+pub mod TypedEdges
+pub mod TypedNodes
+pub mod TypedTables
+pub mod TypedOutputs

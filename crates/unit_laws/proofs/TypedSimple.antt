@@ -31,9 +31,11 @@ use Rattle.unit_laws.proofs.TypedLists.{EachPlain, elements-built, catenated-arr
 abbrev pub wanted : Simple → ℕ → Option Want
 wanted o port = option_map (λ x. x.1) (operand_of o port)
 
--- what is carried into a port is the name of a reduction, or belongs to a type that is wanted
+-- what is carried into a port is the name of a reduction, or belongs to a type that is wanted; of the name of a function nothing
+-- is said
 abbrev pub GivenAt : Known → ℕ → Option Want → Carried → Type 0
 GivenAt k port None c = ⊥
+GivenAt k port (Some want.Function) c = Unit {0}
 GivenAt k port (Some want.Reduction) c = (text : List ℕ) × (c ≡ Name text) × (k.reducer ≡ reducer_at text)
 GivenAt k port (Some w) c = Operand k port w c
 
