@@ -1,2 +1,13 @@
 pub mod AlikeNets
 pub mod AlikeRuns
+pub mod TypeLists
+pub mod TypedRows
+pub mod TypedMultiples
+pub mod TypedLists
+pub mod TypedRecords
+pub mod TypedSimple
+pub mod TypedLiterals
+pub mod TypedEdges
+pub mod TypedNodes
+pub mod TypedTables
+pub mod TypedOutputs

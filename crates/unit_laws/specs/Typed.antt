@@ -1,0 +1,42 @@
+-- Values and multiples that belong to the type of an edge.
+use Rattle.std.specs.Prelude.{◌≡◌, ℕ, suc, true, List, get_or, Option, Some, None}
+use Rattle.std.specs.List.{list_all}
+use Rattle.flow_value.specs.Well.{is_well}
+use Rattle.if1_graph.specs.declared.graph.Graph.{Graph}
+use Rattle.if1_graph.specs.declared.graph.Unit1.{Unit1}
+use Rattle.if1_graph.specs.declared.row.Want.{Want}
+use Rattle.if1_graph.specs.declared.row.Want.TheVariants as want
+use Rattle.if1_graph.specs.Formed.{want_at}
+use Rattle.if1_graph.specs.Ports.{carried}
+use Rattle.if1_graph.specs.Types.{Sort}
+use Rattle.if1_graph.specs.Types as types
+use Rattle.if1_graph.specs.Typing.{FitsInput}
+use Rattle.if1_graph.specs.Units.{Place}
+use Rattle.graph_meaning.specs.Carried.{Carried, Value, Many, Spoiled, Unfilled}
+use Rattle.typed_rows.specs.Rows.{Of}
+
+-- A value of the type, or a multiple of values of its element type, which may be an error. Of the names of functions, which are no
+-- values, nothing is said.
+abbrev pub Belongs : Sort → Carried → Type 0
+Belongs (types.Plain t) (Value v) = Of t v
+Belongs (types.Many t) (Many vs) = list_all (is_well t) vs ≡ true
+Belongs (types.Many t) (Spoiled c) = Unit {0}
+Belongs (types.Function args rs) c = Unit {0}
+Belongs _ _ = ⊥
+
+-- what stands at each place, from 0, belongs to the type that is known there
+abbrev pub Fills : (ℕ → Option Sort) → List Carried → Type 0
+Fills types cs = (i : ℕ) (s : Sort) → types i ≡ Some s → Belongs s (get_or cs i Unfilled)
+
+-- the type of what is carried into a port that takes values, and no name of a function or of a reduction
+abbrev pub valued : Option Want → Option Sort → Option Sort
+valued (Some want.Function) s = None
+valued (Some want.Reduction) s = None
+valued _ s = s
+
+abbrev pub typed_at : Unit1 → Graph → (l port : ℕ) → Option Sort
+typed_at u g l port = valued (want_at g l port) (carried u g l port)
+
+-- what comes into a graph belongs to the types of its inputs
+abbrev pub InputsBelong : Unit1 → Place → List Carried → Type 0
+InputsBelong u p ins = (i : ℕ) (s : Sort) → FitsInput u p.graph p.home (suc i) s → Belongs s (get_or ins i Unfilled)
