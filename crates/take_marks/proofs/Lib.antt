@@ -1,0 +1,5 @@
+pub mod Delays
+pub mod Entered
+pub mod Placed
+pub mod Wanted
+pub mod Weighed

@@ -1,0 +1,10 @@
+//! The marks that are made in a unit: which edges take, and the ordering edges for their sake.
+#![tactic(auto)]
+
+mod order;
+mod places;
+mod why;
+
+pub use order::{are_before, clear, enter, reordered, weigh_users};
+pub use places::{blocking, is_twice, other_users, places_of};
+pub use why::Why;
