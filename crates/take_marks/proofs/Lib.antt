@@ -3,3 +3,4 @@ pub mod Entered
 pub mod Placed
 pub mod Wanted
 pub mod Weighed
+pub mod Stretches

@@ -1,3 +1,4 @@
 pub mod Whys
 pub mod Standing
 pub mod Told
+pub mod Ordered

@@ -2,9 +2,11 @@
 #![tactic(auto)]
 
 mod order;
+mod orders;
 mod places;
 mod why;
 
 pub use order::{are_before, clear, enter, reordered, weigh_users};
+pub use orders::order_users;
 pub use places::{blocking, is_twice, other_users, places_of};
 pub use why::Why;
