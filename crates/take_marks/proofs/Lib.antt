@@ -4,3 +4,5 @@ pub mod Placed
 pub mod Wanted
 pub mod Weighed
 pub mod Stretches
+pub mod Tried
+pub mod Answered

@@ -7,7 +7,8 @@ use Rattle.std.proofs.lemmas.List.Elements.{Contains-get_or, All-get_or}
 use Rattle.if1_graph.specs.declared.graph.Edge.{Edge}
 use Rattle.if1_graph.specs.declared.graph.Graph.{Graph}
 use Rattle.if1_order.specs.Orders.{node_labels}
-use Rattle.if1_order.specs.Walks.{Lists, feeders_of}
+use Rattle.if1_order.specs.Walks.{Lists, feeders_of, AreInside, Leads}
+use Rattle.if1_reach.proofs.Ranking.{leads-up}
 use Rattle.if1_order.specs.Feeders.{IsPlace}
 use Rattle.if1_marks.proofs.Lists.{in-none}
 use Rattle.marks_made.specs.Made.{Orders, links, ordered}
@@ -77,3 +78,15 @@ module _ (ls places : List ℕ) (t : ℕ) (r : Ranks) (first end : ℕ) (weights
               subst (λ z. slice_index r.ranks s < slice_index r.ranks z) (sym i.0) (subst (λ z. slice_index r.ranks z < slice_index r.ranks t) (sym i.1.2) b)
         ];
       }
+
+pub still-inside : (ls places : List ℕ) (t : ℕ) (weights : List ℕ) (old new : Lists) (oldest newest : List (List ℕ)) → HasEntered ls places t weights (length ls) old oldest new newest → ((k : ℕ) → k < length ls → slice_index places k < length old) →
+    AreInside old → AreInside new
+still-inside ls places t weights old new oldest newest entered there inside s u c =
+    subst (λ n. s < n) (sym entered.fit)
+    (elim (entered.fed s u c) [
+      | inl i ↦ inside s u i
+      | inr i ↦ subst (λ z. z < length old) (sym i.1.2) (there i.1.0 i.1.1)
+    ])
+
+pub ranked-acyclic : (lists : Lists) (r : Ranks) → IsRanked lists r → (s : ℕ) → ¬ Leads lists s s
+ranked-acyclic lists r w s l = let a = leads-up lists r w l in omega (arith, a)

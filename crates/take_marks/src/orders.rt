@@ -68,7 +68,10 @@ pub fn order_users(
     requires places { All (λ p. p < length lists.old.items) places.now }
     requires before { AreRankedBefore ranks.now.ranks taker places.now }
     requires alike { (i j : ℕ) → i < length users.now → j < length users.now → slice_index places.now i ≡ slice_index places.now j → slice_index users.now i ≡ slice_index users.now j }
+    ensures inside { OnOk result (AreInside lists.new.items) }
+    ensures fit { OnOk result (length lists.new.items ≡ length lists.old.items) }
     ensures weights { OnOk result (length weights.new ≡ length lists.new.items) }
+    ensures befores { OnOk result (length befores.new.items ≡ length lists.new.items) }
     ensures ranked { OnOk result (IsRanked lists.new.items ranks.now) }
     ensures ordered { OnOk
         result

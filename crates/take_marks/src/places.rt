@@ -38,7 +38,7 @@ pub fn other_users(alloc: Global, users: &[u32], node: u32) -> Result<Numbers, N
     Ok(others)
 }
 
-fn the_place(labels: &[u32], label: u32) -> usize
+pub fn the_place(labels: &[u32], label: u32) -> usize
     requires rising { IsStrictlyIncreasing labels.now }
     requires there { Contains labels.now label }
     ensures { IsPlace labels.now result label }

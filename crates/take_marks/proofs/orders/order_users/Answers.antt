@@ -4,7 +4,7 @@ use Rattle.if1_order.specs.Walks.{AreInside}
 use Rattle.if1_reach.specs.Least.{AreLeast}
 use Rattle.if1_reach.proofs.Labelled.{same-default}
 use Rattle.take_marks.specs.Standing.{HasEntered}
-use Rattle.take_marks.proofs.Stretches.{are-ordered, still-ranked}
+use Rattle.take_marks.proofs.Stretches.{are-ordered, still-ranked, still-inside}
 use Rattle.take_marks.proofs.orders.order_users.Goals as goal
 
 pub weigh-requires-clause-order : goal.weigh-requires-clause-order
@@ -41,4 +41,31 @@ returns-clause-ordered c =
     (c.weigh.ensures.are c.args.lists.now.items c.requires.ranked c.requires.weights)
     (subst (λ ls. AreLeast ls c.args.ranks.now.ranks c.lowest-first.result (slice_index c.as_slice-2.result.now c.args.taker + 1) c.weigh.new.weights c.as_slice-4.result.now) c.as_slice-3.ensures.value
     (subst (AreLeast c.as_slice-3.result.now c.args.ranks.now.ranks c.lowest-first.result (slice_index c.as_slice-2.result.now c.args.taker + 1) c.weigh.new.weights) (sym c.as_slice-4.ensures) c.sink.ensures)) e)
+    c.enter.ensures
+
+pub returns-clause-inside : goal.returns-clause-inside
+returns-clause-inside c =
+    on_ok_weaker c.enter.result
+    (λ (e : HasEntered c.args.users.now c.args.places.now c.args.taker c.as_slice-4.result.now (length c.args.users.now) c.args.lists.now.items c.args.befores.now.items c.enter.new.lists.items c.enter.new.befores.items).
+    still-inside c.args.users.now c.args.places.now c.args.taker c.as_slice-4.result.now c.args.lists.now.items c.enter.new.lists.items c.args.befores.now.items c.enter.new.befores.items e (λ k h. c.requires.places k 0 (omega (arith, h, c.requires.fit))) c.requires.inside)
+    c.enter.ensures
+
+pub returns-clause-fit : goal.returns-clause-fit
+returns-clause-fit c =
+    on_ok_weaker c.enter.result
+    (λ (e : HasEntered c.args.users.now c.args.places.now c.args.taker c.as_slice-4.result.now (length c.args.users.now) c.args.lists.now.items c.args.befores.now.items c.enter.new.lists.items c.enter.new.befores.items). e.fit)
+    c.enter.ensures
+
+pub returns-clause-weights : goal.returns-clause-weights
+returns-clause-weights c =
+    on_ok_weaker c.enter.result
+    (λ (e : HasEntered c.args.users.now c.args.places.now c.args.taker c.as_slice-4.result.now (length c.args.users.now) c.args.lists.now.items c.args.befores.now.items c.enter.new.lists.items c.enter.new.befores.items).
+    c.sink.ensures.fit ∙ (ap length c.as_slice-3.ensures.value ∙ sym e.fit))
+    c.enter.ensures
+
+pub returns-clause-befores : goal.returns-clause-befores
+returns-clause-befores c =
+    on_ok_weaker c.enter.result
+    (λ (e : HasEntered c.args.users.now c.args.places.now c.args.taker c.as_slice-4.result.now (length c.args.users.now) c.args.lists.now.items c.args.befores.now.items c.enter.new.lists.items c.enter.new.befores.items).
+    e.fits ∙ (c.requires.befores ∙ sym e.fit))
     c.enter.ensures
