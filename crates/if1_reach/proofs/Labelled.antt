@@ -68,7 +68,7 @@ no-end labels lists links up w linked from to none l = none (ends-there labels l
 
 -- ---- what the links of a graph are
 
-same-default : {A : Type 0} (xs : List A) (j : ℕ) (a b : A) → j < length xs → get_or xs j a ≡ get_or xs j b
+pub same-default : {A : Type 0} (xs : List A) (j : ℕ) (a b : A) → j < length xs → get_or xs j a ≡ get_or xs j b
 same-default [] j a b h = absurd (omega (arith, h))
 same-default (x ∷ xs) zero a b h = refl
 same-default (x ∷ xs) (suc j) a b h = same-default xs j a b (omega (arith, h))

@@ -48,7 +48,7 @@ net-same {labels = labels} same w =
 -- ---- one link more
 
 module _ (labels : List ℕ) (up : IsStrictlyIncreasing labels) (old : Lists) (links : Links) (w : IsNet labels old links) (l m : ℕ) where
-  entered : (s t : ℕ) → IsPlace labels s l → IsPlace labels t m → IsNet labels (set old t (feeders_of old t ++ s ∷ [])) (with_link links l m)
+  pub entered : (s t : ℕ) → IsPlace labels s l → IsPlace labels t m → IsNet labels (set old t (feeders_of old t ++ s ∷ [])) (with_link links l m)
   entered s t ps pt =
       let h : t < length old = omega (arith, w.fit, pt.0) in
       record {
