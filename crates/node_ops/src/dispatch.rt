@@ -86,11 +86,7 @@ fn one_value(alloc: Global, row: &Single, ins: &mut [Operand<'_>]) -> Result<Val
     }
 }
 
-fn operate(
-    alloc: Global,
-    operation: &Operation,
-    ins: &mut [Operand<'_>],
-) -> Result<Val, NoMemory>
+fn operate(alloc: Global, operation: &Operation, ins: &mut [Operand<'_>]) -> Result<Val, NoMemory>
     ensures { IfOk result (λ v. v ≡ op_value operation.now (values_in (map operand_value ins.old))) }
 {
     match looked(alloc, operation, ins)? {

@@ -57,12 +57,7 @@ pub fn reduce(alloc: Global, shape: Shape, ins: &mut [Operand<'_>]) -> Result<Va
 }
 
 /// What is made of a multiple, with or without a mask behind it.
-fn fold(
-    alloc: Global,
-    folding: Folding,
-    lo: i64,
-    ins: &mut [Operand<'_>],
-) -> Result<Val, NoMemory>
+fn fold(alloc: Global, folding: Folding, lo: i64, ins: &mut [Operand<'_>]) -> Result<Val, NoMemory>
     ensures { IfOk result (λ v. v ≡ fold_of folding lo (map multiple (map operand_value ins.old))) }
 {
     match ins.split_first_mut() {

@@ -55,7 +55,11 @@ pub fn listed<'a>(alloc: Global, ins: &mut [Operand<'a>]) -> Result<Operands<'a>
 }
 
 /// An operation on the values.
-pub fn applied(alloc: Global, operation: &Operation, ins: &mut [Operand<'_>]) -> Result<Val, NoMemory>
+pub fn applied(
+    alloc: Global,
+    operation: &Operation,
+    ins: &mut [Operand<'_>],
+) -> Result<Val, NoMemory>
     ensures { IfOk result (λ v. v ≡ op_value operation.now (values_in (map operand_value ins.old))) }
 {
     apply(alloc, operation, listed(alloc, ins)?)

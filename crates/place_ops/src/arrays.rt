@@ -78,8 +78,8 @@ fn adjust_to(a: Array, lo: i64, hi: i64) -> Val
     if !are_places_in(&a, lo, hi) {
         return Val::Err(Cause::Bounds);
     }
-    let from = natural_of(i128::from(lo) - i128::from(a.lo()));
-    let count = natural_of(i128::from(hi) + 1 - i128::from(lo));
+    let from = natural_of(distance(a.lo(), lo));
+    let count = natural_of(room(lo, hi));
     let (_, items) = a.into_parts();
     array_of(lo, part(items, from, count))
 }
@@ -177,6 +177,20 @@ fn natural_of(z: i128) -> usize
     if z < 0 { 0 } else { z as usize }
 }
 
+/// How far `to` is above `from`.
+fn distance(from: i64, to: i64) -> i128
+    ensures { result ≡ to -ℤ from }
+{
+    i128::from(to) - i128::from(from)
+}
+
+/// How many places there are from `lo` to `hi`, or less than 0 where `hi` is less than `lo - 1`.
+fn room(lo: i64, hi: i64) -> i128
+    ensures { result ≡ (hi +ℤ pos 1) -ℤ lo }
+{
+    i128::from(hi) + 1 - i128::from(lo)
+}
+
 fn last_in(a: &Array) -> i128
     ensures { result ≡ last_place a.now }
 {
@@ -189,7 +203,7 @@ fn place_in(a: &Array, place: i64) -> Option<usize>
     ensures within { IfSome result (λ n. n < length a.now.items) }
 {
     if is_place_in(a, place) {
-        Some(natural_of(i128::from(place) - i128::from(a.lo())))
+        Some(natural_of(distance(a.lo(), place)))
     } else {
         None
     }

@@ -70,11 +70,7 @@ fn extend_by(
 }
 
 /// The first operand and the others, moved into a list.
-fn listed<'a>(
-    alloc: Global,
-    first: Val,
-    ins: &mut [Operand<'a>],
-) -> Result<Operands<'a>, NoMemory>
+fn listed<'a>(alloc: Global, first: Val, ins: &mut [Operand<'a>]) -> Result<Operands<'a>, NoMemory>
     ensures { IfOk result (λ o. o.operands ≡ Some first ∷ map operand_value ins.old) }
 {
     let mut given = Operands::new(alloc, ins.len() + 1)?;

@@ -1,5 +1,5 @@
 //! The change of a record that is owned.
-ghost use Rattle.std.specs.Prelude.{◌≡◌, ◌∷◌, [], map, length, nat_lt, slice_set};
+ghost use Rattle.std.specs.Prelude.{◌≡◌, ◌∷◌, [], map, nat_lt, slice_set};
 ghost use Rattle.std.specs.List.{list_all};
 ghost use Rattle.value_ops.specs.Aggregates.{changed, replaced};
 ghost use Rattle.value_ops.specs.Given.{values_in};
@@ -21,6 +21,7 @@ pub fn change(owned: Val, ins: &mut [Option<Val>]) -> Val
     }
 }
 
+#[tactic(auto, using(crate::proofs::Taking::change_ports))]
 fn change_all(fields: Items, ins: &mut [Option<Val>]) -> Val
     ensures { result ≡ changed (filled_from 0 (map plain ins.old)) (values_in ins.old) fields }
 {
@@ -35,8 +36,13 @@ fn are_fields(ins: &[Option<Val>], count: usize) -> bool
     ensures { result ≡ list_all (λ p. nat_lt p count) (filled_from 0 (map plain ins.now)) }
 {
     for port in 0..ins.len() {
-        if ins[port].is_some() && port >= count {
-            return false;
+        match &ins[port] {
+            Some(_) => {
+                if port >= count {
+                    return false;
+                }
+            }
+            None => {}
         }
     }
     true

@@ -13,8 +13,8 @@ returns c =
     let ins = map operand_value c.args.ins.now in
     let stand = rows_stand c.args.op c.args.shape (One c.in-One.single) ins c.in-One.ensures in
     IfOk-weaker
-        c.one_value.result
-        (λ v. v ≡ single_value c.in-One.single ins)
-        (λ v. node_values c.args.op c.args.shape ins ≡ v ∷ [])
-        (λ v e. sym (ap (λ w. w ∷ []) e ∙ stand))
-        c.one_value.ensures
+    c.one_value.result
+    (λ v. v ≡ single_value c.in-One.single ins)
+    (λ v. node_values c.args.op c.args.shape ins ≡ v ∷ [])
+    (λ v e. sym (ap (λ w. w ∷ []) e ∙ stand))
+    c.one_value.ensures

@@ -9,5 +9,5 @@ returns c =
     let masks = c.args.masks.now in
     let past : length masks ≤ c.loop-mask.mask-index = omega arith in
     let cells : c.loop-mask.clause.cells ≡ masked c.args.items masks =
-        masked-end c.loop-mask.clause.cells (masked c.args.items masks) (into_iter_items c.loop-mask.values) masks c.loop-mask.mask-index past c.loop-mask.invariant.cells in
+    masked-end c.loop-mask.clause.cells (masked c.args.items masks) (into_iter_items c.loop-mask.values) masks c.loop-mask.mask-index past c.loop-mask.invariant.cells in
     search (rules, cells)

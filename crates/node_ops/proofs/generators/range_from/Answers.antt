@@ -7,7 +7,7 @@ use Rattle.node_ops.proofs.generators.range_from.Goals as goal
 pub rising_from-requires : goal.rising_from-requires
 rising_from-requires c =
     let below : (c.args.lo +ℤ pos (places c.args.lo c.args.hi)) ≤ℤ pos 9223372036854775808 =
-        natural_below ((c.args.hi +ℤ pos 1) -ℤ c.args.lo) c.args.lo (omega (arith, ints)) (omega (arith, ints)) in
+    natural_below ((c.args.hi +ℤ pos 1) -ℤ c.args.lo) c.args.lo (omega (arith, ints)) (omega (arith, ints)) in
     let count : c.natural_of.result ≡ places c.args.lo c.args.hi = search rules in
     omega (arith, ints)
 
