@@ -1,0 +1,7 @@
+use Rattle.node_ops.proofs.Listing.{masked-end}
+use Rattle.node_ops.proofs.Resolving.{node_row}
+use Rattle.node_ops.proofs.Standing.{operands-stand}
+use Rattle.node_ops.proofs.laws.operands_stand.Goals as goal
+
+pub returns : goal.returns
+returns c = operands-stand
