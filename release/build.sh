@@ -19,6 +19,7 @@ fail() {
 
 lines=$(release/sources.sh --crates) || exit 1
 { mkdir -p -- "$copy/crates" && : >"$log"; } 2>/dev/null || fail "$copy can't be written"
+: >"$copy/began"
 for folder in "$copy"/crates/*/; do
     find "$folder" -mindepth 1 -maxdepth 1 ! -name out -exec rm -rf -- {} + 2>/dev/null
 done
@@ -64,10 +65,10 @@ rm -f -- "$copy/crates/sisal_main/out/sisal_main.stamp"
 
 program=crates/sisal_main/out/sisal_main
 put() {
-    mkdir -p -- crates/sisal_main/out && rm -f -- "$program.built" "$program.stamp" &&
+    mkdir -p -- crates/sisal_main/out && rm -f -- "$program".{built,proved,seen,stamp} &&
         cp -- "$copy/$program" "$program.$$" && mv -- "$program.$$" "$program" &&
         printf 'sources %s\nprogram %s\n' "$sources" "$(sha256sum <"$program" | cut -d ' ' -f 1)" >"$program.built.$$" &&
-        mv -- "$program.built.$$" "$program.built"
+        mv -- "$program.built.$$" "$program.built" && touch -r "$copy/began" -- "$program.proved"
 }
 put || fail "crates/sisal_main/out can't be written"
 echo "sisal: proved and built in $((SECONDS - began)) seconds" >&2

@@ -212,6 +212,25 @@ expect "two calls at once: the second waits" 0 "<two>" "waiting"
 wait
 tell "... the first runs too" "$(grep -q '<one>' "$room/one" || echo "it did not")"
 tell "... and one builds" "$([ "$(builds)" = 1 ] || echo "$(builds) builds")"
+new
+echo 0.4 >"$room/pause"
+env "${ours[@]}" "$repo/sisal" one >"$room/out" 2>"$room/err" &
+sleep 0.6
+say_in_source second
+wait $!
+status=$?
+expect "a source changed while it is built" 126 - "changed while they were built"
+echo 0 >"$room/pause"
+call "$repo/sisal" mean
+expect "... the next call builds again" 0 "second: 1" "proving"
+new
+echo 0.4 >"$room/pause"
+env "${ours[@]}" "$repo/sisal" one >"$room/out" 2>"$room/err" &
+sleep 0.6
+touch "$repo/crates/low/src/lib.rt"
+wait $!
+status=$?
+expect "a source with a new time and the same text while it is built" 0 "first: 1" "proving"
 for signal in INT TERM KILL; do
     new
     echo 0.5 >"$room/pause"
@@ -267,6 +286,8 @@ status=$?
 expect "... also where there is no rt" 0 "first: 1" -
 call "$repo/sisal" status 5
 expect "... its status is handed on" 5 "<5>" -
+call "$repo/sisal" mean
+expect "... and again" 0 "first: 1" -
 say_in_source second
 call "$repo/sisal" mean
 expect "the release of other sources is run, and a line says so" 0 "first: 1" "^sisal: release of abc1234; ./sisal --build builds these sources$"
