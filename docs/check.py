@@ -1,5 +1,5 @@
 #!/usr/bin/env python3
-"""Checks the pages of the repository: links; that each line which the program or the launcher can print has its heading in
+"""Checks the pages of the repository: links, and files of crates that they name; that each line which the program or the launcher can print has its heading in
 docs/ERRORS.md; the size of the README; that the tutorial's texts are those of examples/; and that what is made by a script is
 as the script makes it. Ends with status 1 where something is wrong. Run it from anywhere: docs/check.py"""
 import os
@@ -117,6 +117,15 @@ def check_tutorial():
                 wrong.append(f"{page}: no text of examples/ is the one that begins {block.splitlines()[2][:60]!r}")
 
 
+def check_files():
+    """That the files of crates which the pages name are there, as `typed_tree/specs/Typing`."""
+    for page in pages():
+        for crate, part, name in re.findall(r"`(?:crates/)?([a-z0-9_]+)/(src|specs|proofs)/([A-Za-z0-9_/]+)(?:\.rt|\.antt)?`", text_of(page)):
+            path = f"crates/{crate}/{part}/{name}"
+            if not any(map(os.path.exists, (path, f"{path}.rt", f"{path}.antt"))):
+                wrong.append(f"{page}: no file {path}")
+
+
 def check_made():
     for words in (["docs/crates.sh", "--check"], ["editor/make.sh", "--check"]):
         ran = subprocess.run(words, stderr=subprocess.PIPE, text=True)
@@ -124,7 +133,7 @@ def check_made():
             wrong.append(ran.stderr.strip())
 
 
-for check in (check_links, check_errors, check_words, check_readme, check_tutorial, check_made):
+for check in (check_links, check_files, check_errors, check_words, check_readme, check_tutorial, check_made):
     check()
 print(*wrong, f"{len(wrong)} wrong", sep="\n")
 sys.exit(bool(wrong))
