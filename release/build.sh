@@ -48,8 +48,11 @@ echo "sisal: proving the ${#names[@]} crates of the program, $jobs side by side;
 began=$SECONDS
 (cd -- "$copy" && rt all check --jobs "$jobs" </dev/null) 2>&1 | tee -a -- "$log" |
     awk -v all="${#names[@]}" '
-        /^== summary/ { over = 1 }
-        /^== / && !over { printf "sisal: %d of %d crates done (%s)\n", ++n, all, $2; fflush() }' >&2
+        function proved() { printf "sisal: %d of %d crates proved (%s)\n", ++n, all, name; told = 1; fflush() }
+        # (of a crate that was proved before nothing is said)
+        /^== / { if (name && !told) proved(); name = $2 == "summary" ? "" : $2; told = 0 }
+        name && !told && /^logic=proved/ { proved() }
+        name && !told && /^logic=|error/ { printf "sisal: %s is not proved\n", name; told = 1; fflush() }' >&2
 [ "${PIPESTATUS[0]}" -eq 0 ] || {
     sed -n '/^== summary/,$p' "$log" | grep -v ': ok$' >&2
     fail "not all crates are proved; all is said in $log"
