@@ -1,0 +1,7 @@
+//! Units of programs: the unit of IF1 graphs that a typed program is translated to, as a relation,
+//! and its laws (IF1 manual M-170).
+#![tactic(auto)]
+
+mod laws;
+
+pub use laws::a_program_is_one_unit;
