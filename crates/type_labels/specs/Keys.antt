@@ -1,7 +1,7 @@
 -- What contracts see of a table: its entries, by the numbers and the name under which each is kept.
 use Rattle.std.specs.Prelude.{refl, ℕ, List, map}
 use Rattle.std.specs.Coded.{Coded, code_by, coded×, coded_ℕ, coded_list}
-use Rattle.lowering.specs.Types.{Entry, entry, Table}
+use Rattle.lowering.specs.Types.{Entry, entry, Table, Labelled, enter}
 
 -- an entry is stored as the tuple of its fields
 abbrev pub entry_code : Coded Entry
@@ -14,3 +14,7 @@ table_code = coded_list entry_code
 -- the entries that stand under these keys
 abbrev pub entries_of : {K : Type 0} → (K → List ℕ) → List (ℕ × ℕ × ℕ × K) → Table
 entries_of name ks = map (λ k. entry k.0 k.1 k.2 (name k.3)) ks
+
+-- a member of this name and type stands before the others, which have this label
+abbrev pub before : (ℕ → Table → Labelled) → ℕ → List ℕ → ℕ → Labelled → Labelled
+before type code name ty rest = let t = type ty rest.table in enter (entry code t.label rest.label name) t.table

@@ -3,5 +3,6 @@
 #![tactic(auto)]
 
 mod table;
+mod types;
 
 pub use table::{LabelFault, Table};

@@ -59,6 +59,11 @@ impl Table {
         self.find(&key)
     }
 
+    /// The allocator of the table.
+    pub(crate) fn allocator(&self) -> Global {
+        *self.entries.allocator()
+    }
+
     /// The label of an entry, which is a new one where it is not there yet.
     fn insert(&mut self, key: Key) -> Result<u32, NoMemory>
         requires { length self.old < 65535 }

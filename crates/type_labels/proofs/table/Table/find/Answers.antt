@@ -1,4 +1,4 @@
-use Rattle.std.proofs.Common.{◌≡◌, ◌<◌, ◌+◌, ℕ, suc, length, refl, sym, ap, subst, ◌∙◌, arith, vec_items}
+use Rattle.std.proofs.Common.{◌≡◌, ◌<◌, ◌+◌, ℕ, suc, length, sym, ap, subst, ◌∙◌, arith, vec_items}
 use Rattle.std.proofs.lemmas.List.{length-map}
 use Rattle.lowering.specs.Types.{Table, labelled, enter, entry}
 use Rattle.lowering.specs.TooMany.{most_types}

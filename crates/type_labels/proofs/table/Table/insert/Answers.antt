@@ -1,7 +1,7 @@
-use Rattle.std.proofs.Common.{◌≡◌, ℕ, suc, List, refl, sym, ap, ap₂, ◌∙◌, ◌+◌, arith, vec_items, Vec, Global}
-use Rattle.lowering.specs.Types.{Table, Labelled, labelled, enter, entry}
+use Rattle.std.proofs.Common.{suc, refl, sym, ap, ap₂, ◌∙◌, arith, vec_items}
+use Rattle.lowering.specs.Types.{labelled, enter, entry}
 use Rattle.type_labels.specs.Keys.{entries_of}
-use Rattle.type_labels.proofs.Places.{Key, same, tells, entered}
+use Rattle.type_labels.proofs.Places.{same, tells, entered}
 use Rattle.type_labels.proofs.table.Table.insert.Goals as goal
 
 pub returns-clause-ok : goal.returns-clause-ok
