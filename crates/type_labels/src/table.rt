@@ -3,7 +3,7 @@ ghost use Rattle.std.specs.Prelude.{◌≡◌, ◌<◌, ◌≤◌, [], length, O
 ghost use Rattle.lowering.specs.Types.{basics, enter, entry, labelled};
 ghost use Rattle.lowering.specs.TooMany.{most_types};
 
-use flow_value::NoMemory;
+use flow_value::{NoMemory, Seq};
 use indexmap::IndexSet;
 use std::alloc::Global;
 use std::marker::Model;
@@ -44,6 +44,30 @@ impl Model for Table {
 }
 
 impl Table {
+    /// The entries of the basic types, with which every table begins.
+    pub fn new(alloc: Global) -> Result<Table, LabelFault>
+        ensures { IfOk result (λ table. table ≡ basics) }
+    {
+        let mut table = Table {
+            entries: IndexSet::new(alloc),
+        };
+        table.enter_basic(0, b"boolean")?;
+        table.enter_basic(1, b"character")?;
+        table.enter_basic(3, b"integer")?;
+        table.enter_basic(4, b"null")?;
+        Ok(table)
+    }
+
+    /// Enters a basic type.
+    fn enter_basic(&mut self, code: u32, name: &[u8]) -> Result<u32, LabelFault>
+        ensures ok { IfOk result (λ label. enter (entry 1 code 0 name.now) self.old ≡ labelled label self.new) }
+    {
+        let Ok(name) = Seq::from_slice(self.allocator(), name) else {
+            return Err(LabelFault::NoMemory);
+        };
+        self.enter((1, code, 0, name.into_vec()))
+    }
+
     /// The label of an entry, which is a new one where it is not there yet.
     pub(crate) fn enter(&mut self, key: Key) -> Result<u32, LabelFault>
         ensures ok { IfOk result (λ label. enter (entry key.0 key.1 key.2 key.3.items) self.old ≡ labelled label self.new) }
