@@ -52,7 +52,7 @@ began=$SECONDS
         # (of a crate that was proved before nothing is said)
         /^== / { if (name && !told) proved(); name = $2 == "summary" ? "" : $2; told = 0 }
         name && !told && /^logic=proved/ { proved() }
-        name && !told && /^logic=|error/ { printf "sisal: %s is not proved\n", name; told = 1; fflush() }' >&2
+        name && !told && /^logic=|^error|: error[:[]/ { printf "sisal: %s is not proved\n", name; told = 1; fflush() }' >&2
 [ "${PIPESTATUS[0]}" -eq 0 ] || {
     sed -n '/^== summary/,$p' "$log" | grep -v ': ok$' >&2
     fail "not all crates are proved; all is said in $log"

@@ -80,6 +80,13 @@ release_of_it() { # as release/make.sh leaves it, but with no git
 }
 unbuilt() { rm -rf "$repo"/crates/*/out "$repo/.git/rt-ci.lock"; }
 builds() { grep -c '^all' "$room/calls"; }
+is_building() { # waits until rt proves
+    local i
+    for ((i = 0; i < 100; i++)); do
+        grep -q '^all' "$room/calls" && return
+        sleep 0.1
+    done
+}
 
 ours=(PATH="$room/bin:/usr/local/bin:/usr/bin:/bin" ROOM="$room")
 without_rt=(PATH="$room/none:/usr/local/bin:/usr/bin:/bin" ROOM="$room")
@@ -210,18 +217,18 @@ expect "a checkout that can't be written, with a program of these texts" 0 "firs
 
 # Two calls at once, and builds that are cut short
 new
-echo 0.4 >"$room/pause"
+echo 0.8 >"$room/pause"
 env "${ours[@]}" "$repo/sisal" one >"$room/one" 2>&1 &
-sleep 0.2
+is_building
 call "$repo/sisal" two
 expect "two calls at once: the second waits" 0 "<two>" "waiting"
 wait
 tell "... the first runs too" "$(grep -q '<one>' "$room/one" || echo "it did not")"
 tell "... and one builds" "$([ "$(builds)" = 1 ] || echo "$(builds) builds")"
 new
-echo 0.4 >"$room/pause"
+echo 0.8 >"$room/pause"
 env "${ours[@]}" "$repo/sisal" one >"$room/out" 2>"$room/err" &
-sleep 0.6
+is_building
 say_in_source second
 wait $!
 status=$?
@@ -230,29 +237,30 @@ echo 0 >"$room/pause"
 call "$repo/sisal" mean
 expect "... the next call builds again" 0 "second: 1" "proving"
 new
-echo 0.4 >"$room/pause"
+echo 0.8 >"$room/pause"
 env "${ours[@]}" "$repo/sisal" one >"$room/out" 2>"$room/err" &
-sleep 0.6
+is_building
 touch "$repo/crates/low/src/lib.rt"
 wait $!
 status=$?
 expect "a source with a new time and the same text while it is built" 0 "first: 1" "proving"
 for signal in INT TERM KILL; do
     new
-    echo 0.5 >"$room/pause"
+    echo 0.8 >"$room/pause"
     # (in Python, since a shell has its own calls ignore an interrupt)
     call python3 -c '
 import os, signal, subprocess, sys, time
 run = subprocess.Popen([sys.argv[2], "mean"], preexec_fn=lambda: signal.signal(signal.SIGINT, signal.SIG_DFL))
-time.sleep(0.4)
+while "all" not in open(sys.argv[3]).read():
+    time.sleep(0.1)
 run.send_signal(getattr(signal, "SIG" + sys.argv[1]))
 status = run.wait()
-sys.exit(status if status >= 0 else 128 - status)' "$signal" "$repo/sisal"
+sys.exit(status if status >= 0 else 128 - status)' "$signal" "$repo/sisal" "$room/calls"
     if [ "$signal" = KILL ]; then
         tell "a build's launcher is killed" "$([ "$status" = 137 ] || echo "status $status")"
     else
         expect "a build is ended by $signal" 126 - "the build was ended"
-        sleep 1.2
+        sleep 2
         tell "... and nothing of it goes on" "$([ ! -e "$repo/.git/sisal-build/crates/sisal_main/out/sisal_main" ] || echo "it does")"
     fi
     echo 0 >"$room/pause"
