@@ -38,15 +38,25 @@ P
             [[ $ours == *" $name "* ]] || printf ' No part of the program.'
             # shellcheck disable=SC2086
             [ -z "${needs// /}" ] || printf ' Stands on %s.' "$(linked $needs)"
-            printf '\n\n%s%s.\n' "$(echo "${proved:0:1}" | tr 'a-z' 'A-Z')" "${proved:1}"
-            [ -n "$proved" ] || echo "docs/crates.tsv has no line of $name" >&2
+            echo
+            if [ -n "$proved" ]; then
+                printf '\n%s%s.\n' "$(echo "${proved:0:1}" | tr 'a-z' 'A-Z')" "${proved:1}"
+            else
+                echo "docs/crates.tsv has no line of $name" >&2
+            fi
             ;;
         esac
     done <crates.txt
 }
 
 if [ "$1" = --check ]; then
-    page | cmp -s - docs/CRATES.md || { echo "docs/CRATES.md is not what docs/crates.sh makes: run it" >&2; exit 1; }
+    made=$(mktemp) lacks=$(mktemp)
+    trap 'rm -f "$made" "$lacks"' EXIT
+    page >"$made" 2>"$lacks"
+    cmp -s "$made" docs/CRATES.md || echo "docs/CRATES.md is not what docs/crates.sh makes: run it" >>"$lacks"
+    cat "$lacks" >&2
+    [ ! -s "$lacks" ]
+    exit
 else
     page >docs/CRATES.md.new && mv docs/CRATES.md.new docs/CRATES.md
 fi
