@@ -144,13 +144,13 @@ module _ (p : Program) where
   entry-from label [] i o h = ap (option_map (as_type (label + i))) h
   entry-from label (t ∷ ts) zero o h =
       elim (eqb_tells label (label + 0)) [
-        inl s ↦ ap (λ b. cond b (Some (as_type label t)) (entry_at (entries_from p (suc label) ts) (label + 0))) s.0 ∙ (ap (λ l. Some (as_type l t)) s.1 ∙ ap (option_map (as_type (label + 0))) h)
-      | inr f ↦ absurd (f.1 (omega arith))
+        | inl s ↦ ap (λ b. cond b (Some (as_type label t)) (entry_at (entries_from p (suc label) ts) (label + 0))) s.0 ∙ (ap (λ l. Some (as_type l t)) s.1 ∙ ap (option_map (as_type (label + 0))) h)
+        | inr f ↦ absurd (f.1 (omega arith))
       ]
   entry-from label (t ∷ ts) (suc i) o h =
       elim (eqb_tells label (label + suc i)) [
-        inl s ↦ absurd (omega (arith, s.1))
-      | inr f ↦ ap (λ b. cond b (Some (as_type label t)) (entry_at (entries_from p (suc label) ts) (label + suc i))) f.0 ∙ (ap (entry_at (entries_from p (suc label) ts)) (omega arith) ∙ (entry-from (suc label) ts i o h ∙ ap (λ l. option_map (as_type l) o) (omega arith)))
+        | inl s ↦ absurd (omega (arith, s.1))
+        | inr f ↦ ap (λ b. cond b (Some (as_type label t)) (entry_at (entries_from p (suc label) ts) (label + suc i))) f.0 ∙ (ap (entry_at (entries_from p (suc label) ts)) (omega arith) ∙ (entry-from (suc label) ts i o h ∙ ap (λ l. option_map (as_type l) o) (omega arith)))
       ]
 
   pub entry-is : (ts : Table) (l : ℕ) → entry_at (entries_from p 1 ts) (suc l) ≡ option_map (as_type (suc l)) (slice_get ts l)
@@ -160,8 +160,8 @@ module _ (p : Program) where
   no-zero label [] h = refl
   no-zero label (t ∷ ts) h =
       elim (eqb_tells label 0) [
-        inl s ↦ absurd (omega (arith, s.1, h))
-      | inr f ↦ ap (λ b. cond b (Some (as_type label t)) (entry_at (entries_from p (suc label) ts) 0)) f.0 ∙ no-zero (suc label) ts (omega arith)
+        | inl s ↦ absurd (omega (arith, s.1, h))
+        | inr f ↦ ap (λ b. cond b (Some (as_type label t)) (entry_at (entries_from p (suc label) ts) 0)) f.0 ∙ no-zero (suc label) ts (omega arith)
       ]
 
   -- a label whose entry, where it has one, is of a code

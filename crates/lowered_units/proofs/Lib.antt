@@ -16,3 +16,4 @@ pub mod Programs
 pub mod Running
 pub mod Ordered
 pub mod Canonical
+pub mod Normality

@@ -2,6 +2,7 @@
 use Rattle.std.specs.Prelude.{◌≡◌, ◌≤◌, ℕ, Some, All}
 use Rattle.typed_tree.specs.declared.program.Program.{Program}
 use Rattle.if1_graph.specs.declared.graph.Unit1.{Unit1}
+use Rattle.if1_graph.specs.Normal.{IsNormal}
 use Rattle.if1_graph.specs.Units.{levels, most_levels}
 use Rattle.graph_meaning.specs.Networks.{network}
 use Rattle.lowering.specs.Graphs.{LoweredGraph}
@@ -22,3 +23,7 @@ IsNested u = All (λ g. levels g ≤ most_levels) u.graphs
 abbrev pub AreLowered : Type 0
 AreLowered = (p : Program) (u : Unit1) → IsFitting p → IsTranslated p u → IsNested u
     → (q : ℕ) (d : LoweredGraph) → graph_at p q ≡ Some d → network u q ≡ net_of (shapes u q) (number_of p) d
+
+-- nodes and edges stand in the order of the text, and literals are spelled canonically
+abbrev pub AreNormal : Type 0
+AreNormal = (p : Program) (u : Unit1) → IsFitting p → IsTranslated p u → IsNormal u
