@@ -103,11 +103,11 @@ abbrev pub at_label : Table → ℕ → Option Entry
 at_label ts zero = None
 at_label ts (suc l) = slice_get ts l
 
-abbrev HasCode : ℕ → Option Entry → Type 0
+abbrev pub HasCode : ℕ → Option Entry → Type 0
 HasCode code None = ⊥
 HasCode code (Some e) = e.code ≡ code
 
-found-code : (n : ℕ) (e : Entry) (ts : Table) (l : ℕ) → label_from n e ts ≡ Some l → (i : ℕ) × (l ≡ suc (n + i)) × HasCode e.code (slice_get ts i)
+pub found-code : (n : ℕ) (e : Entry) (ts : Table) (l : ℕ) → label_from n e ts ≡ Some l → (i : ℕ) × (l ≡ suc (n + i)) × HasCode e.code (slice_get ts i)
 found-code n e [] l h = absurd cc
 found-code n e (f ∷ fs) l h = by (is_entry f e) refl h (λ k. found-code (suc n) e fs l k)
   where
@@ -137,7 +137,7 @@ stays (t ∷ ts) rest zero f h = h
 stays (t ∷ ts) rest (suc i) f h = stays ts rest i f h
 
 module _ (p : Program) where
-  abbrev as_type : ℕ → Entry → TypeEntry
+  abbrev pub as_type : ℕ → Entry → TypeEntry
   as_type l e = record { label = l; code = e.code; first = e.first; second = e.second; name = e.name }
 
   entry-from : (label : ℕ) (ts : Table) (i : ℕ) (o : Option Entry) → slice_get ts i ≡ o → entry_at (entries_from p label ts) (label + i) ≡ option_map (as_type (label + i)) o

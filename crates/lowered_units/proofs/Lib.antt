@@ -17,3 +17,7 @@ pub mod Running
 pub mod Ordered
 pub mod Canonical
 pub mod Normality
+pub mod Depths
+pub mod Lines
+pub mod Tabled
+pub mod Typed
