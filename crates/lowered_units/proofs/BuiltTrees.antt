@@ -126,11 +126,11 @@ made-length _ _ _ is.no_clause = refl
 made-length _ _ _ (is.unmasked {cs = cs} {tys = tys} {made = made} e m h) = ap suc (made-length cs tys made h)
 made-length _ _ _ (is.masked {cs = cs} {tys = tys} {made = made} e m h) = ap suc (made-length cs tys made h)
 
-tags-below : (arms : ℕ) (contents : List Ty) (ms : List Member) (ks : List ℕ) → TagsFit arms contents ms ks → All (λ k. k < arms) ks
-tags-below arms contents [] [] h = All-nil (λ k. k < arms)
-tags-below arms contents [] (k ∷ ks) h = absurd h
-tags-below arms contents (m ∷ ms) [] h = absurd h
-tags-below arms contents (m ∷ ms) (k ∷ ks) h = All-cons (λ k. k < arms) k ks h.0 (tags-below arms contents ms ks h.2)
+tags-within : (arms : ℕ) (contents : List Ty) (ms : List Member) (ks : List ℕ) → TagsFit arms contents ms ks → All (λ k. k ≤ arms) ks
+tags-within arms contents [] [] h = All-nil (λ k. k ≤ arms)
+tags-within arms contents [] (k ∷ ks) h = absurd h
+tags-within arms contents (m ∷ ms) [] h = absurd h
+tags-within arms contents (m ∷ ms) (k ∷ ks) h = All-cons (λ k. k ≤ arms) k ks (omega (arith, h.0)) (tags-within arms contents ms ks h.2)
 
 -- ---- a phrase by its form
 
@@ -231,7 +231,7 @@ module _ (forms : List Form) (names : List (List ℕ)) (hs : List Header) (basic
         seen (length tys) (TypedKind-F.Case c ts arms) (typed.Case c ts arms) l ns (sym (typed.rolls-Case c ts arms))
         (λ env g. built.then-gives forms functions 1 (length tys) (all_lowered (several ts) env) (λ ws. case_lowered forms c lists ns ws env) (forms_are.all-to forms functions basics (several ts) 1 (all-fit γ ts (ty.Uni ms ∷ []) h) env g)
         (λ ws gw lw. forms_are.gives-as forms functions basics (length ns) (length tys) (case_lowered forms c lists ns ws env) same
-        (forms_are.case-to forms functions basics c lists ns ws gw (subst (λ i. EachTo forms functions basics i (map all_lowered lists)) (sym same) (arms-fit γ c.named arms contents tys a)) (omega (arith, one, count)) (subst (λ i. All (λ k. k < i) c.choices) (sym count) (tags-below (length arms) contents ms c.choices t)) (numbers-types forms names functions ns tys num) env g)))
+        (forms_are.case-to forms functions basics c lists ns ws gw (subst (λ i. EachTo forms functions basics i (map all_lowered lists)) (sym same) (arms-fit γ c.named arms contents tys a)) (omega (arith, one, count)) (subst (λ i. All (λ k. k ≤ i) c.choices) (sym count) (tags-within (length arms) contents ms c.choices t)) (numbers-types forms names functions ns tys num) env g)))
     tree-to γ _ made (is.product {tys = tys} {names = xs} {δ = δ} {row = row} {l = l} {ns = ns} {p = q} {bounds = bounds} {us = us} {ts = ts} b g d h m num) =
         let same = numbers-length forms names ns made num in
         seen (length made) (TypedKind-F.Product q bounds us ts) (typed.Product q bounds us ts) l ns (sym (typed.rolls-Product q bounds us ts))

@@ -33,7 +33,8 @@ use Rattle.lowered_units.proofs.Built as built
 use Rattle.lowered_units.proofs.Canonical.{constant-stays, reduction-stays, callee-stays}
 use Rattle.lowered_units.proofs.Codes.{wanted, plain-want, call-want, reduce-want}
 use Rattle.lowered_units.proofs.Entries.{whole_listing, IsEntry, entry}
-use Rattle.lowered_units.proofs.Heads.{In, head_of, nodes_in, listing-is, Within, Lie, unit-lies, all-within}
+use Rattle.lowered_units.proofs.Heads.{In, listing-is, Within, Lie, unit-lies, all-within}
+use Rattle.lowered_units.proofs.OneUnit.{head_of, nodes_in}
 use Rattle.lowered_units.proofs.Literals.{IsValueWant}
 use Rattle.lowered_units.proofs.Named.{row_of, Match, match, none-before, Standing, standing}
 use Rattle.lowered_units.proofs.Nets.{op-of, before-of, row-wants, whole-wants, boundary-wants}
