@@ -21,3 +21,4 @@ pub mod Depths
 pub mod Lines
 pub mod Tabled
 pub mod Typed
+pub mod Example
