@@ -22,3 +22,4 @@ pub mod Lines
 pub mod Tabled
 pub mod Typed
 pub mod Example
+pub mod Stable
