@@ -156,7 +156,7 @@ module _ (p : Program) where
   pub entry-is : (ts : Table) (l : ℕ) → entry_at (entries_from p 1 ts) (suc l) ≡ option_map (as_type (suc l)) (slice_get ts l)
   entry-is ts l = ap (entry_at (entries_from p 1 ts)) (omega arith) ∙ (entry-from 1 ts l (slice_get ts l) refl ∙ ap (λ k. option_map (as_type k) (slice_get ts l)) (omega arith))
 
-  no-zero : (label : ℕ) (ts : Table) → 1 ≤ label → entry_at (entries_from p label ts) 0 ≡ None
+  pub no-zero : (label : ℕ) (ts : Table) → 1 ≤ label → entry_at (entries_from p label ts) 0 ≡ None
   no-zero label [] h = refl
   no-zero label (t ∷ ts) h =
       elim (eqb_tells label 0) [

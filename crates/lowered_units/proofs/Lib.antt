@@ -23,3 +23,5 @@ pub mod Tabled
 pub mod Typed
 pub mod Example
 pub mod Stable
+pub mod Lined
+pub mod Whole

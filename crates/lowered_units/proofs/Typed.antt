@@ -50,7 +50,7 @@ module _ (p : Program) (fit : IsFitting p) where
   in-types [] h = tt
   in-types (n ∷ ns) h = (h.0, in-types ns h.1)
 
-  integers-in : 2 < length p.types
+  pub integers-in : 2 < length p.types
   integers-in = slice_get_within p.types 2 Integer (basic_types p fit).integers
 
   fits-at : (gs : List Header) (fs : List Function) → FunctionsFit (AreNumbers p.types p.names) fit.headers gs fs → (k : ℕ) (f : Function) → slice_get fs k ≡ Some f → (h : Header) × FunctionFits (AreNumbers p.types p.names) fit.headers h f
@@ -63,7 +63,7 @@ module _ (p : Program) (fit : IsFitting p) where
       same e = cc
   fits-at (g ∷ gs) (x ∷ fs) h (suc k) f e = fits-at gs fs h.1 k f e
 
-  headed : (k : ℕ) (f : Function) → slice_get p.functions k ≡ Some f → IsHeaded p.types p.names fit.visible fit.types fit.members f
+  pub headed : (k : ℕ) (f : Function) → slice_get p.functions k ≡ Some f → IsHeaded p.types p.names fit.visible fit.types fit.members f
   headed k f e =
       let r = fits-at fit.headers p.functions fit.tree.fits k f e in
       record {
@@ -72,13 +72,13 @@ module _ (p : Program) (fit : IsFitting p) where
         some = function-at (λ f. 1 ≤ length f.results) p.functions fit.results k f e;
       }
 
-  headers-well : (fs : List Function) → ((k : ℕ) (f : Function) → slice_get fs k ≡ Some f → IsHeaded p.types p.names fit.visible fit.types fit.members f) → (ns : List Need) → ((ts : Table) → IsWellTable ts → IsWellTable (with_needs ns ts)) → (ts : Table) → IsWellTable ts
+  pub headers-well : (fs : List Function) → ((k : ℕ) (f : Function) → slice_get fs k ≡ Some f → IsHeaded p.types p.names fit.visible fit.types fit.members f) → (ns : List Need) → ((ts : Table) → IsWellTable ts → IsWellTable (with_needs ns ts)) → (ts : Table) → IsWellTable ts
       → IsWellTable (with_needs (map (header_need p) fs ++ ns) ts)
   headers-well [] h ns g ts w = g ts w
   headers-well (f ∷ fs) h ns g ts w =
       headers-well fs (λ k x e. h (suc k) x e) ns g (function_label p.types p.names f ts).table (function-well p.types p.names fit.visible fit.types fit.members f (h 0 f refl) ts w).0.well
 
-  bodies-well : (fs : List Function) (q : ℕ) (ms : List Lowered) → AllBuilt p.types (functions p fit) q ms → (ts : Table) → IsWellTable ts → IsWellTable (with_needs (body_needs p fs ms) ts)
+  pub bodies-well : (fs : List Function) (q : ℕ) (ms : List Lowered) → AllBuilt p.types (functions p fit) q ms → (ts : Table) → IsWellTable ts → IsWellTable (with_needs (body_needs p fs ms) ts)
   bodies-well [] q ms b ts w = w
   bodies-well (f ∷ fs) _ _ (no_graph q) ts w = w
   bodies-well (f ∷ fs) _ _ (a_graph q m ms h r) ts w =
