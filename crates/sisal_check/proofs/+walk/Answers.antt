@@ -34,6 +34,7 @@ use Rattle.std.proofs.Common.{◌≤◌, arith, ◌≡◌, [], ◌∷◌, None, 
 use Rattle.std.proofs.lemmas.List.{map-append, take_all}
 use Rattle.std.proofs.lemmas.Result.{on_ok_weaker}
 use Rattle.type_rules.specs.Applies.{Grows}
+use Rattle.type_rules.specs.Arms.{are_all_named}
 use Rattle.typed_tree.specs.Breaks.{generators_in, line_of}
 use Rattle.typed_tree.specs.Scopes.{AreDistinct, targets}
 use Rattle.typed_tree.specs.Typing.{at, names_of}
