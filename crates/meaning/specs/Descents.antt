@@ -5,9 +5,9 @@ use Rattle.flow_value.specs.declared.value.Val.{Val}
 use Rattle.typed_tree.specs.declared.expr.TypedExpr.{TypedExpr}
 use Rattle.typed_tree.specs.declared.expr.Turns.{Turns}
 use Rattle.typed_tree.specs.declared.program.Function.{Function}
-use Rattle.source_meaning.specs.Timed.{Timed, andthen}
-use Rattle.source_meaning.specs.Words.{test_of, goes_on}
-use Rattle.source_meaning.specs.Meaning.{Gives, Members, turned, turn, turns, meaning, meanings}
+use Rattle.meaning.specs.Timed.{Timed, andthen}
+use Rattle.meaning.specs.Words.{test_of, goes_on}
+use Rattle.meaning.specs.Meaning.{Gives, Members, turned, turn, turns, meaning, meanings}
 
 -- the turns of a loop, with what its test and its definitions give at each depth
 abbrev pub descending : ℕ → Bool → (ℕ → Gives) → (ℕ → List Val → Gives) → List Val → List Val → Timed Members
