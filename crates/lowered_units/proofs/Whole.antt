@@ -55,6 +55,7 @@ real-free n e (inr (inl h)) b r = by h.code
       where
         clash : true ≡ false → ⊥
         clash e = cc
+
     by : (e.code ≡ 0) ⊎ ((e.code ≡ 4) ⊎ ((e.code ≡ 5) ⊎ ((e.code ≡ 6) ⊎ (e.code ≡ 9)))) → ⊥
     by (inl c) = never 0 c refl
     by (inr (inl c)) = never 4 c refl
@@ -68,6 +69,7 @@ real-free n e (inr (inr (inl h))) b r = by h.code
       where
         clash : true ≡ false → ⊥
         clash e = cc
+
     by : (e.code ≡ 2) ⊎ ((e.code ≡ 7) ⊎ (e.code ≡ 8)) → ⊥
     by (inl c) = never 2 c refl
     by (inr (inl c)) = never 7 c refl
