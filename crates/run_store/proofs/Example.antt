@@ -1,7 +1,7 @@
 -- Code whose cells own their values: a ForAll over the arrays of an array, which adds 1 behind each and gathers them. The elements and
 -- their multiple are read where the argument stands and have no cells of their own. Each element is copied where it is changed, and
 -- what is collected is moved.
-use Rattle.std.proofs.Common.{◌≡◌, ℕ, zero, suc, ◌+◌, ◌-◌, ◌<◌, ◌≤◌, ◌⊎◌, ◌&&◌, ◌||◌, not, if◌then◌else◌, eqb, leb, ltb, List, [], ◌∷◌, None, get_or, pos, inl, inr, refl, sym, ap, ◌∙◌, subst, arith, Bool, true, false}
+use Rattle.std.proofs.Common.{Some, ◌≡◌, ℕ, zero, suc, ◌+◌, ◌-◌, ◌<◌, ◌≤◌, ◌⊎◌, ◌&&◌, ◌||◌, not, if◌then◌else◌, eqb, leb, ltb, List, [], ◌∷◌, None, get_or, pos, inl, inr, refl, sym, ap, ◌∙◌, subst, arith, Bool, true, false}
 use Rattle.std.proofs.lemmas.Bool.{lt-ltb, ltb-true, leb-true, eqb-true, eq-eqb}
 use Rattle.flow_value.specs.declared.value.Val.TheVariants as val
 use Rattle.if1_graph.specs.declared.op.Simple.TheVariants as simple
@@ -10,7 +10,7 @@ use Rattle.graph_meaning.specs.Entered.{IsIn}
 use Rattle.graph_meaning.specs.Forms.{columns}
 use Rattle.graph_meaning.specs.Forms as form
 use Rattle.graph_meaning.specs.NodeValues as shape
-use Rattle.graph_meaning.specs.Demand.{Port, Fixed, Plain, Whole, Vertex, Network}
+use Rattle.graph_meaning.specs.Demand.{through, waits_of, straight, IsOrderly, WaitsFor, AreOrderly, waits, Port, Fixed, Plain, Whole, Vertex, Network}
 use Rattle.graph_meaning.specs.Storage.{Storage, copying, leaves_at, leaves_of}
 use Rattle.run_code.proofs.Collecting.{nodes-same}
 use Rattle.run_code.proofs.Refolding.{sum-none}
@@ -26,7 +26,11 @@ use Rattle.run_store.specs.Effects.{reads_of, IsOneOf}
 use Rattle.run_store.specs.Lively.{Live, Follows, IsLively}
 use Rattle.run_store.specs.Refines.{IsTaken, IsHandled}
 use Rattle.run_store.specs.Stored.{Mode, Looks, Copies, Takes, LooksAt, CopiesOf, tail, Handling, copied}
-use Rattle.run_store.specs.Whole.{IsStoredCode}
+use Rattle.graph_meaning.specs.Plain.{Costs}
+use Rattle.ordered_meaning.specs.Orders.{IsInOrder, AreInOrder}
+use Rattle.run_laws.specs.Inside.{Stays, IsInside}
+use Rattle.run_store.proofs.Whole.{store-decided, runs-begin}
+use Rattle.run_store.specs.Whole.{IsStoredCode, EndsStored, StopsStored, IsCopied, Begins, entered_stored, first_cells}
 
 -- ---- the graphs
 
@@ -441,3 +445,74 @@ alike g = (((λ ks rs. refl), tt), (λ rs e. refl))
 
 pub stored-code : IsStoredCode storage laid handling facts live own
 stored-code = record { coded = coded; weighs = alike; handled = handled; preserves = preserves; lively = lively }
+
+-- ---- a run of it is decided, on every argument and with every limit
+
+inside : IsInside laid (λ f. 10) 10
+inside = record { stays = λ f pc in_f from to. at pc (omega (arith, to)); begins = λ f in_f. omega arith; ends = λ f in_f. omega arith; inputs = λ f in_f. omega arith }
+  where
+    at : (pc : ℕ) → pc < 10 → Stays laid 7 0 10 pc (laid.code pc)
+    at zero lt = omega arith
+    at (suc zero) lt = (tt, omega arith, (omega arith, omega arith))
+    at (suc (suc zero)) lt = ((omega arith, tt), omega arith, omega arith)
+    at (suc (suc (suc zero))) lt = ((omega arith, tt), omega arith, (omega arith, omega arith), omega arith, (omega arith, omega arith))
+    at (suc (suc (suc (suc zero)))) lt = ((omega arith, (tt, tt)), omega arith, omega arith)
+    at (suc (suc (suc (suc (suc zero))))) lt = ((omega arith, tt), omega arith, (omega arith, omega arith))
+    at (suc (suc (suc (suc (suc (suc zero)))))) lt = (omega arith, omega arith, omega arith, omega arith, (omega arith, omega arith))
+    at (suc (suc (suc (suc (suc (suc (suc zero))))))) lt = ((tt, (omega arith, tt)), omega arith, omega arith)
+    at (suc (suc (suc (suc (suc (suc (suc (suc zero)))))))) lt = ((omega arith, tt), omega arith, (omega arith, omega arith))
+    at (suc (suc (suc (suc (suc (suc (suc (suc (suc zero))))))))) lt = (omega arith, tt)
+    at (suc (suc (suc (suc (suc (suc (suc (suc (suc (suc pc)))))))))) lt = absurd (omega (arith, lt))
+
+waits-none : (v : Vertex) → waits v ≡ [] → {l m : ℕ} → WaitsFor (v ∷ []) l m → ⊥
+waits-none v e (straight {l = l} {m = m} i) = go (eqb v.label l) i
+  where
+    go : (b : Bool) → IsIn m (waits_of (if b then Some v else None)) → ⊥
+    go true i = subst (IsIn m) e i
+    go false i = i
+waits-none v e (through a b) = waits-none v e a
+
+one-orderly : (v : Vertex) → v.label ≡ 1 → waits v ≡ [] → IsOrderly (record { nodes = v ∷ []; results = Port 1 1 ∷ [] })
+one-orderly v label e =
+    record {
+      once = ((λ i. i), tt);
+      named = ((λ n i. absurd (subst (IsIn n) e i)), tt);
+      results_named = λ n. elim [ inl z ↦ inl (z ∙ sym label) | inr i ↦ absurd i ];
+      acyclic = λ l w. waits-none v e w;
+    }
+
+orderly : AreOrderly net
+orderly zero = one-orderly over refl refl
+orderly (suc zero) = one-orderly scatter refl refl
+orderly (suc (suc zero)) = one-orderly longer refl refl
+orderly (suc (suc (suc g))) = one-orderly gather refl refl
+
+one-in-order : (v : Vertex) → v.label ≡ 1 → waits v ≡ [] → IsInOrder (record { nodes = v ∷ []; results = Port 1 1 ∷ [] }) (v ∷ [])
+one-in-order v label e =
+    record {
+      nodes = (((λ z. let y = label in omega (arith, y, z)), ap (λ b. if b then Some v else None) (eq-eqb v.label v.label refl)), tt);
+      all = λ n i. i;
+      along = ((λ n i. absurd (subst (IsIn n) e i)), (λ i. i), tt);
+    }
+
+along : AreInOrder net (λ g. node_of g ∷ [])
+along zero = one-in-order over refl refl
+along (suc zero) = one-in-order scatter refl refl
+along (suc (suc zero)) = one-in-order longer refl refl
+along (suc (suc (suc g))) = one-in-order gather refl refl
+
+begins : (k : Carried) → Begins laid facts live own 0 (k ∷ []) (first_cells (k ∷ [])) (λ i. get_or (k ∷ []) i Unfilled)
+begins k = runs-begin laid facts live own 0 (k ∷ []) refl (λ i l. first i (has-in (0 ∷ []) i l)) (λ i l. absurd (never l))
+  where
+    first : (i : ℕ) → IsIn i (0 ∷ []) → i < 1
+    first i (inl e) = omega (arith, e)
+    first i (inr h) = absurd h
+
+    never : false ≡ true → ⊥
+    never e = absurd cc
+
+pub decided-run : (k : Carried) (limit : ℕ)
+    → ((rs : List Carried) × (c : ℕ) × (copies : ℕ) × EndsStored laid handling limit (entered_stored laid 0 (first_cells (k ∷ []))) rs c copies × IsCopied storage laid 0 (k ∷ []) rs c copies × (c ≤ limit))
+      ⊎ (StopsStored laid handling limit (entered_stored laid 0 (first_cells (k ∷ []))) × ((d c : ℕ) → Costs net d 0 (k ∷ []) c → limit < c))
+decided-run k limit =
+    store-decided storage laid handling facts live own (λ f. 10) 10 limit stored-code inside orderly along 0 (k ∷ []) (first_cells (k ∷ [])) (λ i. get_or (k ∷ []) i Unfilled) (inl refl) refl (begins k)

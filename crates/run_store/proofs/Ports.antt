@@ -7,7 +7,7 @@ use Rattle.ordered_meaning.specs.Taking.{Marks, first_port, Fills, Taken, IsTake
 use Rattle.run_code.specs.Cells.{Operand, At, Lit, picked}
 use Rattle.run_code.specs.Coded.{Places, operand, Puts}
 use Rattle.run_code.specs.Known.{Known, Knows, KnowsAll, IsReadable}
-use Rattle.run_store.specs.Ports.{mode_of, modes_of, KnowsPort, IsAlive, AllIn, StaysAlive, AreStacked, AreNodesLively, AreInputsPlaced, AreNodesLivelyInOrder}
+use Rattle.run_store.specs.Ports.{mode_of, modes_of, picks_of, copies_of, DoModesCopy, KnowsPort, IsAlive, AllIn, StaysAlive, AreStacked, AreNodesLively, AreInputsPlaced, AreNodesLivelyInOrder}
 use Rattle.run_store.specs.Refines.{IsTaken}
 use Rattle.run_store.specs.Stored.{Mode, Looks, Copies, Takes, copied_as, copied}
 
@@ -43,16 +43,6 @@ modes-copied takes consumes test is first (o ∷ os) (k ∷ ks) many =
     ap (λ n. n + copied (modes_of takes consumes (suc first) os) ks) (mode-copied (takes first) (consumes first) k ∙ ap (λ b. if b then leaves_of k else 0) (sym (is first)))
     ∙ ap (λ n. (if test first then leaves_of k else 0) + n) (modes-copied takes consumes test is (suc first) os ks (omega (arith, many)))
 
--- what a compound node is given and does not take is copied for its parts
-abbrev picks_of : (ℕ → Bool) → ℕ → List Source → List Bool
-picks_of test i [] = []
-picks_of test i (o ∷ os) = test i ∷ picks_of test (suc i) os
-
-abbrev copies_of : List Bool → List Mode
-copies_of [] = []
-copies_of (true ∷ bs) = Copies ∷ copies_of bs
-copies_of (false ∷ bs) = copies_of bs
-
 pub picks-copied : (test : ℕ → Bool) (first : ℕ) (os : List Source) (ks : List Carried) → length os ≡ length ks
     → copied (copies_of (picks_of test first os)) (picked (picks_of test first os) ks) ≡ leaves_at test first ks
 
@@ -65,6 +55,9 @@ picks-copied test first (o ∷ os) (k ∷ ks) many = go (test first) (picks-copi
         → copied (copies_of (b ∷ picks_of test (suc first) os)) (picked (b ∷ picks_of test (suc first) os) (k ∷ ks)) ≡ (if b then leaves_of k else 0) + leaves_at test (suc first) ks
     go true rest = ap (λ n. leaves_of k + n) rest
     go false rest = rest ∙ omega arith
+
+pub modes-copy : DoModesCopy
+modes-copy = (modes-copied, picks-copied)
 
 -- a cell that is taken is that of a port that is
 taken-port : (places : Places) (takes consumes : ℕ → Bool) (first : ℕ) (os : List Source) (i : ℕ) → IsTaken (modes_of takes consumes first os) (map (operand places) os) i
