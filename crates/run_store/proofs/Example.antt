@@ -513,6 +513,6 @@ begins k = runs-begin laid facts live own 0 (k ∷ []) refl (λ i l. first i (ha
 
 pub decided-run : (k : Carried) (limit : ℕ)
     → ((rs : List Carried) × (c : ℕ) × (copies : ℕ) × EndsStored laid handling limit (entered_stored laid 0 (first_cells (k ∷ []))) rs c copies × IsCopied storage laid 0 (k ∷ []) rs c copies × (c ≤ limit))
-      ⊎ (StopsStored laid handling limit (entered_stored laid 0 (first_cells (k ∷ []))) × ((d c : ℕ) → Costs net d 0 (k ∷ []) c → limit < c))
+    ⊎ (StopsStored laid handling limit (entered_stored laid 0 (first_cells (k ∷ []))) × ((d c : ℕ) → Costs net d 0 (k ∷ []) c → limit < c))
 decided-run k limit =
     store-decided storage laid handling facts live own (λ f. 10) 10 limit stored-code inside orderly along 0 (k ∷ []) (first_cells (k ∷ [])) (λ i. get_or (k ∷ []) i Unfilled) (inl refl) refl (begins k)

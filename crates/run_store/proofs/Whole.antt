@@ -237,16 +237,22 @@ store-decided s X handling facts live own end many limit is inside orderly inord
 pub unit-decided : AreUnitRunsDecided
 unit-decided u X handling facts live own end many limit ready sound same inorder is inside f ins h cells in_f as_many begins =
     go (store-decided (storage_of u) X handling facts live own end many limit is inside
-        (subst AreOrderly (sym same) (units-orderly u ready (sound-in-order u sound))) (subst (λ z. AreInOrder z X.order) (sym same) inorder) f ins h cells in_f as_many begins)
+    (subst AreOrderly (sym same) (units-orderly u ready (sound-in-order u sound))) (subst (λ z. AreInOrder z X.order) (sym same) inorder) f ins h cells in_f as_many begins)
   where
     go : ((rs : List Carried) × (c : ℕ) × (copies : ℕ) × EndsStored X handling limit (entered_stored X f h) rs c copies × IsCopied (storage_of u) X f ins rs c copies × (c ≤ limit))
-          ⊎ (StopsStored X handling limit (entered_stored X f h) × ((d c : ℕ) → Costs X.network d f ins c → limit < c))
+        ⊎ (StopsStored X handling limit (entered_stored X f h) × ((d c : ℕ) → Costs X.network d f ins c → limit < c))
         → ((rs : List Carried) × (c : ℕ) × (copies : ℕ) × EndsStored X handling limit (entered_stored X f h) rs c copies × IsOfUnit u f ins rs c copies × (c ≤ limit))
-          ⊎ (StopsStored X handling limit (entered_stored X f h) × ((d c : ℕ) → Costs (network u) d f ins c → limit < c))
+        ⊎ (StopsStored X handling limit (entered_stored X f h) × ((d c : ℕ) → Costs (network u) d f ins c → limit < c))
     go (inl x) =
         let r = x.4 in
-        inl (x.0, x.1, x.2, x.3,
-          ((r.0, subst (λ z. Means z r.0 f ins x.0) same r.1, subst (λ z. Costs z r.0 f ins x.1) same r.2), (r.0, subst (λ z. Copies (storage_of u) z r.0 f ins (capped x.2)) same r.3)), x.5)
+        inl (
+          x.0,
+          x.1,
+          x.2,
+          x.3,
+          ((r.0, subst (λ z. Means z r.0 f ins x.0) same r.1, subst (λ z. Costs z r.0 f ins x.1) same r.2), (r.0, subst (λ z. Copies (storage_of u) z r.0 f ins (capped x.2)) same r.3)),
+          x.5,
+        )
     go (inr x) = inr (x.0, λ d c costs. x.1 d c (subst (λ z. Costs z d f ins c) (sym same) costs))
 
 -- ---- how a run begins

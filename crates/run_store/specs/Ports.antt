@@ -1,9 +1,9 @@
 -- Which cells are live where the nodes of a graph fire one after another: those of ports that are known and were not taken, and those
 -- that are kept for other graphs.
-use Rattle.std.specs.Prelude.{◌≡◌, ℕ, zero, suc, ◌+◌, ◌<◌, ◌≤◌, ◌⊎◌, ◌&&◌, not, Bool, true, false, if◌then◌else◌, List, [], ◌∷◌, map, length}
+use Rattle.std.specs.Prelude.{◌≡◌, ℕ, suc, ◌+◌, ◌<◌, ◌≤◌, ◌⊎◌, ◌&&◌, not, Bool, true, false, if◌then◌else◌, List, [], ◌∷◌, map, length}
 use Rattle.graph_meaning.specs.Carried.{Carried}
 use Rattle.graph_meaning.specs.Storage.{leaves_at}
-use Rattle.graph_meaning.specs.Demand.{Source, Port, Fixed, Kind, Vertex, EachNode}
+use Rattle.graph_meaning.specs.Demand.{Source, Vertex, EachNode}
 use Rattle.ordered_meaning.specs.Taking.{Marks, first_port, Fills, Taken, IsTaken as WasTaken, taken_by, AreTakersLast}
 use Rattle.run_code.specs.Cells.{Operand, At, Lit, picked}
 use Rattle.run_code.specs.Coded.{Places, operand, Puts}
@@ -35,9 +35,9 @@ copies_of (false ∷ bs) = copies_of bs
 abbrev pub DoModesCopy : Type 0
 DoModesCopy =
     ((takes consumes test : ℕ → Bool) → ((p : ℕ) → test p ≡ consumes p && not (takes p)) → (first : ℕ) (os : List Source) (ks : List Carried) → length os ≡ length ks
-      → copied (modes_of takes consumes first os) ks ≡ leaves_at test first ks)
+    → copied (modes_of takes consumes first os) ks ≡ leaves_at test first ks)
     × ((test : ℕ → Bool) (first : ℕ) (os : List Source) (ks : List Carried) → length os ≡ length ks
-      → copied (copies_of (picks_of test first os)) (picked (picks_of test first os) ks) ≡ leaves_at test first ks)
+    → copied (copies_of (picks_of test first os)) (picked (picks_of test first os) ks) ≡ leaves_at test first ks)
 
 -- ---- live cells
 
