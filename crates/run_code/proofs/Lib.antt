@@ -1,8 +1,11 @@
-pub mod Values
-pub mod Columns
-pub mod Totals
-pub mod Folding
-pub mod Refolding
+pub mod ChoiceExample
 pub mod Collecting
-pub mod Example
+pub mod Columns
+pub mod CountExample
+pub mod ForAllExample
+pub mod Folding
+pub mod Layouts
 pub mod LoopExample
+pub mod Refolding
+pub mod Totals
+pub mod Values

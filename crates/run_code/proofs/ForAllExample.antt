@@ -1,27 +1,23 @@
 -- The code of a ForAll over a range, whose returns gathers elements where a mask says so. The gather copies what it keeps, and that is
 -- weighed where it is put.
-use Rattle.std.proofs.Common.{◌≡◌, ℕ, zero, suc, ◌+◌, ◌-◌, ◌≤◌, if◌then◌else◌, ltb, List, [], ◌∷◌, ◌++◌, length, drop, Some, get_or, pos, inl, inr, refl, sym, ap, subst, arith, Bool, true, false}
-use Rattle.std.proofs.lemmas.Bool.{lt-ltb, ltb-true}
-use Rattle.flow_value.specs.declared.value.Val.TheVariants as val
+use Rattle.std.proofs.Common.{◌≡◌, ℕ, zero, suc, ◌+◌, List, [], ◌∷◌, ◌++◌, length, drop, Some, get_or, inl, inr, refl, sym, subst, arith, true}
 use Rattle.flow_value.specs.declared.operation.Scalar2.TheVariants as two
 use Rattle.if1_graph.specs.declared.op.Simple.TheVariants as simple
-use Rattle.graph_meaning.specs.Carried.{Carried, Value, Unfilled}
+use Rattle.graph_meaning.specs.Carried.{Carried}
 use Rattle.graph_meaning.specs.NodeValues as shape
 use Rattle.graph_meaning.specs.Forms.{columns}
 use Rattle.graph_meaning.specs.Forms as form
 use Rattle.graph_meaning.specs.Demand.{Source, Port, Fixed, Plain, Whole, Vertex, Network}
 use Rattle.graph_meaning.specs.Storage.{Weights, kept_of}
+use Rattle.run_code.proofs.Layouts.{one, truth, positive, places_by, puts, function_places, function-puts, function-inputs, function-wants}
 use Rattle.run_code.proofs.Collecting.{kept-rows, nodes-same}
-use Rattle.run_code.specs.Cells.{At, Lit, Operand}
-use Rattle.run_code.specs.Coded.{AreCoded, ForAllIs, FunctionIs, GraphIs, Layout, PartIs, Places, Puts, a_for_all, a_node, a_part, no_node, scalar, the_for_all}
+use Rattle.run_code.specs.Cells.{At, Lit}
+use Rattle.run_code.specs.Coded.{AreCoded, ForAllIs, FunctionIs, GraphIs, Layout, PartIs, a_for_all, a_node, a_part, no_node, scalar, the_for_all}
 use Rattle.run_code.specs.Collecting.{put_leaves}
 use Rattle.run_code.specs.Collections.{Collect, Sifts}
 use Rattle.run_code.specs.Known.{AreReadable}
 use Rattle.run_code.specs.Refolds.{AllLong, Refolds, a_fold, none_refolded, one_refolded, reads, rows_sum}
 use Rattle.run_code.specs.Steps.{Add, Count, Each, Fire, Move, Return, Spread, Step}
-
-abbrev pub one : Carried
-one = Value (val.Int (pos 1))
 
 abbrev over : Vertex
 over = record { label = 1; kind = Whole (form.ForAll 1 2 3 2 1); ins = Port 0 1 ∷ []; before = [] }
@@ -38,9 +34,6 @@ gather = record { label = 1; kind = Plain simple.AGather shape.Plain; ins = Fixe
 -- on what is collected
 abbrev gather' : Vertex
 gather' = record { label = 1; kind = Plain simple.AGather shape.Plain; ins = Fixed one ∷ Port 0 3 ∷ []; before = [] }
-
-abbrev truth : Carried
-truth = Value (val.Bool true)
 
 abbrev others : List Vertex
 others = gather' ∷ []
@@ -60,7 +53,7 @@ node_of (suc (suc (suc g))) = gather
 
 -- the body has a mask beside its result
 abbrev results_of : ℕ → List Source
-results_of (suc (suc zero)) = Port 1 1 ∷ Fixed truth ∷ []
+results_of (suc (suc zero)) = Port 1 1 ∷ Fixed (truth true) ∷ []
 results_of _ = Port 1 1 ∷ []
 
 abbrev net : Network
@@ -83,7 +76,7 @@ put_at _ ks = 0
 
 abbrev steps : List Step
 steps =
-    Count ∷ Move [] 2 0 2 ∷ Fire simple.RangeGenerate shape.Plain (Lit one ∷ At 0 ∷ []) 2 1 ∷ Spread (At 2 ∷ []) cs 2 6 1 1 9 ∷ Fire (simple.Two two.Plus) shape.Plain (At 5 ∷ At 5 ∷ []) 6 1 ∷ Add cs (At 6 ∷ Lit truth ∷ []) 3 6
+    Count ∷ Move [] 2 0 2 ∷ Fire simple.RangeGenerate shape.Plain (Lit one ∷ At 0 ∷ []) 2 1 ∷ Spread (At 2 ∷ []) cs 2 6 1 1 9 ∷ Fire (simple.Two two.Plus) shape.Plain (At 5 ∷ At 5 ∷ []) 6 1 ∷ Add cs (At 6 ∷ Lit (truth true) ∷ []) 3 6
     ∷ Each 1 2 4 4 7 ∷ Fire simple.AGather shape.Plain (Lit one ∷ At 3 ∷ []) 4 1 ∷ Move (At 4 ∷ []) 1 1 9 ∷ Return (At 1 ∷ []) ∷ []
 
 abbrev made : Layout
@@ -101,17 +94,6 @@ made =
       params = λ f. 1;
     }
 
--- the inputs of a graph, and the first output of its node
-abbrev places_by : List Operand → ℕ → Places
-places_by args out zero p = get_or args (p - 1) (Lit Unfilled)
-places_by args out (suc l) p = At out
-
-puts : (args : List Operand) (out : ℕ) → Puts (places_by args out) 1 out 1
-puts args out i lt = let z : out ≡ out + i = omega (arith, lt) in ap At z
-
-positive : (n : ℕ) → suc n ≡ 0 → ⊥
-positive n e = absurd (omega (arith, e))
-
 in-order : (g : ℕ) → AreReadable (λ v. 1) (order g) (net g).results
 in-order zero = ((positive 0, (λ p k. k), tt, tt), (inl (refl, 0, omega arith, refl), tt))
 in-order (suc zero) = ((positive 0, (λ p k. k), tt, tt), (inl (refl, 0, omega arith, refl), tt))
@@ -121,21 +103,21 @@ in-order (suc (suc (suc g))) = ((positive 0, (λ p k. k), tt, tt), (inl (refl, 0
 generating : GraphIs made 7 (At 0 ∷ []) 1 2 3 2 (At 2 ∷ [])
 generating =
     a_part (At 0 ∷ []) 1 (order 1) (net 1).results 2 3 2 (places_by (At 0 ∷ []) 2) (λ p. refl) (in-order 1)
-    (a_node 1 (places_by (At 0 ∷ []) 2) range [] 2 3 3 2 3 (puts (At 0 ∷ []) 2) (omega arith)
+    (a_node 1 (places_by (At 0 ∷ []) 2) range [] 2 3 3 2 3 (puts (At 0 ∷ []) 2 0) (omega arith)
     (scalar (Lit one ∷ At 0 ∷ []) simple.RangeGenerate shape.Plain (λ ks rs. 0) 1 2 2 refl (λ ks rs. refl)) (no_node 1 (places_by (At 0 ∷ []) 2) 3 3))
     (At 2 ∷ []) refl
 
-turning : GraphIs made 7 (At 0 ∷ At 5 ∷ []) 2 4 5 6 (At 6 ∷ Lit truth ∷ [])
+turning : GraphIs made 7 (At 0 ∷ At 5 ∷ []) 2 4 5 6 (At 6 ∷ Lit (truth true) ∷ [])
 turning =
     a_part (At 0 ∷ At 5 ∷ []) 2 (order 2) (net 2).results 4 5 6 (places_by (At 0 ∷ At 5 ∷ []) 6) (λ p. refl) (in-order 2)
-    (a_node 2 (places_by (At 0 ∷ At 5 ∷ []) 6) twice [] 4 5 5 6 7 (puts (At 0 ∷ At 5 ∷ []) 6) (omega arith)
+    (a_node 2 (places_by (At 0 ∷ At 5 ∷ []) 6) twice [] 4 5 5 6 7 (puts (At 0 ∷ At 5 ∷ []) 6 0) (omega arith)
     (scalar (At 5 ∷ At 5 ∷ []) (simple.Two two.Plus) shape.Plain (λ ks rs. 0) 1 4 6 refl (λ ks rs. refl)) (no_node 2 (places_by (At 0 ∷ At 5 ∷ []) 6) 5 7))
-    (At 6 ∷ Lit truth ∷ []) refl
+    (At 6 ∷ Lit (truth true) ∷ []) refl
 
 returning : PartIs made 7 (At 0 ∷ At 2 ∷ At 3 ∷ []) 9 others wanted 7 8 4 (At 4 ∷ [])
 returning =
     a_part (At 0 ∷ At 2 ∷ At 3 ∷ []) 9 others wanted 7 8 4 (places_by (At 0 ∷ At 2 ∷ At 3 ∷ []) 4) (λ p. refl) ((positive 0, (λ p k. k), tt, tt), (inl (refl, 0, omega arith, refl), tt))
-    (a_node 9 (places_by (At 0 ∷ At 2 ∷ At 3 ∷ []) 4) gather' [] 7 8 8 4 5 (puts (At 0 ∷ At 2 ∷ At 3 ∷ []) 4) (omega arith)
+    (a_node 9 (places_by (At 0 ∷ At 2 ∷ At 3 ∷ []) 4) gather' [] 7 8 8 4 5 (puts (At 0 ∷ At 2 ∷ At 3 ∷ []) 4 0) (omega arith)
     (scalar (Lit one ∷ At 3 ∷ []) simple.AGather shape.Plain (λ ks rs. 0) 1 7 4 refl (λ ks rs. refl)) (no_node 9 (places_by (At 0 ∷ At 2 ∷ At 3 ∷ []) 4) 8 5))
     (At 4 ∷ []) refl
 
@@ -163,28 +145,20 @@ refolded =
 
 the_over : ForAllIs made 7 (At 0 ∷ []) 1 2 3 2 (λ ks rs. 0) 1 0 9 1
 the_over =
-    the_for_all (At 0 ∷ []) 1 2 3 2 (λ ks rs. 0) 1 0 9 1 [] 2 1 1 3 6 4 5 7 8 9 others wanted cs (λ row. put_leaves (Sifts 0 (Some 1)) row + 0) (At 2 ∷ []) (At 6 ∷ Lit truth ∷ []) (At 4 ∷ []) (At 0 ∷ []) (At 0 ∷ [])
+    the_for_all (At 0 ∷ []) 1 2 3 2 (λ ks rs. 0) 1 0 9 1 [] 2 1 1 3 6 4 5 7 8 9 others wanted cs (λ row. put_leaves (Sifts 0 (Some 1)) row + 0) (At 2 ∷ []) (At 6 ∷ Lit (truth true) ∷ []) (At 4 ∷ []) (At 0 ∷ []) (At 0 ∷ [])
     (record { counts = refl; copies = refl; weighs = λ ks rs. refl; fits = omega arith }) generating refl (λ ks. refl) refl refl refl
     (inl refl, tt) turning refl (λ ks. sym (none-more (put_leaves (Sifts 0 (Some 1)) ks))) refl
     ((omega arith, omega arith), tt) refolded
     (inl refl, tt) returning (record { moves = refl; weighs = λ ks. refl })
 
-abbrev outer : Places
-outer zero p = if ltb (p - 1) 1 then At (p - 1) else Lit Unfilled
-outer (suc l) p = At 1
-
-not-less : (a b : ℕ) → b ≤ a → (x : Bool) → ltb a b ≡ x → (if x then At a else Lit Unfilled) ≡ Lit Unfilled
-not-less a b le true e = absurd (let lt = ltb-true a b e in omega (arith, le, lt))
-not-less a b le false e = refl
-
 pub coded : AreCoded made
 coded f (inl e) = subst (FunctionIs made) (sym e) (record {
-  places = outer;
+  places = function_places 1;
   end = 9;
   ordered = in-order 0;
-  inputs = λ p lt. ap (λ b. if b then At (p - 1) else Lit Unfilled) (lt-ltb (p - 1) 1 lt);
-  wanting = λ p le. not-less (p - 1) 1 le (ltb (p - 1) 1) refl;
-  nodes = a_node 0 outer over [] 0 9 9 1 2 (λ i lt. let z : 1 ≡ 1 + i = omega (arith, lt) in ap At z) (omega arith) (a_for_all (At 0 ∷ []) 1 2 3 2 (λ ks rs. 0) 1 0 9 1 the_over) (no_node 0 outer 9 2);
+  inputs = function-inputs 1;
+  wanting = function-wants 1;
+  nodes = a_node 0 (function_places 1) over [] 0 9 9 1 2 (function-puts 1 0) (omega arith) (a_for_all (At 0 ∷ []) 1 2 3 2 (λ ks rs. 0) 1 0 9 1 the_over) (no_node 0 (function_places 1) 9 2);
   leaves = refl;
   weighs = λ ks. refl;
 })
