@@ -96,6 +96,9 @@ greatest-within : (ns : List ℕ) (n : ℕ) → ((m : ℕ) → Contains ns m →
 greatest-within [] n h = omega arith
 greatest-within (m ∷ ns) n h = let a = h m (here m ns) in let b = greatest-within ns n (λ k c. h k (there m ns k c)) in omega (arith, a, b)
 
+pub width-over : (g : Graph) (l port : ℕ) → Contains (ports_into g l) port → port ≤ width g l
+width-over g l port h = greatest-over (ports_into g l) port h
+
 -- where the ports are 1 to n, there are n
 pub first-width : (n : ℕ) (ports : List ℕ) → AreFirst n ports → greatest ports ≡ n
 first-width zero ports f = let b = greatest-within ports 0 (λ m c. ((f.these m).0 c).1) in omega (arith, b)
