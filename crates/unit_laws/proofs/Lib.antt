@@ -17,3 +17,5 @@ pub mod TypedParts
 pub mod TypedChoices
 pub mod TypedLoops
 pub mod TypedCalls
+pub mod TypedNodePlans
+pub mod TypedRuns

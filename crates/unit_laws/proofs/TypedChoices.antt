@@ -30,7 +30,7 @@ use Rattle.graph_meaning.specs.Forms as forms
 use Rattle.graph_meaning.specs.Networks.{number_or_zero, part as part_number, form_of}
 use Rattle.typed_rows.proofs.ValueKinds.{IntKind, an_int, no_int, as_int, UniKind, a_uni, no_uni, as_uni, out_err, out_uni}
 use Rattle.typed_rows.specs.Rows.{Of}
-use Rattle.unit_laws.specs.Typed.{Belongs, Fills, InputsBelong}
+use Rattle.unit_laws.specs.Typed.{Belongs, Fills, InputsBelong, ResultsBelong}
 use Rattle.unit_laws.proofs.TypeLists.{some-same}
 use Rattle.unit_laws.proofs.TypeLists as types
 use Rattle.unit_laws.proofs.TypedRows.{at-type}
@@ -38,7 +38,7 @@ use Rattle.unit_laws.proofs.TypedLists.{IsValue, value-of}
 use Rattle.unit_laws.proofs.TypedEdges.{bound, IsValueWant}
 use Rattle.unit_laws.proofs.TypedNodes.{filled-port, wanted-at, first-edge}
 use Rattle.unit_laws.proofs.TypedOutputs.{OperandsOf}
-use Rattle.unit_laws.proofs.TypedPlans.{ResultsBelong, IsEntered, Plan}
+use Rattle.unit_laws.proofs.TypedPlans.{IsEntered, Plan}
 use Rattle.unit_laws.proofs.TypedParts.{no-simple, at_part, OutputsBelong, enters-part, compound-filled, no-want, part-result, part-count, part-typed, inputs-by, errors-out, results-out, node-input}
 
 member-same : (a b : Member) → Some a ≡ Some b → a ≡ b

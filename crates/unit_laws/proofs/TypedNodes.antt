@@ -148,7 +148,7 @@ module _ (u : Unit1) (ready : IsReady u) (p : Place) (place : Contains (places u
       let r = found-edge u ready p place l port e f in
       let x = wanted-here u ready p place e r.0 (subst IsValueWant (sym (ap (λ n. want_at p.graph n e.port) r.1 ∙ ap (want_at p.graph l) r.2)) v) in
       let w : IsWanted u p l (node_at (out-Graph p.graph).nodes l) port x.0 =
-          subst (λ q. IsWanted u p l (node_at (out-Graph p.graph).nodes l) q x.0) r.2 (subst (λ m. IsWanted u p m (node_at (out-Graph p.graph).nodes m) e.port x.0) r.1 x.2.wanted) in
+      subst (λ q. IsWanted u p l (node_at (out-Graph p.graph).nodes l) q x.0) r.2 (subst (λ m. IsWanted u p m (node_at (out-Graph p.graph).nodes m) e.port x.0) r.1 x.2.wanted) in
       record {
         edge = e;
         found = f;

@@ -82,7 +82,7 @@ no-reduce-or (simple.Reduce g) = inr (g, refl)
 no-reduce-or _ = inl tt
 
 -- only the first port of a Reduce takes the name of a reduction
-reduction-first : (o : Simple) (i : ℕ) → wanted o (suc i) ≡ Some want.Reduction → i ≡ 0
+pub reduction-first : (o : Simple) (i : ℕ) → wanted o (suc i) ≡ Some want.Reduction → i ≡ 0
 reduction-first o i e =
     elim (no-reduce-or o) [
       | inl h ↦ absurd (no-reduction o h i e)
@@ -226,10 +226,10 @@ module _ (u : Unit1) (ready : IsReady u) (p : Place) (place : Contains (places u
           let w = wholly h in
           let many : length ks ≡ w.count = given.long ∙ first-width w.count (ports_into p.graph l) w.first in (
             given-from k o 1 ks
-            (λ i lt.
-            let x = first-edge p.graph l w.count w.first i (omega (arith, lt, many)) in
-            let next : suc i ≡ 1 + i = omega arith in
-            subst (λ q. GivenAt k q (wanted o q) (get_or ks i Unfilled)) next (given-at i x.0 x.1)),
+                (λ i lt.
+                let x = first-edge p.graph l w.count w.first i (omega (arith, lt, many)) in
+                let next : suc i ≡ 1 + i = omega arith in
+                subst (λ q. GivenAt k q (wanted o q) (get_or ks i Unfilled)) next (given-at i x.0 x.1)),
             let enough = w.enough in omega (arith, enough, many),
           )
 

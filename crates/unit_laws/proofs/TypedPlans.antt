@@ -31,15 +31,10 @@ use Rattle.graph_meaning.specs.Demand.{Source, Fixed, Net, Network}
 use Rattle.graph_meaning.specs.Networks.{net_of, network, source_at, sources}
 use Rattle.graph_meaning.proofs.Numbers.{found-by-number}
 use Rattle.typed_rows.proofs.ValueKinds.{of_error}
-use Rattle.unit_laws.specs.Typed.{Belongs, Fills, InputsBelong, typed_at, valued}
+use Rattle.unit_laws.specs.Typed.{Belongs, Fills, InputsBelong, ResultsBelong, typed_at, valued}
 use Rattle.unit_laws.proofs.TypeLists.{some-same}
 use Rattle.unit_laws.proofs.TypedEdges.{bound, IsValueWant, node-formed, ports-at, wanted-here, found-edge, SourceGives, valued-is, port-gives}
 use Rattle.unit_laws.proofs.TypedNodes.{first-width, first-edge, port-filled, width-over}
-
--- the results of a graph: as many as it has, each of the type of its edge
-pub record ResultsBelong (u : Unit1) (q : Place) (rs : List Carried) : Type 0 where
-  pub long : length rs ≡ results q.graph
-  pub fills : Fills (λ i. carried u q.graph 0 (suc i)) rs
 
 -- a graph that is entered, with inputs of its types
 pub record IsEntered (u : Unit1) (g : ℕ) (ins : List Carried) : Type 0 where

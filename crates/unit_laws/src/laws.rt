@@ -1,5 +1,5 @@
 //! The laws of whole units.
-ghost use Rattle.unit_laws.specs.Laws.{AreAlikeMeant, AreAlikeCosted};
+ghost use Rattle.unit_laws.specs.Laws.{AreAlikeMeant, AreAlikeCosted, ArePortsTyped, AreNodesTyped, AreResultsTyped};
 
 /// Units that differ in marks alone mean the same.
 pub fn alike_units_mean_the_same()
@@ -9,4 +9,21 @@ pub fn alike_units_mean_the_same()
 /// Units that differ in marks alone cost the same.
 pub fn alike_units_cost_the_same()
     ensures { AreAlikeCosted }
+{}
+
+/// In a graph of a ready unit, on inputs of its types, what a port carries belongs to the type of the edge
+/// into it.
+pub fn what_ports_carry_is_of_their_types()
+    ensures { ArePortsTyped }
+{}
+
+/// There each node, a compound one and a Call too, has as many outputs as it is to have, each of the type of
+/// the edges that leave it.
+pub fn outputs_of_nodes_are_of_their_types()
+    ensures { AreNodesTyped }
+{}
+
+/// There the graph has as many results as it is to have, each of its type.
+pub fn results_of_graphs_are_of_their_types()
+    ensures { AreResultsTyped }
 {}
