@@ -19,3 +19,5 @@ pub mod TypedLoops
 pub mod TypedCalls
 pub mod TypedNodePlans
 pub mod TypedRuns
+pub mod TypedFits
+pub mod TypedStrict

@@ -167,7 +167,7 @@ module _ (u : Unit1) (ready : IsReady u) (p : Place) (place : Contains (places u
                   over : width p.graph l ≤ i → ⊥
                   over le = let x = edge-below u p.graph l i e f in omega (arith, le, x)
 
-      operands : OperandsOf u p.graph l ks
+      pub operands : OperandsOf u p.graph l ks
       operands = operands-of a named-at
 
       typed-out : (i : ℕ) (s : Sort) → Leaving u ready p place l (suc i) s → (o ≢ simple.Call) → Belongs s (get_or (op o (shape_of u p.graph l o) ks) i Unfilled)
@@ -224,6 +224,13 @@ module _ (u : Unit1) (ready : IsReady u) (p : Place) (place : Contains (places u
           }
 
     -- ---- any node
+
+    pub simple-kind-is : (o : Simple) → o ≢ simple.Call → simple_at (out-Node n).op ≡ Some o → compound_at (out-Node n).op ≡ None → kind_of u p.graph n ≡ Simply o (shape_of u p.graph l o)
+    simple-kind-is o ne is none = ap (λ c. kind_as u p.graph n c (simple_at (out-Node n).op)) none ∙ (ap (kind_as u p.graph n None) is ∙ go o ne)
+      where
+        go : (o : Simple) → o ≢ simple.Call → kind_as u p.graph n None (Some o) ≡ Simply o (shape_of u p.graph l o)
+        go simple.Call ne = absurd (ne refl)
+        go o ne = refl
 
     by-simple : (o : Simple) → simple_at (out-Node n).op ≡ Some o → compound_at (out-Node n).op ≡ None → (k : Kind) → kind_as u p.graph n None (Some o) ≡ k → AllGive u ready p place (ins_of u p.graph l k) ks → KindGoes u k ks OutputsFor
     by-simple simple.Call is none k e a = subst (λ k. AllGive u ready p place (ins_of u p.graph l k) ks → KindGoes u k ks OutputsFor) e (λ a. call-goes is none a) a

@@ -47,13 +47,13 @@ use Rattle.unit_laws.proofs.TypedNodes.{first-width, first-edge, filled-port, po
 
 -- ---- rows
 
-abbrev NotPartial : Rest → Type 0
+abbrev pub NotPartial : Rest → Type 0
 NotPartial Fields = ⊥
 NotPartial NewFields = ⊥
 NotPartial Arguments = ⊥
 NotPartial _ = Unit {0}
 
-wholly-rest : (o : Simple) → IsWhollyFilled o → NotPartial (row_of o).rest
+pub wholly-rest : (o : Simple) → IsWhollyFilled o → NotPartial (row_of o).rest
 wholly-rest (simple.Two two.Plus) h = tt
 wholly-rest (simple.Two two.Minus) h = tt
 wholly-rest (simple.Two two.Times) h = tt
@@ -77,7 +77,7 @@ wholly-rest simple.RBuild h = absurd h
 wholly-rest simple.RReplace h = absurd h
 wholly-rest _ h = tt
 
-no-reduce-or : (o : Simple) → IsNoReduce o ⊎ ((g : Grouping) × (o ≡ simple.Reduce g))
+pub no-reduce-or : (o : Simple) → IsNoReduce o ⊎ ((g : Grouping) × (o ≡ simple.Reduce g))
 no-reduce-or (simple.Reduce g) = inr (g, refl)
 no-reduce-or _ = inl tt
 

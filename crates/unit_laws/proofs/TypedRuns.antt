@@ -111,7 +111,7 @@ module _ (u : Unit1) (ready : IsReady u) where
         let out = outputs-right m v.kind ks rs b (OutputsFor u ready p place n.node n.inside) (subst (λ (z : Vertex). KindGoes u z.kind ks (OutputsFor u ready p place n.node n.inside)) n.is goes) in
         record { holds = output-belongs p place n.node n.inside l n.label rs out q s (port-from-one p place (suc l) q s x) x }
 
-    all-right : (m k : ℕ) (ins : List Carried) (os : List Source) (cs : List Carried) → CarryAll (network u) m k ins os cs → (p : Place) (place : Contains (places u) p) → network u k ≡ net_of u p.graph → InputsBelong u p ins → Up (AllGive u ready p place os cs)
+    pub all-right : (m k : ℕ) (ins : List Carried) (os : List Source) (cs : List Carried) → CarryAll (network u) m k ins os cs → (p : Place) (place : Contains (places u) p) → network u k ≡ net_of u p.graph → InputsBelong u p ins → Up (AllGive u ready p place os cs)
     all-right _ _ _ _ _ (no_port m k ins) p place e h = record { holds = record { count = refl; fills = λ at x i s f. absurd (x i s f); fixed = λ i c f. absurd cc } }
     all-right _ _ _ _ _ (port m k ins o os c cs a b) p place e h =
         record { holds = joined p place m k ins o os c cs a (λ s x. (carries-right m k ins o c a p place e h s x).holds) (all-right m k ins os cs b p place e h).holds }

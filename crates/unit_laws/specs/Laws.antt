@@ -1,8 +1,11 @@
 -- The laws of what whole units mean.
-use Rattle.std.specs.Prelude.{◌≡◌, ℕ, suc, List, Some, Contains}
+use Rattle.std.specs.Prelude.{◌≡◌, ◌≢◌, ℕ, List, Some, None, Contains}
 use Rattle.if1_graph.specs.declared.graph.Graph.TheViews.{out-Graph}
-use Rattle.if1_graph.specs.declared.graph.Node.{Node}
+use Rattle.if1_graph.specs.declared.graph.Node.{Node, out-Node}
 use Rattle.if1_graph.specs.declared.graph.Unit1.{Unit1}
+use Rattle.if1_graph.specs.declared.op.Simple.{Simple}
+use Rattle.if1_graph.specs.declared.op.Simple.TheVariants as simple
+use Rattle.if1_graph.specs.Ops.{simple_at, compound_at}
 use Rattle.if1_graph.specs.Ready.{IsReady}
 use Rattle.if1_graph.specs.Types.{Sort}
 use Rattle.if1_graph.specs.Units.{Place, places, number_of}
@@ -10,7 +13,7 @@ use Rattle.if1_marks.specs.Alike.{AreAlike}
 use Rattle.graph_meaning.specs.Carried.{Carried}
 use Rattle.graph_meaning.specs.Networks.{source_at, kind_of, vertex_of, network}
 use Rattle.graph_meaning.specs.Plain.{Carries, CarryAll, Outputs, Means, Costs}
-use Rattle.unit_laws.specs.Typed.{Belongs, InputsBelong, ResultsBelong, NodeGives, typed_at}
+use Rattle.unit_laws.specs.Typed.{Belongs, InputsBelong, ResultsBelong, NodeGives, OperandsFit, typed_at}
 
 -- ---- marks
 
@@ -39,3 +42,9 @@ AreNodesTyped = (u : Unit1) → IsReady u → (p : Place) → Contains (places u
 -- and so have the graph's results
 abbrev pub AreResultsTyped : Type 0
 AreResultsTyped = (u : Unit1) → IsReady u → (p : Place) → Contains (places u) p → (n : ℕ) (ins : List Carried) → InputsBelong u p ins → (rs : List Carried) → Means (network u) n (number_of p) ins rs → ResultsBelong u p rs
+
+-- what is carried into a simple node other than a Call fits its row
+abbrev pub AreOperandsFit : Type 0
+AreOperandsFit = (u : Unit1) → IsReady u → (p : Place) → Contains (places u) p → (n : ℕ) (ins : List Carried) → InputsBelong u p ins
+    → (m : Node) → Contains (out-Graph p.graph).nodes m → (o : Simple) → simple_at (out-Node m).op ≡ Some o → compound_at (out-Node m).op ≡ None → o ≢ simple.Call
+    → (ks : List Carried) → CarryAll (network u) n (number_of p) ins (vertex_of u p.graph m).ins ks → OperandsFit u p m o ks

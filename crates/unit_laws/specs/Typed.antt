@@ -1,6 +1,7 @@
 -- Values and multiples that belong to the type of an edge.
 use Rattle.std.specs.Prelude.{◌≡◌, ℕ, suc, true, List, length, get_or, Option, Some, None, Contains}
 use Rattle.std.specs.List.{list_all}
+use Rattle.flow_value.specs.declared.cause.Cause.{Cause}
 use Rattle.flow_value.specs.Well.{is_well}
 use Rattle.if1_graph.specs.declared.graph.Edge.{Edge}
 use Rattle.if1_graph.specs.declared.graph.Graph.{Graph}
@@ -8,6 +9,7 @@ use Rattle.if1_graph.specs.declared.graph.Graph.TheViews.{out-Graph}
 use Rattle.if1_graph.specs.declared.graph.Node.{Node}
 use Rattle.if1_graph.specs.declared.graph.Origin.TheVariants.{Port}
 use Rattle.if1_graph.specs.declared.graph.Unit1.{Unit1}
+use Rattle.if1_graph.specs.declared.op.Simple.{Simple}
 use Rattle.if1_graph.specs.declared.row.Want.{Want}
 use Rattle.if1_graph.specs.declared.row.Want.TheVariants as want
 use Rattle.if1_graph.specs.Formed.{want_at}
@@ -17,6 +19,9 @@ use Rattle.if1_graph.specs.Types as types
 use Rattle.if1_graph.specs.Typing.{FitsInput}
 use Rattle.if1_graph.specs.Units.{label_of, results, Place}
 use Rattle.graph_meaning.specs.Carried.{Carried, Value, Many, Spoiled, Unfilled}
+use Rattle.graph_meaning.specs.Networks.{shape_of}
+use Rattle.graph_meaning.specs.NodeValues.{op}
+use Rattle.graph_meaning.specs.Strict.{IsFit, first_strict, AreErrors}
 use Rattle.typed_rows.specs.Rows.{Of}
 
 -- A value of the type, or a multiple of values of its element type, which may be an error. Of the names of functions, which are no
@@ -54,3 +59,8 @@ pub record ResultsBelong (u : Unit1) (p : Place) (rs : List Carried) : Type 0 wh
 pub record NodeGives (u : Unit1) (p : Place) (n : Node) (rs : List Carried) : Type 0 where
   pub count : outputs u p.graph n ≡ Some (length rs)
   pub typed : (i : ℕ) (s : Sort) (e : Edge) → Contains (out-Graph p.graph).edges e → e.from ≡ Port (label_of n) (suc i) → valued (want_at p.graph e.node e.port) (sort_at u.types e.ty) ≡ Some s → Belongs s (get_or rs i Unfilled)
+
+-- What is carried into a simple node fits its row, and so the error of the least strict port that carries one is every output.
+pub record OperandsFit (u : Unit1) (p : Place) (n : Node) (o : Simple) (ks : List Carried) : Type 0 where
+  pub fit : IsFit o ks
+  pub least : (c : Cause) → first_strict o 1 ks ≡ Some c → AreErrors c (op o (shape_of u p.graph (label_of n) o) ks)

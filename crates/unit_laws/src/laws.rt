@@ -1,5 +1,5 @@
 //! The laws of whole units.
-ghost use Rattle.unit_laws.specs.Laws.{AreAlikeMeant, AreAlikeCosted, ArePortsTyped, AreNodesTyped, AreResultsTyped};
+ghost use Rattle.unit_laws.specs.Laws.{AreAlikeMeant, AreAlikeCosted, ArePortsTyped, AreNodesTyped, AreResultsTyped, AreOperandsFit};
 
 /// Units that differ in marks alone mean the same.
 pub fn alike_units_mean_the_same()
@@ -26,4 +26,10 @@ pub fn outputs_of_nodes_are_of_their_types()
 /// There the graph has as many results as it is to have, each of its type.
 pub fn results_of_graphs_are_of_their_types()
     ensures { AreResultsTyped }
+{}
+
+/// There what is carried into a simple node fits its row, and so the error of the least strict port that
+/// carries one is every output.
+pub fn operands_of_simple_nodes_fit()
+    ensures { AreOperandsFit }
 {}

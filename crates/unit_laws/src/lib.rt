@@ -5,6 +5,7 @@
 mod laws;
 
 pub use laws::{
-    alike_units_cost_the_same, alike_units_mean_the_same, outputs_of_nodes_are_of_their_types,
-    results_of_graphs_are_of_their_types, what_ports_carry_is_of_their_types,
+    alike_units_cost_the_same, alike_units_mean_the_same, operands_of_simple_nodes_fit,
+    outputs_of_nodes_are_of_their_types, results_of_graphs_are_of_their_types,
+    what_ports_carry_is_of_their_types,
 };
