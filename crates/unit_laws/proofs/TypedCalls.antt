@@ -1,34 +1,31 @@
 -- What a Call does on typed arguments.
-use Rattle.std.proofs.Common.{◌≡◌, ◌≢◌, ℕ, zero, suc, ◌+◌, ◌-◌, ◌<◌, ◌≤◌, Bool, true, false, List, [], ◌∷◌, map, length, drop, get_or, option_map, Option, Some, None, Contains, ◌⊎◌, inl, inr, refl, sym, ap, subst, ◌∙◌, arith}
-use Rattle.std.specs.Prelude.{slice_get, unwrap_or, MatchOption, bytes_eq}
+use Rattle.std.proofs.Common.{◌≡◌, ℕ, zero, suc, ◌+◌, ◌-◌, ◌<◌, List, [], ◌∷◌, length, option_map, Option, Some, None, Contains, inl, inr, sym, ap, subst, ◌∙◌, arith}
+use Rattle.std.specs.Prelude.{slice_get, unwrap_or, bytes_eq}
 use Rattle.flow_value.specs.declared.ty.Ty.{Ty}
 use Rattle.if1_graph.specs.declared.graph.Edge.{Edge}
 use Rattle.if1_graph.specs.declared.graph.Graph.{Graph}
 use Rattle.if1_graph.specs.declared.graph.Graph.TheViews.{out-Graph}
 use Rattle.if1_graph.specs.declared.graph.Node.{Node, out-Node}
 use Rattle.if1_graph.specs.declared.graph.Unit1.{Unit1}
-use Rattle.if1_graph.specs.declared.op.Simple.{Simple}
 use Rattle.if1_graph.specs.declared.op.Simple.TheVariants as simple
-use Rattle.if1_graph.specs.declared.row.Want.{Want}
 use Rattle.if1_graph.specs.declared.row.Want.TheVariants as want
 use Rattle.if1_graph.specs.Formed.{function_named, want_at}
 use Rattle.if1_graph.specs.Ops.{simple_at, compound_at}
-use Rattle.if1_graph.specs.Ports.{AreFirst, AreArguments, AreAtLeast, carried, literal_at, callee, arguments_of, results_of, outputs, outputs_as, given_outputs}
+use Rattle.if1_graph.specs.Ports.{AreFirst, AreArguments, carried, literal_at, callee, arguments_of, results_of, outputs, outputs_as}
 use Rattle.if1_graph.specs.Ready.{IsReady}
-use Rattle.if1_graph.specs.Rows.{operand_of, output_of}
-use Rattle.if1_graph.specs.Tables.{◌>>=◌, at_port}
+use Rattle.if1_graph.specs.Tables.{◌>>=◌}
 use Rattle.if1_graph.specs.Types.{Sort, Plain, sort_at}
 use Rattle.if1_graph.specs.Types as types
 use Rattle.if1_graph.specs.Typing.{known, IsListed, Fits, FitsNode, IsWanted, IsFunctionName, kind_of, function_type}
-use Rattle.if1_graph.specs.Units.{label_of, node_at, edge_into, ports_into, width, results, Function, Place, places, number_of}
+use Rattle.if1_graph.specs.Units.{label_of, node_at, edge_into, ports_into, results, Function, Place, places}
 use Rattle.if1_marks.proofs.Lists.{here-or-there, in-none, found-in}
-use Rattle.graph_meaning.specs.Carried.{Carried, Unfilled}
+use Rattle.graph_meaning.specs.Carried.{Carried}
 use Rattle.graph_meaning.specs.Forms.{Form, Next, Stage, Enter, Iterate, Leave, next_of, first, follow}
 use Rattle.graph_meaning.specs.Forms as forms
 use Rattle.graph_meaning.specs.Networks.{network, net_of, number_or_zero, callee_number}
-use Rattle.unit_laws.specs.Typed.{Belongs, Fills, InputsBelong, ResultsBelong, typed_at, valued}
+use Rattle.unit_laws.specs.Typed.{Fills, InputsBelong, ResultsBelong, typed_at, valued}
 use Rattle.unit_laws.proofs.TypeLists.{some-same}
-use Rattle.unit_laws.proofs.TypedEdges.{bound, IsValueWant, edge-typed, found-edge, Leaving}
+use Rattle.unit_laws.proofs.TypedEdges.{bound, IsValueWant, edge-typed, found-edge}
 use Rattle.unit_laws.proofs.TypedNodes.{first-edge, filled-port, node-found, wanted-at, want-is}
 use Rattle.unit_laws.proofs.TypedOutputs.{filled, output-given}
 use Rattle.unit_laws.proofs.TypedPlans.{IsEntered, Plan, function-place, net-found, results-are, result-fits, result-typed}

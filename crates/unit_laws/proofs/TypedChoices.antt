@@ -1,13 +1,11 @@
 -- What a Select and a TagCase do on typed operands.
-use Rattle.std.proofs.Common.{◌≡◌, ◌≢◌, ℕ, zero, suc, ◌+◌, ◌-◌, ◌<◌, ◌≤◌, ℤ, pos, negsuc, Bool, true, false, List, [], ◌∷◌, ◌++◌, map, length, drop, get_or, option_map, Option, Some, None, Contains, All, ◌⊎◌, inl, inr, refl, sym, ap, subst, ◌∙◌, arith}
+use Rattle.std.proofs.Common.{◌≡◌, ℕ, zero, suc, ◌<◌, pos, negsuc, true, List, [], ◌∷◌, map, length, drop, get_or, Option, Some, None, Contains, All, refl, sym, ap, subst, ◌∙◌, arith}
 use Rattle.std.specs.Prelude.{slice_get}
 use Rattle.std.proofs.lemmas.List.Elements.{All-contains}
 use Rattle.flow_value.specs.declared.cause.Cause.{Cause}
 use Rattle.flow_value.specs.declared.cause.Cause.TheVariants as cause
-use Rattle.flow_value.specs.declared.ty.Ty.{Ty}
 use Rattle.flow_value.specs.declared.ty.Ty.TheVariants as ty
 use Rattle.flow_value.specs.declared.value.Val.{Val}
-use Rattle.flow_value.specs.declared.value.Val.TheVariants as val
 use Rattle.flow_value.specs.declared.value.Val.TheViews.{out-Val}
 use Rattle.flow_value.specs.Well.{is_well_tag}
 use Rattle.if1_graph.specs.declared.graph.Graph.{Graph}
@@ -17,12 +15,12 @@ use Rattle.if1_graph.specs.declared.graph.Unit1.{Unit1}
 use Rattle.if1_graph.specs.declared.op.Compound.TheVariants as compound
 use Rattle.if1_graph.specs.declared.op.Part.TheVariants as part
 use Rattle.if1_graph.specs.Ops.{simple_at, compound_at}
-use Rattle.if1_graph.specs.Ports.{AreAtLeast, IsAssociation, carried, tags_of, most_results, compound_outputs}
+use Rattle.if1_graph.specs.Ports.{IsAssociation, carried, tags_of, compound_outputs}
 use Rattle.if1_graph.specs.Ready.{IsReady}
 use Rattle.if1_graph.specs.Tables.{◌>>=◌, at_port}
 use Rattle.if1_graph.specs.Types.{Member, Sort, Plain}
-use Rattle.if1_graph.specs.Typing.{FitsNode, FitsContent, FitsNodeInput, IsMember}
-use Rattle.if1_graph.specs.Units.{label_of, edge_into, width, results, ports_into, Place, places}
+use Rattle.if1_graph.specs.Typing.{FitsNode, FitsContent, FitsNodeInput}
+use Rattle.if1_graph.specs.Units.{label_of, width, Place, places}
 use Rattle.if1_order.proofs.Members.{contains_got}
 use Rattle.graph_meaning.specs.Carried.{Carried, Value, Unfilled, val_of}
 use Rattle.graph_meaning.specs.Forms.{Form, Next, Stage, Enter, Iterate, Leave, First, Begins, Skips, next_of, first, follow, errors, enter_arm, arm_in, arm_of, select, enter_chosen}
@@ -34,12 +32,12 @@ use Rattle.unit_laws.specs.Typed.{Belongs, Fills, InputsBelong, ResultsBelong}
 use Rattle.unit_laws.proofs.TypeLists.{some-same}
 use Rattle.unit_laws.proofs.TypeLists as types
 use Rattle.unit_laws.proofs.TypedRows.{at-type}
-use Rattle.unit_laws.proofs.TypedLists.{IsValue, value-of}
-use Rattle.unit_laws.proofs.TypedEdges.{bound, IsValueWant}
-use Rattle.unit_laws.proofs.TypedNodes.{filled-port, wanted-at, first-edge}
+use Rattle.unit_laws.proofs.TypedLists.{value-of}
+use Rattle.unit_laws.proofs.TypedEdges.{IsValueWant}
+use Rattle.unit_laws.proofs.TypedNodes.{filled-port, wanted-at}
 use Rattle.unit_laws.proofs.TypedOutputs.{OperandsOf}
 use Rattle.unit_laws.proofs.TypedPlans.{IsEntered, Plan}
-use Rattle.unit_laws.proofs.TypedParts.{no-simple, at_part, OutputsBelong, enters-part, compound-filled, no-want, part-result, part-count, part-typed, inputs-by, errors-out, results-out, node-input}
+use Rattle.unit_laws.proofs.TypedParts.{at_part, OutputsBelong, enters-part, compound-filled, no-want, part-result, part-count, part-typed, inputs-by, errors-out, results-out, node-input}
 
 member-same : (a b : Member) → Some a ≡ Some b → a ≡ b
 member-same a b e = cc

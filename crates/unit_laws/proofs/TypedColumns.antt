@@ -1,19 +1,17 @@
 -- Rows of typed values make typed multiples, and typed multiples rows of typed values.
-use Rattle.std.proofs.Common.{◌≡◌, ℕ, zero, suc, ◌+◌, ◌-◌, ◌<◌, ◌≤◌, Bool, true, false, ◌&&◌, List, [], ◌∷◌, ◌++◌, map, length, drop, get_or, Option, Some, None, refl, sym, ap, subst, ◌∙◌, arith, ◌==◌}
+use Rattle.std.proofs.Common.{◌≡◌, ℕ, zero, suc, ◌+◌, ◌<◌, ◌≤◌, Bool, true, false, ◌&&◌, List, [], ◌∷◌, ◌++◌, map, length, drop, get_or, Option, Some, refl, sym, ap, subst, ◌∙◌, arith}
 use Rattle.std.specs.Prelude.{replicate, nat_eq}
 use Rattle.std.specs.List.{list_all}
 use Rattle.std.proofs.lemmas.Bool.{eqb-true}
 use Rattle.flow_value.specs.declared.ty.Ty.{Ty}
 use Rattle.flow_value.specs.declared.value.Val.{Val}
 use Rattle.flow_value.specs.Well.{is_well}
-use Rattle.flow_reduce.specs.Elements.{or_else}
 use Rattle.if1_graph.specs.Types.{Sort, Plain, Many}
 use Rattle.graph_meaning.specs.Carried.{Carried, Value, Spoiled, Name, Unfilled, val_of}
 use Rattle.graph_meaning.specs.Carried as carried
-use Rattle.graph_meaning.specs.Forms.{before, add_row, columns, columns_after, turn_columns, spoiled, first_spoiled, items, are_as_long, heads, rows_of, places_of}
+use Rattle.graph_meaning.specs.Forms.{before, add_row, columns, columns_after, turn_columns, items, are_as_long, heads, rows_of, places_of}
 use Rattle.typed_rows.proofs.Rows.{and_two}
 use Rattle.unit_laws.specs.Typed.{Belongs, Fills}
-use Rattle.unit_laws.proofs.TypeLists.{some-same}
 use Rattle.unit_laws.proofs.TypedLists.{value-of}
 
 -- ---- lists behind one another

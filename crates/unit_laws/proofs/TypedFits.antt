@@ -1,5 +1,5 @@
 -- What is carried into a simple node of a ready unit fits its row.
-use Rattle.std.proofs.Common.{◌≡◌, ◌≢◌, ℕ, zero, suc, ◌+◌, ◌-◌, ◌<◌, ◌≤◌, Bool, true, false, List, [], ◌∷◌, map, length, get_or, option_map, Option, Some, None, Contains, ◌⊎◌, inl, inr, not, ◌&&◌, refl, sym, ap, subst, ◌∙◌, arith}
+use Rattle.std.proofs.Common.{◌≡◌, ◌≢◌, ℕ, zero, suc, ◌+◌, ◌-◌, ◌≤◌, Bool, true, false, List, [], ◌∷◌, length, get_or, option_map, Option, Some, None, Contains, ◌⊎◌, inl, inr, not, ◌&&◌, refl, sym, ap, subst, ◌∙◌, arith}
 use Rattle.std.specs.Prelude.{slice_get}
 use Rattle.std.proofs.lemmas.Bool.{and_parts}
 use Rattle.flow_value.specs.declared.cause.Cause.{Cause}
@@ -23,22 +23,19 @@ use Rattle.if1_graph.specs.declared.row.Use.{Use}
 use Rattle.if1_graph.specs.declared.row.Want.{Want}
 use Rattle.if1_graph.specs.declared.row.Want.TheVariants as want
 use Rattle.if1_graph.specs.Ops.{simple_at, compound_at, reducer_at}
-use Rattle.if1_graph.specs.Ports.{AreFirst, AreFilled}
+use Rattle.if1_graph.specs.Ports.{AreFilled}
 use Rattle.if1_graph.specs.Ready.{IsReady}
 use Rattle.if1_graph.specs.Rows.{Operand, operand_of, of_rest, row_of}
 use Rattle.if1_graph.specs.Tables.{or_else}
 use Rattle.if1_graph.specs.Types.{Sort, Plain, Many}
-use Rattle.if1_graph.specs.Typing.{Known, known, IsReducible, Fits}
-use Rattle.if1_graph.specs.Units.{label_of, edge_into, ports_into, width, Place, places, number_of}
+use Rattle.if1_graph.specs.Typing.{Known, known, IsReducible}
+use Rattle.if1_graph.specs.Units.{label_of, edge_into, ports_into, width, Place, places}
 use Rattle.graph_meaning.specs.Carried.{Carried, Value, Spoiled, Name, Unfilled}
 use Rattle.graph_meaning.specs.Carried as carried
-use Rattle.graph_meaning.specs.Strict.{Taken, AnyValue, AnInteger, AMultiple, AName, AReduction, taken_of, is_integer, Takes, AllTake, MayHaveValues, FitsRest, Fits as FitsRow, IsFit}
-use Rattle.typed_rows.specs.Rows.{Of}
+use Rattle.graph_meaning.specs.Strict.{AnyValue, AnInteger, AMultiple, AReduction, taken_of, is_integer, Takes, AllTake, MayHaveValues, FitsRest, Fits as FitsRow, IsFit}
 use Rattle.typed_rows.proofs.ValueKinds.{IntKind, an_int, no_int, as_int}
 use Rattle.unit_laws.specs.Typed.{Belongs}
-use Rattle.unit_laws.proofs.TypeLists.{some-same}
 use Rattle.unit_laws.proofs.TypedRows as rows
-use Rattle.unit_laws.proofs.TypedLists.{value-of}
 use Rattle.unit_laws.proofs.TypedSimple.{wanted, GivenAt, GivenFrom, IsWhollyFilled}
 use Rattle.unit_laws.proofs.TypedNodes.{first-width, first-edge, filled-port}
 use Rattle.unit_laws.proofs.TypedEdges.{IsValueWant}

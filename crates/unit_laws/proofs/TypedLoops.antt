@@ -1,13 +1,11 @@
 -- What loops and a ForAll do on typed operands.
-use Rattle.std.proofs.Common.{◌≡◌, ◌≢◌, ℕ, zero, suc, ◌+◌, ◌-◌, ◌<◌, ◌≤◌, Bool, true, false, List, [], ◌∷◌, ◌++◌, map, length, drop, get_or, option_map, Option, Some, None, Contains, ◌⊎◌, inl, inr, refl, sym, ap, subst, ◌∙◌, arith, if◌then◌else◌}
+use Rattle.std.proofs.Common.{◌≡◌, ℕ, suc, ◌+◌, ◌-◌, ◌<◌, Bool, true, false, List, [], ◌∷◌, ◌++◌, map, length, get_or, option_map, Option, Some, None, Contains, refl, sym, ap, subst, ◌∙◌, arith, if◌then◌else◌}
 use Rattle.std.specs.Prelude.{slice_get, nat_le, MatchBool, unwrap_or}
-use Rattle.std.proofs.lemmas.Bool.{leb-true, le-leb}
+use Rattle.std.proofs.lemmas.Bool.{leb-true}
 use Rattle.flow_value.specs.declared.cause.Cause.{Cause}
 use Rattle.flow_value.specs.declared.cause.Cause.TheVariants as cause
-use Rattle.flow_value.specs.declared.ty.Ty.{Ty}
 use Rattle.flow_value.specs.declared.ty.Ty.TheVariants as ty
 use Rattle.flow_value.specs.declared.value.Val.{Val}
-use Rattle.flow_value.specs.declared.value.Val.TheVariants as val
 use Rattle.if1_graph.specs.declared.graph.Graph.{Graph}
 use Rattle.if1_graph.specs.declared.graph.Graph.TheViews.{out-Graph}
 use Rattle.if1_graph.specs.declared.graph.Node.{Node, out-Node}
@@ -17,21 +15,19 @@ use Rattle.if1_graph.specs.declared.op.Compound.TheVariants as compound
 use Rattle.if1_graph.specs.declared.op.Part.{Part}
 use Rattle.if1_graph.specs.declared.op.Part.TheVariants as part
 use Rattle.if1_graph.specs.Ops.{compound_at}
-use Rattle.if1_graph.specs.Parts.{HasParts, part_at, loop_part}
+use Rattle.if1_graph.specs.Parts.{part_at, loop_part}
 use Rattle.if1_graph.specs.Ports.{carried, results_at, compound_outputs}
 use Rattle.if1_graph.specs.Ready.{IsReady}
 use Rattle.if1_graph.specs.Tables.{◌>>=◌}
 use Rattle.if1_graph.specs.Types.{Sort, Plain, Many, sort_at}
-use Rattle.if1_graph.specs.Typing.{result_of, IsElement, IsMultiple, FitsNodeInput, FitsOwnInput, FitsResult, IsPlain, giving_part}
+use Rattle.if1_graph.specs.Typing.{result_of, IsElement, IsMultiple, FitsOwnInput, FitsResult, giving_part}
 use Rattle.if1_graph.specs.Units.{label_of, edge_into, width, results, Place, places}
-use Rattle.graph_meaning.specs.Carried.{Carried, Value, Spoiled, Name, Unfilled, val_of}
-use Rattle.graph_meaning.specs.Carried as carrying
+use Rattle.graph_meaning.specs.Carried.{Carried, Unfilled, val_of}
 use Rattle.graph_meaning.specs.Forms.{Form, Next, Stage, Enter, Iterate, Leave, next_of, first, follow, gather, errors, tested, turn_columns, columns, first_spoiled, are_as_long, rows_of, places_of, items, spread, iterate}
 use Rattle.graph_meaning.specs.Forms as forms
-use Rattle.graph_meaning.specs.Networks.{number_or_zero, part as part_number, form_of}
+use Rattle.graph_meaning.specs.Networks.{part as part_number, form_of}
 use Rattle.typed_rows.proofs.ValueKinds.{BoolKind, a_bool, no_bool, as_bool}
 use Rattle.unit_laws.specs.Typed.{Belongs, Fills, InputsBelong, ResultsBelong}
-use Rattle.unit_laws.proofs.TypeLists.{some-same, many-is, never-many}
 use Rattle.unit_laws.proofs.TypedRows.{at-type}
 use Rattle.unit_laws.proofs.TypedLists.{value-of}
 use Rattle.unit_laws.proofs.TypedEdges.{bound}

@@ -1,9 +1,7 @@
 -- What each node of a ready unit does on what is carried into its ports.
-use Rattle.std.proofs.Common.{◌≡◌, ◌≢◌, ℕ, zero, suc, ◌+◌, ◌-◌, ◌<◌, ◌≤◌, Bool, true, false, List, [], ◌∷◌, map, length, drop, get_or, option_map, Option, Some, None, Contains, ◌⊎◌, inl, inr, refl, sym, ap, subst, ◌∙◌, arith}
-use Rattle.std.specs.Prelude.{slice_get}
+use Rattle.std.proofs.Common.{◌≡◌, ◌≢◌, ℕ, zero, suc, ◌+◌, ◌<◌, ◌≤◌, List, [], ◌∷◌, length, drop, get_or, option_map, Option, Some, None, Contains, ◌⊎◌, inl, inr, refl, sym, ap, subst, ◌∙◌, arith}
 use Rattle.flow_value.specs.declared.operation.Scalar1.TheVariants as one
 use Rattle.flow_value.specs.declared.operation.Scalar2.TheVariants as two
-use Rattle.flow_value.specs.declared.ty.Ty.TheVariants as ty
 use Rattle.if1_graph.specs.declared.graph.Edge.{Edge}
 use Rattle.if1_graph.specs.declared.graph.Graph.{Graph}
 use Rattle.if1_graph.specs.declared.graph.Graph.TheViews.{out-Graph}
@@ -15,32 +13,30 @@ use Rattle.if1_graph.specs.declared.op.Compound.{Compound}
 use Rattle.if1_graph.specs.declared.op.Compound.TheVariants as compound
 use Rattle.if1_graph.specs.declared.op.Simple.{Simple}
 use Rattle.if1_graph.specs.declared.op.Simple.TheVariants as simple
-use Rattle.if1_graph.specs.declared.row.Want.{Want}
 use Rattle.if1_graph.specs.declared.row.Want.TheVariants as want
 use Rattle.if1_graph.specs.Formed.{want_at}
 use Rattle.if1_graph.specs.Ops.{simple_at, compound_at}
-use Rattle.if1_graph.specs.Ports.{IsNamed, IsNodeFilled, IsFilledAs, carried, literal_at, text_of, fields_of, compound_outputs, given_outputs, outputs, outputs_as}
+use Rattle.if1_graph.specs.Ports.{IsNamed, IsFilledAs, carried, literal_at, text_of, fields_of, compound_outputs, given_outputs, outputs, outputs_as}
 use Rattle.if1_graph.specs.Ready.{IsReady}
 use Rattle.if1_graph.specs.Rows.{row_of}
 use Rattle.if1_graph.specs.Tables.{◌>>=◌}
-use Rattle.if1_graph.specs.Types.{Member, Sort, Plain}
+use Rattle.if1_graph.specs.Types.{Member, Sort}
 use Rattle.if1_graph.specs.Units.{label_of, edge_into, width, Place, places}
 use Rattle.graph_meaning.specs.Carried.{Carried, Name, Unfilled}
-use Rattle.graph_meaning.specs.NodeValues.{Shape, op}
-use Rattle.graph_meaning.specs.NodeValues as shape
+use Rattle.graph_meaning.specs.NodeValues.{op}
 use Rattle.graph_meaning.specs.Forms.{Form, next_of, first}
 use Rattle.graph_meaning.specs.Forms as form
 use Rattle.graph_meaning.specs.Demand.{Source, Fixed, Kind, Plain as Simply, Whole}
 use Rattle.graph_meaning.specs.Laws.{outputs_by}
 use Rattle.graph_meaning.specs.Networks.{source_from, source_by, source_at, sources, fields_shape, shape_of, form_of, kind_as, kind_of, ins_of, callee_number}
 use Rattle.graph_meaning.proofs.Outputs.{outputs-counted}
-use Rattle.unit_laws.specs.Typed.{Belongs, Fills, typed_at, valued}
-use Rattle.unit_laws.proofs.TypeLists.{some-same, out_rec}
-use Rattle.unit_laws.proofs.TypedEdges.{SourceGives, Leaving}
+use Rattle.unit_laws.specs.Typed.{Belongs, Fills, typed_at}
+use Rattle.unit_laws.proofs.TypeLists.{out_rec}
+use Rattle.unit_laws.proofs.TypedEdges.{Leaving}
 use Rattle.unit_laws.proofs.TypedNodes.{node-filled, want-is, first-edge, port-filled, width-over}
-use Rattle.unit_laws.proofs.TypedSimple.{wanted, IsWhollyFilled}
+use Rattle.unit_laws.proofs.TypedSimple.{IsWhollyFilled}
 use Rattle.unit_laws.proofs.TypedOutputs.{reduction-first, OperandsOf, filled, operand-at, wholly, whole-outputs, built-outputs, changed-outputs}
-use Rattle.unit_laws.proofs.TypedPlans.{Plan, SourceAt, AllGive, sources-count, source-found, typed-below, ports-give}
+use Rattle.unit_laws.proofs.TypedPlans.{Plan, SourceAt, AllGive, sources-count, source-found, ports-give}
 use Rattle.unit_laws.proofs.TypedParts.{OutputsBelong, no-want, outputs-are}
 use Rattle.unit_laws.proofs.TypedChoices.{select-plan, select-begins, arms-plan, arms-begin}
 use Rattle.unit_laws.proofs.TypedLoops.{plan-a, begins-a, plan-b, begins-b, all-plan, all-begins}

@@ -1,33 +1,25 @@
 -- Simple nodes of a ready unit: what is carried into their ports fits, and so do their outputs.
-use Rattle.std.proofs.Common.{◌≡◌, ◌≢◌, ℕ, zero, suc, ◌+◌, ◌-◌, ◌<◌, ◌≤◌, max, Bool, true, false, ◌&&◌, List, [], ◌∷◌, map, find, length, get_or, option_map, Option, Some, None, IsSome, Contains, All, ◌⊎◌, inl, inr, refl, sym, ap, subst, ◌∙◌, cond, arith, ◌==◌}
-use Rattle.std.specs.Prelude.{MatchOption, slice_get}
+use Rattle.std.proofs.Common.{◌≡◌, ℕ, zero, suc, ◌<◌, ◌≤◌, Bool, true, false, ◌&&◌, List, [], ◌∷◌, map, find, option_map, Option, Some, None, Contains, ◌⊎◌, inl, inr, refl, sym, ap, subst, ◌∙◌, cond, arith, ◌==◌}
 use Rattle.std.specs.List.{filter}
 use Rattle.std.proofs.lemmas.Bool.{eq-eqb, and_from}
-use Rattle.std.proofs.lemmas.List.Elements.{All-contains}
-use Rattle.flow_value.specs.declared.ty.Ty.{Ty}
-use Rattle.flow_value.specs.declared.ty.Ty.TheVariants as ty
 use Rattle.if1_graph.specs.declared.graph.Edge.{Edge}
 use Rattle.if1_graph.specs.declared.graph.Graph.{Graph}
 use Rattle.if1_graph.specs.declared.graph.Graph.TheViews.{out-Graph}
 use Rattle.if1_graph.specs.declared.graph.Node.{Node, out-Node}
 use Rattle.if1_graph.specs.declared.graph.Unit1.{Unit1}
-use Rattle.if1_graph.specs.declared.op.Compound.{Compound}
 use Rattle.if1_graph.specs.declared.op.Simple.{Simple}
-use Rattle.if1_graph.specs.declared.row.Want.{Want}
-use Rattle.if1_graph.specs.declared.row.Want.TheVariants as want
-use Rattle.if1_graph.specs.Formed.{IsOnce, IsGraph, want_at}
+use Rattle.if1_graph.specs.Formed.{IsOnce, want_at}
 use Rattle.if1_graph.specs.Ops.{simple_at, compound_at}
-use Rattle.if1_graph.specs.Ports.{AreFirst, AreAtLeast, IsEndFilled, IsNodeFilled, carried}
+use Rattle.if1_graph.specs.Ports.{AreFirst, IsEndFilled, IsNodeFilled, carried}
 use Rattle.if1_graph.specs.Ready.{IsReady}
-use Rattle.if1_graph.specs.Rows.{Operand, operand_of, row_of}
+use Rattle.if1_graph.specs.Rows.{Operand, operand_of}
 use Rattle.if1_graph.specs.Tables.{◌>>=◌}
 use Rattle.if1_graph.specs.Types.{Sort, sort_at}
-use Rattle.if1_graph.specs.Typing.{known, Fits, FitsNode, IsWanted}
-use Rattle.if1_graph.specs.Units.{label_of, greatest, node_at, edge_into, edges_into, ports_into, width, ends, Place, places}
+use Rattle.if1_graph.specs.Typing.{FitsNode, IsWanted}
+use Rattle.if1_graph.specs.Units.{label_of, greatest, node_at, edge_into, edges_into, ports_into, width, Place, places}
 use Rattle.if1_marks.proofs.Lists.{here, there, here-or-there, in-none, in-mapped, found-in, in-filter}
 use Rattle.if1_marks.proofs.Tests.{same-number, no-both}
-use Rattle.unit_laws.proofs.TypeLists.{some-same}
-use Rattle.unit_laws.proofs.TypedEdges.{bound, IsValueWant, graph-formed, ports-at, node-end, IsWantedHere, wanted-here, found-edge}
+use Rattle.unit_laws.proofs.TypedEdges.{IsValueWant, graph-formed, ports-at, node-end, wanted-here, found-edge}
 
 -- ---- ports
 

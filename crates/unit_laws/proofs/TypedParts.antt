@@ -1,37 +1,31 @@
 -- The graphs in a compound node of a ready unit: what comes in, and what they give.
-use Rattle.std.proofs.Common.{◌≡◌, ◌≢◌, ℕ, zero, suc, ◌+◌, ◌-◌, ◌<◌, ◌≤◌, Bool, true, false, List, [], ◌∷◌, ◌++◌, map, length, drop, get_or, option_map, Option, Some, None, Contains, ◌⊎◌, inl, inr, refl, sym, ap, subst, ◌∙◌, arith, ◌==◌, if◌then◌else◌}
+use Rattle.std.proofs.Common.{◌≡◌, ℕ, zero, suc, ◌+◌, ◌-◌, ◌<◌, ◌≤◌, Bool, true, false, List, [], ◌∷◌, map, length, get_or, option_map, Option, Some, None, Contains, ◌⊎◌, inl, inr, refl, sym, ap, subst, ◌∙◌, arith, ◌==◌, if◌then◌else◌}
 use Rattle.std.specs.Prelude.{slice_get, unwrap_or, nat_le, MatchBool, MatchOption}
-use Rattle.std.proofs.lemmas.Bool.{leb-true, le-leb, eq-eqb}
+use Rattle.std.proofs.lemmas.Bool.{leb-true, le-leb}
 use Rattle.flow_value.specs.declared.cause.Cause.{Cause}
-use Rattle.flow_value.specs.declared.ty.Ty.{Ty}
-use Rattle.if1_graph.specs.declared.graph.Edge.{Edge}
 use Rattle.if1_graph.specs.declared.graph.Graph.{Graph}
 use Rattle.if1_graph.specs.declared.graph.Graph.TheViews.{out-Graph}
 use Rattle.if1_graph.specs.declared.graph.Node.{Node, out-Node}
-use Rattle.if1_graph.specs.declared.graph.Origin.{Origin}
 use Rattle.if1_graph.specs.declared.graph.Origin.TheVariants as origin
 use Rattle.if1_graph.specs.declared.graph.Unit1.{Unit1}
 use Rattle.if1_graph.specs.declared.op.Compound.{Compound}
-use Rattle.if1_graph.specs.declared.op.Compound.TheVariants as compound
 use Rattle.if1_graph.specs.declared.op.Part.{Part}
-use Rattle.if1_graph.specs.declared.op.Part.TheVariants as part
-use Rattle.if1_graph.specs.declared.op.Simple.{Simple}
 use Rattle.if1_graph.specs.Formed.{want_at}
 use Rattle.if1_graph.specs.Ops.{simple_at, compound_at, compounds}
 use Rattle.if1_graph.specs.Parts.{part_at}
-use Rattle.if1_graph.specs.Ports.{IsUpTo, IsThere, IsCompoundFilled, IsFilledAs, carried, results_at, most_results, compound_outputs, outputs, outputs_as, part_results, part_of, wanted_results}
+use Rattle.if1_graph.specs.Ports.{IsUpTo, IsThere, IsCompoundFilled, IsFilledAs, carried, compound_outputs, outputs, outputs_as, part_results, part_of}
 use Rattle.if1_graph.specs.Ready.{IsReady}
 use Rattle.if1_graph.specs.Rows.{operand_of}
 use Rattle.if1_graph.specs.Tables.{◌>>=◌, beside}
-use Rattle.if1_graph.specs.Types.{Sort, Plain, Many}
-use Rattle.if1_graph.specs.Typing.{result_of, IsPlain, FitsResult, FitsOwnInput, FitsNodeInput, FitsPartInput, FitsInput, FitsBoundary, giving_part, FitsOutputAs}
-use Rattle.if1_graph.specs.Units.{label_of, node_at, width, results, Home, Inside, Place, places, number_of}
+use Rattle.if1_graph.specs.Types.{Sort}
+use Rattle.if1_graph.specs.Typing.{result_of, IsPlain, FitsResult, FitsOwnInput, FitsNodeInput, FitsPartInput, giving_part, FitsOutputAs}
+use Rattle.if1_graph.specs.Units.{label_of, node_at, width, results, Inside, Place, places}
 use Rattle.if1_marks.proofs.Lists.{here, there, here-or-there, in-none}
 use Rattle.if1_marks.proofs.Tests.{same-number, no-both}
 use Rattle.graph_meaning.specs.Carried.{Carried, Unfilled}
-use Rattle.graph_meaning.specs.Forms.{Form, errors}
+use Rattle.graph_meaning.specs.Forms.{errors}
 use Rattle.graph_meaning.specs.Networks.{network, net_of, number_or_zero, part as part_number}
-use Rattle.unit_laws.specs.Typed.{Belongs, Fills, InputsBelong, ResultsBelong, typed_at, valued}
+use Rattle.unit_laws.specs.Typed.{Belongs, InputsBelong, ResultsBelong, valued}
 use Rattle.unit_laws.proofs.TypeLists.{some-same}
 use Rattle.unit_laws.proofs.TypedEdges.{bound, node-formed, edge-there, Leaving}
 use Rattle.unit_laws.proofs.TypedNodes.{node-found, node-filled}

@@ -1,7 +1,6 @@
 -- What a node does on typed operands, step by step: each graph that it enters has inputs of its types.
-use Rattle.std.proofs.Common.{◌≡◌, ◌≢◌, ℕ, zero, suc, ◌+◌, ◌-◌, ◌<◌, ◌≤◌, Bool, true, false, List, [], ◌∷◌, ◌++◌, map, length, get_or, option_map, Option, Some, None, Contains, ◌⊎◌, inl, inr, refl, sym, ap, subst, ◌∙◌, arith, ◌==◌}
-use Rattle.std.specs.Prelude.{slice_get, unwrap_or, replicate}
-use Rattle.std.proofs.lemmas.List.Elements.{All-contains}
+use Rattle.std.proofs.Common.{◌≡◌, ℕ, zero, suc, ◌+◌, ◌<◌, Bool, List, [], ◌∷◌, length, get_or, Option, Some, None, Contains, refl, sym, ap, subst, ◌∙◌, arith, ◌==◌}
+use Rattle.std.specs.Prelude.{slice_get}
 use Rattle.flow_value.specs.declared.cause.Cause.{Cause}
 use Rattle.flow_value.specs.declared.ty.Ty.{Ty}
 use Rattle.flow_value.specs.declared.value.Val.TheVariants as val
@@ -11,23 +10,22 @@ use Rattle.if1_graph.specs.declared.graph.Graph.TheViews.{out-Graph}
 use Rattle.if1_graph.specs.declared.graph.Node.{Node, out-Node}
 use Rattle.if1_graph.specs.declared.graph.Unit1.{Unit1}
 use Rattle.if1_graph.specs.declared.row.Want.{Want}
-use Rattle.if1_graph.specs.Formed.{IsNode, want_at}
+use Rattle.if1_graph.specs.Formed.{want_at}
 use Rattle.if1_graph.specs.Ops.{simple_at}
-use Rattle.if1_graph.specs.Ports.{AreFirst, IsEndFilled, carried, wanted_results, count_from}
+use Rattle.if1_graph.specs.Ports.{AreFirst, IsEndFilled, carried, wanted_results}
 use Rattle.if1_graph.specs.Ready.{IsReady}
 use Rattle.if1_graph.specs.Rows.{operand_of}
 use Rattle.if1_graph.specs.Tables.{◌>>=◌}
-use Rattle.if1_graph.specs.Types.{Sort, Plain, Many, sort_at}
+use Rattle.if1_graph.specs.Types.{Sort, Plain, sort_at}
 use Rattle.if1_graph.specs.Typing.{IsWanted, FitsBoundary}
-use Rattle.if1_graph.specs.Units.{label_of, node_at, edge_into, ports_into, width, results, Home, Function, Inside, Place, places, number_of, ends}
+use Rattle.if1_graph.specs.Units.{label_of, node_at, edge_into, ports_into, width, results, Home, Function, Inside, Place, places, number_of}
 use Rattle.if1_order.specs.Within.{IsWithin, itself, inside}
 use Rattle.if1_order.proofs.Within.{within_from_unit, unit_from_within}
-use Rattle.if1_order.proofs.Members.{contains_got}
 use Rattle.if1_marks.proofs.Lists.{here, found-in}
 use Rattle.if1_marks.proofs.Tests.{same-number}
 use Rattle.graph_meaning.specs.Carried.{Carried, Value, Unfilled}
 use Rattle.graph_meaning.specs.Forms.{Form, Next, Stage, Enter, Iterate, Leave, errors, follow, gather}
-use Rattle.graph_meaning.specs.Demand.{Source, Fixed, Net, Network}
+use Rattle.graph_meaning.specs.Demand.{Source, Fixed}
 use Rattle.graph_meaning.specs.Networks.{net_of, network, source_at, sources}
 use Rattle.graph_meaning.proofs.Numbers.{found-by-number}
 use Rattle.typed_rows.proofs.ValueKinds.{of_error}

@@ -1,35 +1,30 @@
 -- Values belong to their types along a run.
-use Rattle.std.proofs.Common.{◌≡◌, ◌≢◌, ℕ, zero, suc, ◌+◌, ◌-◌, ◌<◌, ◌≤◌, Bool, true, false, List, [], ◌∷◌, map, length, get_or, option_map, Option, Some, None, Contains, ◌⊎◌, inl, inr, refl, sym, ap, subst, ◌∙◌, arith, ◌==◌}
+use Rattle.std.proofs.Common.{◌≡◌, ℕ, zero, suc, ◌-◌, ◌≤◌, List, ◌∷◌, get_or, option_map, Option, Some, None, Contains, refl, sym, ap, subst, ◌∙◌, arith, ◌==◌}
 use Rattle.std.specs.Prelude.{slice_get}
 use Rattle.if1_graph.specs.declared.graph.Edge.{Edge}
-use Rattle.if1_graph.specs.declared.graph.Graph.{Graph}
 use Rattle.if1_graph.specs.declared.graph.Graph.TheViews.{out-Graph}
-use Rattle.if1_graph.specs.declared.graph.Node.{Node, out-Node}
-use Rattle.if1_graph.specs.declared.graph.Origin.{Origin}
+use Rattle.if1_graph.specs.declared.graph.Node.{Node}
 use Rattle.if1_graph.specs.declared.graph.Origin.TheVariants as origin
 use Rattle.if1_graph.specs.declared.graph.Unit1.{Unit1}
 use Rattle.if1_graph.specs.Formed.{IsOrigin, want_at}
-use Rattle.if1_graph.specs.Ports.{outputs}
 use Rattle.if1_graph.specs.Ready.{IsReady}
 use Rattle.if1_graph.specs.Typing.{IsGiven, FitsInput}
 use Rattle.if1_graph.specs.Types.{Sort, sort_at}
-use Rattle.if1_graph.specs.Units.{label_of, node_at, width, results, Home, Place, places, number_of}
-use Rattle.if1_line.specs.Spelling.{IsLabel}
+use Rattle.if1_graph.specs.Units.{label_of, node_at, Place, places, number_of}
 use Rattle.if1_marks.proofs.Lists.{found-in}
 use Rattle.if1_marks.proofs.Tests.{same-number}
 use Rattle.graph_meaning.specs.Carried.{Carried, Unfilled}
-use Rattle.graph_meaning.specs.Forms.{Form, Next, Stage, Enter, Iterate, Leave, next_of, first, follow, gather}
-use Rattle.graph_meaning.specs.Demand.{Source, Port, Fixed, Kind, Plain, Whole, Vertex, Net, at_label}
-use Rattle.graph_meaning.specs.Networks.{kind_of, vertex_of, net_of, network, source_at, ins_of}
-use Rattle.graph_meaning.specs.Plain.{Carries, fixed, input, output, CarryAll, no_port, port, Outputs, simple, whole, Leads, leaves, enters, enters_deeper, iterates, MeanAll, no_row, a_row, Means}
+use Rattle.graph_meaning.specs.Forms.{Form, Next, next_of, first, follow, gather}
+use Rattle.graph_meaning.specs.Demand.{Source, Port, Fixed, Kind, Vertex, Net, at_label}
+use Rattle.graph_meaning.specs.Networks.{kind_of, vertex_of, net_of, network, source_at}
+use Rattle.graph_meaning.specs.Plain.{Carries, fixed, input, output, CarryAll, no_port, port, Outputs, simple, whole, Leads, leaves, enters, enters_deeper, iterates, MeanAll, no_row, a_row}
 use Rattle.graph_meaning.proofs.Units.{at-node}
-use Rattle.unit_laws.specs.Typed.{Belongs, Fills, InputsBelong, valued, typed_at}
+use Rattle.unit_laws.specs.Typed.{Belongs, Fills, InputsBelong, valued}
 use Rattle.unit_laws.specs.Laws.{ArePortsTyped, AreNodesTyped, AreResultsTyped}
 use Rattle.unit_laws.proofs.TypeLists.{some-same}
 use Rattle.unit_laws.proofs.TypedEdges.{edge-formed, valued-is, wanted-here, port-gives, SourceGives, Leaving}
 use Rattle.unit_laws.proofs.TypedPlans.{EachInputs, EachResults, Plan, SourceAt, AllGive, net-found, results-belong}
-use Rattle.unit_laws.proofs.TypedParts.{OutputsBelong}
-use Rattle.unit_laws.proofs.TypedNodePlans.{Going, HasOutputs, KindGoes, OutputsFor, node-goes}
+use Rattle.unit_laws.proofs.TypedNodePlans.{KindGoes, OutputsFor, node-goes}
 
 fixed-same : (c d : Carried) → Fixed c ≡ Fixed d → c ≡ d
 fixed-same c d e = cc

@@ -1,7 +1,5 @@
 -- The law of the least port's error speaks of every simple node of a ready unit.
-use Rattle.std.proofs.Common.{◌≡◌, ◌≢◌, ℕ, List, Some, None, Contains, subst}
-use Rattle.if1_graph.specs.declared.graph.Graph.TheViews.{out-Graph}
-use Rattle.if1_graph.specs.declared.graph.Node.{Node, out-Node}
+use Rattle.std.proofs.Common.{subst}
 use Rattle.if1_graph.specs.Units.{label_of}
 use Rattle.graph_meaning.specs.Demand.{Kind}
 use Rattle.graph_meaning.specs.Networks.{shape_of, ins_of, vertex_of}
