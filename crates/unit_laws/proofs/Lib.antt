@@ -21,3 +21,4 @@ pub mod TypedNodePlans
 pub mod TypedRuns
 pub mod TypedFits
 pub mod TypedStrict
+pub mod Grown

@@ -1,5 +1,5 @@
 -- The laws of what whole units mean.
-use Rattle.std.specs.Prelude.{◌≡◌, ◌≢◌, ℕ, List, Some, None, Contains}
+use Rattle.std.specs.Prelude.{◌≡◌, ◌≢◌, ℕ, Bool, true, List, Some, None, Contains}
 use Rattle.if1_graph.specs.declared.graph.Graph.TheViews.{out-Graph}
 use Rattle.if1_graph.specs.declared.graph.Node.{Node, out-Node}
 use Rattle.if1_graph.specs.declared.graph.Unit1.{Unit1}
@@ -11,8 +11,10 @@ use Rattle.if1_graph.specs.Types.{Sort}
 use Rattle.if1_graph.specs.Units.{Place, places, number_of}
 use Rattle.if1_marks.specs.Alike.{AreAlike}
 use Rattle.graph_meaning.specs.Carried.{Carried}
+use Rattle.graph_meaning.specs.Demand.{Source, Network}
 use Rattle.graph_meaning.specs.Networks.{source_at, kind_of, vertex_of, network}
 use Rattle.graph_meaning.specs.Plain.{Carries, CarryAll, Outputs, Means, Costs}
+use Rattle.unit_laws.specs.Grown.{AreKept, IsGrown}
 use Rattle.unit_laws.specs.Typed.{Belongs, InputsBelong, ResultsBelong, NodeGives, OperandsFit, typed_at}
 
 -- ---- marks
@@ -48,3 +50,17 @@ abbrev pub AreOperandsFit : Type 0
 AreOperandsFit = (u : Unit1) → IsReady u → (p : Place) → Contains (places u) p → (n : ℕ) (ins : List Carried) → InputsBelong u p ins
     → (m : Node) → Contains (out-Graph p.graph).nodes m → (o : Simple) → simple_at (out-Node m).op ≡ Some o → compound_at (out-Node m).op ≡ None → o ≢ simple.Call
     → (ks : List Carried) → CarryAll (network u) n (number_of p) ins (vertex_of u p.graph m).ins ks → OperandsFit u p m o ks
+
+-- ---- growth
+
+-- what a graph means and costs is not changed by graphs that are added
+pub record IsKeptAsBefore (u v : Network) (g : ℕ) : Type 0 where
+  pub means : (n : ℕ) (ins rs : List Carried) → Means u n g ins rs → Means v n g ins rs
+  pub costs : (n : ℕ) (ins : List Carried) (c : ℕ) → Costs u n g ins c → Costs v n g ins c
+
+abbrev pub AreGraphsKept : Type 0
+AreGraphsKept = (P : ℕ → Bool) (u v : Network) → AreKept P u v → (g : ℕ) → P g ≡ true → IsKeptAsBefore u v g
+
+-- what a port of a graph carries is not changed by nodes that are added to it
+abbrev pub ArePortsKept : Type 0
+ArePortsKept = (P : ℕ → Bool) (u v : Network) → AreKept P u v → (g : ℕ) → IsGrown P u v g → (n : ℕ) (ins : List Carried) (o : Source) (c : Carried) → Carries u n g ins o c → Carries v n g ins o c

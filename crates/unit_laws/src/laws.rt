@@ -1,5 +1,5 @@
 //! The laws of whole units.
-ghost use Rattle.unit_laws.specs.Laws.{AreAlikeMeant, AreAlikeCosted, ArePortsTyped, AreNodesTyped, AreResultsTyped, AreOperandsFit};
+ghost use Rattle.unit_laws.specs.Laws.{AreAlikeMeant, AreAlikeCosted, ArePortsTyped, AreNodesTyped, AreResultsTyped, AreOperandsFit, AreGraphsKept, ArePortsKept};
 
 /// Units that differ in marks alone mean the same.
 pub fn alike_units_mean_the_same()
@@ -32,4 +32,14 @@ pub fn results_of_graphs_are_of_their_types()
 /// carries one is every output.
 pub fn operands_of_simple_nodes_fit()
     ensures { AreOperandsFit }
+{}
+
+/// Graphs that are added change nothing of what others mean and cost, if those enter none of them.
+pub fn added_graphs_change_nothing()
+    ensures { AreGraphsKept }
+{}
+
+/// Nodes that are added to a graph change nothing of what its ports carried.
+pub fn added_nodes_change_nothing()
+    ensures { ArePortsKept }
 {}
