@@ -22,3 +22,4 @@ pub mod TypedRuns
 pub mod TypedFits
 pub mod TypedStrict
 pub mod Grown
+pub mod TypedEntered

@@ -23,12 +23,12 @@ use Rattle.graph_meaning.specs.Carried.{Carried}
 use Rattle.graph_meaning.specs.Forms.{Form, Next, Stage, Enter, Iterate, Leave, next_of, first, follow}
 use Rattle.graph_meaning.specs.Forms as forms
 use Rattle.graph_meaning.specs.Networks.{network, net_of, number_or_zero, callee_number}
-use Rattle.unit_laws.specs.Typed.{Fills, InputsBelong, ResultsBelong, typed_at, valued}
+use Rattle.unit_laws.specs.Typed.{Fills, InputsBelong, IsEntered, ResultsBelong, typed_at, valued}
 use Rattle.unit_laws.proofs.TypeLists.{some-same}
 use Rattle.unit_laws.proofs.TypedEdges.{bound, IsValueWant, edge-typed, found-edge}
 use Rattle.unit_laws.proofs.TypedNodes.{first-edge, filled-port, node-found, wanted-at, want-is}
 use Rattle.unit_laws.proofs.TypedOutputs.{filled, output-given}
-use Rattle.unit_laws.proofs.TypedPlans.{IsEntered, Plan, function-place, net-found, results-are, result-fits, result-typed}
+use Rattle.unit_laws.proofs.TypedPlans.{Plan, function-place, net-found, results-are, result-fits, result-typed}
 use Rattle.unit_laws.proofs.TypedParts.{OutputsBelong}
 
 placed : (xs : List Graph) (x : Graph) → Contains xs x → (k : ℕ) × (slice_get xs k ≡ Some x)

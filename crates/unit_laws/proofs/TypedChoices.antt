@@ -28,7 +28,7 @@ use Rattle.graph_meaning.specs.Forms as forms
 use Rattle.graph_meaning.specs.Networks.{number_or_zero, part as part_number, form_of}
 use Rattle.typed_rows.proofs.ValueKinds.{IntKind, an_int, no_int, as_int, UniKind, a_uni, no_uni, as_uni, out_err, out_uni}
 use Rattle.typed_rows.specs.Rows.{Of}
-use Rattle.unit_laws.specs.Typed.{Belongs, Fills, InputsBelong, ResultsBelong}
+use Rattle.unit_laws.specs.Typed.{Belongs, Fills, InputsBelong, IsEntered, ResultsBelong}
 use Rattle.unit_laws.proofs.TypeLists.{some-same}
 use Rattle.unit_laws.proofs.TypeLists as types
 use Rattle.unit_laws.proofs.TypedRows.{at-type}
@@ -36,7 +36,7 @@ use Rattle.unit_laws.proofs.TypedLists.{value-of}
 use Rattle.unit_laws.proofs.TypedEdges.{IsValueWant}
 use Rattle.unit_laws.proofs.TypedNodes.{filled-port, wanted-at}
 use Rattle.unit_laws.proofs.TypedOutputs.{OperandsOf}
-use Rattle.unit_laws.proofs.TypedPlans.{IsEntered, Plan}
+use Rattle.unit_laws.proofs.TypedPlans.{Plan}
 use Rattle.unit_laws.proofs.TypedParts.{at_part, OutputsBelong, enters-part, compound-filled, no-want, part-result, part-count, part-typed, inputs-by, errors-out, results-out, node-input}
 
 member-same : (a b : Member) → Some a ≡ Some b → a ≡ b

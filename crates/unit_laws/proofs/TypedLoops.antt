@@ -27,13 +27,13 @@ use Rattle.graph_meaning.specs.Forms.{Form, Next, Stage, Enter, Iterate, Leave, 
 use Rattle.graph_meaning.specs.Forms as forms
 use Rattle.graph_meaning.specs.Networks.{part as part_number, form_of}
 use Rattle.typed_rows.proofs.ValueKinds.{BoolKind, a_bool, no_bool, as_bool}
-use Rattle.unit_laws.specs.Typed.{Belongs, Fills, InputsBelong, ResultsBelong}
+use Rattle.unit_laws.specs.Typed.{Belongs, Fills, InputsBelong, IsEntered, ResultsBelong}
 use Rattle.unit_laws.proofs.TypedRows.{at-type}
 use Rattle.unit_laws.proofs.TypedLists.{value-of}
 use Rattle.unit_laws.proofs.TypedEdges.{bound}
 use Rattle.unit_laws.proofs.TypedNodes.{port-filled, width-over}
 use Rattle.unit_laws.proofs.TypedOutputs.{OperandsOf}
-use Rattle.unit_laws.proofs.TypedPlans.{IsEntered, AreIterated, EachInputs, EachResults, Plan}
+use Rattle.unit_laws.proofs.TypedPlans.{AreIterated, EachInputs, EachResults, Plan}
 use Rattle.unit_laws.proofs.TypedColumns.{first-part, second-part, AreColumns, AreRows, IsBounded, columns-count, columns-well, turns-well, AreElements, AreElementRows, rows-right, lists-right, items-many}
 use Rattle.unit_laws.proofs.TypedParts.{at_part, OutputsBelong, enters-part, compound-filled, part-result, part-count, part-typed, inputs-by, errors-out, results-out, node-input, part-there, part-net, beyond}
 use Rattle.unit_laws.proofs.TypedChoices.{got-below}

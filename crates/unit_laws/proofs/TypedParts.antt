@@ -25,12 +25,12 @@ use Rattle.if1_marks.proofs.Tests.{same-number, no-both}
 use Rattle.graph_meaning.specs.Carried.{Carried, Unfilled}
 use Rattle.graph_meaning.specs.Forms.{errors}
 use Rattle.graph_meaning.specs.Networks.{network, net_of, number_or_zero, part as part_number}
-use Rattle.unit_laws.specs.Typed.{Belongs, InputsBelong, ResultsBelong, valued}
+use Rattle.unit_laws.specs.Typed.{Belongs, InputsBelong, IsEntered, ResultsBelong, valued}
 use Rattle.unit_laws.proofs.TypeLists.{some-same}
 use Rattle.unit_laws.proofs.TypedEdges.{bound, node-formed, edge-there, Leaving}
 use Rattle.unit_laws.proofs.TypedNodes.{node-found, node-filled}
 use Rattle.unit_laws.proofs.TypedOutputs.{OperandsOf, leaving-output}
-use Rattle.unit_laws.proofs.TypedPlans.{IsEntered, part-place, net-found, results-are, result-fits, result-typed, errors-belong, errors-count}
+use Rattle.unit_laws.proofs.TypedPlans.{part-place, net-found, results-are, result-fits, result-typed, errors-belong, errors-count}
 
 -- ---- compound nodes are no simple ones
 

@@ -29,17 +29,10 @@ use Rattle.graph_meaning.specs.Demand.{Source, Fixed}
 use Rattle.graph_meaning.specs.Networks.{net_of, network, source_at, sources}
 use Rattle.graph_meaning.proofs.Numbers.{found-by-number}
 use Rattle.typed_rows.proofs.ValueKinds.{of_error}
-use Rattle.unit_laws.specs.Typed.{Belongs, Fills, InputsBelong, ResultsBelong, typed_at, valued}
+use Rattle.unit_laws.specs.Typed.{Belongs, Fills, InputsBelong, IsEntered, ResultsBelong, typed_at, valued}
 use Rattle.unit_laws.proofs.TypeLists.{some-same}
 use Rattle.unit_laws.proofs.TypedEdges.{bound, IsValueWant, node-formed, ports-at, wanted-here, found-edge, SourceGives, valued-is, port-gives}
 use Rattle.unit_laws.proofs.TypedNodes.{first-width, first-edge, port-filled, width-over}
-
--- a graph that is entered, with inputs of its types
-pub record IsEntered (u : Unit1) (g : ℕ) (ins : List Carried) : Type 0 where
-  pub at : Place
-  pub there : Contains (places u) at
-  pub net : network u g ≡ net_of u at.graph
-  pub inputs : InputsBelong u at ins
 
 abbrev pub EachInputs : Unit1 → Place → List (List Carried) → Type 0
 EachInputs u q [] = Unit {0}

@@ -53,7 +53,7 @@ module _ (u : Unit1) (ready : IsReady u) where
     pub label : label_of node ≡ suc l
     pub is : vertex_of u p.graph node ≡ v
 
-  node-of : (p : Place) (l : ℕ) (v : Vertex) → at_label (net_of u p.graph).nodes (suc l) ≡ Some v → IsNodeAt p l v
+  pub node-of : (p : Place) (l : ℕ) (v : Vertex) → at_label (net_of u p.graph).nodes (suc l) ≡ Some v → IsNodeAt p l v
   node-of p l v e = go (node_at (out-Graph p.graph).nodes (suc l)) refl (sym (at-node u p.graph (out-Graph p.graph).nodes (suc l)) ∙ e)
     where
       go : (o : Option Node) → node_at (out-Graph p.graph).nodes (suc l) ≡ o → option_map (vertex_of u p.graph) o ≡ Some v → IsNodeAt p l v
@@ -134,7 +134,7 @@ module _ (u : Unit1) (ready : IsReady u) where
         let x = plan.iterated k (row ∷ rows) ms e in
         leads-right m form ks (gather form ks ms lists) rs b Outs plan (plan.gathers k (row ∷ rows) ms e lists (rows-right m k (row ∷ rows) lists a x.at x.there x.net x.inputs).holds)
 
-    rows-right : (m k : ℕ) (rows lists : List (List Carried)) → MeanAll (network u) m k rows lists → (p : Place) (place : Contains (places u) p) → network u k ≡ net_of u p.graph → EachInputs u p rows → Up (EachResults u p lists)
+    pub rows-right : (m k : ℕ) (rows lists : List (List Carried)) → MeanAll (network u) m k rows lists → (p : Place) (place : Contains (places u) p) → network u k ≡ net_of u p.graph → EachInputs u p rows → Up (EachResults u p lists)
     rows-right _ _ _ _ (no_row m k) p place e h = record { holds = tt }
     rows-right _ _ _ _ (a_row m k ins rs rows lists a b) p place e h = record {
       holds = (

@@ -14,8 +14,9 @@ use Rattle.graph_meaning.specs.Carried.{Carried}
 use Rattle.graph_meaning.specs.Demand.{Source, Network}
 use Rattle.graph_meaning.specs.Networks.{source_at, kind_of, vertex_of, network}
 use Rattle.graph_meaning.specs.Plain.{Carries, CarryAll, Outputs, Means, Costs}
+use Rattle.unit_laws.specs.Entering.{IsEnteredFrom}
 use Rattle.unit_laws.specs.Grown.{AreKept, IsGrown}
-use Rattle.unit_laws.specs.Typed.{Belongs, InputsBelong, ResultsBelong, NodeGives, OperandsFit, typed_at}
+use Rattle.unit_laws.specs.Typed.{Belongs, InputsBelong, IsEntered, ResultsBelong, NodeGives, OperandsFit, typed_at}
 
 -- ---- marks
 
@@ -64,3 +65,11 @@ AreGraphsKept = (P : ℕ → Bool) (u v : Network) → AreKept P u v → (g : �
 -- what a port of a graph carries is not changed by nodes that are added to it
 abbrev pub ArePortsKept : Type 0
 ArePortsKept = (P : ℕ → Bool) (u v : Network) → AreKept P u v → (g : ℕ) → IsGrown P u v g → (n : ℕ) (ins : List Carried) (o : Source) (c : Carried) → Carries u n g ins o c → Carries v n g ins o c
+
+-- ---- along a run
+
+-- in a ready unit, on inputs of its types, each graph that a run enters, at any depth, is one of the unit, on inputs of its types;
+-- so the laws of types speak of it too
+abbrev pub AreEnteredTyped : Type 0
+AreEnteredTyped = (u : Unit1) → IsReady u → (p : Place) → Contains (places u) p → (n : ℕ) (ins : List Carried) → InputsBelong u p ins
+    → (k : ℕ) (others : List Carried) → IsEnteredFrom (network u) n (number_of p) ins k others → IsEntered u k others

@@ -17,9 +17,9 @@ use Rattle.if1_graph.specs.Ports.{carried, outputs}
 use Rattle.if1_graph.specs.Types.{Sort, sort_at}
 use Rattle.if1_graph.specs.Types as types
 use Rattle.if1_graph.specs.Typing.{FitsInput}
-use Rattle.if1_graph.specs.Units.{label_of, results, Place}
+use Rattle.if1_graph.specs.Units.{label_of, results, Place, places}
 use Rattle.graph_meaning.specs.Carried.{Carried, Value, Many, Spoiled, Unfilled}
-use Rattle.graph_meaning.specs.Networks.{shape_of}
+use Rattle.graph_meaning.specs.Networks.{shape_of, net_of, network}
 use Rattle.graph_meaning.specs.NodeValues.{op}
 use Rattle.graph_meaning.specs.Strict.{IsFit, first_strict, AreErrors}
 use Rattle.typed_rows.specs.Rows.{Of}
@@ -64,3 +64,10 @@ pub record NodeGives (u : Unit1) (p : Place) (n : Node) (rs : List Carried) : Ty
 pub record OperandsFit (u : Unit1) (p : Place) (n : Node) (o : Simple) (ks : List Carried) : Type 0 where
   pub fit : IsFit o ks
   pub least : (c : Cause) → first_strict o 1 ks ≡ Some c → AreErrors c (op o (shape_of u p.graph (label_of n) o) ks)
+
+-- a graph that is entered is one of the unit, on inputs of its types
+pub record IsEntered (u : Unit1) (g : ℕ) (ins : List Carried) : Type 0 where
+  pub at : Place
+  pub there : Contains (places u) at
+  pub net : network u g ≡ net_of u at.graph
+  pub inputs : InputsBelong u at ins

@@ -1,5 +1,5 @@
 //! The laws of whole units.
-ghost use Rattle.unit_laws.specs.Laws.{AreAlikeMeant, AreAlikeCosted, ArePortsTyped, AreNodesTyped, AreResultsTyped, AreOperandsFit, AreGraphsKept, ArePortsKept};
+ghost use Rattle.unit_laws.specs.Laws.{AreAlikeMeant, AreAlikeCosted, ArePortsTyped, AreNodesTyped, AreResultsTyped, AreOperandsFit, AreGraphsKept, ArePortsKept, AreEnteredTyped};
 
 /// Units that differ in marks alone mean the same.
 pub fn alike_units_mean_the_same()
@@ -42,4 +42,10 @@ pub fn added_graphs_change_nothing()
 /// Nodes that are added to a graph change nothing of what its ports carried.
 pub fn added_nodes_change_nothing()
     ensures { ArePortsKept }
+{}
+
+/// In a ready unit, on inputs of its types, each graph that a run enters is one of the unit, on inputs of
+/// its types.
+pub fn graphs_are_entered_on_inputs_of_their_types()
+    ensures { AreEnteredTyped }
 {}

@@ -7,6 +7,7 @@ mod laws;
 
 pub use laws::{
     added_graphs_change_nothing, added_nodes_change_nothing, alike_units_cost_the_same,
-    alike_units_mean_the_same, operands_of_simple_nodes_fit, outputs_of_nodes_are_of_their_types,
+    alike_units_mean_the_same, graphs_are_entered_on_inputs_of_their_types,
+    operands_of_simple_nodes_fit, outputs_of_nodes_are_of_their_types,
     results_of_graphs_are_of_their_types, what_ports_carry_is_of_their_types,
 };
