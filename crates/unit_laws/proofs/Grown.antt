@@ -1,5 +1,5 @@
 -- Graphs and nodes that are added change nothing that was given.
-use Rattle.std.proofs.Common.{◌≡◌, ℕ, zero, suc, ◌-◌, ◌+◌, ℤ, pos, negsuc, Bool, true, false, List, [], ◌∷◌, ◌++◌, map, get_or, Option, Some, None, refl, sym, ap, subst, ◌∙◌, if◌then◌else◌}
+use Rattle.std.proofs.Common.{◌≡◌, ℕ, zero, suc, pos, negsuc, Bool, true, false, List, [], ◌∷◌, ◌++◌, map, Option, Some, None, refl, sym, subst, if◌then◌else◌}
 use Rattle.std.specs.Prelude.{slice_get, eqb}
 use Rattle.flow_value.specs.declared.cause.Cause.{Cause}
 use Rattle.flow_value.specs.declared.cause.Cause.TheVariants as cause
@@ -7,11 +7,10 @@ use Rattle.flow_value.specs.declared.value.Val.{Val}
 use Rattle.flow_value.specs.declared.value.Val.TheOpen.{Val-F}
 use Rattle.flow_value.specs.declared.value.Val.TheViews.{out-Val}
 use Rattle.flow_value.specs.declared.value.Val.TheVariants as val
-use Rattle.graph_meaning.specs.Carried.{Carried, Value, Unfilled, val_of}
-use Rattle.graph_meaning.specs.Entered.{entry_fires}
-use Rattle.graph_meaning.specs.Forms.{Form, Call, Select, TagCase, LoopA, LoopB, ForAll, Stage, Called, Selecting, Chosen, Starting, Testing, Turning, Generating, Returning, First, Begins, Skips, Next, Enter, Iterate, Leave, next_of, first, follow, gather, fails, enter_chosen, select, enter_arm, arm_in, arm_of, tested, loop, spread, iterate, first_spoiled, are_as_long, rows_of, places_of, items}
-use Rattle.graph_meaning.specs.Demand.{Source, Port, Fixed, Kind, Plain, Whole, Vertex, Net, Network, at_label}
-use Rattle.graph_meaning.specs.Plain.{is_deeper, Carries, fixed, input, output, CarryAll, no_port, port, Outputs, simple, whole, Leads, leaves, enters, enters_deeper, iterates, MeanAll, no_row, a_row, NodesFire, no_node, a_node, InnerFires, of_simple, of_whole, LaterFires, of_leaving, of_graph, of_deeper, of_iterations, RowsFire, of_no_row, of_row}
+use Rattle.graph_meaning.specs.Carried.{Carried, val_of}
+use Rattle.graph_meaning.specs.Forms.{Form, Call, Select, TagCase, LoopA, LoopB, ForAll, Stage, Called, Selecting, Chosen, Starting, Testing, Turning, Generating, Returning, Next, Enter, Iterate, Leave, next_of, first, follow, gather, fails, enter_chosen, select, enter_arm, arm_in, tested, loop, spread, iterate, first_spoiled, are_as_long, rows_of, places_of, items}
+use Rattle.graph_meaning.specs.Demand.{Source, Kind, Vertex, Net, Network, at_label}
+use Rattle.graph_meaning.specs.Plain.{Carries, fixed, input, output, CarryAll, no_port, port, Outputs, simple, whole, Leads, leaves, enters, enters_deeper, iterates, MeanAll, no_row, a_row, NodesFire, no_node, a_node, InnerFires, of_simple, of_whole, LaterFires, of_leaving, of_graph, of_deeper, of_iterations, RowsFire, of_no_row, of_row}
 use Rattle.unit_laws.specs.Grown.{graphs_of, AreAmong, EntersAmong, EnterAmong, AreKept, IsGrown}
 use Rattle.unit_laws.specs.Laws.{AreGraphsKept, ArePortsKept}
 

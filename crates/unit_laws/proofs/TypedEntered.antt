@@ -1,21 +1,20 @@
 -- Along a run each graph is entered with inputs of its types.
 use Rattle.std.proofs.Common.{◌≡◌, ℕ, suc, List, [], ◌∷◌, Some, Contains, inl, inr, refl, sym, ap, subst, ◌∙◌}
-use Rattle.if1_graph.specs.declared.graph.Graph.TheViews.{out-Graph}
 use Rattle.if1_graph.specs.declared.graph.Unit1.{Unit1}
 use Rattle.if1_graph.specs.Ready.{IsReady}
 use Rattle.if1_graph.specs.Units.{Place, places, number_of}
 use Rattle.if1_marks.proofs.Lists.{here-or-there, in-none}
 use Rattle.graph_meaning.specs.Carried.{Carried}
-use Rattle.graph_meaning.specs.Forms.{Form, Next, Stage, Enter, Iterate}
-use Rattle.graph_meaning.specs.Demand.{Kind, Whole, Vertex, Net, at_label}
-use Rattle.graph_meaning.specs.Networks.{kind_of, net_of, network}
+use Rattle.graph_meaning.specs.Forms.{Form, Next, Enter, Iterate}
+use Rattle.graph_meaning.specs.Demand.{Whole, Vertex, Net, at_label}
+use Rattle.graph_meaning.specs.Networks.{kind_of, network}
 use Rattle.graph_meaning.specs.Plain.{CarryAll}
 use Rattle.unit_laws.specs.Typed.{InputsBelong, IsEntered}
 use Rattle.unit_laws.specs.Entering.{Does, at_first, after_graph, after_rows, IsEnteredFrom, itself, by_node, by_row}
 use Rattle.unit_laws.specs.Laws.{AreEnteredTyped}
-use Rattle.unit_laws.proofs.TypedPlans.{EachInputs, Plan, AllGive, net-found, results-belong}
+use Rattle.unit_laws.proofs.TypedPlans.{EachInputs, AllGive, net-found, results-belong}
 use Rattle.unit_laws.proofs.TypedNodePlans.{Going, KindGoes, OutputsFor, node-goes}
-use Rattle.unit_laws.proofs.TypedRuns.{Up, IsNodeAt, node-of, all-right, rows-right}
+use Rattle.unit_laws.proofs.TypedRuns.{node-of, all-right, rows-right}
 
 module _ (u : Unit1) (ready : IsReady u) where
   -- whatever a node does goes by its plan

@@ -1,5 +1,5 @@
 -- Which graphs a run enters, with which inputs: step by step, and from graph to graph.
-use Rattle.std.specs.Prelude.{◌≡◌, ℕ, suc, Bool, List, [], ◌∷◌, Some, Contains}
+use Rattle.std.specs.Prelude.{◌≡◌, ℕ, suc, Bool, List, ◌∷◌, Some, Contains}
 use Rattle.graph_meaning.specs.Carried.{Carried}
 use Rattle.graph_meaning.specs.Forms.{Form, Next, Stage, Enter, Iterate, next_of, first, follow, gather}
 use Rattle.graph_meaning.specs.Demand.{Vertex, Whole, Network, at_label}
