@@ -19,7 +19,8 @@ use Rattle.if1_types.specs.declared.forms.ListForm.TheVariants as list
 use Rattle.if1_types.specs.Shapes.{Key, tree_at, trees_in, members_in}
 use Rattle.if1_types.specs.Forms.{IsTy, IsList, IsSort, IsTyForm, IsListForm, AreOnce, AreRead, ty_form_at, list_form_at}
 use Rattle.if1_types.proofs.Views.{members_told}
-use Rattle.if1_fits.specs.Views.{first_in, rest_in, value_of, fields_of, listed_at, are_same}
+use Rattle.if1_types.specs.Skips.{first_in, rest_in}
+use Rattle.if1_fits.specs.Views.{value_of, fields_of, listed_at, are_same}
 use Rattle.if1_fits.specs.Tests.{IsNumbered, IsKnown, fields_fit, some_tag_fits, is_built, is_built_value, fits_at}
 use Rattle.if1_fits.proofs.Viewed.{View, same_views, value_view, plain_only, either_way, no_kinds, type_kind, kind_bool, kind_char, kind_int, kind_null, kind_arr, kind_stream, kind_rec, kind_uni, fields_are, rec_one, uni_one}
 use Rattle.if1_fits.proofs.Decided as by

@@ -19,7 +19,8 @@ use Rattle.if1_types.specs.declared.forms.ListForm.{ListForm}
 use Rattle.if1_types.specs.declared.forms.ListForm.TheVariants as list
 use Rattle.if1_types.specs.Shapes.{Key}
 use Rattle.if1_types.specs.Forms.{IsTy, IsList, IsSort, IsSortForm, IsTyForm, IsListForm, AreOnce, AreOne, AreRead, sort_form_at, ty_form_at, list_form_at}
-use Rattle.if1_fits.specs.Views.{value_in, many_in, array_in, sequence_in, fields_in, tags_in, kind_in, first_in, rest_in, arguments_in, results_in, value_of, many_of, array_of, sequence_of, fields_of, tags_of, kind_or, listed, listed_at, are_same}
+use Rattle.if1_types.specs.Skips.{first_in, rest_in}
+use Rattle.if1_fits.specs.Views.{value_in, many_in, array_in, sequence_in, fields_in, tags_in, kind_in, arguments_in, results_in, value_of, many_of, array_of, sequence_of, fields_of, tags_of, kind_or, listed, listed_at, are_same}
 use Rattle.if1_fits.specs.Tests.{IsNumbered, elements_in}
 
 -- ---- kinds of types

@@ -5,3 +5,4 @@ pub mod Tables
 pub mod Ways
 pub mod Lists
 pub mod Forms
+pub mod Skips

@@ -6,8 +6,10 @@ mod laws;
 mod level;
 mod lines;
 mod lists;
+mod numbered;
 mod params;
 mod shapes;
+mod skips;
 mod sorts;
 mod table;
 mod ways;
@@ -16,7 +18,8 @@ pub use forms::{ListForm, SortForm, TyForm};
 pub use laws::a_number_stands_for_one_thing;
 pub use params::params_of;
 pub use shapes::Shapes;
-pub use sorts::{Sorts, sorts_of};
+pub use numbered::Sorts;
+pub use sorts::sorts_of;
 
 #[cfg(test)]
 mod tests;

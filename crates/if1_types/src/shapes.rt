@@ -117,6 +117,16 @@ impl Shapes {
         }
     }
 
+    /// Above every number but the greatest.
+    pub fn bound(&self) -> u32
+        ensures { result ≤ length self.now }
+    {
+        match u32::try_from(self.keys.len()) {
+            Ok(count) => count,
+            Err(_) => u32::MAX,
+        }
+    }
+
     /// How many members a tree of a kind has, over this second part.
     fn members_over(&self, kind: u32, second: u32) -> Result<u32, NoMemory>
         ensures { IfOk result (λ n. (a : Tree) → n ≡ members_in (node kind a (tree_at (trees_in self.now) second))) }

@@ -40,3 +40,11 @@ loop-left-preserved c =
           ∙ fields_on ks at c.loop-left.rest c.loop-left.left (c.loop-left.left - 1) port c.in-Member.ty c.in-Member.others is (sym c.in-Member.ensures.form) found
           ∙ ap (fields_fit ks at (c.loop-left.left - 1) c.in-Member.others) next;
     }
+
+pub returns : goal.returns
+returns c =
+    let ks = c.args.sorts.now.shapes in
+    let at = carried_at c.args.sorts.now.labels c.args.sorts.now.numbers c.args.edges.now in
+    let done : c.loop-left.left ≡ 0 = omega (arith, c.loop-left-test.false) in
+    sym (ap (λ count. fields_fit ks at count c.args.fields 1) (sym c.length-count.ensures.members) ∙ c.loop-left.invariant.same
+    ∙ ap (λ left. fields_fit ks at left c.loop-left.rest (c.length-count.result - c.loop-left.left + 1)) done)

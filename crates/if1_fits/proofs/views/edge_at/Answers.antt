@@ -3,9 +3,9 @@ use Rattle.std.specs.List.Sorted.{IsPartitionPoint}
 use Rattle.std.proofs.lemmas.List.Sorted.{IsPartitionPoint-from_clause, IsPartitionedBy-ltb}
 use Rattle.std.proofs.lemmas.Bool.{ltb-true, ltb-false}
 use Rattle.if1_graph.specs.declared.graph.Edge.{Edge}
-use Rattle.if1_typing.specs.Fed.{with_port}
-use Rattle.if1_typing.proofs.Ports.{port_at, not_falling}
-use Rattle.if1_typing.proofs.fed.edge_at.Goals as goal
+use Rattle.if1_fits.specs.Views.{with_port}
+use Rattle.if1_fits.proofs.Ports.{port_at, not_falling}
+use Rattle.if1_fits.proofs.views.edge_at.Goals as goal
 
 pub returns : goal.returns
 returns c =
