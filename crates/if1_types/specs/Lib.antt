@@ -6,3 +6,4 @@ pub mod Ways
 pub mod Lists
 pub mod Forms
 pub mod Skips
+pub mod Numbering

@@ -20,6 +20,7 @@ pub use params::params_of;
 pub use shapes::Shapes;
 pub use numbered::Sorts;
 pub use sorts::sorts_of;
+pub use table::number_at;
 
 #[cfg(test)]
 mod tests;

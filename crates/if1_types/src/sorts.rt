@@ -267,6 +267,7 @@ pub fn sorts_of(alloc: Global, types: &[TypeEntry]) -> Result<Sorts, NoMemory>
     requires { IsStrictlyIncreasing (map (λ e. e.label) types.now) }
     ensures numbers { IfOk result (λ s. AreSorts types.now s.labels s.numbers) }
     ensures stand { IfOk result (λ s. Stand types.now s.shapes s.labels s.numbers) }
+    ensures labels { IfOk result (λ s. s.labels ≡ labels_in types.now) }
     ensures once { IfOk result (λ s. AreOnce s.shapes) }
     ensures read { IfOk result (λ s. AreRead s.shapes) }
 {

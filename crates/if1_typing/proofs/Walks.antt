@@ -83,15 +83,16 @@ module _ (t : Table) where
     pub wrong_boundary : is_right t a g 0 ≡ false → FindsWrong t a g (Some 0)
     wrong_boundary wrong = (contains_here 0 (map label_of (out-Graph g).nodes ++ map (λ (e : Edge). e.node) (out-Graph g).edges), inl wrong)
 
-    pub found_disagreeing : (r : Option ℕ) → IsLaid g → All (λ n. Right (label_of n)) (out-Graph g).nodes → Right 0 →
-        MatchOption r (AreAgreed t (out-Graph g).edges) (Disagrees t (out-Graph g).edges) → FindsWrong t a g r
-    found_disagreeing None laid nodes bound agreed = (all_ends nodes bound laid.leads, agreed)
-    found_disagreeing (Some l) laid nodes bound d = (
+    pub wrong_edge : (l : ℕ) → Disagrees t (out-Graph g).edges l → FindsWrong t a g (Some l)
+    wrong_edge l d = (
       contains_there 0 (map label_of (out-Graph g).nodes ++ map (λ (e : Edge). e.node) (out-Graph g).edges) l
           (Contains-append_right (map label_of (out-Graph g).nodes) (map (λ (e : Edge). e.node) (out-Graph g).edges) l
           (subst (λ l. Contains (map (λ (e : Edge). e.node) (out-Graph g).edges) l) d.leads (mapped_contains (λ (e : Edge). e.node) (out-Graph g).edges d.one d.leaves.there))),
       inr d,
     )
+
+    pub none_wrong : IsLaid g → All (λ n. Right (label_of n)) (out-Graph g).nodes → Right 0 → AreAgreed t (out-Graph g).edges → FindsWrong t a g None
+    none_wrong laid nodes bound agreed = (all_ends nodes bound laid.leads, agreed)
 
   -- ---- one graph
 
