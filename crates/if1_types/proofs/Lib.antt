@@ -10,3 +10,4 @@ pub mod Sorted
 pub mod Views
 pub mod Written
 pub mod Skipping
+pub mod Labelled

@@ -7,3 +7,4 @@ pub mod Lists
 pub mod Forms
 pub mod Skips
 pub mod Numbering
+pub mod Parameters

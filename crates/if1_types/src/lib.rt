@@ -7,6 +7,7 @@ mod level;
 mod lines;
 mod lists;
 mod numbered;
+mod parameters;
 mod params;
 mod shapes;
 mod skips;
@@ -16,7 +17,8 @@ mod ways;
 
 pub use forms::{ListForm, SortForm, TyForm};
 pub use laws::a_number_stands_for_one_thing;
-pub use params::params_of;
+pub use parameters::Parameter;
+pub use params::{parameters_of, params_of};
 pub use shapes::Shapes;
 pub use numbered::Sorts;
 pub use sorts::sorts_of;

@@ -3,7 +3,10 @@ ghost use Rattle.std.specs.Prelude.{◌≡◌, ◌≤◌, ◌<◌, ◌-◌, ℕ,
 ghost use Rattle.std.specs.List.Sorted.{IsStrictlyIncreasing};
 ghost use Rattle.if1_graph.specs.Kinds.{kind_at};
 ghost use Rattle.flow_value.specs.declared.ty.Ty.{Ty};
-ghost use Rattle.if1_graph.specs.Types.{Sort, is_tuple};
+ghost use Rattle.if1_graph.specs.declared.graph.TypeEntry.{TypeEntry};
+ghost use Rattle.if1_graph.specs.Types.{Sort, Plain, is_tuple, sort_at};
+ghost use Rattle.if1_types.specs.Numbering.{IsNumbering};
+ghost use Rattle.if1_types.specs.Parameters.{type_at};
 ghost use Rattle.if1_types.specs.Trees.{over_both, sort_tree};
 ghost use Rattle.if1_types.specs.Shapes.{trees_in, tree_at, members_in, IsLater, Stands};
 ghost use Rattle.if1_types.specs.Tables.{labels_in, number_at, part_by, AreWithin, AreTold, AreSorts};
@@ -32,6 +35,19 @@ impl Sorts {
         ensures { result ≡ number_at self.now.labels self.now.numbers label }
     {
         number_at(self.labels.as_slice(), self.numbers.as_slice(), label)
+    }
+
+    /// The number of the type of the values that a label stands for, 0 where it stands for no value.
+    pub fn type_of(&self, label: u32) -> u32
+        ensures is { result ≡ type_at self.now label }
+        ensures of { (ts : List TypeEntry) (t : Ty) → IsNumbering ts self.now → sort_at ts label ≡ Some (Plain t) → IsTy self.now.shapes result t }
+    {
+        match self.sort(self.number(label)) {
+            SortForm::Value(ty) => ty,
+            SortForm::Multiple(_) => 0,
+            SortForm::Function(_, _) => 0,
+            SortForm::Nothing => 0,
+        }
     }
 
     /// What the number of a label stands for.
