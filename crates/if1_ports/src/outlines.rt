@@ -80,11 +80,7 @@ fn outline_by(sorts: &Sorts, label: u32) -> Outline
 
 /// What ports depend on of what the labels of a type table stand for. Takes time near linear in the
 /// types.
-pub fn outlines_of(
-    alloc: Global,
-    sorts: &Sorts,
-    types: &[TypeEntry],
-) -> Result<Outlines, NoMemory>
+pub fn outlines_of(alloc: Global, sorts: &Sorts, types: &[TypeEntry]) -> Result<Outlines, NoMemory>
     requires rising { IsStrictlyIncreasing (map (λ e. e.label) types.now) }
     requires numbers { IsNumbering types.now sorts.now }
     ensures { IfOk result (λ o. (l : ℕ) → types_in o l ≡ outline_of (sort_at types.now l)) }

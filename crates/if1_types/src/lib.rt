@@ -17,10 +17,10 @@ mod ways;
 
 pub use forms::{ListForm, SortForm, TyForm};
 pub use laws::a_number_stands_for_one_thing;
+pub use numbered::Sorts;
 pub use parameters::Parameter;
 pub use params::{parameters_of, params_of};
 pub use shapes::Shapes;
-pub use numbered::Sorts;
 pub use sorts::sorts_of;
 pub use table::number_at;
 

@@ -190,11 +190,7 @@ fn member_labels(
 }
 
 /// The labels of the types of a function's arguments, by the label of its own type.
-fn param_labels(
-    alloc: Global,
-    types: &[TypeEntry],
-    label: u32,
-) -> Result<Option<Numbers>, NoMemory>
+fn param_labels(alloc: Global, types: &[TypeEntry], label: u32) -> Result<Option<Numbers>, NoMemory>
     requires { IsStrictlyIncreasing (map (λ e. e.label) types.now) }
     ensures { IfOk result (λ found. found ≡ labelled.param_labels types.now label) }
 {
@@ -208,11 +204,7 @@ fn param_labels(
     Ok(labels)
 }
 
-fn with_numbers(
-    alloc: Global,
-    sorts: &Sorts,
-    labels: &[u32],
-) -> Result<Seq<Parameter>, NoMemory>
+fn with_numbers(alloc: Global, sorts: &Sorts, labels: &[u32]) -> Result<Seq<Parameter>, NoMemory>
     ensures { IfOk result (λ ps. ps ≡ map (labelled.parameter sorts.now) labels.now) }
 {
     let mut parameters = Seq::with_room(alloc, labels.len())?;

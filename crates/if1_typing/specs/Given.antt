@@ -1,15 +1,17 @@
 -- What is noted of the outputs of the nodes of a graph.
-use Rattle.std.specs.Prelude.{◌≡◌, ℕ, ◌&&◌, nat_eq, Bool, List, map, Option, Some}
+use Rattle.std.specs.Prelude.{◌≡◌, ℕ, suc, ◌&&◌, nat_eq, Bool, false, List, map, Contains, Option, Some, option_map}
 use Rattle.if1_graph.specs.declared.graph.Graph.{Graph}
 use Rattle.if1_graph.specs.declared.graph.Graph.TheViews.{out-Graph}
 use Rattle.if1_graph.specs.declared.graph.Node.{Node}
+use Rattle.if1_graph.specs.declared.graph.Edge.{Edge}
+use Rattle.if1_graph.specs.declared.graph.Origin.TheVariants.{Port}
 use Rattle.if1_graph.specs.Units.{label_of, node_at, edges_into}
 use Rattle.indexmap.specs.IndexMap.{IndexMap, get_by}
 use Rattle.if1_typing.specs.declared.given.Callees.{Callees}
 use Rattle.if1_typing.specs.declared.given.Given.{Given}
-use Rattle.if1_typing.specs.Tables.{Table}
+use Rattle.if1_typing.specs.Tables.{Table, number}
 use Rattle.if1_typing.specs.Fed.{callee_in}
-use Rattle.if1_typing.specs.Ends.{node_gives}
+use Rattle.if1_typing.specs.Ends.{node_gives, is_function_name, doing_of}
 
 -- the type of the function that the literal of a node names
 abbrev pub callee_at : Table → Graph → ℕ → ℕ
@@ -35,3 +37,18 @@ IsSound t g m = (l port n : ℕ) (b : Bool) → noted_at m l port ≡ Some (n, b
 pub record AreNoted (t : Table) (g : Graph) (s : Given) : Type 0 where
   pub callees : AreCallees t g s.callees
   pub sound : IsSound t g s.map
+
+-- an edge leads from a port that does not give its type, and is no name of a reduction
+pub record IsUngiven (t : Table) (g : Graph) (e : Edge) : Type 0 where
+  pub node : ℕ
+  pub port : ℕ
+  pub from : e.from ≡ Port (suc node) port
+  pub ungiven : port_gives t g (suc node) port (number t e.ty) ≡ false
+  pub no_name : is_function_name t (option_map doing_of (node_at (out-Graph g).nodes e.node)) e ≡ false
+
+-- such an edge leads into a node
+pub record LeadsUngiven (t : Table) (g : Graph) (l : ℕ) : Type 0 where
+  pub edge : Edge
+  pub there : Contains (out-Graph g).edges edge
+  pub leads : edge.node ≡ l
+  pub ungiven : IsUngiven t g edge

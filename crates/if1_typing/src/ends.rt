@@ -1,5 +1,5 @@
 //! The types of what leads into the nodes and the boundary of one graph.
-ghost use Rattle.std.specs.Prelude.{◌≡◌, true, false, All, AllPairs, Contains, MatchOption, IfOk, map, is_some};
+ghost use Rattle.std.specs.Prelude.{◌≡◌, true, false, ℕ, Some, All, AllPairs, Contains, MatchOption, IfOk, map, option_map, is_some};
 ghost use Rattle.if1_graph.specs.Normal.{Precedes};
 ghost use Rattle.if1_graph.specs.Units.{label_of, node_at};
 ghost use Rattle.if1_types.specs.Forms.{sort_form_at};
@@ -9,13 +9,13 @@ ghost use Rattle.if1_graph.specs.declared.graph.Node.{out-Node};
 ghost use Rattle.if1_typing.specs.Tables.{table_of};
 ghost use Rattle.if1_fits.specs.Views.{AreUp};
 ghost use Rattle.if1_typing.specs.Fed.{AreOrdered, callee_in};
-ghost use Rattle.if1_typing.specs.Given.{AreNoted};
+ghost use Rattle.if1_typing.specs.Given.{AreNoted, IsUngiven, LeadsUngiven};
 ghost use Rattle.if1_typing.specs.Ends as spec;
 ghost use Rattle.if1_typing.specs.Ends.{IsLaid};
 
 use crate::agree::disagreeing;
 use crate::fed::{callee_in, edges_of, fits_in};
-use crate::given::{Given, gives, given_of};
+use crate::given::{Given, given_of, gives, noted};
 use crate::known::Known;
 use crate::node::Doing;
 use crate::site::Site;
@@ -23,7 +23,8 @@ use crate::sites::{input_fits, result_fits, tags_at};
 use flow_value::NoMemory;
 use if1_fits::value_of;
 use if1_graph::{
-    Compound, Edge, Graph, Node, Origin, Part, Simple, Use, Want, compound_of, operand_of, simple_of,
+    Compound, Edge, Graph, Node, Origin, Part, Simple, Use, Want, compound_of, node_of, operand_of,
+    simple_of,
 };
 use if1_types::SortForm;
 use std::alloc::Global;
@@ -166,7 +167,9 @@ fn is_given(
     match from {
         Origin::Lit(_) => true,
         Origin::Port(node, port) => {
-            port_gives(known, graph, site, inputs, parts, given, *node, *port, number)
+            port_gives(
+                known, graph, site, inputs, parts, given, *node, *port, number,
+            )
         }
     }
 }
@@ -254,7 +257,9 @@ fn is_typed(
         return true;
     }
     let number = known.number(edge.ty);
-    is_sorted(known, graph, site, inputs, parts, given, doing, edges, callee, edge, number)
+    is_sorted(
+        known, graph, site, inputs, parts, given, doing, edges, callee, edge, number,
+    )
 }
 
 /// Whether all edges into a node, or into the boundary, have types that their ports want and their
@@ -278,7 +283,9 @@ fn are_typed(
 {
     let callee = callee_in(known, edges);
     for edge in edges {
-        if !is_typed(known, graph, site, inputs, parts, given, doing, edges, callee, edge) {
+        if !is_typed(
+            known, graph, site, inputs, parts, given, doing, edges, callee, edge,
+        ) {
             return false;
         }
     }
@@ -401,11 +408,61 @@ fn wrong_node(
     None
 }
 
+fn doing_at(graph: &Graph, label: u32) -> Option<Doing>
+    requires { IsLaid graph.now }
+    ensures { result ≡ option_map spec.doing_of (node_at (out-Graph graph.now).nodes label) }
+{
+    match node_of(graph.nodes.as_slice(), label) {
+        Some(node) => Some(doing_of(node)),
+        None => None,
+    }
+}
+
+/// Whether it is noted that the port from which an edge comes does not give its type.
+fn is_ungiven(known: &Known, graph: &Graph, given: &Given, edge: &Edge) -> bool
+    requires laid { IsLaid graph.now }
+    requires noted { AreNoted (table_of known.now) graph.now given.now }
+    ensures { result ≡ true → IsUngiven (table_of known.now) graph.now edge.now }
+{
+    if is_function_name(known, doing_at(graph, edge.node), edge) {
+        return false;
+    }
+    match &edge.from {
+        Origin::Port(node, port) if *node != 0 => {
+            is_refuted(noted(given, *node, *port, known.number(edge.ty)))
+        }
+        _ => false,
+    }
+}
+
+fn is_refuted(answer: Option<bool>) -> bool
+    ensures { result ≡ true → answer ≡ Some false }
+{
+    match answer {
+        Some(gives) => !gives,
+        None => false,
+    }
+}
+
+/// The label of a node into which an edge leads whose type its source does not give, as it is noted.
+fn ungiven(known: &Known, graph: &Graph, given: &Given) -> Option<u32>
+    requires laid { IsLaid graph.now }
+    requires noted { AreNoted (table_of known.now) graph.now given.now }
+    ensures { (l : ℕ) → result ≡ Some l → LeadsUngiven (table_of known.now) graph.now l }
+{
+    for edge in graph.edges.as_slice() {
+        if is_ungiven(known, graph, given, edge) {
+            return Some(edge.node);
+        }
+    }
+    None
+}
+
 /// A node of a graph into which something leads with a wrong type, or from whose source other edges
 /// lead with other types, or 0 for the boundary, if there is one. A function whose own type is wrong is
-/// named first, since what its inputs carry is not known then; then an edge whose type is not that of
-/// the first edge from its port, so that each port is looked at once. Near linear in the nodes and
-/// edges.
+/// named first, since what its inputs carry is not known then; then an edge that is the first from its
+/// port and whose type the port does not give, and one whose type is not that of the first, so that each
+/// port is looked at once. Near linear in the nodes and edges.
 pub fn wrong_end(
     alloc: Global,
     known: &Known,
@@ -422,10 +479,13 @@ pub fn wrong_end(
     if !is_end_typed(known, site, None) {
         return Ok(Some(0));
     }
+    let given = given_of(alloc, known, graph)?;
+    if let Some(label) = ungiven(known, graph, &given) {
+        return Ok(Some(label));
+    }
     if let Some(label) = disagreeing(alloc, known, graph.edges.as_slice())? {
         return Ok(Some(label));
     }
-    let given = given_of(alloc, known, graph)?;
     if let Some(label) = wrong_node(known, graph, site, inputs, parts, &given) {
         return Ok(Some(label));
     }

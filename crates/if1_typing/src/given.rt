@@ -20,6 +20,7 @@ use flow_value::{NoMemory, Numbers, Seq};
 use if1_graph::{
     Compound, Edge, Graph, Node, Origin, Simple, Want, compound_of, node_of, output_of, simple_of,
 };
+use if1_ports::labels_of;
 use if1_types::number_at;
 use indexmap::IndexMap;
 use std::alloc::Global;
@@ -40,16 +41,6 @@ pub struct Given {
     pub callees: Callees,
     /// By node and port the number of a type, and whether the port gives it.
     pub map: IndexMap<(u32, u32), (u32, bool)>,
-}
-
-fn labels_of(alloc: Global, nodes: &[Node]) -> Result<Numbers, NoMemory>
-    ensures { IfOk result (λ ls. ls ≡ map label_of nodes.now) }
-{
-    let mut labels = Seq::with_room(alloc, nodes.len())?;
-    for node in nodes {
-        labels.add(node.label)?;
-    }
-    Ok(labels)
 }
 
 fn callee_into(known: &Known, graph: &Graph, label: u32) -> u32
@@ -140,15 +131,7 @@ fn output_fits(
         Some(compound) => {
             result_number(known, node.subs.as_slice(), giving_part(compound), port) == number
         }
-        None => simple_output_fits(
-            known,
-            graph,
-            node,
-            callee,
-            simple_of(node.op),
-            port,
-            number,
-        ),
+        None => simple_output_fits(known, graph, node, callee, simple_of(node.op), port, number),
     }
 }
 
@@ -249,7 +232,7 @@ pub fn given_of(alloc: Global, known: &Known, graph: &Graph) -> Result<Given, No
 }
 
 /// What is noted of a port and the type of a number.
-fn noted(given: &Given, node: u32, port: u32, number: u32) -> Option<bool>
+pub fn noted(given: &Given, node: u32, port: u32, number: u32) -> Option<bool>
     ensures { (b : Bool) → result ≡ Some b → spec.noted_at given.now.map node port ≡ Some (number, b) }
 {
     match given.map.get(&(node, port)) {
@@ -259,14 +242,7 @@ fn noted(given: &Given, node: u32, port: u32, number: u32) -> Option<bool>
 }
 
 /// Whether a port of a node gives the type of a number.
-pub fn gives(
-    known: &Known,
-    graph: &Graph,
-    given: &Given,
-    node: u32,
-    port: u32,
-    number: u32,
-) -> bool
+pub fn gives(known: &Known, graph: &Graph, given: &Given, node: u32, port: u32, number: u32) -> bool
     requires laid { IsLaid graph.now }
     requires noted { AreNoted (table_of known.now) graph.now given.now }
     ensures { result ≡ spec.port_gives (table_of known.now) graph.now node port number }

@@ -7,11 +7,12 @@ ghost use Rattle.if1_typing.specs.Fed.{AreOrdered};
 ghost use Rattle.if1_typing.specs.Contents as contents;
 ghost use Rattle.if1_typing.specs.Sites as spec;
 
-use crate::fed::{carried_in, result_number, results_at, width_of};
+use crate::fed::{carried_in, result_number, results_at};
 use crate::known::Known;
 use crate::site::{Content, Frame, Inner, Site};
 use if1_fits::{are_same, fits, many_of, tags_of, value_of};
 use if1_graph::{Compound, Edge, Graph, Node, Part, Want, compound_of, part_at};
+use if1_ports::greatest_port;
 
 /// An input of returns after those of the node, counted from 1.
 fn returned_fits(
@@ -50,7 +51,10 @@ fn body_input_fits(
 {
     let carried = result_number(known, graphs, 0, port);
     match compound {
-        Compound::ForAll => are_same(many_of(&known.sorts, carried), value_of(&known.sorts, number)),
+        Compound::ForAll => are_same(
+            many_of(&known.sorts, carried),
+            value_of(&known.sorts, number),
+        ),
         _ => carried == number,
     }
 }
@@ -199,7 +203,7 @@ fn frame_as(known: &Known, inputs: &[Edge], node: &Node, compound: Compound) -> 
 {
     Frame {
         compound,
-        width: width_of(inputs),
+        width: greatest_port(inputs),
         first: results_at(node.subs.as_slice(), 0),
         tags: tags_at(known, carried_in(known, inputs, 1)),
     }
