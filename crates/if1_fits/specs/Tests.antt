@@ -1,5 +1,5 @@
 -- Whether a type is one that the table of nodes wants, by numbers.
-use Rattle.std.specs.Prelude.{◌≡◌, ℕ, zero, suc, ◌+◌, Bool, true, false, ◌&&◌, ◌||◌, ◌==◌, List, Option, Some, None, is_some, find}
+use Rattle.std.specs.Prelude.{◌≡◌, ℕ, zero, suc, Bool, true, false, ◌&&◌, ◌||◌, ◌==◌, List, Option, Some, None, is_some}
 use Rattle.if1_graph.specs.declared.op.Reducer.{Reducer}
 use Rattle.if1_graph.specs.declared.op.Reducer.TheVariants as reducer
 use Rattle.if1_graph.specs.declared.row.Want.{Want}

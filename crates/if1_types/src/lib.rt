@@ -2,6 +2,7 @@
 #![tactic(auto)]
 
 mod forms;
+mod kind;
 mod laws;
 mod level;
 mod lines;

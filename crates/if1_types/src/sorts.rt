@@ -15,6 +15,7 @@ ghost use Rattle.if1_types.specs.Skips.{first_in, behind, end_at, member_at, mem
 ghost use Rattle.if1_types.specs.Forms.{IsSort, IsTy, IsList, Stand, AreOnce, AreRead, sort_form_at, ty_form_at, list_form_at, IsSortForm, IsTyForm, IsListForm, sort_form, ty_form, list_form};
 
 use crate::forms::{ListForm, SortForm, TyForm};
+use crate::kind::Kind;
 use crate::level::{part_over, type_numbers};
 use crate::lines::Line;
 use crate::lists::{list_number, list_numbers};
@@ -204,7 +205,7 @@ fn function_number(
 {
     let first = list_number(shapes, labels, lists, arguments);
     let second = list_number(shapes, labels, lists, results);
-    let number = shapes.over_both(12, first, second)?;
+    let number = shapes.over_both(Kind::Function, first, second)?;
     Ok(number)
 }
 
@@ -226,7 +227,14 @@ fn sort_number(
     ensures later { IsLater (trees_in shapes.old) (trees_in shapes.new) }
 {
     match kind_of(entry.code) {
-        Some(TypeKind::Multiple) => part_over(shapes, types, labels, numbers, 11, entry.first),
+        Some(TypeKind::Multiple) => part_over(
+            shapes,
+            types,
+            labels,
+            numbers,
+            Kind::Multiple,
+            entry.first,
+        ),
         Some(TypeKind::Function) => function_number(
             shapes,
             labels,
@@ -234,7 +242,7 @@ fn sort_number(
             entry.first,
             entry.second,
         ),
-        _ => part_over(shapes, types, labels, numbers, 10, entry.label),
+        _ => part_over(shapes, types, labels, numbers, Kind::Value, entry.label),
     }
 }
 

@@ -1,5 +1,4 @@
-use Rattle.std.proofs.Common.{◌≡◌, ◌∙◌, ℕ, suc, ◌+◌, ◌-◌, Some, true, false, sym, ap, arith}
-use Rattle.if1_types.specs.Shapes.{Key}
+use Rattle.std.proofs.Common.{◌≡◌, ◌∙◌, suc, ◌+◌, ◌-◌, Some, true, false, sym, ap, arith}
 use Rattle.if1_fits.specs.Views.{value_of, are_same, carried_at}
 use Rattle.if1_fits.specs.Tests.{fields_fit}
 use Rattle.if1_fits.proofs.Walks.{fields_on, fields_stop, fields_end}

@@ -1,6 +1,5 @@
-use Rattle.std.proofs.Common.{◌≡◌, ◌≤◌, ◌∙◌, Some, ℕ, List, length, slice_get, sym, ap, subst, arith}
+use Rattle.std.proofs.Common.{◌∙◌, sym, arith}
 use Rattle.if1_fits.specs.Views.{carried_at}
-use Rattle.if1_fits.specs.Tests.{tag_fits}
 use Rattle.if1_fits.proofs.Walks.{item_got, no_more_fit, none_built, some_built}
 use Rattle.if1_fits.proofs.wants.some_tag_fits.Goals as goal
 

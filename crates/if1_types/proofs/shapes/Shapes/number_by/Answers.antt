@@ -3,7 +3,7 @@ use Rattle.std.specs.Map.{keys_of}
 use Rattle.std.proofs.lemmas.List.{length-map}
 use Rattle.if1_types.specs.Shapes.{key_eq, tree_at, key_tree, trees_in, members_in, IsKept, IsLater, Stands}
 use Rattle.if1_types.proofs.Keeping.{stands_found, stands_last, later_one, IsAdded, added, added_counted}
-use Rattle.if1_types.proofs.shapes.Shapes.number.Goals as goal
+use Rattle.if1_types.proofs.shapes.Shapes.number_by.Goals as goal
 
 pub returns-in-Some-clause-number : goal.returns-in-Some-clause-number
 returns-in-Some-clause-number c =
