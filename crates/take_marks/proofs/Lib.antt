@@ -6,3 +6,5 @@ pub mod Weighed
 pub mod Stretches
 pub mod Tried
 pub mod Answered
+pub mod Arranged
+pub mod Runs

@@ -8,7 +8,7 @@ mod orders;
 mod places;
 mod why;
 
-pub use graph::GraphMarks;
+pub use graph::{GraphMarks, marks_in};
 pub use judging::judge;
 pub use order::{are_before, clear, enter, reordered, weigh_users};
 pub use orders::order_users;
