@@ -1,6 +1,7 @@
 //! The marks that are made in a unit: which edges take, and the ordering edges for their sake.
 #![tactic(auto)]
 
+mod check;
 mod graph;
 mod judging;
 mod order;
@@ -8,6 +9,7 @@ mod orders;
 mod places;
 mod why;
 
+pub use check::checked;
 pub use graph::{GraphMarks, marks_in};
 pub use judging::judge;
 pub use order::{are_before, clear, enter, reordered, weigh_users};
