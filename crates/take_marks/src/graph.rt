@@ -13,8 +13,10 @@ ghost use Rattle.marks_made.specs.Laws.{IsMarkable};
 ghost use Rattle.take_marks.specs.Made.{IsInShape, AreMade};
 ghost use Rattle.take_marks.specs.Noted.{IsNoted, HasRun};
 
+use crate::check::checked;
 use crate::judging::judge;
 use crate::why::Why;
+use crate::wish::wished;
 use flow_value::{NoMemory, Numbers, Seq};
 use if1_graph::{Edge, Graph};
 use if1_order::{Places, feeders_by, labels_of};
@@ -89,12 +91,24 @@ fn note(
     judge(alloc, labels, port, edge.node, lists, ranks, weights, befores)
 }
 
-// a graph in which no node reaches itself
-fn first_ranks(alloc: Global, lists: &[Places]) -> Result<Ranks, NoMemory>
+// an order in which users come before presumed takers, or else any
+fn first_ranks(
+    alloc: Global,
+    labels: &[u32],
+    users: &PortUsers,
+    edges: &[Edge],
+    flags: &[bool],
+    lists: &[Places],
+) -> Result<Ranks, NoMemory>
+    requires rising { IsStrictlyIncreasing labels.now }
     requires inside { AreInside lists.now }
     requires acyclic { (s : ℕ) → ¬ Leads lists.now s s }
     ensures { IfOk result (IsRanked lists.now) }
 {
+    let order = wished(alloc, labels, users, edges, flags, lists)?;
+    if let Some(ranks) = checked(alloc, lists, order)? {
+        return Ok(ranks);
+    }
     match ranked(alloc, lists)? {
         Some(ranks) => Ok(ranks),
         None => unreachable!(),
@@ -148,7 +162,9 @@ pub fn marks_in(alloc: Global, graph: &Graph, flags: &[bool]) -> Result<GraphMar
     let labels = labels_of(alloc, graph.nodes.as_slice())?;
     let mut lists = feeders_by(alloc, labels.as_slice(), graph.edges.as_slice())?;
     let users = port_users(alloc, graph.edges.as_slice())?;
-    let mut ranks = first_ranks(alloc, lists.as_slice())?;
+    let mut ranks = first_ranks(
+        alloc, labels.as_slice(), &users, graph.edges.as_slice(), flags, lists.as_slice(),
+    )?;
     let mut weights = no_weights(alloc, labels.len())?;
     let mut befores = no_lists(alloc, labels.len())?;
     let whys = run(

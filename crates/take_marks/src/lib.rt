@@ -8,6 +8,7 @@ mod order;
 mod orders;
 mod places;
 mod why;
+mod wish;
 
 pub use check::checked;
 pub use graph::{GraphMarks, marks_in};
@@ -16,3 +17,4 @@ pub use order::{are_before, clear, enter, reordered, weigh_users};
 pub use orders::order_users;
 pub use places::{blocking, is_twice, other_users, places_of, the_place};
 pub use why::Why;
+pub use wish::wished;

@@ -8,12 +8,12 @@ use Rattle.take_marks.proofs.graph.marks_in.Goals as goal
 
 pub first_ranks-requires-clause-inside : goal.first_ranks-requires-clause-inside
 first_ranks-requires-clause-inside c =
-    subst AreInside (sym c.as_slice-5.ensures.value) (feeders_inside c.as_slice-2.result.now c.as_slice-3.result.now c.in_ok-lists.lists.items c.in_ok-lists.ensures)
+    subst AreInside (sym c.as_slice-7.ensures.value) (feeders_inside c.as_slice-2.result.now c.as_slice-3.result.now c.in_ok-lists.lists.items c.in_ok-lists.ensures)
 
 pub first_ranks-requires-clause-acyclic : goal.first_ranks-requires-clause-acyclic
 first_ranks-requires-clause-acyclic c =
-    no-circle c.args.graph.now c.in_ok-labels.labels c.as_slice-2.result.now c.in_ok-lists.lists.items c.as_slice-5.result.now c.as_slice-3.result.now c.requires.shape
-    (c.as_slice-2.ensures ∙ (c.in_ok-labels.ensures ∙ ap (map label_of) c.as_slice.ensures)) c.as_slice-3.ensures c.in_ok-lists.ensures c.as_slice-5.ensures.value
+    no-circle c.args.graph.now c.in_ok-labels.labels c.as_slice-2.result.now c.in_ok-lists.lists.items c.as_slice-7.result.now c.as_slice-3.result.now c.requires.shape
+    (c.as_slice-2.ensures ∙ (c.in_ok-labels.ensures ∙ ap (map label_of) c.as_slice.ensures)) c.as_slice-3.ensures c.in_ok-lists.ensures c.as_slice-7.ensures.value
 
 pub run-requires-clause-inside : goal.run-requires-clause-inside
 run-requires-clause-inside c = feeders_inside c.as_slice-2.result.now c.as_slice-3.result.now c.in_ok-lists.lists.items c.in_ok-lists.ensures
