@@ -8,3 +8,5 @@ pub mod Tried
 pub mod Answered
 pub mod Arranged
 pub mod Runs
+pub mod Once
+pub mod Listed

@@ -1,6 +1,7 @@
 //! The marks that are made in a unit: which edges take, and the ordering edges for their sake.
 #![tactic(auto)]
 
+mod apply;
 mod check;
 mod graph;
 mod judging;
@@ -10,6 +11,7 @@ mod places;
 mod why;
 mod wish;
 
+pub use apply::{set_lists, set_takes};
 pub use check::checked;
 pub use graph::{GraphMarks, marks_in};
 pub use judging::judge;
