@@ -10,3 +10,4 @@ pub mod Arranged
 pub mod Runs
 pub mod Once
 pub mod Listed
+pub mod Marking

@@ -1,9 +1,7 @@
 //! A graph with the marks that are made in it.
-ghost use Rattle.std.specs.Prelude.{◌≡◌, ◌<◌, ℕ, length, map, Bool};
+ghost use Rattle.std.specs.Prelude.{◌≡◌, ◌<◌, length, Bool};
 ghost use Rattle.if1_graph.specs.declared.graph.Edge.{Edge};
-ghost use Rattle.if1_graph.specs.declared.graph.Graph.{Graph};
 ghost use Rattle.if1_graph.specs.declared.graph.Graph.TheViews.{out-Graph};
-ghost use Rattle.if1_graph.specs.declared.graph.Node.{Node};
 ghost use Rattle.marks_made.specs.Made.{is_taken, marked};
 ghost use Rattle.marks_made.specs.Laws.{IsMarkable};
 ghost use Rattle.take_marks.specs.Whys.{answer_of};
@@ -60,5 +58,35 @@ pub fn set_lists(nodes: &mut Vec<Node>, befores: Vec<Numbers>)
     while let Some(labels) = befores.pop() {
         let index = befores.as_slice().len();
         set_list(nodes, index, labels);
+    }
+}
+
+/// The graph with these marks in place of those that it had.
+pub fn with_marks(graph: Graph, marks: GraphMarks) -> Graph
+    requires shape { IsInShape graph }
+    requires whys { length marks.whys ≡ length (out-Graph graph).edges }
+    requires befores { length marks.befores.items ≡ length (out-Graph graph).nodes }
+    ensures { (may : Edge → Bool) → IsMarkable graph may → AreMade graph may marks.whys marks.befores.items → result ≡ marked graph may }
+{
+    let GraphMarks { whys, befores } = marks;
+    let Graph {
+        number,
+        exported,
+        name,
+        fun,
+        nodes,
+        edges,
+    } = graph;
+    let mut edges = edges.into_vec();
+    set_takes(&mut edges, whys.as_slice());
+    let mut nodes = nodes.into_vec();
+    set_lists(&mut nodes, befores);
+    Graph {
+        number,
+        exported,
+        name,
+        fun,
+        nodes: Seq::from_vec(nodes),
+        edges: Seq::from_vec(edges),
     }
 }

@@ -135,7 +135,9 @@ fn run(
     requires ranked { IsRanked lists.old.items ranks.old }
     requires weights { length weights.old ≡ length lists.old.items }
     requires befores { length befores.old.items ≡ length lists.old.items }
-    ensures { IfOk
+    ensures whys { IfOk result (λ whys. length whys ≡ length (out-Graph graph.now).edges) }
+    ensures befores { OnOk result (length befores.new.items ≡ length labels.now) }
+    ensures run { IfOk
         result
         (λ whys. HasRun graph.now flags.now (length (out-Graph graph.now).edges) lists.old.items befores.old.items lists.new.items befores.new.items whys) }
 {
@@ -155,7 +157,9 @@ fn run(
 pub fn marks_in(alloc: Global, graph: &Graph, flags: &[bool]) -> Result<GraphMarks, NoMemory>
     requires shape { IsInShape graph.now }
     requires flags { length flags.now ≡ length (out-Graph graph.now).edges }
-    ensures { IfOk
+    ensures whys { IfOk result (λ r. length r.whys ≡ length (out-Graph graph.now).edges) }
+    ensures befores { IfOk result (λ r. length r.befores.items ≡ length (out-Graph graph.now).nodes) }
+    ensures made { IfOk
         result
         (λ r. (may : Edge → Bool) → IsMarkable graph.now may → flags.now ≡ map may (out-Graph graph.now).edges → AreMade graph.now may r.whys r.befores.items) }
 {

@@ -12,5 +12,6 @@ invariant-loop-index l =
       ranked : IsRanked l.lists.items l.ranks;
       weights : length l.weights ≡ length l.lists.items;
       befores : length l.befores.items ≡ length l.lists.items;
+      count : length l.whys ≡ l.index;
       run : HasRun l.graph l.flags l.index l.fn.lists.items l.fn.befores.items l.lists.items l.befores.items l.whys;
     }
