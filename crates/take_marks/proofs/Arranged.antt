@@ -1,6 +1,5 @@
 -- Edges in order give users in order.
-use Rattle.std.proofs.Common.{◌≡◌, ◌≢◌, ◌∙◌, ℕ, ◌+◌, ◌<◌, ◌≤◌, zero, suc, Bool, true, List, [], ◌∷◌, length, get_or, slice_index, slice_index_or, map, filter, All, Contains, AllPairs, ◌⊎◌, inl, inr, arith, refl, sym, ap, subst}
-use Rattle.std.proofs.lemmas.List.{get_or_default}
+use Rattle.std.proofs.Common.{◌≡◌, ◌≢◌, ◌∙◌, ℕ, ◌≤◌, suc, List, [], ◌∷◌, map, filter, Contains, AllPairs, inl, inr, arith, sym, subst}
 use Rattle.std.proofs.lemmas.List.Kept.{AllPairs-filter}
 use Rattle.std.proofs.lemmas.List.Elements.{All-weaker, All-contains_itself}
 use Rattle.if1_graph.specs.declared.graph.Edge.{Edge}
@@ -11,7 +10,7 @@ use Rattle.if1_graph.specs.declared.graph.Origin.TheVariants.{Port, Lit}
 use Rattle.if1_graph.specs.Normal.{Precedes}
 use Rattle.if1_graph.specs.Ports.{leaves}
 use Rattle.if1_order.specs.Orders.{node_labels}
-use Rattle.if1_marks.proofs.Lists.{here, there, here-or-there, in-none}
+use Rattle.if1_marks.proofs.Lists.{in-none}
 use Rattle.marks_made.proofs.Lists.{from-mapped, passed}
 use Rattle.if1_reach.specs.Users.{users_in}
 use Rattle.take_marks.specs.Judged.{IsRow, AreThere}
@@ -24,10 +23,10 @@ pairs-row : (es : List Edge) → AllPairs Precedes es → IsRow (nodes-of es)
 pairs-row [] p = tt
 pairs-row (e ∷ es) p = (
   (λ y c ne.
-    let r = from-mapped (λ (e : Edge). e.node) es y c in
-    let (k, h, x) = r.1 in
-    let q = p 0 (suc k) r.0 (omega arith) (omega (arith, h)) in
-    by y r.0 r.2 ne (subst (λ (f : Edge). Precedes e f) x q)),
+      let r = from-mapped (λ (e : Edge). e.node) es y c in
+      let (k, h, x) = r.1 in
+      let q = p 0 (suc k) r.0 (omega arith) (omega (arith, h)) in
+      by y r.0 r.2 ne (subst (λ (f : Edge). Precedes e f) x q)),
   pairs-row es (λ i j d lt h. p (suc i) (suc j) d (omega (arith, lt)) (omega (arith, h))),
 )
   where

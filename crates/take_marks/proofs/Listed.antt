@@ -1,9 +1,8 @@
 -- The nodes get their lists, from the last one to the first.
-use Rattle.std.proofs.Common.{◌≡◌, ◌≢◌, ◌∙◌, ℕ, ◌+◌, ◌<◌, ◌≤◌, zero, suc, List, [], ◌∷◌, ◌++◌, length, take, set, get_or, slice_index_or, slice_set, Contains, ◌⊎◌, inl, inr, arith, refl, sym, ap, subst}
+use Rattle.std.proofs.Common.{◌≡◌, ◌≢◌, ◌∙◌, ℕ, ◌+◌, ◌<◌, ◌≤◌, zero, suc, List, [], ◌∷◌, ◌++◌, length, set, get_or, slice_index_or, ◌⊎◌, inl, inr, arith, refl, sym, ap, subst}
 use Rattle.std.proofs.lemmas.Bool.{cases_eq}
-use Rattle.std.proofs.lemmas.List.{length-set, length_push, get_or-set_same, get_or-set_other, get_or_push, get_or-take, take_at, take_all, length-take}
+use Rattle.std.proofs.lemmas.List.{length-set, length_push, get_or-set_same, get_or-set_other, get_or_push}
 use Rattle.if1_graph.specs.declared.graph.Node.{Node}
-use Rattle.if1_reach.proofs.Labelled.{same-default}
 use Rattle.take_marks.specs.Applied.{with_before, AreOnce, AreNodesListed, IsListedAt}
 
 -- what is left of a list from its end

@@ -1,28 +1,25 @@
 -- The graph with the marks that are made.
-use Rattle.std.proofs.Common.{◌≡◌, ◌≢◌, ◌∙◌, ℕ, ◌+◌, ◌<◌, ◌≤◌, zero, suc, Bool, true, List, [], ◌∷◌, length, get_or, slice_index, slice_index_or, map, Contains, inl, inr, arith, refl, sym, ap, subst, ◌==◌}
-use Rattle.std.specs.List.{list_any, filter}
-use Rattle.std.specs.List.Sorted.{IsStrictlyIncreasing}
+use Rattle.std.proofs.Common.{◌≡◌, ◌∙◌, ℕ, ◌<◌, zero, suc, Bool, true, List, [], ◌∷◌, length, get_or, slice_index, slice_index_or, map, Contains, arith, refl, sym, ap, subst, ◌==◌}
+use Rattle.std.specs.List.{list_any}
 use Rattle.std.proofs.lemmas.List.{ext_get_or, get_or-map, length-map}
 use Rattle.std.proofs.lemmas.List.Kept.{IsStrictlyIncreasing-filter}
-use Rattle.std.proofs.lemmas.Bool.{eq-eqb}
 use Rattle.if1_graph.specs.declared.graph.Edge.{Edge}
 use Rattle.if1_graph.specs.declared.graph.Graph.{Graph}
 use Rattle.if1_graph.specs.declared.graph.Graph.TheViews.{out-Graph, roll-Graph}
-use Rattle.if1_graph.specs.declared.graph.Graph.TheOpen.{Graph-F}
-use Rattle.if1_graph.specs.declared.graph.Node.{Node, roll-Node, out-Node}
+use Rattle.if1_graph.specs.declared.graph.Node.{Node}
 use Rattle.if1_graph.specs.Units.{label_of}
 use Rattle.if1_order.specs.Orders.{node_labels}
-use Rattle.if1_marks.proofs.Lists.{here, there, here-or-there, in-none, in-filter}
+use Rattle.if1_marks.proofs.Lists.{in-filter}
 use Rattle.if1_marks.proofs.Tests.{same-number, any-found}
 use Rattle.std.proofs.lemmas.Bool.{and_parts}
-use Rattle.marks_made.specs.Made.{Answer, Orders, is_order, is_taken, with_answer, answer, after, answered, made, made_orders, listed, with_list, marked}
+use Rattle.marks_made.specs.Made.{Orders, is_order, is_taken, with_answer, after, answered, made, made_orders, listed, with_list, marked}
 use Rattle.marks_made.specs.Laws.{IsMarkable}
 use Rattle.marks_made.proofs.Lists.{passed}
 use Rattle.marks_made.proofs.Steps.{Run, run, start}
 use Rattle.take_marks.specs.declared.why.Why.{Why}
 use Rattle.take_marks.specs.Whys.{answer_of}
 use Rattle.take_marks.specs.Noted.{notes_of}
-use Rattle.take_marks.specs.Made.{IsInShape, AreListed, AreMade}
+use Rattle.take_marks.specs.Made.{IsInShape, AreListed}
 use Rattle.take_marks.specs.Applied.{taken_as, AreTaken, with_before, AreOnce, AreNodesListed}
 use Rattle.take_marks.proofs.Once.{same-members}
 

@@ -1,8 +1,8 @@
 -- All edges of a graph, one after another.
-use Rattle.std.proofs.Common.{◌≡◌, ◌≢◌, ◌∙◌, ℕ, ◌+◌, ◌<◌, ◌≤◌, zero, suc, Bool, true, false, not, ◌||◌, ◌&&◌, List, [], ◌∷◌, ◌++◌, length, take, drop, get_or, slice_index, slice_index_or, slice_get, replicate, map, Contains, MatchBool, Option, Some, None, ◌⊎◌, inl, inr, arith, refl, sym, ap, subst, ◌==◌, drop-cons, append_assoc}
+use Rattle.std.proofs.Common.{◌≡◌, ◌∙◌, ℕ, ◌+◌, ◌<◌, zero, suc, Bool, true, false, not, ◌||◌, ◌&&◌, List, [], ◌∷◌, ◌++◌, length, drop, get_or, slice_index, slice_index_or, slice_get, replicate, map, Contains, MatchBool, Some, ◌⊎◌, inl, inr, arith, refl, sym, ap, subst, ◌==◌, drop-cons, append_assoc}
 use Rattle.std.specs.List.{list_any}
 use Rattle.std.proofs.Math.Seq.{drop-length}
-use Rattle.std.proofs.lemmas.List.{get_or-replicate, length-replicate, get_or_past, length_push, map-append, get_or-map}
+use Rattle.std.proofs.lemmas.List.{length-replicate, length_push, map-append, get_or-map}
 use Rattle.std.proofs.lemmas.List.Elements.{Contains-get_or}
 use Rattle.std.proofs.lemmas.Option.{same_Some}
 use Rattle.if1_graph.specs.declared.graph.Edge.{Edge}
@@ -20,17 +20,16 @@ use Rattle.marks_made.specs.Made.{comes_from}
 use Rattle.marks_made.proofs.Steps.{label-from}
 use Rattle.if1_reach.proofs.Labelled.{same-default}
 use Rattle.marks_made.specs.Ways as ways
-use Rattle.marks_made.specs.Made.{Answer, Orders, links, is_edge, is_order, answer, after, answered, orders, made, made_orders}
+use Rattle.marks_made.specs.Made.{Orders, links, is_edge, is_order, answer, after, answered, orders, made, made_orders}
 use Rattle.marks_made.specs.Laws.{IsMarkable}
-use Rattle.marks_made.proofs.Steps.{Inv, Grows, Step, step, start}
+use Rattle.marks_made.proofs.Steps.{Inv, Step, step, start}
 use Rattle.if1_reach.specs.Nets.{IsNet}
 use Rattle.if1_reach.specs.Paths.{IsPath}
 use Rattle.if1_reach.proofs.Links.{net-same, net-of-edges, to-labels}
 use Rattle.take_marks.specs.declared.why.Why.{Why}
 use Rattle.take_marks.specs.declared.why.Why.TheVariants as why
-use Rattle.take_marks.specs.Whys.{answer_of, HasWay, IsWayOut, IsWayTo}
+use Rattle.take_marks.specs.Whys.{answer_of, HasWay}
 use Rattle.take_marks.specs.Standing.{Stands}
-use Rattle.take_marks.specs.Judged.{AreOrdersSound, IsAnswered}
 use Rattle.take_marks.specs.Made.{IsInShape, AreListed, HaveWays, AreMade}
 use Rattle.take_marks.specs.Noted.{IsNoted, notes_of, IsRun, HasRun}
 

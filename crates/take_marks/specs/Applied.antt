@@ -2,7 +2,6 @@
 use Rattle.std.specs.Prelude.{◌≡◌, ℕ, ◌<◌, ◌≤◌, List, [], length, slice_index_or, slice_set, Contains, ◌↔◌}
 use Rattle.std.specs.List.Sorted.{IsStrictlyIncreasing}
 use Rattle.if1_graph.specs.declared.graph.Edge.{Edge}
-use Rattle.if1_graph.specs.declared.graph.Graph.TheViews.{roll-Graph}
 use Rattle.if1_graph.specs.declared.graph.Node.{Node, roll-Node, out-Node}
 use Rattle.if1_graph.specs.Units.{label_of}
 use Rattle.marks_made.specs.Made.{is_taken}

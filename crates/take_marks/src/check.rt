@@ -83,11 +83,7 @@ fn do_rise(lists: &[Places], ranks: &[usize]) -> bool
 
 /// These places in this order with their ranks, if that is an order along links. Linear in the length of
 /// the lists.
-pub fn checked(
-    alloc: Global,
-    lists: &[Places],
-    order: Places,
-) -> Result<Option<Ranks>, NoMemory>
+pub fn checked(alloc: Global, lists: &[Places], order: Places) -> Result<Option<Ranks>, NoMemory>
     ensures { IfOk result (λ r. IfSome r (IsRanked lists.now)) }
 {
     let ranks = ranks_by(alloc, order.as_slice(), lists.len())?;

@@ -88,7 +88,9 @@ fn note(
         return Ok(Why::Kept);
     }
     let port = users_of(users, &edge.from);
-    judge(alloc, labels, port, edge.node, lists, ranks, weights, befores)
+    judge(
+        alloc, labels, port, edge.node, lists, ranks, weights, befores,
+    )
 }
 
 // an order in which users come before presumed takers, or else any
@@ -144,7 +146,16 @@ fn run(
     let mut whys = Seq::new(alloc);
     for (index, edge) in graph.edges.as_slice().iter().enumerate() {
         let why = note(
-            alloc, graph, labels, users, edge, flags[index], lists, ranks, weights, befores,
+            alloc,
+            graph,
+            labels,
+            users,
+            edge,
+            flags[index],
+            lists,
+            ranks,
+            weights,
+            befores,
         )?;
         whys.add(why)?;
     }
@@ -167,12 +178,24 @@ pub fn marks_in(alloc: Global, graph: &Graph, flags: &[bool]) -> Result<GraphMar
     let mut lists = feeders_by(alloc, labels.as_slice(), graph.edges.as_slice())?;
     let users = port_users(alloc, graph.edges.as_slice())?;
     let mut ranks = first_ranks(
-        alloc, labels.as_slice(), &users, graph.edges.as_slice(), flags, lists.as_slice(),
+        alloc,
+        labels.as_slice(),
+        &users,
+        graph.edges.as_slice(),
+        flags,
+        lists.as_slice(),
     )?;
     let mut weights = no_weights(alloc, labels.len())?;
     let mut befores = no_lists(alloc, labels.len())?;
     let whys = run(
-        alloc, graph, labels.as_slice(), &users, flags, &mut lists, &mut ranks, &mut weights,
+        alloc,
+        graph,
+        labels.as_slice(),
+        &users,
+        flags,
+        &mut lists,
+        &mut ranks,
+        &mut weights,
         &mut befores,
     )?;
     Ok(GraphMarks { whys, befores })

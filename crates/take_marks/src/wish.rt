@@ -74,12 +74,7 @@ fn add_links(waits: &mut Waits, feeders: &[usize], place: usize) -> Result<(), N
     Ok(())
 }
 
-fn add_wish(
-    waits: &mut Waits,
-    labels: &[u32],
-    user: u32,
-    taker: usize,
-) -> Result<(), NoMemory>
+fn add_wish(waits: &mut Waits, labels: &[u32], user: u32, taker: usize) -> Result<(), NoMemory>
     requires { IsStrictlyIncreasing labels.now }
 {
     if let Some(place) = place_of(labels, user) {
@@ -260,8 +255,20 @@ fn release(
     let Some(wished) = waits.wished.as_slice().get(place) else {
         return Ok(());
     };
-    release_links(led.as_slice(), &mut waits.links, waits.wishes.as_slice(), ready, half)?;
-    release_wishes(wished.as_slice(), waits.links.as_slice(), &mut waits.wishes, ready, half)
+    release_links(
+        led.as_slice(),
+        &mut waits.links,
+        waits.wishes.as_slice(),
+        ready,
+        half,
+    )?;
+    release_wishes(
+        wished.as_slice(),
+        waits.links.as_slice(),
+        &mut waits.wishes,
+        ready,
+        half,
+    )
 }
 
 fn file_all(
@@ -272,7 +279,13 @@ fn file_all(
 ) -> Result<(), NoMemory> {
     for below in 0..places {
         let place = places - 1 - below;
-        file(waits.links.as_slice(), waits.wishes.as_slice(), place, ready, half)?;
+        file(
+            waits.links.as_slice(),
+            waits.wishes.as_slice(),
+            place,
+            ready,
+            half,
+        )?;
     }
     Ok(())
 }

@@ -1,4 +1,4 @@
-use Rattle.std.proofs.Common.{◌≡◌, ◌∙◌, ◌+◌, ◌<◌, length, sym, ap, subst, refl, arith}
+use Rattle.std.proofs.Common.{length, ap, subst, arith}
 use Rattle.take_marks.specs.Applied.{IsListedAt}
 use Rattle.take_marks.proofs.Listed.{one-less, one-listed}
 use Rattle.take_marks.proofs.apply.set_lists.Goals as goal

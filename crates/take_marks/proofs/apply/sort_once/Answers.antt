@@ -1,4 +1,3 @@
-use Rattle.std.proofs.Common.{◌≡◌, ◌∙◌, subst, sym, Contains}
 use Rattle.std.proofs.lemmas.List.Filters.{dedup_is}
 use Rattle.take_marks.proofs.Once.{sorted-once}
 use Rattle.take_marks.proofs.apply.sort_once.Goals as goal

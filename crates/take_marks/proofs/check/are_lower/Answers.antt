@@ -1,4 +1,4 @@
-use Rattle.std.proofs.Common.{◌<◌, slice_index, subst, All, take}
+use Rattle.std.proofs.Common.{◌<◌, slice_index, subst, All}
 use Rattle.std.proofs.lemmas.List.{take_all}
 use Rattle.std.proofs.lemmas.List.Elements.{All-more, All-contains}
 use Rattle.take_marks.proofs.check.are_lower.Goals as goal

@@ -1,4 +1,4 @@
-use Rattle.std.proofs.Common.{◌≡◌, ◌∙◌, map, length, subst, sym, ap, refl}
+use Rattle.std.proofs.Common.{◌∙◌, map, length, subst, sym, ap}
 use Rattle.if1_graph.specs.declared.graph.Graph.TheViews.{out-Graph}
 use Rattle.std.proofs.lemmas.List.{length-map}
 use Rattle.if1_graph.specs.Units.{label_of}

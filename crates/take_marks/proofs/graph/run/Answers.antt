@@ -1,4 +1,4 @@
-use Rattle.std.proofs.Common.{◌≡◌, ◌∙◌, ◌<◌, ◌+◌, length, get_or, slice_index_or, false, subst, sym, ap, refl, Contains}
+use Rattle.std.proofs.Common.{◌∙◌, ◌<◌, ◌+◌, length, slice_index_or, false, subst, sym, ap}
 use Rattle.std.proofs.lemmas.List.{length_push}
 use Rattle.if1_graph.specs.declared.graph.Graph.TheViews.{out-Graph}
 use Rattle.if1_reach.proofs.Labelled.{same-default}
