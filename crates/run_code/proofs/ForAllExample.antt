@@ -19,40 +19,40 @@ use Rattle.run_code.specs.Known.{AreReadable}
 use Rattle.run_code.specs.Refolds.{AllLong, Refolds, a_fold, none_refolded, one_refolded, reads, rows_sum}
 use Rattle.run_code.specs.Steps.{Add, Count, Each, Fire, Move, Return, Spread, Step}
 
-abbrev over : Vertex
+abbrev pub over : Vertex
 over = record { label = 1; kind = Whole (form.ForAll 1 2 3 2 1); ins = Port 0 1 ∷ []; before = [] }
 
-abbrev range : Vertex
+abbrev pub range : Vertex
 range = record { label = 1; kind = Plain simple.RangeGenerate shape.Plain; ins = Fixed one ∷ Port 0 1 ∷ []; before = [] }
 
-abbrev twice : Vertex
+abbrev pub twice : Vertex
 twice = record { label = 1; kind = Plain (simple.Two two.Plus) shape.Plain; ins = Port 0 2 ∷ Port 0 2 ∷ []; before = [] }
 
-abbrev gather : Vertex
+abbrev pub gather : Vertex
 gather = record { label = 1; kind = Plain simple.AGather shape.Plain; ins = Fixed one ∷ Port 0 3 ∷ Port 0 4 ∷ []; before = [] }
 
 -- on what is collected
-abbrev gather' : Vertex
+abbrev pub gather' : Vertex
 gather' = record { label = 1; kind = Plain simple.AGather shape.Plain; ins = Fixed one ∷ Port 0 3 ∷ []; before = [] }
 
 abbrev others : List Vertex
 others = gather' ∷ []
 
-abbrev wanted : List Source
+abbrev pub wanted : List Source
 wanted = Port 1 1 ∷ []
 
-abbrev cs : List Collect
+abbrev pub cs : List Collect
 cs = Sifts 0 (Some 1) ∷ []
 
 -- the one node of each graph, whose results is its first output
-abbrev node_of : ℕ → Vertex
+abbrev pub node_of : ℕ → Vertex
 node_of zero = over
 node_of (suc zero) = range
 node_of (suc (suc zero)) = twice
 node_of (suc (suc (suc g))) = gather
 
 -- the body has a mask beside its result
-abbrev results_of : ℕ → List Source
+abbrev pub results_of : ℕ → List Source
 results_of (suc (suc zero)) = Port 1 1 ∷ Fixed (truth true) ∷ []
 results_of _ = Port 1 1 ∷ []
 
@@ -74,7 +74,7 @@ abbrev put_at : ℕ → List Carried → ℕ
 put_at (suc (suc (suc (suc (suc zero))))) ks = put_leaves (Sifts 0 (Some 1)) ks + 0
 put_at _ ks = 0
 
-abbrev steps : List Step
+abbrev pub steps : List Step
 steps =
     Count ∷ Move [] 2 0 2 ∷ Fire simple.RangeGenerate shape.Plain (Lit one ∷ At 0 ∷ []) 2 1 ∷ Spread (At 2 ∷ []) cs 2 6 1 1 9 ∷ Fire (simple.Two two.Plus) shape.Plain (At 5 ∷ At 5 ∷ []) 6 1 ∷ Add cs (At 6 ∷ Lit (truth true) ∷ []) 3 6
     ∷ Each 1 2 4 4 7 ∷ Fire simple.AGather shape.Plain (Lit one ∷ At 3 ∷ []) 4 1 ∷ Move (At 4 ∷ []) 1 1 9 ∷ Return (At 1 ∷ []) ∷ []
