@@ -8,6 +8,7 @@ use crate::sites::result_fits;
 use crate::tables::known_of;
 use flow_value::{NoMemory, Seq};
 use if1_graph::{Compound, Edge, Origin, Part, TypeEntry};
+use if1_types::sorts_of;
 use std::alloc::Global;
 use std::test::Fail;
 
@@ -30,7 +31,8 @@ fn table(alloc: Global) -> Result<Known, NoMemory> {
         entry(alloc, 2, 1, 0),
         entry(alloc, 3, 4, 1),
     ];
-    known_of(alloc, &types, &[])
+    let sorts = sorts_of(alloc, &types)?;
+    known_of(alloc, sorts, &types, &[])
 }
 
 fn is_result(known: &Known, part: Part, label: u32) -> bool {
