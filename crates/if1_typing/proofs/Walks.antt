@@ -1,6 +1,7 @@
 -- What is right or wrong in a graph, from its ends and from the graphs in its nodes.
 use Rattle.std.specs.List.{list_all}
-use Rattle.std.proofs.Common.{eq-eqb, ◌==◌, ◌&&◌, ◌||◌, not, Bool, [], ◌∷◌, ◌≡◌, ℕ, ◌+◌, ◌<◌, ◌≤◌, true, false, ◌++◌, List, map, take, length, get_or, slice_get, Option, Some, None, option_map, All, Contains, inl, inr, ◌⊎◌, MatchOption, refl, sym, ap, subst, ◌∙◌, arith}
+use Rattle.std.proofs.lemmas.Bool.Decides.{eqb_tells}
+use Rattle.std.proofs.Common.{◌≢◌, eq-eqb, ◌==◌, ◌&&◌, ◌||◌, not, Bool, [], ◌∷◌, ◌≡◌, ℕ, ◌+◌, ◌<◌, ◌≤◌, true, false, ◌++◌, List, map, take, length, get_or, slice_get, Option, Some, None, option_map, All, Contains, inl, inr, ◌⊎◌, MatchOption, refl, sym, ap, subst, ◌∙◌, arith}
 use Rattle.std.proofs.lemmas.List.Elements.{All-contains, All-more, All-cons, All-append, All-map, All-weaker, Contains-get_or, Contains-append_left, Contains-append_right}
 use Rattle.std.proofs.lemmas.List.{take_all}
 use Rattle.std.proofs.lemmas.Option.{slice_get_within, slice_get-get_or}
@@ -144,6 +145,12 @@ module _ (t : Table) where
             no_end : (b : Bool) → (b && false) ≡ false
             no_end true = refl
             no_end false = refl
+
+    pub wrong_either : (l m : ℕ) → Disagrees t (out-Graph g).edges l → (m ≢ l → LeadsUngiven t g m) → FindsWrong t a g (Some m)
+    wrong_either l m d u = elim (eqb_tells m l) [
+      | inl same ↦ subst (λ n. FindsWrong t a g (Some n)) (sym same.1) (wrong_edge l d)
+      | inr other ↦ wrong_source m (u other.1)
+    ]
 
     pub none_wrong : IsLaid g → All (λ n. Right (label_of n)) (out-Graph g).nodes → Right 0 → AreAgreed t (out-Graph g).edges → FindsWrong t a g None
     none_wrong laid nodes bound agreed = (all_ends nodes bound laid.leads, agreed)

@@ -1,5 +1,5 @@
 //! The types of what leads into the nodes and the boundary of one graph.
-ghost use Rattle.std.specs.Prelude.{◌≡◌, true, false, ℕ, Some, All, AllPairs, Contains, MatchOption, IfOk, map, option_map, is_some};
+ghost use Rattle.std.specs.Prelude.{◌≡◌, ◌≢◌, true, false, ℕ, Some, All, AllPairs, Contains, MatchOption, IfOk, map, option_map, is_some};
 ghost use Rattle.if1_graph.specs.Normal.{Precedes};
 ghost use Rattle.if1_graph.specs.Units.{label_of, node_at};
 ghost use Rattle.if1_types.specs.Forms.{sort_form_at};
@@ -458,11 +458,23 @@ fn ungiven(known: &Known, graph: &Graph, given: &Given) -> Option<u32>
     None
 }
 
+/// The label of a node into which an edge leads whose type its source does not give, or else this one.
+fn or_ungiven(known: &Known, graph: &Graph, given: &Given, label: u32) -> u32
+    requires laid { IsLaid graph.now }
+    requires noted { AreNoted (table_of known.now) graph.now given.now }
+    ensures { result ≢ label → LeadsUngiven (table_of known.now) graph.now result }
+{
+    match ungiven(known, graph, given) {
+        Some(first) => first,
+        None => label,
+    }
+}
+
 /// A node of a graph into which something leads with a wrong type, or from whose source other edges
 /// lead with other types, or 0 for the boundary, if there is one. A function whose own type is wrong is
-/// named first, since what its inputs carry is not known then; then an edge that is the first from its
-/// port and whose type the port does not give, and one whose type is not that of the first, so that each
-/// port is looked at once. Near linear in the nodes and edges.
+/// named first, since what its inputs carry is not known then. Where edges from one port differ in type,
+/// one that the port does not give is named then, or else the later one, so that each port is looked at
+/// once. Near linear in the nodes and edges.
 pub fn wrong_end(
     alloc: Global,
     known: &Known,
@@ -480,11 +492,8 @@ pub fn wrong_end(
         return Ok(Some(0));
     }
     let given = given_of(alloc, known, graph)?;
-    if let Some(label) = ungiven(known, graph, &given) {
-        return Ok(Some(label));
-    }
     if let Some(label) = disagreeing(alloc, known, graph.edges.as_slice())? {
-        return Ok(Some(label));
+        return Ok(Some(or_ungiven(known, graph, &given, label)));
     }
     if let Some(label) = wrong_node(known, graph, site, inputs, parts, &given) {
         return Ok(Some(label));

@@ -6,7 +6,7 @@ use Rattle.if1_typing.specs.Tables.{table_of}
 use Rattle.if1_typing.specs.Sites.{Around}
 use Rattle.if1_typing.specs.Ends.{is_right, are_typed}
 use Rattle.if1_typing.specs.Agree.{AreAgreed, Disagrees}
-use Rattle.if1_typing.proofs.Walks.{wrong_label, wrong_boundary, wrong_source, wrong_edge, none_wrong, boundary_right_as}
+use Rattle.if1_typing.proofs.Walks.{wrong_label, wrong_boundary, wrong_either, none_wrong, boundary_right_as}
 use Rattle.if1_typing.proofs.ends.wrong_end.Goals as goal
 
 pub returns-then-not-is_end_typed : goal.returns-then-not-is_end_typed
@@ -20,17 +20,13 @@ returns-then-not-is_end_typed c =
 
 pub returns-in-Some : goal.returns-in-Some
 returns-in-Some c =
-    let a : Around = record { site = c.args.site; inputs = c.args.inputs.now; parts = c.args.parts.now } in
-    wrong_source (table_of c.args.known.now) a c.args.graph.now c.in-Some.label (c.ungiven.ensures c.in-Some.label c.in-Some.is)
-
-pub returns-in-Some-2 : goal.returns-in-Some-2
-returns-in-Some-2 c =
     let t = table_of c.args.known.now in
     let a : Around = record { site = c.args.site; inputs = c.args.inputs.now; parts = c.args.parts.now } in
     let es = c.as_slice.result.now in
-    wrong_edge t a c.args.graph.now c.in-Some-2.label
-    (subst (λ (es : List Edge). Disagrees t es c.in-Some-2.label) c.as_slice.ensures
-    (subst (λ (o : Option ℕ). MatchOption o (AreAgreed t es) (Disagrees t es)) c.in-Some-2.is c.in_ok-label.ensures))
+    wrong_either t a c.args.graph.now c.in-Some.label c.or_ungiven.result
+    (subst (λ (es : List Edge). Disagrees t es c.in-Some.label) c.as_slice.ensures
+    (subst (λ (o : Option ℕ). MatchOption o (AreAgreed t es) (Disagrees t es)) c.in-Some.is c.in_ok-label.ensures))
+    c.or_ungiven.ensures
 
 pub returns-in-Some-wrong_node : goal.returns-in-Some-wrong_node
 returns-in-Some-wrong_node c =
@@ -56,4 +52,4 @@ returns c =
     c.in_default-wrong_node.is c.wrong_node.ensures)
     (sym (boundary_right_as t a g c.requires.laid) ∙ sym c.is_right.ensures ∙ c.if-not-is_right.false)
     (subst (λ (es : List Edge). AreAgreed t es) c.as_slice.ensures
-    (subst (λ (o : Option ℕ). MatchOption o (AreAgreed t es) (Disagrees t es)) c.in_default-2.is c.in_ok-label.ensures))
+    (subst (λ (o : Option ℕ). MatchOption o (AreAgreed t es) (Disagrees t es)) c.in_default.is c.in_ok-label.ensures))
