@@ -4,3 +4,4 @@ pub mod Texts
 pub mod Arms
 pub mod Clauses
 pub mod Values
+pub mod Runs

@@ -9,6 +9,7 @@ use Rattle.typed_tree.specs.Types.{AreNumbers}
 use Rattle.meaning.specs.Plain.{plain_calls, plain_meaning}
 use Rattle.fitting_trees.specs.Fitting.{Header, Fits, IsFittingTree}
 use Rattle.typed_rows.specs.Rows.{AreOf}
+use Rattle.typed_values.specs.Meets.{Asked, Meets, IsRight}
 
 -- on one value for each name, each of its name's type, an expression gives one value for each of its types, each of its type
 abbrev pub AreExpressionsTyped : Type 0
@@ -21,3 +22,9 @@ abbrev pub AreCallsTyped : Type 0
 AreCallsTyped = (forms : List Form) (spellings : List (List ℕ)) (hs : List Header) (p : List Function) → IsFittingTree forms spellings hs p
     → (f : ℕ) (g : Header) → slice_get hs f ≡ Some g
     → (n : ℕ) (vs : List Val) (r : List Val × ℕ) → AreOf g.params vs → plain_calls n p f vs ≡ Some r → AreOf g.results r.0
+
+-- whatever a run of an expression meets is right
+abbrev pub AreRunsRight : Type 0
+AreRunsRight = (forms : List Form) (spellings : List (List ℕ)) (hs : List Header) (p : List Function) → IsFittingTree forms spellings hs p
+    → (γ tys : List Ty) (e : TypedExpr) → Fits (AreNumbers forms spellings) hs γ e tys
+    → (n : ℕ) (env : List Val) (a : Asked) → AreOf γ env → Meets p n e env a → IsRight a

@@ -4,4 +4,7 @@
 
 mod laws;
 
-pub use laws::{calls_give_values_of_their_types, expressions_give_values_of_their_types};
+pub use laws::{
+    calls_give_values_of_their_types, expressions_give_values_of_their_types,
+    runs_meet_what_they_take,
+};
