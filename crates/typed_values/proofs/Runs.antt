@@ -1,9 +1,8 @@
 -- What a run of a fitting tree meets is right.
-use Rattle.std.proofs.Common.{◌≡◌, ◌⊎◌, inl, inr, ℕ, zero, suc, ◌<◌, Bool, true, false, List, [], ◌∷◌, ◌++◌, map, length, drop, Option, Some, None, slice_get, refl, ap, sym, subst, ◌∙◌, arith, rules, append_assoc}
+use Rattle.std.proofs.Common.{◌≡◌, ◌⊎◌, inl, inr, ℕ, zero, suc, ◌<◌, Bool, true, List, [], ◌∷◌, ◌++◌, map, length, drop, Option, Some, None, slice_get, refl, sym, subst, ◌∙◌}
 use Rattle.std.proofs.lemmas.Option.{same_Some, none-some}
 use Rattle.flow_value.specs.declared.value.Val.{Val}
 use Rattle.flow_value.specs.declared.value.Val.TheVariants as val
-use Rattle.flow_value.specs.declared.cause.Cause.{Cause}
 use Rattle.flow_value.specs.declared.ty.Ty.{Ty}
 use Rattle.flow_value.specs.declared.ty.Ty.TheVariants as ty
 use Rattle.flow_value.specs.Well.{is_well_tag}
@@ -12,22 +11,17 @@ use Rattle.sisal_tree.specs.declared.expr.Constant.{Constant}
 use Rattle.value_ops.specs.declared.operation.Operation.{Operation}
 use Rattle.type_table.specs.declared.form.Form.{Form}
 use Rattle.typed_tree.specs.declared.expr.TypedExpr.{TypedExpr}
-use Rattle.typed_tree.specs.declared.expr.TypedKind.{TypedKind}
-use Rattle.typed_tree.specs.declared.expr.TypedKind.TheVariants as typed
 use Rattle.typed_tree.specs.declared.expr.TypedKind.TheOpen.{TypedKind-F}
-use Rattle.typed_tree.specs.declared.expr.TypedKind.TheViews.{out-TypedKind}
-use Rattle.typed_tree.specs.declared.expr.TypedKind.TheViews as kinds
 use Rattle.typed_tree.specs.declared.expr.Case.{Case}
 use Rattle.typed_tree.specs.declared.expr.Product.{Product}
 use Rattle.typed_tree.specs.declared.expr.Turns.{Turns}
 use Rattle.typed_tree.specs.declared.expr.ClauseForm.{ClauseForm}
 use Rattle.typed_tree.specs.declared.program.Function.{Function}
-use Rattle.typed_tree.specs.Typing.{with}
-use Rattle.typed_tree.specs.Types.{Member, AreNumbers, constant_type}
-use Rattle.meaning.specs.Timed.{Timed, given}
+use Rattle.typed_tree.specs.Types.{Member, AreNumbers}
+use Rattle.meaning.specs.Timed.{given}
 use Rattle.meaning.specs.Sources.{names_at}
 use Rattle.meaning.specs.Meaning.{with_content, turned, renew, defined}
-use Rattle.meaning.specs.Plain.{at, all_at, plain, depth}
+use Rattle.meaning.specs.Plain.{all_at, plain, depth}
 use Rattle.fitting_trees.specs.Fitting.{Row, Header, Goes, AreMade, Renews, Fits, AllFit, DefsFit, ArmsFit, TagsFit, BodyFits, FunctionFits, FunctionsFit}
 use Rattle.fitting_trees.specs.Fitting as is
 use Rattle.typed_rows.specs.Rows.{Of, AreOf}
@@ -36,7 +30,8 @@ use Rattle.typed_rows.proofs.Scalars.{with_one}
 use Rattle.typed_values.specs.Meets as met
 use Rattle.typed_values.specs.Meets.{Asked, IsArm, values_of, names_after, Turning, Meets, MeetsIn, PlaceMeets, TurnMeets, AnyMeets, DefsMeet, IsErrorValue, IsTruth, HasArm, IsUnion, IsRight}
 use Rattle.typed_values.specs.Laws.{AreRunsRight}
-use Rattle.typed_values.proofs.Timing.{Only, only_then}
+use Rattle.typed_values.proofs.Timing.{only_then}
+use Rattle.typed_values.proofs.Outs.{out_constant, out_value, out_group, out_call, out_apply, out_let, out_if, out_case, out_product, out_initial}
 use Rattle.typed_values.proofs.Arms.{place_there, first_content, no_content, later_content}
 use Rattle.typed_values.proofs.Clauses.{names_well}
 use Rattle.typed_values.proofs.Values.{of_both, nil_right, only_some, drop_of, renew_well, counted, Below, all_well, defs_well, calls_well, function_there}
@@ -79,39 +74,6 @@ same_arm c tag i j e f = same_Some i j (sym e ∙ f)
 
 no_defs : (n : ℕ) (p : List Function) (env : List Val) (a : Asked) → DefsMeet p n [] env a → IsRight a
 no_defs n p env a m = elim m [ ]
-
--- ---- the forms of a typed expression
-
-out_constant : (c : Constant) → out-TypedKind (typed.Constant c) ≡ TypedKind-F.Constant c
-out_constant c = search (rules, kinds.the_lemmas)
-
-out_value : (level : ℕ) → out-TypedKind (typed.Value level) ≡ TypedKind-F.Value level
-out_value level = search (rules, kinds.the_lemmas)
-
-out_group : (ts : List TypedExpr) → out-TypedKind (typed.Group ts) ≡ TypedKind-F.Group ts
-out_group ts = search (rules, kinds.the_lemmas)
-
-out_call : (f : ℕ) (ts : List TypedExpr) → out-TypedKind (typed.Call f ts) ≡ TypedKind-F.Call f ts
-out_call f ts = search (rules, kinds.the_lemmas)
-
-out_apply : (o : Operation) (ts : List TypedExpr) → out-TypedKind (typed.Apply o ts) ≡ TypedKind-F.Apply o ts
-out_apply o ts = search (rules, kinds.the_lemmas)
-
-out_let : (us : List (List TypedExpr)) (ts : List TypedExpr) → out-TypedKind (typed.Let us ts) ≡ TypedKind-F.Let us ts
-out_let us ts = search (rules, kinds.the_lemmas)
-
-out_if : (ts us vs : List TypedExpr) → out-TypedKind (typed.If ts us vs) ≡ TypedKind-F.If ts us vs
-out_if ts us vs = search (rules, kinds.the_lemmas)
-
-out_case : (c : Case) (ts : List TypedExpr) (arms : List (List TypedExpr)) → out-TypedKind (typed.Case c ts arms) ≡ TypedKind-F.Case c ts arms
-out_case c ts arms = search (rules, kinds.the_lemmas)
-
-out_product : (q : Product) (bs : List TypedExpr) (us : List (List TypedExpr)) (ts : List TypedExpr) → out-TypedKind (typed.Product q bs us ts) ≡ TypedKind-F.Product q bs us ts
-out_product q bs us ts = search (rules, kinds.the_lemmas)
-
-out_initial : (t : Turns) (us : List (List TypedExpr)) (tests : List TypedExpr) (vs : List (List TypedExpr)) (ts : List TypedExpr)
-    → out-TypedKind (typed.Initial t us tests vs ts) ≡ TypedKind-F.Initial t us tests vs ts
-out_initial t us tests vs ts = search (rules, kinds.the_lemmas)
 
 -- ---- programs
 

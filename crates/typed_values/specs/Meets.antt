@@ -19,7 +19,7 @@ use Rattle.typed_tree.specs.declared.expr.ClauseForm.{ClauseForm}
 use Rattle.typed_tree.specs.declared.program.Function.{Function}
 use Rattle.meaning.specs.declared.words.Test.TheVariants as test
 use Rattle.meaning.specs.declared.sources.Places.TheVariants as places
-use Rattle.meaning.specs.Words.{value_at, test_of}
+use Rattle.meaning.specs.Words.{test_of}
 use Rattle.meaning.specs.Sources.{places_of, names_at}
 use Rattle.meaning.specs.Meaning.{Gives, all_of, defined, with_content, turned}
 use Rattle.meaning.specs.Plain.{at, all_at, plain, depth}

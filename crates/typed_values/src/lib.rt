@@ -6,5 +6,5 @@ mod laws;
 
 pub use laws::{
     calls_give_values_of_their_types, expressions_give_values_of_their_types,
-    runs_meet_what_they_take,
+    one_plus_true_does_not_fit, runs_meet_what_they_take,
 };
