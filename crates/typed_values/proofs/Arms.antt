@@ -37,7 +37,7 @@ lt_later a b = by (nat_lt a b) refl
     by true e = let l = ltb-true a b e in lt-nat (suc a) (suc b) (omega (arith, l))
     by false e = let l = ltb-false a b e in le-ltb (suc a) (suc b) (omega (arith, l))
 
-later_content : (named place : ℕ) (v : Val) (env : List Val) → with_content (suc named) (suc place) v env ≡ with_content named place v env
+pub later_content : (named place : ℕ) (v : Val) (env : List Val) → with_content (suc named) (suc place) v env ≡ with_content named place v env
 later_content named place v env = ap (λ b. if b then env ++ v ∷ [] else env) (lt_later place named)
 
 pub later_arm : (named k : ℕ) (o : Option Gives) (place : ℕ) (v : Val) (env : List Val) → arm_here (suc named) k o (suc place) v env ≡ arm_here named k o place v env

@@ -4,3 +4,6 @@ pub mod Texts
 pub mod Arms
 pub mod Clauses
 pub mod Values
+pub mod Outs
+pub mod Runs
+pub mod NoTree

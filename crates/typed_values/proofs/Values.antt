@@ -113,7 +113,7 @@ over_well γ tys names row ts p k body g m e f bounds env h w (places.Count n) =
     (each_well (γ ++ names) row (at_place body) (λ e q. only_plus (AreOf row) 1 (body e) (f e q)) (environments p.sources bounds env n n) (environments_well γ tys names p.sources g bounds env h w n n))
     (λ rows q. folded_well p.clauses row ts m (lower_of bounds) rows q)
 
-drop_of : (γ δ : List Ty) (env all : List Val) → AreOf γ env → AreOf (γ ++ δ) all → AreOf δ (drop (length env) all)
+pub drop_of : (γ δ : List Ty) (env all : List Val) → AreOf γ env → AreOf (γ ++ δ) all → AreOf δ (drop (length env) all)
 drop_of [] δ [] all h w = w
 drop_of [] δ (v ∷ env) all h w = absurd h
 drop_of (t ∷ γ) δ [] all h w = absurd h
@@ -126,7 +126,7 @@ set_of (u ∷ loop) [] x t v e w h = absurd h
 set_of (u ∷ loop) (y ∷ l) zero t v e w h = (subst (λ s. Of s v) (sym (same_Some u t e)) w, h.1)
 set_of (u ∷ loop) (y ∷ l) (suc x) t v e w h = (h.0, set_of loop l x t v e w h.1)
 
-renew_well : (loop : List Ty) (rs : List (Option ℕ)) (later : List Ty) → Renews loop rs later → (vs l : List Val) → AreOf later vs → AreOf loop l → AreOf loop (renew rs vs l)
+pub renew_well : (loop : List Ty) (rs : List (Option ℕ)) (later : List Ty) → Renews loop rs later → (vs l : List Val) → AreOf later vs → AreOf loop l → AreOf loop (renew rs vs l)
 renew_well loop [] [] r vs l h w = w
 renew_well loop [] (t ∷ later) r vs l h w = absurd r
 renew_well loop (None ∷ rs) [] r vs l h w = absurd r
@@ -296,7 +296,7 @@ module _ (numbers : List ℕ → List Ty → Type 0) (counted : (ns : List ℕ) 
 
   -- ---- calls
 
-  function_there : (gs hs : List Header) (q : List Function) (f : ℕ) (g : Header) → FunctionsFit numbers gs hs q → slice_get hs f ≡ Some g → (d : Function) × (slice_get q f ≡ Some d) × FunctionFits numbers gs g d
+  pub function_there : (gs hs : List Header) (q : List Function) (f : ℕ) (g : Header) → FunctionsFit numbers gs hs q → slice_get hs f ≡ Some g → (d : Function) × (slice_get q f ≡ Some d) × FunctionFits numbers gs g d
   function_there gs [] q f g h e = absurd (none-some g e)
   function_there gs (x ∷ hs) [] f g h e = absurd h
   function_there gs (x ∷ hs) (d ∷ q) zero g h e = (d, refl, subst (λ y. FunctionFits numbers gs y d) (same_Some x g e) h.0)
@@ -329,7 +329,7 @@ counted forms spellings (n ∷ ns) (t ∷ tys) h = ap suc (counted forms spellin
 counted forms spellings [] (t ∷ tys) h = absurd h
 counted forms spellings (n ∷ ns) [] h = absurd h
 
-only_some : (P : List Val → Type 0) (a : Timed (List Val)) (r : List Val × ℕ) → Only P a → a ≡ Some r → P r.0
+pub only_some : (P : List Val → Type 0) (a : Timed (List Val)) (r : List Val × ℕ) → Only P a → a ≡ Some r → P r.0
 only_some P None r h e = absurd (none-some r e)
 only_some P (Some s) r h e = subst (λ s. P s.0) (same_Some s r e) h
 

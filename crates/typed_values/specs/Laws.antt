@@ -1,14 +1,21 @@
 -- What expressions and calls give belongs to their types, at every depth (SISAL Language Reference Manual 1.2, expressions).
-use Rattle.std.specs.Prelude.{◌≡◌, ℕ, List, Some, slice_get}
+use Rattle.std.specs.Prelude.{◌≡◌, ℕ, ℤ, pos, true, List, [], ◌∷◌, Some, slice_get}
 use Rattle.flow_value.specs.declared.value.Val.{Val}
+use Rattle.flow_value.specs.declared.value.Val.TheVariants as val
+use Rattle.flow_value.specs.declared.operation.Scalar2.TheVariants as two
 use Rattle.flow_value.specs.declared.ty.Ty.{Ty}
+use Rattle.sisal_tree.specs.declared.expr.Constant.TheVariants as constant
+use Rattle.value_ops.specs.declared.operation.Operation.TheVariants as op
 use Rattle.type_table.specs.declared.form.Form.{Form}
 use Rattle.typed_tree.specs.declared.expr.TypedExpr.{TypedExpr}
+use Rattle.typed_tree.specs.declared.expr.TypedKind.TheVariants as typed
 use Rattle.typed_tree.specs.declared.program.Function.{Function}
+use Rattle.typed_tree.specs.Typing.{with}
 use Rattle.typed_tree.specs.Types.{AreNumbers}
 use Rattle.meaning.specs.Plain.{plain_calls, plain_meaning}
 use Rattle.fitting_trees.specs.Fitting.{Header, Fits, IsFittingTree}
 use Rattle.typed_rows.specs.Rows.{AreOf}
+use Rattle.typed_values.specs.Meets.{Asked, Meets, Takes, IsRight}
 
 -- on one value for each name, each of its name's type, an expression gives one value for each of its types, each of its type
 abbrev pub AreExpressionsTyped : Type 0
@@ -21,3 +28,26 @@ abbrev pub AreCallsTyped : Type 0
 AreCallsTyped = (forms : List Form) (spellings : List (List ℕ)) (hs : List Header) (p : List Function) → IsFittingTree forms spellings hs p
     → (f : ℕ) (g : Header) → slice_get hs f ≡ Some g
     → (n : ℕ) (vs : List Val) (r : List Val × ℕ) → AreOf g.params vs → plain_calls n p f vs ≡ Some r → AreOf g.results r.0
+
+-- whatever a run of an expression meets is right
+abbrev pub AreRunsRight : Type 0
+AreRunsRight = (forms : List Form) (spellings : List (List ℕ)) (hs : List Header) (p : List Function) → IsFittingTree forms spellings hs p
+    → (γ tys : List Ty) (e : TypedExpr) → Fits (AreNumbers forms spellings) hs γ e tys
+    → (n : ℕ) (env : List Val) (a : Asked) → AreOf γ env → Meets p n e env a → IsRight a
+
+-- ---- examples
+
+abbrev pub a_number : ℕ → List ℕ → ℤ → TypedExpr
+a_number line types n = with line types (typed.Constant (constant.Integer n))
+
+abbrev pub a_truth : ℕ → List ℕ → TypedExpr
+a_truth line types = with line types (typed.Constant constant.True)
+
+-- whatever the types of a program are, `1 + true` has no fitting tree
+abbrev pub HasNoTree : Type 0
+HasNoTree = (forms : List Form) (spellings : List (List ℕ)) (hs : List Header) (γ tys : List Ty) (l line next : ℕ) (ns types others : List ℕ)
+    → Fits (AreNumbers forms spellings) hs γ (with l ns (typed.Apply (op.Binary two.Plus) (a_number line types (pos 1) ∷ a_truth next others ∷ []))) tys → ⊥
+
+-- and no row of the sum takes 1 and `true`
+abbrev pub HasNoRow : Type 0
+HasNoRow = Takes (op.Binary two.Plus) (val.Int (pos 1) ∷ val.Bool true ∷ []) → ⊥

@@ -1,5 +1,5 @@
 //! The laws of values and types.
-ghost use Rattle.typed_values.specs.Laws.{AreCallsTyped, AreExpressionsTyped};
+ghost use Rattle.typed_values.specs.Laws.{AreCallsTyped, AreExpressionsTyped, AreRunsRight, HasNoRow, HasNoTree};
 
 /// On values of the types of the names in force, an expression gives values of its types.
 pub fn expressions_give_values_of_their_types()
@@ -9,4 +9,16 @@ pub fn expressions_give_values_of_their_types()
 /// On values of the types of its parameters, a call gives values of the types of its results.
 pub fn calls_give_values_of_their_types()
     ensures { AreCallsTyped }
+{}
+
+/// On values of the types of the names in force, each operation meets operands that it takes, or
+/// errors, each test a truth value, each `tagcase` a union that has an arm, and so on.
+pub fn runs_meet_what_they_take()
+    ensures { AreRunsRight }
+{}
+
+/// An example: `1 + true` has no fitting tree, and no row of the sum takes its operands.
+pub fn one_plus_true_does_not_fit()
+    ensures no_tree { HasNoTree }
+    ensures no_row { HasNoRow }
 {}
