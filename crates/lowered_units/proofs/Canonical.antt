@@ -165,7 +165,7 @@ module _ (p : Program) where
       ]
 
   -- a label whose entry, where it has one, is of a code
-  abbrev IsCode : ℕ → Option TypeEntry → Type 0
+  abbrev pub IsCode : ℕ → Option TypeEntry → Type 0
   IsCode code None = Unit {0}
   IsCode code (Some e) = e.code ≡ code
 
@@ -185,7 +185,7 @@ module _ (p : Program) where
       by None = refl
       by (Some b) = refl
 
-  callee-code : (o : Option Function) (ts : Table) → IsCode 3 (entry_at (entries_from p 1 ts) (callee_label p.types p.names o ts).label)
+  pub callee-code : (o : Option Function) (ts : Table) → IsCode 3 (entry_at (entries_from p 1 ts) (callee_label p.types p.names o ts).label)
   callee-code None ts = subst (IsCode 3) (sym (no-zero 1 ts (omega arith))) tt
   callee-code (Some f) ts =
       let a = tuple_label p.types p.names f.params ts in

@@ -25,3 +25,4 @@ pub mod Example
 pub mod Stable
 pub mod Lined
 pub mod Whole
+pub mod Edges

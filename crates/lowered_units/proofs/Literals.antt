@@ -17,7 +17,8 @@ use Rattle.sisal_tree.specs.declared.expr.Constant.TheVariants as constant
 use Rattle.type_table.specs.declared.form.Form.{Form}
 use Rattle.type_table.specs.declared.form.Form.TheVariants as form
 use Rattle.typed_tree.specs.declared.program.Program.{Program}
-use Rattle.if1_line.proofs.Decimals.{and_true, and_parts}
+use Rattle.if1_line.specs.Spelling.{is_quotable}
+use Rattle.if1_line.proofs.Decimals.{and_true, and_parts, each_so}
 use Rattle.if1_graph.specs.declared.graph.TypeEntry.{TypeEntry}
 use Rattle.if1_graph.specs.declared.graph.Unit1.{Unit1}
 use Rattle.if1_graph.specs.declared.row.Want.{Want}
@@ -103,6 +104,31 @@ integer_read (negsuc n) f =
     let e : signed (45 ∷ decimal (suc n)) ≡ Some (negsuc n) = signed_minus n (omega (arith, ltb-true n (2 ^ 63) f)) in
     ap (λ (o : Option ℤ). o >>= λ n. if fits_64 n then Some n else None) e ∙ ap (λ (b : Bool). cond b (Some (negsuc n)) None) f
 
+-- ---- spelled by characters that may stand in quotes
+
+or_right : (a b : Bool) → b ≡ true → (a || b) ≡ true
+or_right true b h = refl
+or_right false b h = h
+
+printed : (c : ℕ) → 35 ≤ c → c ≤ 126 → is_quotable c ≡ true
+printed c low high =
+    let other : (c == 34) ≡ false = elim (eqb_tells c 34) [ inl t ↦ absurd (omega (arith, t.1)) | inr f ↦ f.0 ] in
+    and_true _ _ (or_right (c == 9) _ (and_true (leb 32 c) (leb c 126) (le-leb 32 c (omega (arith, low))) (le-leb c 126 high))) (ap not other)
+
+digit_quotable : (c : ℕ) → is_ascii_digit c ≡ true → is_quotable c ≡ true
+digit_quotable c h =
+    let l = and_parts (leb 48 c) (leb c 57) h in
+    printed c (omega (arith, leb-true 48 c l.0)) (omega (arith, leb-true c 57 l.1))
+
+decimal_quotable : (n : ℕ) → n < 2 ^ 64 → list_all is_quotable (decimal n) ≡ true
+decimal_quotable n h =
+    let row = row_of n h in
+    each_so is_ascii_digit is_quotable digit_quotable (decimal n) (subst (λ (ds : List ℕ). list_all is_ascii_digit ds ≡ true) (sym row.is) row.digits)
+
+pub integer_quotable : (z : ℤ) → fits_64 z ≡ true → list_all is_quotable (signed_decimal z) ≡ true
+integer_quotable (pos n) f = decimal_quotable n (omega (arith, ltb-true n (2 ^ 63) f))
+integer_quotable (negsuc n) f = decimal_quotable (suc n) (omega (arith, ltb-true n (2 ^ 63) f))
+
 -- ---- characters
 
 unfoldable all_below : (ℕ → Bool) → ℕ → Bool
@@ -124,7 +150,7 @@ is_at c None = false
 is_at c (Some d) = d == c
 
 unfoldable is_right : ℕ → Bool
-is_right c = is_at c (character (char_text c))
+is_right c = is_at c (character (char_text c)) && list_all is_quotable (char_text c)
 
 all_right : all_below is_right 128 ≡ true
 unfolding all_below is_right is_at
@@ -137,7 +163,11 @@ at_some c (Some d) h = let e = eqb_tells d c in elim e [ inl t ↦ ap Some t.1 |
 
 pub character_read : (c : ℕ) → c < 128 → character (char_text c) ≡ Some c
 unfolding is_right
-character_read c h = at_some c (character (char_text c)) (all_so is_right 128 c all_right h)
+character_read c h = at_some c (character (char_text c)) (and_parts (is_at c (character (char_text c))) (list_all is_quotable (char_text c)) (all_so is_right 128 c all_right h)).0
+
+pub character_quotable : (c : ℕ) → c < 128 → list_all is_quotable (char_text c) ≡ true
+unfolding is_right
+character_quotable c h = (and_parts (is_at c (character (char_text c))) (list_all is_quotable (char_text c)) (all_so is_right 128 c all_right h)).1
 
 -- ---- a literal at a port that wants no name
 

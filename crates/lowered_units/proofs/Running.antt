@@ -61,12 +61,16 @@ module _ (p : Program) (u : Unit1) (fit : IsFitting p) (t : IsTranslated p u) (n
           past (x ∷ fs) (suc f) i e = past fs f (omega (arith, i)) e
       by (Some h) e = (h, e)
 
+  pub found-function : (f : ℕ) → f < functions p fit → (h : Function) × (slice_get p.functions f ≡ Some h) × Called p u.graphs h (number_of p f)
+  found-function f i =
+      let h = function-at f (omega (arith, i, function-count p fit)) in
+      (h.0, h.1, called p 0 1 p.functions (functions_lowered p) u.graphs (sym (length-new p 1 (map (function_lowered p.types) p.functions) ∙ length-map p.functions (function_lowered p.types))) t.graphs f h.0 h.1
+      (λ j x e s. fit.once j f (name_of p x) (has-name j x e) (subst (HasName p f) (sym s) (has-name f h.0 h.1))))
+
   calls : AreCalled p u t.types (functions p fit)
   calls f i =
-      let h = function-at f (omega (arith, i, function-count p fit)) in
-      let c = called p 0 1 p.functions (functions_lowered p) u.graphs (sym (length-new p 1 (map (function_lowered p.types) p.functions) ∙ length-map p.functions (function_lowered p.types))) t.graphs f h.0 h.1
-      (λ j x e s. fit.once j f (name_of p x) (has-name j x e) (subst (HasName p f) (sym s) (has-name f h.0 h.1))) in
-      ap (λ o. number_or_zero (function_named u.graphs (called_name p o))) h.1 ∙ (ap number_or_zero c.found ∙ c.number)
+      let h = found-function f i in
+      ap (λ o. number_or_zero (function_named u.graphs (called_name p o))) h.1 ∙ (ap number_or_zero h.2.found ∙ h.2.number)
 
   -- ---- the graphs by their numbers
 
