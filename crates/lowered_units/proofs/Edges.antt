@@ -85,42 +85,42 @@ some-same : (a b : TypeEntry) → Some a ≡ Some b → a ≡ b
 some-same a b e = cc
 
 module _ (p : Program) (u : Unit1) (is : u.types ≡ entries_from p 1 (table p)) where
-  abbrev Fits : Option Want → List ℕ → ℕ → Type 0
-  Fits w text l = (entry : TypeEntry) → entry_at u.types l ≡ Some entry → IsLiteralFor u.graphs w text (kind_at entry.code) (basic_at entry.first)
+  abbrev pub FitsAt : Option Want → List ℕ → ℕ → Type 0
+  FitsAt w text l = (entry : TypeEntry) → entry_at u.types l ≡ Some entry → IsLiteralFor u.graphs w text (kind_at entry.code) (basic_at entry.first)
 
   -- at a label whose entry is among the first
-  at-label : (w : Option Want) (text : List ℕ) (l : ℕ) (x : TypeEntry) → entry_at (entries_from p 1 (basics ++ (table-begins p).rest)) l ≡ Some x → IsLiteralFor u.graphs w text (kind_at x.code) (basic_at x.first) → Fits w text l
+  at-label : (w : Option Want) (text : List ℕ) (l : ℕ) (x : TypeEntry) → entry_at (entries_from p 1 (basics ++ (table-begins p).rest)) l ≡ Some x → IsLiteralFor u.graphs w text (kind_at x.code) (basic_at x.first) → FitsAt w text l
   at-label w text l x e h entry k =
       subst (λ (y : TypeEntry). IsLiteralFor u.graphs w text (kind_at y.code) (basic_at y.first)) (some-same x entry (sym e ∙ (sym (ap (λ ts. entry_at ts l) (types-begin p u is)) ∙ k))) h
 
   abbrev basic_line : ℕ → ℕ → List ℕ → TypeEntry
   basic_line l first name = record { label = l; code = 1; first = first; second = 0; name = name }
 
-  by-form : (w : Option Want) (c : Constant) (t : ℕ) (o : Option Form) → slice_get p.types t ≡ o → IsValueWant w → IsConstantOf c o → Fits w (constant_text c) (label_of p (One t))
+  by-form : (w : Option Want) (c : Constant) (t : ℕ) (o : Option Form) → slice_get p.types t ≡ o → IsValueWant w → IsConstantOf c o → FitsAt w (constant_text c) (label_of p (One t))
   by-form w (constant.Integer n) t (Some form.Integer) e v h =
-      subst (Fits w (constant_text (constant.Integer n))) (sym (label-is p u is t form.Integer 3 e refl)) (at-label w (constant_text (constant.Integer n)) 3 (basic_line 3 3 (codes "integer")) refl (value-literal u.graphs w basic.Integer (constant_text (constant.Integer n)) v (ap (λ o. is_some (option_map val.Int o)) (integer_read n h))))
+      subst (FitsAt w (constant_text (constant.Integer n))) (sym (label-is p u is t form.Integer 3 e refl)) (at-label w (constant_text (constant.Integer n)) 3 (basic_line 3 3 (codes "integer")) refl (value-literal u.graphs w basic.Integer (constant_text (constant.Integer n)) v (ap (λ o. is_some (option_map val.Int o)) (integer_read n h))))
   by-form w (constant.Letter c) t (Some form.Character) e v h =
-      subst (Fits w (constant_text (constant.Letter c))) (sym (label-is p u is t form.Character 2 e refl)) (at-label w (constant_text (constant.Letter c)) 2 (basic_line 2 1 (codes "character")) refl (value-literal u.graphs w basic.Character (constant_text (constant.Letter c)) v (ap (λ o. is_some (option_map val.Char o)) (character_read c h))))
+      subst (FitsAt w (constant_text (constant.Letter c))) (sym (label-is p u is t form.Character 2 e refl)) (at-label w (constant_text (constant.Letter c)) 2 (basic_line 2 1 (codes "character")) refl (value-literal u.graphs w basic.Character (constant_text (constant.Letter c)) v (ap (λ o. is_some (option_map val.Char o)) (character_read c h))))
   by-form w constant.True t (Some form.Boolean) e v h =
-      subst (Fits w (constant_text constant.True)) (sym (label-is p u is t form.Boolean 1 e refl)) (at-label w (constant_text constant.True) 1 (basic_line 1 0 (codes "boolean")) refl (value-literal u.graphs w basic.Boolean (constant_text constant.True) v refl))
+      subst (FitsAt w (constant_text constant.True)) (sym (label-is p u is t form.Boolean 1 e refl)) (at-label w (constant_text constant.True) 1 (basic_line 1 0 (codes "boolean")) refl (value-literal u.graphs w basic.Boolean (constant_text constant.True) v refl))
   by-form w constant.False t (Some form.Boolean) e v h =
-      subst (Fits w (constant_text constant.False)) (sym (label-is p u is t form.Boolean 1 e refl)) (at-label w (constant_text constant.False) 1 (basic_line 1 0 (codes "boolean")) refl (value-literal u.graphs w basic.Boolean (constant_text constant.False) v refl))
+      subst (FitsAt w (constant_text constant.False)) (sym (label-is p u is t form.Boolean 1 e refl)) (at-label w (constant_text constant.False) 1 (basic_line 1 0 (codes "boolean")) refl (value-literal u.graphs w basic.Boolean (constant_text constant.False) v refl))
   by-form w constant.Nil t (Some form.Null) e v h =
-      subst (Fits w (constant_text constant.Nil)) (sym (label-is p u is t form.Null 4 e refl)) (at-label w (constant_text constant.Nil) 4 (basic_line 4 4 (codes "null")) refl (value-literal u.graphs w basic.Null (constant_text constant.Nil) v refl))
+      subst (FitsAt w (constant_text constant.Nil)) (sym (label-is p u is t form.Null 4 e refl)) (at-label w (constant_text constant.Nil) 4 (basic_line 4 4 (codes "null")) refl (value-literal u.graphs w basic.Null (constant_text constant.Nil) v refl))
   by-form w c t o e v h = absurd h
 
-  pub constant-origin : (w : Option Want) (c : Constant) (t : ℕ) → IsValueWant w → IsConstantOf c (slice_get p.types t) → IsQuotable (constant_text c) × Fits w (constant_text c) (label_of p (One t))
+  pub constant-origin : (w : Option Want) (c : Constant) (t : ℕ) → IsValueWant w → IsConstantOf c (slice_get p.types t) → IsQuotable (constant_text c) × FitsAt w (constant_text c) (label_of p (One t))
   constant-origin w c t v h = (constant-quotable c (slice_get p.types t) h, by-form w c t (slice_get p.types t) refl v h)
 
-  pub reduction-origin : slice_get p.types integer ≡ Some form.Integer → (name : List ℕ) → IsSome (reducer_at name) → IsQuotable name × Fits (Some want.Reduction) name (label_of p (One integer))
+  pub reduction-origin : slice_get p.types integer ≡ Some form.Integer → (name : List ℕ) → IsSome (reducer_at name) → IsQuotable name × FitsAt (Some want.Reduction) name (label_of p (One integer))
   reduction-origin e name h =
       (row-quotable reducers quotable-rows name h,
-      subst (Fits (Some want.Reduction) name) (sym (label-is p u is integer form.Integer 3 e refl)) (at-label (Some want.Reduction) name 3 (basic_line 3 3 (codes "integer")) refl h))
+      subst (FitsAt (Some want.Reduction) name) (sym (label-is p u is integer form.Integer 3 e refl)) (at-label (Some want.Reduction) name 3 (basic_line 3 3 (codes "integer")) refl h))
     where
       quotable-rows : All (λ (r : List ℕ × Reducer). IsQuotable r.0) reducers
       quotable-rows = All-from_recursion (λ (r : List ℕ × Reducer). IsQuotable r.0) reducers (refl, (refl, (refl, (refl, (refl, tt)))))
 
-  pub callee-origin : (f : ℕ) → IsSome (function_named u.graphs (called_name p (slice_get p.functions f))) → Fits (Some want.Function) (called_name p (slice_get p.functions f)) (label_of p (Callee f))
+  pub callee-origin : (f : ℕ) → IsSome (function_named u.graphs (called_name p (slice_get p.functions f))) → FitsAt (Some want.Function) (called_name p (slice_get p.functions f)) (label_of p (Callee f))
   callee-origin f h entry k =
       let code : entry.code ≡ 3 = here (entry_at u.types (label_of p (Callee f))) (subst (λ ts. IsCode p 3 (entry_at ts (label_of p (Callee f)))) (sym is) (callee-code p (slice_get p.functions f) (table p))) k in
       subst (λ c. IsLiteralFor u.graphs (Some want.Function) (called_name p (slice_get p.functions f)) (kind_at c) (basic_at entry.first)) (sym code) h

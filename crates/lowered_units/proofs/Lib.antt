@@ -26,3 +26,4 @@ pub mod Stable
 pub mod Lined
 pub mod Whole
 pub mod Edges
+pub mod Forming

@@ -48,7 +48,7 @@ use Rattle.lowered_units.proofs.Named.{row_of, Match, match, none-before, Standi
 
 -- ---- what the listing of a node tells
 
-row-is : (n : Node) → row_of n ≡ record { label = (out-Node n).label; op = (out-Node n).op; parts = map first_number (map listing (out-Node n).subs); assoc = (out-Node n).assoc; before = (out-Node n).before; name = (out-Node n).name }
+pub row-is : (n : Node) → row_of n ≡ record { label = (out-Node n).label; op = (out-Node n).op; parts = map first_number (map listing (out-Node n).subs); assoc = (out-Node n).assoc; before = (out-Node n).before; name = (out-Node n).name }
 row-is n = ap (λ (i : NodeListing). i.node) (node-listing-at n)
 
 pub op-of : (n : Node) (x : ListedNode) → row_of n ≡ x → (out-Node n).op ≡ x.op
@@ -57,14 +57,14 @@ op-of n x e = ap (λ (y : ListedNode). y.op) (sym (row-is n) ∙ e)
 pub before-of : (n : Node) (x : ListedNode) → row_of n ≡ x → (out-Node n).before ≡ x.before
 before-of n x e = ap (λ (y : ListedNode). y.before) (sym (row-is n) ∙ e)
 
-assoc-of : (n : Node) (x : ListedNode) → row_of n ≡ x → (out-Node n).assoc ≡ x.assoc
+pub assoc-of : (n : Node) (x : ListedNode) → row_of n ≡ x → (out-Node n).assoc ≡ x.assoc
 assoc-of n x e = ap (λ (y : ListedNode). y.assoc) (sym (row-is n) ∙ e)
 
 firsts : (gs : List Graph) → map number_in gs ≡ map first_number (map listing gs)
 firsts [] = refl
 firsts (g ∷ gs) = ap (λ k. k ∷ map number_in gs) (sym (ap first_number (listing-is g))) ∙ ap (λ l. first_number (listing g) ∷ l) (firsts gs)
 
-parts-of : (n : Node) (x : ListedNode) → row_of n ≡ x → map number_in (out-Node n).subs ≡ x.parts
+pub parts-of : (n : Node) (x : ListedNode) → row_of n ≡ x → map number_in (out-Node n).subs ≡ x.parts
 parts-of n x e = firsts (out-Node n).subs ∙ ap (λ (y : ListedNode). y.parts) (sym (row-is n) ∙ e)
 
 -- every row but Call is a plain one
