@@ -108,7 +108,7 @@ not-large (d ∷ ds) e =
     let r = or-false (nat_lt most_nodes (length d.nodes)) (list_any (λ (d : LoweredGraph). nat_lt most_nodes (length d.nodes)) ds) e in
     (ltb-false most_nodes (length d.nodes) r.0, not-large ds r.1)
 
-few-graphs : (fs : List Function) (ms : List Lowered) (before : ℕ) → length fs ≡ length ms → graphs_over fs ms before ≡ None → AreFew (closed_graphs [] 0 0 ms)
+pub few-graphs : (fs : List Function) (ms : List Lowered) (before : ℕ) → length fs ≡ length ms → graphs_over fs ms before ≡ None → AreFew (closed_graphs [] 0 0 ms)
 few-graphs [] [] before l e = tt
 few-graphs [] (m ∷ ms) before l e = absurd (omega (arith, l))
 few-graphs (f ∷ fs) [] before l e = absurd (omega (arith, l))
@@ -120,7 +120,7 @@ few-graphs (f ∷ fs) (m ∷ ms) before l e = by (is_large m || nat_lt most_grap
         let here = not-large (closed_graphs [] 0 0 (m ∷ [])) (or-false (is_large m) (nat_lt most_graphs (before + size m)) b).0 in
         (here.0, few-both m.graphs (closed_graphs [] 0 0 ms) (few-left m.graphs [] here.1) (k e))
 
-or-right : (a b : Option ℕ) → or_else a b ≡ None → b ≡ None
+pub or-right : (a b : Option ℕ) → or_else a b ≡ None → b ≡ None
 or-right None b e = e
 or-right (Some l) b e = absurd cc
 

@@ -27,3 +27,4 @@ pub mod Lined
 pub mod Whole
 pub mod Edges
 pub mod Forming
+pub mod Bodies

@@ -42,7 +42,7 @@ use Rattle.lowered_units.proofs.Ordered.{rising, labels-are, edges-sorted}
 use Rattle.lowered_units.proofs.Programs.{functions, basics, right-of}
 use Rattle.lowered_units.proofs.Rights.{IsRightNode, AreRight, IsRightGraph}
 
-node-beside : (label : ℕ) (ns : List Node) (vs : List LoweredNode) → Match label ns vs → (i : ℕ) (v : LoweredNode) → slice_get vs i ≡ Some v → (n : Node) × (slice_get ns i ≡ Some n)
+pub node-beside : (label : ℕ) (ns : List Node) (vs : List LoweredNode) → Match label ns vs → (i : ℕ) (v : LoweredNode) → slice_get vs i ≡ Some v → (n : Node) × (slice_get ns i ≡ Some n)
 node-beside label [] [] m i v e = absurd cc
 node-beside label [] (x ∷ vs) m i v e = absurd m
 node-beside label (n ∷ ns) [] m i v e = absurd m
