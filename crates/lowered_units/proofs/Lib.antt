@@ -28,3 +28,4 @@ pub mod Whole
 pub mod Edges
 pub mod Forming
 pub mod Bodies
+pub mod Placed
