@@ -11,7 +11,7 @@ use Rattle.lowered_units.specs.Units.{listed_nodes, edges_of, inner_graph, inner
 use Rattle.lowered_units.proofs.Heads.{In}
 
 -- without its header
-abbrev strip : ListedGraph → ListedGraph
+abbrev pub strip : ListedGraph → ListedGraph
 strip x = record x { exported = false; name = []; fun = 0 }
 
 map-both : {A B : Type 0} (f : A → B) (xs ys : List A) → map f (xs ++ ys) ≡ map f xs ++ map f ys
@@ -56,7 +56,7 @@ module _ (p : Program) where
   abbrev pub whole_listing : Listing
   whole_listing = all_of (function_listings p 0 1 p.functions (functions_lowered p))
 
-  whole-strips : map strip whole_listing ≡ inner_graphs p 1 (graphs p)
+  pub whole-strips : map strip whole_listing ≡ inner_graphs p 1 (graphs p)
   whole-strips = stripped 0 1 p.functions (functions_lowered p) (sym (length-new 1 (map (function_lowered p.types) p.functions) ∙ length-map p.functions (function_lowered p.types)))
 
   listed-in : (q : ℕ) (ds : List LoweredGraph) (x : ListedGraph) → In x (inner_graphs p q ds) → (i : ℕ) × (d : LoweredGraph) × (slice_get ds i ≡ Some d) × (x ≡ inner_graph p (q + i) d)

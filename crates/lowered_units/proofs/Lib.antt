@@ -29,3 +29,4 @@ pub mod Edges
 pub mod Forming
 pub mod Bodies
 pub mod Placed
+pub mod Formed

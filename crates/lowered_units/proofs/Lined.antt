@@ -129,7 +129,7 @@ module _ (forms : List Form) (functions : ℕ) where
 
 -- ---- labels
 
-grown-length : (ts later : Table) → Grows ts later → length ts ≤ length later
+pub grown-length : (ts later : Table) → Grows ts later → length ts ≤ length later
 grown-length ts later g = omega (arith, ap length g.is, length-append ts g.rest)
 
 abbrev pub HasLabel : Table → Labelled → Type 0
@@ -180,11 +180,11 @@ module _ (p : Program) (fit : IsFitting p) where
           let next = with_types p.types p.names p.functions (graph_lines (m ∷ [])) ts in
           grows-then ts next (with_needs (body_needs p fs ms) next) (types-grow p.types p.names p.functions (graph_lines (m ∷ [])) ts) (needs-grow fs ms next)
 
-  after-headers : (fs : List Function) (ns : List Need) (ts : Table) → with_needs (map (header_need p) fs ++ ns) ts ≡ with_needs ns (with_needs (map (header_need p) fs) ts)
+  pub after-headers : (fs : List Function) (ns : List Need) (ts : Table) → with_needs (map (header_need p) fs ++ ns) ts ≡ with_needs ns (with_needs (map (header_need p) fs) ts)
   after-headers [] ns ts = refl
   after-headers (f ∷ fs) ns ts = after-headers fs ns (function_label p.types p.names f ts).table
 
-  abbrev header_table : Table
+  abbrev pub header_table : Table
   header_table = with_needs (map (header_need p) p.functions) basics
 
   nil-right : (ns : List Need) → ns ++ [] ≡ ns

@@ -91,7 +91,7 @@ headers-grow p [] ns ts g = g ts
 headers-grow p (f ∷ fs) ns ts g =
     grows-then ts (function_label p.types p.names f ts).table (with_needs (map (header_need p) fs ++ ns) (function_label p.types p.names f ts).table) (function-grows p.types p.names f ts) (headers-grow p fs ns (function_label p.types p.names f ts).table g)
 
-bodies-grow : (p : Program) (fs : List Function) (ms : List Lowered) (ts : Table) → Grows ts (with_needs (body_needs p fs ms) ts)
+pub bodies-grow : (p : Program) (fs : List Function) (ms : List Lowered) (ts : Table) → Grows ts (with_needs (body_needs p fs ms) ts)
 bodies-grow p [] ms ts = grows-none ts
 bodies-grow p (f ∷ fs) [] ts = grows-none ts
 bodies-grow p (f ∷ fs) (m ∷ ms) ts =

@@ -3,7 +3,7 @@ use Rattle.std.specs.Prelude.{◌≡◌, ◌≤◌, ℕ, Some, None, All, map, l
 use Rattle.typed_tree.specs.declared.program.Program.{Program}
 use Rattle.if1_graph.specs.declared.graph.Graph.TheViews.{out-Graph}
 use Rattle.if1_graph.specs.declared.graph.Unit1.{Unit1}
-use Rattle.if1_graph.specs.Formed.{IsTable, most, IsNode, IsOnce, IsEdge}
+use Rattle.if1_graph.specs.Formed.{IsTable, most, IsNode, IsOnce, IsEdge, IsFormed}
 use Rattle.if1_graph.specs.Normal.{IsNormal}
 use Rattle.if1_graph.specs.Units.{label_of, levels, most_levels, Place, places}
 use Rattle.graph_meaning.specs.Networks.{network}
@@ -46,3 +46,7 @@ pub record IsBodyFormed (u : Unit1) (p : Place) : Type 0 where
 -- nodes and edges are formed: opcodes, labels, literals of their types, and types that are there
 abbrev pub AreBodiesFormed : Type 0
 AreBodiesFormed = (p : Program) (u : Unit1) → IsFitting p → too_many p ≡ None → HasSmallPorts p → IsTranslated p u → IsNested u → All (IsBodyFormed u) (places u)
+
+-- a unit within the limits is formed and normal
+abbrev pub AreFormed : Type 0
+AreFormed = (p : Program) (u : Unit1) → IsFitting p → too_many p ≡ None → HasSmallPorts p → IsTranslated p u → IsNested u → IsFormed u × IsNormal u
