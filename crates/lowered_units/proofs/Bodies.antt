@@ -1,14 +1,12 @@
 -- The nodes and edges of each graph of a translated unit are formed.
-use Rattle.std.proofs.Common.{◌≡◌, ℕ, zero, suc, ◌+◌, ◌<◌, ◌≤◌, inl, inr, List, [], ◌∷◌, ◌++◌, map, length, slice_get, Option, Some, None, refl, sym, ap, subst, ◌∙◌, arith}
-use Rattle.std.specs.Prelude.{All, Contains, IsSome, is_some, get_or, ◌^◌}
+use Rattle.std.proofs.Common.{◌≡◌, ℕ, zero, suc, ◌+◌, ◌<◌, ◌≤◌, inl, List, [], ◌∷◌, map, length, slice_get, Some, None, refl, sym, ap, subst, ◌∙◌, arith}
+use Rattle.std.specs.Prelude.{All, Contains, IsSome, is_some, get_or}
 use Rattle.std.proofs.lemmas.List.{length-map}
 use Rattle.std.proofs.lemmas.List.Elements.{All-nil, All-cons, All-head, All-tail, All-append}
-use Rattle.if1_graph.specs.declared.graph.Edge.{Edge}
 use Rattle.if1_graph.specs.declared.graph.Graph.{Graph}
 use Rattle.if1_graph.specs.declared.graph.Graph.TheViews.{out-Graph}
-use Rattle.if1_graph.specs.declared.graph.Node.{Node}
 use Rattle.if1_graph.specs.declared.graph.Unit1.{Unit1}
-use Rattle.if1_graph.specs.Formed.{function_named, most, IsNode, IsOnce, IsEdge}
+use Rattle.if1_graph.specs.Formed.{function_named, IsOnce, IsEdge}
 use Rattle.if1_graph.specs.Ports.{count_from}
 use Rattle.if1_graph.specs.Units.{label_of, most_levels, Place, places}
 use Rattle.typed_tree.specs.declared.program.Program.{Program}
@@ -19,22 +17,22 @@ use Rattle.lowering.specs.TooMany.{most_nodes, types_over, graphs_over, too_many
 use Rattle.lowering.specs.Types.{basics, needs}
 use Rattle.lowered_units.specs.Fitting.{IsFitting}
 use Rattle.lowered_units.specs.Laws.{IsBodyFormed, IsNested}
-use Rattle.lowered_units.specs.Listed.{all_of, listing}
+use Rattle.lowered_units.specs.Listed.{all_of}
 use Rattle.lowered_units.specs.Small.{IsSmallNode, IsSmallGraph, HasSmallPorts}
-use Rattle.lowered_units.specs.Units.{called_name, edges_into, node_edges, edges_of, listed_nodes, IsTranslated}
+use Rattle.lowered_units.specs.Units.{called_name, edges_into, node_edges, edges_of, IsTranslated}
 use Rattle.lowered_units.proofs.Built as built
-use Rattle.lowered_units.proofs.Entries.{whole_listing, length-new, IsEntry, entry}
+use Rattle.lowered_units.proofs.Entries.{whole_listing, length-new, entry}
 use Rattle.lowered_units.proofs.Forming.{AreFew, few-graphs, or-right, nodes-formed, block-formed, node-edges-formed}
 use Rattle.lowered_units.proofs.Heads.{In, listing-is, Lie, unit-lies, all-within}
 use Rattle.lowered_units.proofs.Lined.{IsCalleeIn, WiresIn, NodesIn, IsGraphIn, GraphsIn, program-lined}
 use Rattle.lowered_units.proofs.Literals.{IsValueWant}
-use Rattle.lowered_units.proofs.Named.{Match, match, none-before, standing}
+use Rattle.lowered_units.proofs.Named.{match, none-before, standing}
 use Rattle.lowered_units.proofs.Nets.{boundary-wants}
 use Rattle.lowered_units.proofs.Normality.{node-beside}
 use Rattle.lowered_units.proofs.OneUnit.{head_of}
 use Rattle.lowered_units.proofs.Ordered.{labels-are}
 use Rattle.lowered_units.proofs.Programs.{functions, right-of}
-use Rattle.lowered_units.proofs.Rights.{IsRightNode, IsRightGraph, AreRight}
+use Rattle.lowered_units.proofs.Rights.{IsRightNode, AreRight}
 use Rattle.lowered_units.proofs.Running.{found-function}
 
 -- ---- each label once
@@ -47,9 +45,11 @@ once-from l (suc n) = (λ c. later (suc l) n (omega arith) c, once-from (suc l) 
     index m zero k d h = absurd (omega (arith, h))
     index m (suc n) zero d h = omega arith
     index m (suc n) (suc k) d h = index (suc m) n k d (omega (arith, h)) ∙ omega arith
+
     size : (m n : ℕ) → length (count_from m n) ≡ n
     size m zero = refl
     size m (suc n) = ap suc (size (suc m) n)
+
     later : (m n : ℕ) → l < m → Contains (count_from m n) l → ⊥
     later m n h c = omega (arith, h, index m n c.0 l (omega (arith, c.1, size m n)), c.2)
 

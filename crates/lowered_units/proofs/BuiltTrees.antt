@@ -1,5 +1,5 @@
 -- What a fitting expression becomes, as it is made: a case a form.
-use Rattle.std.proofs.Common.{◌≡◌, ℕ, zero, suc, ◌+◌, ◌<◌, ◌≤◌, Bool, true, false, List, [], ◌∷◌, ◌++◌, map, length, slice_get, Option, Some, None, refl, sym, ap, subst, ◌∙◌, arith, rules}
+use Rattle.std.proofs.Common.{◌≡◌, ℕ, suc, ◌<◌, ◌≤◌, List, [], ◌∷◌, ◌++◌, map, length, slice_get, Option, Some, refl, sym, ap, subst, ◌∙◌, arith, rules}
 use Rattle.std.specs.Prelude.{All}
 use Rattle.std.proofs.lemmas.List.{length-map, length-append}
 use Rattle.std.proofs.lemmas.List.Elements.{All-nil, All-cons}
@@ -19,11 +19,8 @@ use Rattle.typed_tree.specs.declared.expr.TypedExpr.{TypedExpr}
 use Rattle.typed_tree.specs.declared.expr.TypedKind.{TypedKind}
 use Rattle.typed_tree.specs.declared.expr.TypedKind.TheVariants as typed
 use Rattle.typed_tree.specs.declared.expr.TypedKind.TheViews.{roll-TypedKind}
-use Rattle.typed_tree.specs.declared.expr.TypedKind.TheOpen.{TypedKind-F, TypedExpr-F}
+use Rattle.typed_tree.specs.declared.expr.TypedKind.TheOpen.{TypedKind-F}
 use Rattle.typed_tree.specs.declared.expr.TypedKind.TheFolds.{map-TypedKind, fold-roll-TypedKind, fold-roll-TypedExpr}
-use Rattle.typed_tree.specs.declared.expr.Case.{Case}
-use Rattle.typed_tree.specs.declared.expr.Product.{Product}
-use Rattle.typed_tree.specs.declared.expr.Turns.{Turns}
 use Rattle.typed_tree.specs.declared.expr.ClauseForm.{ClauseForm}
 use Rattle.typed_tree.specs.Typing.{with}
 use Rattle.typed_tree.specs.Types.{Member, IsNumber, AreNumbers, constant_type}
@@ -31,7 +28,7 @@ use Rattle.typed_tree.specs.Types as number
 use Rattle.fitting_trees.specs.Fitting.{Row, Header, AreMade, IsLiteral, AreFields, TagsFit, Fits, AllFit, DefsFit, ArmsFit}
 use Rattle.fitting_trees.specs.Fitting as is
 use Rattle.lowering.specs.Feeds.{Literal, One, Wire, wire}
-use Rattle.lowering.specs.Graphs.{Call, Lowering, only, andthen, a_node}
+use Rattle.lowering.specs.Graphs.{Call, only, a_node}
 use Rattle.lowering.specs.Operations.{Lowers, all_lowered, wire_at, constant_lowered, operation_lowered}
 use Rattle.lowering.specs.Choices.{applied, case_lowered}
 use Rattle.lowering.specs.Loops.{Phrase, product_lowered}

@@ -1,32 +1,23 @@
 -- The edges of a translated unit are formed.
-use Rattle.std.proofs.Common.{◌≡◌, ℕ, zero, suc, ◌+◌, ◌<◌, ◌≤◌, ◌⊎◌, inl, inr, Bool, true, false, List, [], ◌∷◌, ◌++◌, map, length, get_or, slice_get, Option, Some, None, refl, sym, ap, subst, ◌∙◌, arith, option_map}
-use Rattle.std.specs.Prelude.{All, IsSome, IsTrue, is_some, bytes_eq, codes, find, ◌^◌, if◌then◌else◌}
-use Rattle.std.specs.List.{list_all}
+use Rattle.std.proofs.Common.{◌≡◌, ℕ, zero, suc, Bool, true, false, List, [], ◌∷◌, ◌++◌, get_or, slice_get, Option, Some, None, refl, sym, ap, subst, ◌∙◌, option_map}
+use Rattle.std.specs.Prelude.{All, IsSome, is_some, bytes_eq, codes, if◌then◌else◌}
 use Rattle.std.proofs.lemmas.Slice.Eq.{bytes_eq-Decides}
 use Rattle.std.proofs.lemmas.List.Elements.{All-head, All-tail, All-from_recursion}
 use Rattle.flow_value.specs.declared.value.Val.TheVariants as val
-use Rattle.if1_line.specs.Spelling.{IsNumber, IsLabel, IsName, IsQuotable, is_quotable}
-use Rattle.if1_graph.specs.declared.graph.Edge.{Edge}
+use Rattle.if1_line.specs.Spelling.{IsQuotable}
 use Rattle.if1_graph.specs.declared.graph.Graph.{Graph}
-use Rattle.if1_graph.specs.declared.graph.Graph.TheViews.{out-Graph}
-use Rattle.if1_graph.specs.declared.graph.Node.{Node}
-use Rattle.if1_graph.specs.declared.graph.Origin.TheVariants as origin
 use Rattle.if1_graph.specs.declared.graph.TypeEntry.{TypeEntry}
 use Rattle.if1_graph.specs.declared.graph.Unit1.{Unit1}
 use Rattle.if1_graph.specs.declared.kind.Basic.{Basic}
 use Rattle.if1_graph.specs.declared.kind.Basic.TheVariants as basic
 use Rattle.if1_graph.specs.declared.kind.TypeKind.TheVariants as kind
-use Rattle.if1_graph.specs.declared.op.Grouping.{Grouping}
-use Rattle.if1_graph.specs.declared.op.Simple.{Simple}
-use Rattle.if1_graph.specs.declared.op.Simple.TheVariants as simple
 use Rattle.if1_graph.specs.declared.op.Reducer.{Reducer}
 use Rattle.if1_graph.specs.declared.row.Want.{Want}
 use Rattle.if1_graph.specs.declared.row.Want.TheVariants as want
-use Rattle.if1_graph.specs.Formed.{function_named, want_at, IsLiteralFor, IsWholeType, IsOrigin, IsEdge}
+use Rattle.if1_graph.specs.Formed.{function_named, IsLiteralFor}
 use Rattle.if1_graph.specs.Kinds.{kind_at, basic_at}
 use Rattle.if1_graph.specs.Literals.{literal}
 use Rattle.if1_graph.specs.Ops.{reducers, reducer_at}
-use Rattle.if1_graph.specs.Rows.{operand_of}
 use Rattle.if1_graph.specs.Tables.{named}
 use Rattle.if1_graph.specs.Types.{entry_at}
 use Rattle.sisal_tree.specs.declared.expr.Constant.{Constant}
@@ -38,12 +29,11 @@ use Rattle.typed_tree.specs.declared.program.Program.{Program}
 use Rattle.lowering.specs.Feeds.{One, Callee}
 use Rattle.lowering.specs.Operations.{integer}
 use Rattle.lowering.specs.Types.{basics, table, label_of}
-use Rattle.lowered_units.specs.Fitting.{IsFitting}
-use Rattle.lowered_units.specs.Units.{constant_text, entries_from, called_name, name_of}
+use Rattle.lowered_units.specs.Units.{constant_text, entries_from, called_name}
 use Rattle.lowered_units.proofs.Built.{IsConstantOf}
 use Rattle.lowered_units.proofs.Canonical.{IsCode, callee-code}
 use Rattle.lowered_units.proofs.Literals.{IsValueWant, integer_read, character_read, integer_quotable, character_quotable, types-begin, label-is}
-use Rattle.lowered_units.proofs.Tables.{Grows, table-begins}
+use Rattle.lowered_units.proofs.Tables.{table-begins}
 
 -- ---- texts in quotes
 
@@ -113,9 +103,10 @@ module _ (p : Program) (u : Unit1) (is : u.types ≡ entries_from p 1 (table p))
   constant-origin w c t v h = (constant-quotable c (slice_get p.types t) h, by-form w c t (slice_get p.types t) refl v h)
 
   pub reduction-origin : slice_get p.types integer ≡ Some form.Integer → (name : List ℕ) → IsSome (reducer_at name) → IsQuotable name × FitsAt (Some want.Reduction) name (label_of p (One integer))
-  reduction-origin e name h =
-      (row-quotable reducers quotable-rows name h,
-      subst (FitsAt (Some want.Reduction) name) (sym (label-is p u is integer form.Integer 3 e refl)) (at-label (Some want.Reduction) name 3 (basic_line 3 3 (codes "integer")) refl h))
+  reduction-origin e name h = (
+    row-quotable reducers quotable-rows name h,
+    subst (FitsAt (Some want.Reduction) name) (sym (label-is p u is integer form.Integer 3 e refl)) (at-label (Some want.Reduction) name 3 (basic_line 3 3 (codes "integer")) refl h),
+  )
     where
       quotable-rows : All (λ (r : List ℕ × Reducer). IsQuotable r.0) reducers
       quotable-rows = All-from_recursion (λ (r : List ℕ × Reducer). IsQuotable r.0) reducers (refl, (refl, (refl, (refl, (refl, tt)))))

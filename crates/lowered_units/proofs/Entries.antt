@@ -1,13 +1,12 @@
 -- The graphs of a translated unit, by number: each is listed as the lowered graph of its number.
-use Rattle.std.proofs.Common.{◌≡◌, ℕ, zero, suc, ◌+◌, ◌⊎◌, inl, inr, false, List, [], ◌∷◌, ◌++◌, map, length, slice_get, Option, Some, None, refl, sym, ap, subst, ◌∙◌, arith}
+use Rattle.std.proofs.Common.{◌≡◌, ℕ, zero, suc, ◌+◌, inl, inr, false, List, [], ◌∷◌, ◌++◌, map, length, slice_get, Some, refl, sym, ap, subst, ◌∙◌, arith}
 use Rattle.std.proofs.lemmas.List.{length-map}
-use Rattle.if1_graph.specs.declared.graph.Edge.{Edge}
 use Rattle.typed_tree.specs.declared.program.Function.{Function}
 use Rattle.typed_tree.specs.declared.program.Program.{Program}
 use Rattle.lowering.specs.Graphs.{LoweredGraph, Lowered, Lowering, size, closed, closed_graphs, new_graph, new_graphs}
 use Rattle.lowering.specs.Programs.{function_lowered, functions_lowered, graphs, graph_at}
 use Rattle.lowered_units.specs.Listed.{ListedGraph, Listing, all_of}
-use Rattle.lowered_units.specs.Units.{listed_nodes, edges_of, inner_graph, inner_graphs, function_graph, function_listings}
+use Rattle.lowered_units.specs.Units.{listed_nodes, edges_of, inner_graph, inner_graphs, function_listings}
 use Rattle.lowered_units.proofs.Heads.{In}
 
 -- without its header

@@ -1,33 +1,31 @@
 -- A translated unit is formed.
-use Rattle.std.proofs.Common.{◌≡◌, ℕ, zero, suc, ◌+◌, ◌<◌, ◌≤◌, inl, inr, List, [], ◌∷◌, ◌++◌, map, length, slice_get, Option, Some, None, refl, sym, ap, subst, ◌∙◌, arith}
-use Rattle.std.specs.Prelude.{All, get_or}
-use Rattle.std.proofs.lemmas.List.{length-map}
-use Rattle.std.proofs.lemmas.List.Elements.{All-nil, All-cons, All-head, All-tail}
+use Rattle.std.proofs.Common.{◌≡◌, ℕ, suc, ◌+◌, inl, inr, List, [], ◌∷◌, ◌++◌, map, slice_get, Option, Some, None, refl, sym, ap, subst, ◌∙◌, arith}
+use Rattle.std.specs.Prelude.{All}
+use Rattle.std.proofs.lemmas.List.Elements.{All-nil, All-cons}
 use Rattle.if1_line.specs.Spelling.{IsQuotable}
 use Rattle.if1_graph.specs.declared.graph.Graph.{Graph}
 use Rattle.if1_graph.specs.declared.graph.Graph.TheViews.{out-Graph}
 use Rattle.if1_graph.specs.declared.graph.Unit1.{Unit1}
-use Rattle.if1_graph.specs.Formed.{IsTable, IsWholeType, IsImport, IsHeader, IsFormed}
-use Rattle.if1_graph.specs.Units.{Function}
+use Rattle.if1_graph.specs.Formed.{IsTable, IsWholeType, IsImport, IsFormed}
 use Rattle.typed_tree.specs.declared.expr.TypedExpr.{TypedExpr}
 use Rattle.typed_tree.specs.declared.program.Function as typed
 use Rattle.typed_tree.specs.declared.program.Program.{Program}
 use Rattle.lowering.specs.Graphs.{LoweredGraph, Lowered, size, closed}
-use Rattle.lowering.specs.Programs.{function_lowered, functions_lowered, graphs}
+use Rattle.lowering.specs.Programs.{functions_lowered, graphs}
 use Rattle.lowering.specs.TooMany.{too_many}
 use Rattle.lowering.specs.Types.{Labelled, Table, basics, function_label, header_need, body_needs, with_needs, table, header_label}
 use Rattle.lowered_units.specs.Fitting.{IsFitting}
 use Rattle.lowered_units.specs.Laws.{IsNested}
 use Rattle.lowered_units.specs.Listed.{ListedGraph, Listing, all_of, listing}
 use Rattle.lowered_units.specs.Small.{HasSmallPorts}
-use Rattle.lowered_units.specs.Units.{inner_graph, inner_graphs, function_graph, function_listings, name_of, import_if, imports_of, entries_from, IsTranslated}
+use Rattle.lowered_units.specs.Units.{inner_graphs, function_graph, function_listings, name_of, import_if, imports_of, entries_from, IsTranslated}
 use Rattle.lowered_units.proofs.Bodies.{bodies-formed}
 use Rattle.lowered_units.proofs.Edges.{called-quotable}
-use Rattle.lowered_units.proofs.Entries.{strip, whole_listing, whole-strips, length-new}
+use Rattle.lowered_units.proofs.Entries.{strip, whole_listing, whole-strips}
 use Rattle.lowered_units.proofs.Heads.{In, listing-is}
 use Rattle.lowered_units.proofs.Lined.{HasLabel, header_table, after-headers, grown-length}
 use Rattle.lowered_units.proofs.OneUnit.{inside_in, head_of, nil-is-no-cons, heads, tails}
-use Rattle.lowered_units.proofs.Placed.{From, IsInner, AreInner, all-placed}
+use Rattle.lowered_units.proofs.Placed.{From, AreInner, all-placed}
 use Rattle.lowered_units.proofs.Stable.{function-stays}
 use Rattle.lowered_units.proofs.Tabled.{IsWellTable, IsHeaded, function-well, basics-well}
 use Rattle.lowered_units.proofs.Tables.{function-grows, Grows, grows-then, grows-none, bodies-grow}
@@ -100,7 +98,7 @@ module _ (p : Program) where
         let k = function-well p.types p.names fit.visible fit.types fit.members x (h 0 x refl) ts w in
         let grown = grows-then r.table (with_needs (map (header_need p) fs) r.table) later (headers-grow fs r.table) g in
         let same : (function_label p.types p.names f later).label ≡ r.label =
-            ap (λ (y : typed.Function). (function_label p.types p.names y later).label) e ∙ ap (λ (y : Labelled). y.label) (function-stays p.types p.names x ts later grown) in
+        ap (λ (y : typed.Function). (function_label p.types p.names y later).label) e ∙ ap (λ (y : Labelled). y.label) (function-stays p.types p.names x ts later grown) in
         (omega (arith, same, k.1), omega (arith, same, k.0.label, grown-length r.table later grown))
     header-labels (x ∷ fs) h ts w later g f (inr i) =
         header-labels fs (λ k y e. h (suc k) y e) (function_label p.types p.names x ts).table (function-well p.types p.names fit.visible fit.types fit.members x (h 0 x refl) ts w).0.well later g f i
@@ -125,9 +123,9 @@ module _ (p : Program) where
     is-formed u t few small nests =
         let bodies = bodies-formed p u fit t few small nests in
         let placed = all-placed p u (subst (From 1) (sym (ap all_of t.graphs)) whole-from) (λ x i. subst (In x) (ap all_of t.graphs) i)
-            (λ g i.
-            let h = headers-of 0 1 p.functions (functions_lowered p) u.graphs t.graphs g i in
-            (λ k. (subst (IsWholeType u.types) (sym h.fun) (subst (λ ts. IsWholeType ts (header_label p h.function)) (sym t.types) (header-whole few h.function h.there)), subst IsQuotable (sym h.name) (called-quotable p fit.quotable (Some h.function))), h.inner)) in
+        (λ g i.
+        let h = headers-of 0 1 p.functions (functions_lowered p) u.graphs t.graphs g i in
+        (λ k. (subst (IsWholeType u.types) (sym h.fun) (subst (λ ts. IsWholeType ts (header_label p h.function)) (sym t.types) (header-whole few h.function h.there)), subst IsQuotable (sym h.name) (called-quotable p fit.quotable (Some h.function))), h.inner)) in
         record {
           types = subst IsTable (sym t.types) (types-formed p fit few);
           imports = subst (λ ts. All (IsImport ts) u.imports) (sym t.types) (subst (All (IsImport (entries_from p 1 (table p)))) (sym t.imports) (imports-formed few p.functions (λ f i. i)));

@@ -1,5 +1,5 @@
 -- Each graph of a translated unit is formed, but for its number and header.
-use Rattle.std.proofs.Common.{◌≡◌, ℕ, zero, suc, ◌+◌, ◌<◌, ◌≤◌, ◌⊎◌, inl, inr, Bool, true, false, ◌||◌, List, [], ◌∷◌, ◌++◌, map, length, slice_get, Option, Some, None, refl, sym, ap, subst, ◌∙◌, arith}
+use Rattle.std.proofs.Common.{◌≡◌, ℕ, zero, suc, ◌+◌, ◌<◌, ◌≤◌, ◌⊎◌, inl, inr, Bool, true, false, ◌||◌, List, [], ◌∷◌, ◌++◌, length, slice_get, Option, Some, None, refl, sym, ap, subst, ◌∙◌, arith}
 use Rattle.std.specs.Prelude.{All, IsSome, is_some, nat_lt, ◌^◌, if◌then◌else◌}
 use Rattle.std.specs.List.{list_any}
 use Rattle.std.proofs.lemmas.Bool.{ltb-false}
@@ -20,29 +20,26 @@ use Rattle.if1_graph.specs.declared.op.Grouping.{Grouping}
 use Rattle.if1_graph.specs.declared.op.Grouping.TheVariants as grouping
 use Rattle.if1_graph.specs.declared.op.Simple.{Simple}
 use Rattle.if1_graph.specs.declared.op.Simple.TheVariants as simple
-use Rattle.if1_graph.specs.declared.row.Want.{Want}
-use Rattle.if1_graph.specs.declared.row.Want.TheVariants as want
-use Rattle.if1_graph.specs.Formed.{function_named, want_at, most, IsOpcode, IsNode, IsWholeType, IsEdge}
+use Rattle.if1_graph.specs.Formed.{function_named, want_at, IsOpcode, IsNode, IsWholeType, IsEdge}
 use Rattle.if1_graph.specs.Rows.{operand_of}
-use Rattle.if1_graph.specs.Units.{label_of}
 use Rattle.typed_tree.specs.declared.program.Function.{Function}
 use Rattle.typed_tree.specs.declared.program.Program.{Program}
 use Rattle.lowering.specs.Feeds.{Feed, Literal, Named, Absent, Port, Carried, One, Many, Callee, Wire, wire}
-use Rattle.lowering.specs.Graphs.{Action, Row, Call, Whole, LoweredNode, LoweredGraph, Lowered, node, size, closed, closed_graphs, graph_lines}
+use Rattle.lowering.specs.Graphs.{Action, Row, Call, Whole, LoweredNode, LoweredGraph, Lowered, node, size, closed_graphs, graph_lines}
 use Rattle.lowering.specs.Operations.{integer}
 use Rattle.lowering.specs.Programs.{functions_lowered, graph_at}
-use Rattle.lowering.specs.TooMany.{most_nodes, most_graphs, is_large, graphs_over, types_over, or_else, too_many}
-use Rattle.lowering.specs.Types.{basics, needs, label_of as type_label_of}
+use Rattle.lowering.specs.TooMany.{most_nodes, most_graphs, is_large, graphs_over, or_else, too_many}
+use Rattle.lowering.specs.Types.{label_of as type_label_of}
 use Rattle.lowered_units.specs.Fitting.{IsFitting}
-use Rattle.lowered_units.specs.Listed.{ListedNode, NodeListing}
-use Rattle.lowered_units.specs.Small.{IsSmallFeed, AreSmall, IsSmallAction, IsSmallNode, IsSmallGraph}
-use Rattle.lowered_units.specs.Units.{constant_text, simple_code, compound_code, edge, edge_if, edges_into, node_edges, edges_of, called_name, listed_node, origin_of, IsTranslated}
+use Rattle.lowered_units.specs.Listed.{ListedNode}
+use Rattle.lowered_units.specs.Small.{IsSmallFeed, AreSmall, IsSmallAction, IsSmallNode}
+use Rattle.lowered_units.specs.Units.{constant_text, simple_code, compound_code, edge, edge_if, edges_into, node_edges, called_name, listed_node, origin_of, IsTranslated}
 use Rattle.lowered_units.proofs.Built.{IsGap, IsGoodFeed, AreGood, AreFilled, Fills, fills_row, fills_reduction, fills_call}
 use Rattle.lowered_units.proofs.Built as built
 use Rattle.lowered_units.proofs.Codes.{simple-is, compound-is, wanted, plain-want, call-want, reduce-want, number_in}
 use Rattle.lowered_units.proofs.Edges.{FitsAt, constant-origin, reduction-origin, callee-origin, called-quotable}
 use Rattle.lowered_units.proofs.Heads.{In}
-use Rattle.lowered_units.proofs.Lined.{WiresIn, IsCalleeIn, NodesIn, IsGraphIn}
+use Rattle.lowered_units.proofs.Lined.{WiresIn, IsCalleeIn}
 use Rattle.lowered_units.proofs.Literals.{IsValueWant}
 use Rattle.lowered_units.proofs.Named.{row_of, Match, label-at, Standing}
 use Rattle.lowered_units.proofs.Nets.{op-of, before-of, assoc-of, parts-of, row-is, row-wants, whole-wants}
@@ -151,14 +148,17 @@ node-formed n l v e one few small = record {
     code (Row op) = inl (ap is_some (simple-is op))
     code (Call f) = inl (ap is_some (simple-is simple.Call))
     code (Whole c gs arms given outs) = inr (ap is_some (compound-is c))
+
     number : (a : Action) → (listed_node l a).op < 2 ^ 32
     number (Row op) = simple-small op
     number (Call f) = simple-small simple.Call
     number (Whole c gs arms given outs) = compound-small c
+
     parts : (a : Action) → IsSmallAction a → length (listed_node l a).parts < 2 ^ 32
     parts (Row op) s = omega arith
     parts (Call f) s = omega arith
     parts (Whole c gs arms given outs) s = s.0
+
     arm-numbers : (a : Action) → IsSmallAction a → All IsNumber (listed_node l a).assoc
     arm-numbers (Row op) s = All-nil IsNumber
     arm-numbers (Call f) s = All-nil IsNumber
@@ -223,8 +223,8 @@ module _ (p : Program) (u : Unit1) (fit : IsFitting p) (t : IsTranslated p u) (w
     block-formed l k (w ∷ x ∷ ws) s one few h i small v =
         All-append IsFormedEdge (edge_if l k (type_label_of p w.ty) (origin_of w.feed)) (edges_into p l (suc k) (x ∷ ws))
         (elim h.0 [
-          inl y ↦ good-formed w l k s one (omega (arith, few)) y i.0 (All-head (λ w. IsSmallFeed w.feed) w (x ∷ ws) small) (v k (omega arith))
-        | inr y ↦ gap-formed w.feed w.ty l k y
+          | inl y ↦ good-formed w l k s one (omega (arith, few)) y i.0 (All-head (λ w. IsSmallFeed w.feed) w (x ∷ ws) small) (v k (omega arith))
+          | inr y ↦ gap-formed w.feed w.ty l k y
         ])
         (block-formed l (suc k) (x ∷ ws) s (omega arith) (omega (arith, few)) h.1 i.1 (All-tail (λ w. IsSmallFeed w.feed) w (x ∷ ws) small) (λ j y. v j (omega (arith, y))))
 
@@ -252,9 +252,11 @@ module _ (p : Program) (u : Unit1) (fit : IsFitting p) (t : IsTranslated p u) (w
           where
             same-row : (x y : Simple) → Row x ≡ Row y → x ≡ y
             same-row x y e = cc
+
             there : ⊥ ⊎ In (One integer) lines → In (One integer) lines
             there (inl y) = absurd y
             there (inr y) = y
+
             later : (r : Grouping) (j : ℕ) → 2 ≤ j → IsValueWant (wanted (operand_of (simple.Reduce r) j))
             later r zero i = absurd (omega (arith, i))
             later r (suc zero) i = absurd (omega (arith, i))
@@ -280,6 +282,7 @@ module _ (p : Program) (u : Unit1) (fit : IsFitting p) (t : IsTranslated p u) (w
           where
             same-call : (x y : ℕ) → Call x ≡ Call y → x ≡ y
             same-call x y e = cc
+
             later : (j : ℕ) → 2 ≤ j → IsValueWant (wanted (operand_of simple.Call j))
             later zero i = absurd (omega (arith, i))
             later (suc zero) i = absurd (omega (arith, i))

@@ -1,13 +1,13 @@
 -- What fills a port carries what a line of its function says, and each of these has its label in the table.
-use Rattle.std.proofs.Common.{◌≡◌, ℕ, zero, suc, ◌+◌, ◌<◌, ◌≤◌, ◌⊎◌, inl, inr, List, [], ◌∷◌, ◌++◌, map, length, slice_get, Option, Some, None, refl, sym, ap, subst, ◌∙◌, arith}
+use Rattle.std.proofs.Common.{◌≡◌, ℕ, suc, ◌+◌, ◌≤◌, ◌⊎◌, inl, inr, List, [], ◌∷◌, ◌++◌, map, length, refl, sym, ap, subst, ◌∙◌, arith}
 use Rattle.std.proofs.lemmas.List.{length-append, length-map}
 use Rattle.type_table.specs.declared.form.Form.{Form}
 use Rattle.typed_tree.specs.declared.program.Function.{Function}
 use Rattle.typed_tree.specs.declared.program.Program.{Program}
 use Rattle.lowering.specs.Feeds.{Feed, Literal, Named, Absent, Port, Carried, Callee, Wire, one_carried, carried}
-use Rattle.lowering.specs.Graphs.{Action, Row, Call, Whole, callee, LoweredNode, LoweredGraph, Lowered, graph_lines, size, inputs, resolved, closed_wires, closed_nodes, closed, closed_graphs}
+use Rattle.lowering.specs.Graphs.{Action, Row, Call, Whole, callee, LoweredNode, LoweredGraph, Lowered, graph_lines, size, inputs, closed_wires, closed_nodes, closed_graphs}
 use Rattle.lowering.specs.Programs.{function_lowered, functions_lowered, graphs}
-use Rattle.lowering.specs.Types.{Table, Labelled, basics, carried_label, function_label, with_types, Need, header_need, body_needs, needs, with_needs, table, label_of, header_label}
+use Rattle.lowering.specs.Types.{Table, Labelled, basics, carried_label, function_label, with_types, Need, header_need, body_needs, with_needs, table}
 use Rattle.lowered_units.specs.Fitting.{IsFitting}
 use Rattle.lowered_units.proofs.Built.{IsGap, IsLineType, Built, b_only, b_then, b_node, b_whole, b_tag, AllBuilt, no_graph, a_graph}
 use Rattle.lowered_units.proofs.Entries.{length-new}
@@ -15,10 +15,10 @@ use Rattle.lowered_units.proofs.Heads.{In, in-left, in-right}
 use Rattle.lowered_units.proofs.Lines.{AreLines, all-lines}
 use Rattle.lowered_units.proofs.Programs.{functions, program-built, function-count}
 use Rattle.lowered_units.proofs.Rights.{closed-gap}
-use Rattle.lowered_units.proofs.Stable.{carried-stays, function-stays}
-use Rattle.lowered_units.proofs.Tabled.{IsWellTable, IsWell, IsHeaded, function-well, carried-well, lines-well, basics-well}
-use Rattle.lowered_units.proofs.Tables.{Grows, grows-none, grows-then, types-grow, function-grows}
-use Rattle.lowered_units.proofs.Typed.{headed, integers-in, bodies-well, headers-well}
+use Rattle.lowered_units.proofs.Stable.{carried-stays}
+use Rattle.lowered_units.proofs.Tabled.{IsWellTable, IsWell, carried-well, lines-well, basics-well}
+use Rattle.lowered_units.proofs.Tables.{Grows, grows-none, grows-then, types-grow}
+use Rattle.lowered_units.proofs.Typed.{headed, integers-in, headers-well}
 
 -- ---- wires by lines
 
@@ -102,18 +102,21 @@ module _ (forms : List Form) (functions : ℕ) where
         let x = lined n q a h in
         let y = lined (n + length a.nodes) (q + length a.graphs) b k in
         let left : Among a.lines (a.lines ++ b.lines) = λ c i. in-left c a.lines b.lines i in
-        let right : Among b.lines (a.lines ++ b.lines) = λ c i. in-right c a.lines b.lines i in
-        (nodes-with (a.lines ++ b.lines) a.nodes b.nodes (nodes-more a.lines (a.lines ++ b.lines) left a.nodes x.0) (nodes-more b.lines (a.lines ++ b.lines) right b.nodes y.0),
-        graphs-with (a.lines ++ b.lines) a.graphs b.graphs (graphs-more a.lines (a.lines ++ b.lines) left a.graphs x.1) (graphs-more b.lines (a.lines ++ b.lines) right b.graphs y.1))
+        let right : Among b.lines (a.lines ++ b.lines) = λ c i. in-right c a.lines b.lines i in (
+          nodes-with (a.lines ++ b.lines) a.nodes b.nodes (nodes-more a.lines (a.lines ++ b.lines) left a.nodes x.0) (nodes-more b.lines (a.lines ++ b.lines) right b.nodes y.0),
+          graphs-with (a.lines ++ b.lines) a.graphs b.graphs (graphs-more a.lines (a.lines ++ b.lines) left a.graphs x.1) (graphs-more b.lines (a.lines ++ b.lines) right b.graphs y.1),
+        )
     lined _ _ _ (b_node n q act ins port ts h one k) =
         (((callee-in act (carried ins), wires-more (carried ins) (callee act ++ carried ins) (λ c i. in-right c (callee act) (carried ins) i) ins (carried-in ins)), tt), tt)
-    lined _ _ _ (b_whole n q c ms arms given ts h s l k) =
-        (((tt, wires-more (carried (inputs ms)) (graph_lines ms ++ carried (inputs ms)) (λ c i. in-right c (graph_lines ms) (carried (inputs ms)) i) (inputs ms) (carried-in (inputs ms))), tt),
-        graphs-more (graph_lines ms) (graph_lines ms ++ carried (inputs ms)) (λ c i. in-left c (graph_lines ms) (carried (inputs ms)) i) (closed_graphs (inputs ms) 0 (length (inputs ms)) ms) (all-lined (inputs ms) 0 (length (inputs ms)) q ms h))
+    lined _ _ _ (b_whole n q c ms arms given ts h s l k) = (
+      ((tt, wires-more (carried (inputs ms)) (graph_lines ms ++ carried (inputs ms)) (λ c i. in-right c (graph_lines ms) (carried (inputs ms)) i) (inputs ms) (carried-in (inputs ms))), tt),
+      graphs-more (graph_lines ms) (graph_lines ms ++ carried (inputs ms)) (λ c i. in-left c (graph_lines ms) (carried (inputs ms)) i) (closed_graphs (inputs ms) 0 (length (inputs ms)) ms) (all-lined (inputs ms) 0 (length (inputs ms)) q ms h),
+    )
     lined _ _ _ (b_tag n q u ms arms ts g h s l k) =
-        let ws = u ∷ inputs ms in
-        (((tt, wires-more (carried ws) (graph_lines ms ++ carried ws) (λ c i. in-right c (graph_lines ms) (carried ws) i) ws (carried-in ws)), tt),
-        graphs-more (graph_lines ms) (graph_lines ms ++ carried ws) (λ c i. in-left c (graph_lines ms) (carried ws) i) (closed_graphs (inputs ms) 1 0 ms) (all-lined (inputs ms) 1 0 q ms h))
+        let ws = u ∷ inputs ms in (
+          ((tt, wires-more (carried ws) (graph_lines ms ++ carried ws) (λ c i. in-right c (graph_lines ms) (carried ws) i) ws (carried-in ws)), tt),
+          graphs-more (graph_lines ms) (graph_lines ms ++ carried ws) (λ c i. in-left c (graph_lines ms) (carried ws) i) (closed_graphs (inputs ms) 1 0 ms) (all-lined (inputs ms) 1 0 q ms h),
+        )
 
     pub all-lined : (ks : List Wire) (first own q : ℕ) (ms : List Lowered) → AllBuilt forms functions q ms → GraphsIn (graph_lines ms) (closed_graphs ks first own ms)
     all-lined ks first own _ _ (no_graph q) = tt
@@ -121,11 +124,14 @@ module _ (forms : List Form) (functions : ℕ) where
         let x = lined 0 (suc q) m h in
         let whole = (m.lines ++ carried m.values) ++ graph_lines ms in
         let nodes : Among m.lines whole = λ c i. in-left c (m.lines ++ carried m.values) (graph_lines ms) (in-left c m.lines (carried m.values) i) in
-        let values : Among (carried m.values) whole = λ c i. in-left c (m.lines ++ carried m.values) (graph_lines ms) (in-right c m.lines (carried m.values) i) in
-        ((nodes-more m.lines whole nodes (closed_nodes ks first own m.nodes) (closed-nodes-in forms functions m.lines ks first own m.nodes x.0),
-        wires-more (carried m.values) whole values (closed_wires ks first own m.values) (closed-in forms functions (carried m.values) ks first own m.values (carried-in m.values))),
-        graphs-with whole m.graphs (closed_graphs ks first own ms) (graphs-more m.lines whole nodes m.graphs x.1)
-        (graphs-more (graph_lines ms) whole (λ c i. in-right c (m.lines ++ carried m.values) (graph_lines ms) i) (closed_graphs ks first own ms) (all-lined ks first own (q + size m) ms r)))
+        let values : Among (carried m.values) whole = λ c i. in-left c (m.lines ++ carried m.values) (graph_lines ms) (in-right c m.lines (carried m.values) i) in (
+          (
+            nodes-more m.lines whole nodes (closed_nodes ks first own m.nodes) (closed-nodes-in forms functions m.lines ks first own m.nodes x.0),
+            wires-more (carried m.values) whole values (closed_wires ks first own m.values) (closed-in forms functions (carried m.values) ks first own m.values (carried-in m.values)),
+          ),
+          graphs-with whole m.graphs (closed_graphs ks first own ms) (graphs-more m.lines whole nodes m.graphs x.1)
+              (graphs-more (graph_lines ms) whole (λ c i. in-right c (m.lines ++ carried m.values) (graph_lines ms) i) (closed_graphs ks first own ms) (all-lined ks first own (q + size m) ms r)),
+        )
 
 -- ---- labels
 
@@ -173,6 +179,7 @@ module _ (p : Program) (fit : IsFitting p) where
       apart [] ys c i f g = g i
       apart (x ∷ xs) ys c (inl e) f g = f (inl e)
       apart (x ∷ xs) ys c (inr i) f g = apart xs ys c i (λ k. f (inr k)) g
+
       needs-grow : (fs : List Function) (ms : List Lowered) (ts : Table) → Grows ts (with_needs (body_needs p fs ms) ts)
       needs-grow [] ms ts = grows-none ts
       needs-grow (f ∷ fs) [] ts = grows-none ts

@@ -1,6 +1,6 @@
 -- A constant of a type is read from its spelling as its value.
 use Rattle.std.proofs.Common.{◌≡◌, ℕ, zero, suc, ◌+◌, ◌-◌, ◌*◌, ◌/◌, ◌%◌, ◌^◌, ◌<◌, ◌≤◌, ℤ, pos, negsuc, neg_ℤ, Bool, true, false, cond, not, ◌&&◌, ◌||◌, leb, List, [], ◌∷◌, ◌++◌, slice_get, Option, Some, None, refl, sym, ap, subst, ◌∙◌, arith, option_map, inl, inr}
-use Rattle.std.specs.Prelude.{decimal, ◌==◌, nat_lt, nat_le, if◌then◌else◌}
+use Rattle.std.specs.Prelude.{decimal, ◌==◌, if◌then◌else◌}
 use Rattle.std.specs.Char.{is_ascii_digit}
 use Rattle.std.specs.Fmt.{signed_decimal}
 use Rattle.std.specs.List.{list_all}
@@ -19,7 +19,6 @@ use Rattle.type_table.specs.declared.form.Form.TheVariants as form
 use Rattle.typed_tree.specs.declared.program.Program.{Program}
 use Rattle.if1_line.specs.Spelling.{is_quotable}
 use Rattle.if1_line.proofs.Decimals.{and_true, and_parts, each_so}
-use Rattle.if1_graph.specs.declared.graph.TypeEntry.{TypeEntry}
 use Rattle.if1_graph.specs.declared.graph.Unit1.{Unit1}
 use Rattle.if1_graph.specs.declared.row.Want.{Want}
 use Rattle.if1_graph.specs.declared.row.Want.TheVariants as want
@@ -27,14 +26,14 @@ use Rattle.if1_graph.specs.Kinds.{kind_at}
 use Rattle.if1_graph.specs.Tables.{◌>>=◌}
 use Rattle.if1_graph.specs.Types.{entry_at}
 use Rattle.if1_graph.specs.Literals.{digits_value, whole, signed, integer, character, item_text}
-use Rattle.graph_meaning.specs.Carried.{Carried, Value}
+use Rattle.graph_meaning.specs.Carried.{Value}
 use Rattle.graph_meaning.specs.Networks.{fixed, of_basic, or_explicit}
 use Rattle.lowering.specs.Feeds.{One}
-use Rattle.lowering.specs.Types.{Table, basics, form_label, label_within, table, label_of}
+use Rattle.lowering.specs.Types.{basics, form_label, label_within, table, label_of}
 use Rattle.lowered_units.specs.Networks.{constant_value}
-use Rattle.lowered_units.specs.Units.{constant_text, entries_from, IsTranslated}
+use Rattle.lowered_units.specs.Units.{constant_text, entries_from}
 use Rattle.lowered_units.proofs.Built.{IsConstantOf}
-use Rattle.lowered_units.proofs.Tables.{Grows, table-begins}
+use Rattle.lowered_units.proofs.Tables.{table-begins}
 
 -- ---- integers
 

@@ -19,9 +19,9 @@ use Rattle.if1_graph.specs.Formed.{IsHeader}
 use Rattle.if1_graph.specs.Ports.{count_from}
 use Rattle.if1_graph.specs.Units.{size, sizes, size_before, label_of, most_levels, Home, Function, Inside, Place, each_from, places_of, places, graphs_before, IsNumbered}
 use Rattle.typed_tree.specs.declared.program.Program.{Program}
-use Rattle.lowered_units.specs.Listed.{ListedGraph, Listing, NodeListing, all_of, listing, node_listing}
-use Rattle.lowered_units.proofs.Entries.{whole_listing, IsEntry, entry}
-use Rattle.lowered_units.proofs.Heads.{In, in-left, in-right, listing-is, inside-is, Within, part-within}
+use Rattle.lowered_units.specs.Listed.{ListedGraph, Listing, all_of, listing, node_listing}
+use Rattle.lowered_units.proofs.Entries.{whole_listing, entry}
+use Rattle.lowered_units.proofs.Heads.{In, in-left, in-right, listing-is, inside-is, Within}
 use Rattle.lowered_units.proofs.Named.{match}
 use Rattle.lowered_units.proofs.OneUnit.{inside_in, head_of, heads, tails}
 use Rattle.lowered_units.proofs.Ordered.{labels-are}

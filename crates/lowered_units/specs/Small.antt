@@ -1,5 +1,5 @@
 -- That labels, ports and numbers of graphs in a node fit 32 bits (IF1 manual M-170, text form).
-use Rattle.std.specs.Prelude.{ℕ, suc, ◌<◌, ◌^◌, List, All, length}
+use Rattle.std.specs.Prelude.{suc, ◌<◌, ◌^◌, List, All, length}
 use Rattle.typed_tree.specs.declared.program.Program.{Program}
 use Rattle.lowering.specs.Feeds.{Feed, Port, Wire}
 use Rattle.lowering.specs.Graphs.{Action, Whole, LoweredNode, LoweredGraph}
