@@ -6,7 +6,7 @@ use Rattle.std.proofs.lemmas.List.Elements.{All-nil, All-cons, All-head, All-tai
 use Rattle.if1_graph.specs.declared.graph.Graph.{Graph}
 use Rattle.if1_graph.specs.declared.graph.Graph.TheViews.{out-Graph}
 use Rattle.if1_graph.specs.declared.graph.Unit1.{Unit1}
-use Rattle.if1_graph.specs.Formed.{function_named, IsOnce, IsEdge}
+use Rattle.if1_graph.specs.Formed.{function_named, most, IsNode, IsOnce, IsEdge}
 use Rattle.if1_graph.specs.Ports.{count_from}
 use Rattle.if1_graph.specs.Units.{label_of, most_levels, Place, places}
 use Rattle.typed_tree.specs.declared.program.Program.{Program}
@@ -16,7 +16,7 @@ use Rattle.lowering.specs.Programs.{function_lowered, functions_lowered, graphs,
 use Rattle.lowering.specs.TooMany.{most_nodes, types_over, graphs_over, too_many}
 use Rattle.lowering.specs.Types.{basics, needs}
 use Rattle.lowered_units.specs.Fitting.{IsFitting}
-use Rattle.lowered_units.specs.Laws.{IsBodyFormed, IsNested}
+use Rattle.lowered_units.specs.Laws.{IsNested}
 use Rattle.lowered_units.specs.Listed.{all_of}
 use Rattle.lowered_units.specs.Small.{IsSmallNode, IsSmallGraph, HasSmallPorts}
 use Rattle.lowered_units.specs.Units.{called_name, edges_into, node_edges, edges_of, IsTranslated}
@@ -34,6 +34,13 @@ use Rattle.lowered_units.proofs.Ordered.{labels-are}
 use Rattle.lowered_units.proofs.Programs.{functions, right-of}
 use Rattle.lowered_units.proofs.Rights.{IsRightNode, AreRight}
 use Rattle.lowered_units.proofs.Running.{found-function}
+
+-- what is formed in a graph beside its number and its header
+pub record IsBodyFormed (u : Unit1) (p : Place) : Type 0 where
+  pub nodes : All IsNode (out-Graph p.graph).nodes
+  pub labels : IsOnce (map label_of (out-Graph p.graph).nodes)
+  pub few : length (out-Graph p.graph).nodes ≤ most
+  pub edges : All (IsEdge u p.graph) (out-Graph p.graph).edges
 
 -- ---- each label once
 

@@ -1,11 +1,10 @@
 -- What the laws on translated units say.
-use Rattle.std.specs.Prelude.{◌≡◌, ◌≤◌, ℕ, Some, None, All, map, length}
+use Rattle.std.specs.Prelude.{◌≡◌, ◌≤◌, ℕ, Some, None, All}
 use Rattle.typed_tree.specs.declared.program.Program.{Program}
-use Rattle.if1_graph.specs.declared.graph.Graph.TheViews.{out-Graph}
 use Rattle.if1_graph.specs.declared.graph.Unit1.{Unit1}
-use Rattle.if1_graph.specs.Formed.{IsTable, most, IsNode, IsOnce, IsEdge, IsFormed}
+use Rattle.if1_graph.specs.Formed.{IsTable, IsFormed}
 use Rattle.if1_graph.specs.Normal.{IsNormal}
-use Rattle.if1_graph.specs.Units.{label_of, levels, most_levels, Place, places}
+use Rattle.if1_graph.specs.Units.{levels, most_levels}
 use Rattle.graph_meaning.specs.Networks.{network}
 use Rattle.lowering.specs.Graphs.{LoweredGraph}
 use Rattle.lowering.specs.Programs.{graph_at, number_of}
@@ -35,17 +34,6 @@ AreNormal = (p : Program) (u : Unit1) → IsFitting p → IsTranslated p u → I
 -- each type of the unit is formed, and there are no more than a unit may have
 abbrev pub AreTablesFormed : Type 0
 AreTablesFormed = (p : Program) (u : Unit1) → IsFitting p → too_many p ≡ None → IsTranslated p u → IsTable u.types
-
--- what is formed in a graph beside its number and its header
-pub record IsBodyFormed (u : Unit1) (p : Place) : Type 0 where
-  pub nodes : All IsNode (out-Graph p.graph).nodes
-  pub labels : IsOnce (map label_of (out-Graph p.graph).nodes)
-  pub few : length (out-Graph p.graph).nodes ≤ most
-  pub edges : All (IsEdge u p.graph) (out-Graph p.graph).edges
-
--- nodes and edges are formed: opcodes, labels, literals of their types, and types that are there
-abbrev pub AreBodiesFormed : Type 0
-AreBodiesFormed = (p : Program) (u : Unit1) → IsFitting p → too_many p ≡ None → HasSmallPorts p → IsTranslated p u → IsNested u → All (IsBodyFormed u) (places u)
 
 -- a unit within the limits is formed and normal
 abbrev pub AreFormed : Type 0

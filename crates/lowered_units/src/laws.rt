@@ -1,5 +1,5 @@
 //! The laws of translated units.
-ghost use Rattle.lowered_units.specs.Laws.{AreBodiesFormed, AreFormed, AreLowered, AreNormal, AreTablesFormed, IsOneUnit};
+ghost use Rattle.lowered_units.specs.Laws.{AreFormed, AreLowered, AreNormal, AreTablesFormed, IsOneUnit};
 
 /// A program has at most one unit.
 pub fn a_program_is_one_unit()
@@ -10,13 +10,6 @@ pub fn a_program_is_one_unit()
 /// are types of the unit, and there are at most 65,535.
 pub fn tables_of_translated_units_are_formed()
     ensures { AreTablesFormed }
-{}
-
-/// The nodes and edges of each graph of a translated unit within the limits are formed: opcodes and labels
-/// are such, each label stands once, each literal is one of its type, and each type is there and holds no
-/// real. The number and the header of a graph are not spoken of.
-pub fn nodes_and_edges_of_translated_units_are_formed()
-    ensures { AreBodiesFormed }
 {}
 
 /// A translated unit is normal: its nodes and edges stand in the order of the canonical text, and its
