@@ -1,6 +1,6 @@
 -- The edges into a node of a translated unit are those of its block, and what fills its ports is what the lowered node says.
-use Rattle.std.proofs.Common.{◌≡◌, ℕ, zero, suc, ◌+◌, ◌<◌, ◌≤◌, ◌⊎◌, inl, inr, Bool, true, false, cond, ◌&&◌, List, [], ◌∷◌, ◌++◌, map, length, slice_get, Option, Some, None, refl, sym, ap, subst, ◌∙◌, arith}
-use Rattle.std.specs.Prelude.{◌==◌, find, filter, max}
+use Rattle.std.proofs.Common.{◌≡◌, ℕ, zero, suc, ◌+◌, ◌<◌, ◌≤◌, inl, inr, Bool, true, false, cond, ◌&&◌, List, [], ◌∷◌, ◌++◌, map, length, slice_get, Option, Some, None, refl, sym, ap, subst, ◌∙◌, arith}
+use Rattle.std.specs.Prelude.{◌==◌, find, filter}
 use Rattle.std.proofs.lemmas.Bool.Decides.{eqb_tells}
 use Rattle.if1_graph.specs.declared.graph.Edge.{Edge}
 use Rattle.if1_graph.specs.declared.graph.Origin.{Origin}
@@ -10,14 +10,14 @@ use Rattle.if1_graph.specs.declared.row.Want.{Want}
 use Rattle.if1_graph.specs.Units.{greatest}
 use Rattle.if1_graph.specs.Ports.{count_from}
 use Rattle.graph_meaning.specs.Demand.{Source, Fixed}
-use Rattle.graph_meaning.specs.Networks.{source_by, source_from}
+use Rattle.graph_meaning.specs.Networks.{source_by}
 use Rattle.typed_tree.specs.declared.program.Program.{Program}
 use Rattle.lowering.specs.Feeds.{Feed, Literal, Named, Absent, Port, Carried, One, Many, Callee, Wire}
 use Rattle.lowering.specs.Graphs.{Action, Row, Call, Whole, LoweredNode}
 use Rattle.lowering.specs.Types.{table, label_of}
 use Rattle.lowered_units.specs.Networks.{source_of, sources_of}
 use Rattle.lowered_units.specs.Units.{constant_text, origin_of, edge, edge_if, edges_into, node_edges, edges_of, entries_from}
-use Rattle.lowered_units.proofs.Built.{IsGap, IsGoodFeed, IsGood, AreGood, AreFilled}
+use Rattle.lowered_units.proofs.Built.{IsGap, IsGoodFeed, AreFilled}
 use Rattle.lowered_units.proofs.Literals.{IsValueWant, literal-value}
 
 abbrev pub to_node : ℕ → Edge → Bool

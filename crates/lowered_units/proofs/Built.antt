@@ -1,8 +1,7 @@
 -- How what a fitting phrase becomes is made, node after node, and what is known of each node: what laws on lowered graphs need of the
 -- forms of phrases.
-use Rattle.std.proofs.Common.{◌≡◌, ℕ, zero, suc, ◌+◌, ◌<◌, ◌≤◌, ◌⊎◌, inl, inr, Bool, true, false, List, [], ◌∷◌, ◌++◌, map, length, drop, slice_get, Option, Some, None, refl, sym, ap, subst, ◌∙◌, arith}
-use Rattle.std.specs.Prelude.{All, IsSome, slice_set, unwrap_or}
-use Rattle.std.proofs.lemmas.List.{length-map, length-append}
+use Rattle.std.proofs.Common.{◌≡◌, ℕ, zero, suc, ◌+◌, ◌<◌, ◌≤◌, ◌⊎◌, inl, true, List, [], ◌∷◌, ◌++◌, map, length, drop, slice_get, Option, Some, refl, ap, arith}
+use Rattle.std.specs.Prelude.{All, IsSome, slice_set}
 use Rattle.flow_value.specs.Scalar.{fits_64}
 use Rattle.if1_graph.specs.declared.op.Simple.{Simple}
 use Rattle.if1_graph.specs.declared.op.Simple.TheVariants as simple
@@ -14,10 +13,9 @@ use Rattle.sisal_tree.specs.declared.expr.Constant.{Constant}
 use Rattle.sisal_tree.specs.declared.expr.Constant.TheVariants as constant
 use Rattle.type_table.specs.declared.form.Form.{Form}
 use Rattle.type_table.specs.declared.form.Form.TheVariants as form
-use Rattle.lowering.specs.Feeds.{Feed, Literal, Named, Absent, Port, Carried, One, Many, Callee, Wire, wire, inside, into, outside, outsides, has, with_new, distinct}
-use Rattle.lowering.specs.Graphs.{Action, Row, Call, Whole, LoweredNode, node, LoweredGraph, Lowered, Lowering, only, joined, behind, andthen, ports, a_node, used_by, used, uses, all_uses, inputs, size, numbers, closed_graphs, whole, tag_case_on, new_graph}
+use Rattle.lowering.specs.Feeds.{Feed, Literal, Named, Absent, Port, Carried, One, Many, Callee, Wire, wire, inside, into}
+use Rattle.lowering.specs.Graphs.{Action, Row, Call, Lowered, Lowering, only, joined, andthen, ports, a_node, size, whole, tag_case_on}
 use Rattle.lowering.specs.Operations.{Lowers, integer}
-use Rattle.fitting_trees.specs.Fitting.{IsLiteral}
 
 -- ---- wires
 

@@ -1,6 +1,6 @@
 -- Lists of phrases, definitions, names, constants, operations and choices, as they are made.
-use Rattle.std.proofs.Common.{◌≡◌, ℕ, zero, suc, ◌+◌, ◌<◌, ◌≤◌, ◌⊎◌, inl, inr, Bool, true, false, cond, List, [], ◌∷◌, ◌++◌, map, length, drop, slice_get, Option, Some, None, refl, sym, ap, subst, ◌∙◌, arith}
-use Rattle.std.specs.Prelude.{All, IsSome, slice_set, unwrap_or, if◌then◌else◌, nat_eq, nat_lt, max, pos, codes}
+use Rattle.std.proofs.Common.{◌≡◌, ℕ, zero, suc, ◌+◌, ◌<◌, ◌≤◌, ◌⊎◌, inl, inr, Bool, true, false, List, [], ◌∷◌, ◌++◌, map, length, slice_get, Some, refl, sym, ap, subst, ◌∙◌, arith}
+use Rattle.std.specs.Prelude.{All, if◌then◌else◌, nat_eq, nat_lt, pos}
 use Rattle.std.proofs.lemmas.List.{length-map, length-append}
 use Rattle.std.proofs.lemmas.List.Elements.{All-nil, All-cons}
 use Rattle.std.proofs.lemmas.Option.{slice_get_within}
@@ -15,16 +15,13 @@ use Rattle.sisal_tree.specs.declared.expr.Constant.{Constant}
 use Rattle.sisal_tree.specs.declared.expr.Constant.TheVariants as constant
 use Rattle.type_table.specs.declared.form.Form.{Form}
 use Rattle.type_table.specs.declared.form.Form.TheVariants as form
-use Rattle.type_table.specs.declared.form.Member.{Member}
-use Rattle.type_table.specs.Forms.{members_of, parts}
-use Rattle.type_table.specs.Tables.{members_at, members_if}
 use Rattle.typed_tree.specs.declared.expr.Case.{Case}
 use Rattle.value_ops.specs.declared.operation.Operation.{Operation}
 use Rattle.value_ops.specs.declared.operation.Operation.TheVariants as operation
-use Rattle.lowering.specs.Feeds.{Feed, Literal, Named, Absent, Port, Carried, One, Many, Callee, Wire, wire, into}
-use Rattle.lowering.specs.Graphs.{Action, Row, Call, Whole, Lowered, Lowering, only, andthen, a_node, size, whole, tag_case_on, new_graph, new_graphs}
-use Rattle.lowering.specs.Operations.{Lowers, boolean, character, integer, null, one, absent, all_lowered, defs_lowered, body_lowered, wire_at, row_lowered, constant_lowered, absents, reversed, field_lowered, at_place, changed, operation_lowered}
-use Rattle.lowering.specs.Choices.{element_of, element_in, content_of, type_in, type_of, tag_count, selector_lowered, if_lowered, tag_case, arms_of, arm_names, arms_from, case_lowered, first_tag, two_arms, truth, is_tag_lowered, applied}
+use Rattle.lowering.specs.Feeds.{Literal, Port, One, Wire, wire, into}
+use Rattle.lowering.specs.Graphs.{Row, Lowering, only, andthen, size, new_graph, new_graphs}
+use Rattle.lowering.specs.Operations.{Lowers, boolean, character, integer, one, all_lowered, defs_lowered, body_lowered, wire_at, row_lowered, constant_lowered, absents, reversed, field_lowered, at_place, changed, operation_lowered}
+use Rattle.lowering.specs.Choices.{element_of, content_of, type_of, tag_count, selector_lowered, if_lowered, tag_case, arms_of, arm_names, arms_from, case_lowered, first_tag, two_arms, truth, is_tag_lowered}
 use Rattle.lowered_units.proofs.Built.{IsConstantOf, IsPlainRow, counts, AreParts, IsValueType, AreTypes, IsGoodFeed, IsGood, AreGood, IsGap, AreFilled, Fills, fills_row, fills_reduction, fills_call, Built, b_whole, b_tag, AllBuilt, no_graph, a_graph, Gives, To, AllTo, to_none, to_more}
 use Rattle.lowered_units.proofs.Built as built
 

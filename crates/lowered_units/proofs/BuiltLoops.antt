@@ -1,6 +1,6 @@
 -- Loops, as they are made.
-use Rattle.std.proofs.Common.{◌≡◌, ℕ, zero, suc, ◌+◌, ◌<◌, ◌≤◌, Bool, true, false, List, [], ◌∷◌, ◌++◌, map, length, drop, Option, Some, None, refl, sym, ap, subst, ◌∙◌, arith}
-use Rattle.std.specs.Prelude.{All, IsSome, slice_set, if◌then◌else◌}
+use Rattle.std.proofs.Common.{◌≡◌, ℕ, zero, suc, ◌+◌, ◌≤◌, Bool, true, false, List, [], ◌∷◌, ◌++◌, map, length, drop, Option, Some, None, refl, ◌∙◌, arith}
+use Rattle.std.specs.Prelude.{IsSome, if◌then◌else◌}
 use Rattle.std.proofs.lemmas.List.{length-map, length-append}
 use Rattle.std.proofs.lemmas.List.Elements.{All-nil}
 use Rattle.flow_value.specs.declared.operation.Scalar1.TheVariants as unary
@@ -18,10 +18,10 @@ use Rattle.typed_tree.specs.declared.expr.Source.{Source}
 use Rattle.typed_tree.specs.declared.expr.Source.TheVariants as source
 use Rattle.typed_tree.specs.declared.expr.ClauseForm.{ClauseForm}
 use Rattle.lowering.specs.Feeds.{Named, Carried, One, Many, Callee, Wire, wire, into}
-use Rattle.lowering.specs.Graphs.{Row, Lowered, Lowering, only, andthen, a_node, size, new_graph}
+use Rattle.lowering.specs.Graphs.{Row, Lowering, only, andthen, a_node, size, new_graph}
 use Rattle.lowering.specs.Operations.{Lowers, boolean, integer, one, all_lowered, defs_lowered, body_lowered, wire_at, row_lowered}
-use Rattle.lowering.specs.Choices.{element_of, is_array, type_of}
-use Rattle.lowering.specs.Loops.{own_inputs, many, single, types, take_up, with_not, unless_places, clauses_lowered, reducer_name, grouping_of, span, Bound, Wired, Limit, with_bound, fold_lowered, returns_lowered, width, elements_in, generator_lowered, generators_lowered, bound_of, forall_lowered, product_lowered, Phrase, loop_lowered, loop_kind, loop_name, extra, extras, collected, renew_one, renew, test_lowered, row_of_turn, initial_lowered}
+use Rattle.lowering.specs.Choices.{is_array, type_of}
+use Rattle.lowering.specs.Loops.{own_inputs, many, single, types, take_up, with_not, unless_places, clauses_lowered, reducer_name, grouping_of, span, Bound, Wired, Limit, fold_lowered, returns_lowered, width, elements_in, generator_lowered, generators_lowered, bound_of, forall_lowered, product_lowered, Phrase, loop_lowered, loop_kind, loop_name, extra, extras, collected, renew, test_lowered, row_of_turn, initial_lowered}
 use Rattle.lowering.specs.Phrases.{each}
 use Rattle.lowered_units.proofs.Built.{AreParts, IsValueType, AreTypes, IsGood, AreGood, fills_row, fills_reduction, Built, b_only, b_then, b_whole, a_graph, no_graph, Gives, To, AllTo, to_none, to_more}
 use Rattle.lowered_units.proofs.Built as built

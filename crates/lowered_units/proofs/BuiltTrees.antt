@@ -19,7 +19,7 @@ use Rattle.typed_tree.specs.declared.expr.TypedExpr.{TypedExpr}
 use Rattle.typed_tree.specs.declared.expr.TypedKind.{TypedKind}
 use Rattle.typed_tree.specs.declared.expr.TypedKind.TheVariants as typed
 use Rattle.typed_tree.specs.declared.expr.TypedKind.TheViews.{roll-TypedKind}
-use Rattle.typed_tree.specs.declared.expr.TypedKind.TheOpen.{TypedKind-F, TypedExpr-F}
+use Rattle.typed_tree.specs.declared.expr.TypedKind.TheOpen.{TypedKind-F}
 use Rattle.typed_tree.specs.declared.expr.TypedKind.TheFolds.{map-TypedKind, fold-roll-TypedKind, fold-roll-TypedExpr}
 use Rattle.typed_tree.specs.declared.expr.Case.{Case}
 use Rattle.typed_tree.specs.declared.expr.Choice.{Choice}
@@ -33,7 +33,7 @@ use Rattle.typed_tree.specs.Types as number
 use Rattle.fitting_trees.specs.Fitting.{Row, Header, AreMade, IsLiteral, AreFields, TagsFit, Fits, AllFit, DefsFit, ArmsFit}
 use Rattle.fitting_trees.specs.Fitting as is
 use Rattle.lowering.specs.Feeds.{Literal, One, Wire, wire}
-use Rattle.lowering.specs.Graphs.{Call, Lowering, only, andthen, a_node}
+use Rattle.lowering.specs.Graphs.{Call, only, a_node}
 use Rattle.lowering.specs.Operations.{Lowers, all_lowered, wire_at, constant_lowered, operation_lowered}
 use Rattle.lowering.specs.Choices.{applied, case_lowered, arms_from_tag, arms_of, tag_count, type_of}
 use Rattle.lowering.specs.Loops.{Phrase, product_lowered}

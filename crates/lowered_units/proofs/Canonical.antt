@@ -1,11 +1,8 @@
 -- Literals of a translated unit are spelled canonically.
-use Rattle.std.proofs.Common.{◌≡◌, ℕ, zero, suc, ◌+◌, ◌-◌, ◌<◌, ◌≤◌, ℤ, inl, inr, Bool, true, false, cond, ◌&&◌, List, [], ◌∷◌, ◌++◌, map, length, slice_get, Option, Some, None, refl, sym, ap, subst, ◌∙◌, arith, rules, option_map}
-use Rattle.std.specs.Prelude.{All, nat_eq, bytes_eq, find, ◌==◌, if◌then◌else◌}
-use Rattle.std.specs.Fmt.{signed_decimal}
+use Rattle.std.proofs.Common.{◌≡◌, ℕ, zero, suc, ◌+◌, ◌≤◌, ℤ, inl, inr, Bool, true, false, cond, ◌&&◌, List, [], ◌∷◌, ◌++◌, length, slice_get, Option, Some, None, refl, sym, ap, subst, ◌∙◌, arith, rules, option_map}
+use Rattle.std.specs.Prelude.{nat_eq, bytes_eq, if◌then◌else◌}
 use Rattle.std.proofs.lemmas.Bool.{eqb-true}
 use Rattle.std.proofs.lemmas.Bool.Decides.{eqb_tells}
-use Rattle.std.proofs.lemmas.List.Elements.{All-nil, All-cons, All-append}
-use Rattle.flow_value.specs.declared.value.Val.{Val}
 use Rattle.flow_value.specs.declared.value.Val.TheVariants as val
 use Rattle.flow_value.specs.declared.value.Val.TheOpen.{Val-F}
 use Rattle.flow_value.specs.declared.value.Val.TheViews.{out-Val}
@@ -24,16 +21,16 @@ use Rattle.if1_graph.specs.declared.kind.TypeKind.TheVariants as kind
 use Rattle.if1_graph.specs.declared.row.Want.{Want}
 use Rattle.if1_graph.specs.declared.row.Want.TheVariants as want
 use Rattle.if1_graph.specs.Kinds.{kind_at, basic_at}
-use Rattle.if1_graph.specs.Literals.{literal, literal_text, scalar_text}
+use Rattle.if1_graph.specs.Literals.{literal, scalar_text}
 use Rattle.if1_graph.specs.Normal.{text_for, canonical, canonical_as}
 use Rattle.if1_graph.specs.Types.{entry_at}
 use Rattle.lowering.specs.Feeds.{One, Callee}
 use Rattle.lowering.specs.Operations.{integer}
-use Rattle.lowering.specs.Types.{Entry, entry, is_entry, Table, label_from, or_new, enter, Labelled, basics, form_label, label_within, tuple_label, function_label, callee_label, table, label_of}
+use Rattle.lowering.specs.Types.{Entry, entry, is_entry, Table, label_from, or_new, enter, basics, tuple_label, callee_label, table, label_of}
 use Rattle.lowered_units.specs.Units.{constant_text, entries_from}
 use Rattle.lowered_units.proofs.Built.{IsConstantOf}
 use Rattle.lowered_units.proofs.Literals.{IsValueWant, integer_read, character_read, types-begin, label-is}
-use Rattle.lowered_units.proofs.Tables.{Grows, grows-then, table-begins, enter-grows, tuple-grows}
+use Rattle.lowered_units.proofs.Tables.{grows-then, table-begins, enter-grows, tuple-grows}
 
 -- ---- values as they are spelled
 
@@ -165,7 +162,7 @@ module _ (p : Program) where
       ]
 
   -- a label whose entry, where it has one, is of a code
-  abbrev IsCode : ℕ → Option TypeEntry → Type 0
+  abbrev pub IsCode : ℕ → Option TypeEntry → Type 0
   IsCode code None = Unit {0}
   IsCode code (Some e) = e.code ≡ code
 
@@ -185,7 +182,7 @@ module _ (p : Program) where
       by None = refl
       by (Some b) = refl
 
-  callee-code : (o : Option Function) (ts : Table) → IsCode 3 (entry_at (entries_from p 1 ts) (callee_label p.types p.names o ts).label)
+  pub callee-code : (o : Option Function) (ts : Table) → IsCode 3 (entry_at (entries_from p 1 ts) (callee_label p.types p.names o ts).label)
   callee-code None ts = subst (IsCode 3) (sym (no-zero 1 ts (omega arith))) tt
   callee-code (Some f) ts =
       let a = tuple_label p.types p.names f.params ts in

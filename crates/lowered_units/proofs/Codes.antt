@@ -1,6 +1,6 @@
 -- Opcodes, and the types that ports want, by rows.
-use Rattle.std.proofs.Common.{◌≡◌, ℕ, zero, suc, ◌≤◌, Bool, true, false, List, [], ◌∷◌, map, length, drop, slice_get, Option, Some, None, refl, sym, ap, ◌∙◌, arith, option_map}
-use Rattle.std.specs.Prelude.{All, max, unwrap_or, get_or, if◌then◌else◌}
+use Rattle.std.proofs.Common.{◌≡◌, ℕ, zero, suc, ◌≤◌, Bool, true, false, List, [], ◌∷◌, map, slice_get, Option, Some, None, refl, ap, ◌∙◌, arith}
+use Rattle.std.specs.Prelude.{All, if◌then◌else◌}
 use Rattle.flow_value.specs.declared.operation.Scalar1.TheVariants as unary
 use Rattle.flow_value.specs.declared.operation.Scalar2.TheVariants as two
 use Rattle.if1_graph.specs.declared.graph.Graph.{Graph}
@@ -19,7 +19,6 @@ use Rattle.if1_graph.specs.Ops.{simple_at, compound_at}
 use Rattle.if1_graph.specs.Rows.{Operand, row_of, of_rest, operand_of}
 use Rattle.if1_graph.specs.Tables.{◌>>=◌, or_else}
 use Rattle.if1_graph.specs.Units.{greatest, results}
-use Rattle.if1_graph.specs.Ports.{results_at}
 use Rattle.graph_meaning.specs.Networks as net
 use Rattle.graph_meaning.specs.Networks.{number_or_zero, part}
 use Rattle.graph_meaning.specs.Forms as form

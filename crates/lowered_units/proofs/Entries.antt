@@ -1,17 +1,16 @@
 -- The graphs of a translated unit, by number: each is listed as the lowered graph of its number.
-use Rattle.std.proofs.Common.{◌≡◌, ℕ, zero, suc, ◌+◌, ◌⊎◌, inl, inr, false, List, [], ◌∷◌, ◌++◌, map, length, slice_get, Option, Some, None, refl, sym, ap, subst, ◌∙◌, arith}
+use Rattle.std.proofs.Common.{◌≡◌, ℕ, zero, suc, ◌+◌, inl, inr, false, List, [], ◌∷◌, ◌++◌, map, length, slice_get, Some, refl, sym, ap, subst, ◌∙◌, arith}
 use Rattle.std.proofs.lemmas.List.{length-map}
-use Rattle.if1_graph.specs.declared.graph.Edge.{Edge}
 use Rattle.typed_tree.specs.declared.program.Function.{Function}
 use Rattle.typed_tree.specs.declared.program.Program.{Program}
 use Rattle.lowering.specs.Graphs.{LoweredGraph, Lowered, Lowering, size, closed, closed_graphs, new_graph, new_graphs}
 use Rattle.lowering.specs.Programs.{function_lowered, functions_lowered, graphs, graph_at}
 use Rattle.lowered_units.specs.Listed.{ListedGraph, Listing, all_of}
-use Rattle.lowered_units.specs.Units.{listed_nodes, edges_of, inner_graph, inner_graphs, function_graph, function_listings}
+use Rattle.lowered_units.specs.Units.{listed_nodes, edges_of, inner_graph, inner_graphs, function_listings}
 use Rattle.lowered_units.proofs.Heads.{In}
 
 -- without its header
-abbrev strip : ListedGraph → ListedGraph
+abbrev pub strip : ListedGraph → ListedGraph
 strip x = record x { exported = false; name = []; fun = 0 }
 
 map-both : {A B : Type 0} (f : A → B) (xs ys : List A) → map f (xs ++ ys) ≡ map f xs ++ map f ys
@@ -56,7 +55,7 @@ module _ (p : Program) where
   abbrev pub whole_listing : Listing
   whole_listing = all_of (function_listings p 0 1 p.functions (functions_lowered p))
 
-  whole-strips : map strip whole_listing ≡ inner_graphs p 1 (graphs p)
+  pub whole-strips : map strip whole_listing ≡ inner_graphs p 1 (graphs p)
   whole-strips = stripped 0 1 p.functions (functions_lowered p) (sym (length-new 1 (map (function_lowered p.types) p.functions) ∙ length-map p.functions (function_lowered p.types)))
 
   listed-in : (q : ℕ) (ds : List LoweredGraph) (x : ListedGraph) → In x (inner_graphs p q ds) → (i : ℕ) × (d : LoweredGraph) × (slice_get ds i ≡ Some d) × (x ≡ inner_graph p (q + i) d)

@@ -10,12 +10,11 @@
 --     G 6 "f"
 --     N 1 155
 --     E 1 1 0 1 3
-use Rattle.std.proofs.Common.{◌≡◌, ℕ, zero, suc, ◌<◌, ◌≤◌, ◌⊎◌, inl, inr, Bool, true, false, List, [], ◌∷◌, map, length, slice_get, Option, Some, None, refl, sym, ap, subst, ◌∙◌, arith}
-use Rattle.std.specs.Prelude.{All, codes}
+use Rattle.std.proofs.Common.{◌≡◌, ℕ, zero, suc, ◌<◌, ◌≤◌, ◌⊎◌, inl, inr, false, List, [], ◌∷◌, length, slice_get, Some, None, refl, sym, ap, subst, ◌∙◌, arith}
+use Rattle.std.specs.Prelude.{codes}
 use Rattle.std.proofs.lemmas.List.Elements.{All-nil, All-cons, All-from_recursion}
 use Rattle.flow_value.specs.declared.ty.Ty.TheVariants as ty
 use Rattle.if1_line.specs.Spelling.{IsName, IsQuotable}
-use Rattle.if1_graph.specs.declared.graph.Edge.{Edge}
 use Rattle.if1_graph.specs.declared.graph.Graph.{Graph}
 use Rattle.if1_graph.specs.declared.graph.Graph.TheFolds.{fold-roll-Graph, fold-roll-Node}
 use Rattle.if1_graph.specs.declared.graph.Graph.TheOpen.{Graph-F, Node-F}
@@ -33,7 +32,7 @@ use Rattle.typed_tree.specs.declared.program.Program.{Program}
 use Rattle.typed_tree.specs.Types as number
 use Rattle.lowering.specs.TooMany.{too_many}
 use Rattle.lowered_units.specs.Fitting.{HasName, IsFitting}
-use Rattle.lowered_units.specs.Listed.{Listing, NodeListing, list_graph, list_node, listing, node_listing}
+use Rattle.lowered_units.specs.Listed.{Listing, NodeListing, list_graph, list_node, listing}
 use Rattle.lowered_units.specs.Units.{IsTranslated}
 
 abbrev function : Function

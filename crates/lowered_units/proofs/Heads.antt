@@ -1,16 +1,16 @@
 -- The graphs at the places of a unit, as the text lists them.
-use Rattle.std.proofs.Common.{◌≡◌, ℕ, zero, suc, ◌+◌, ◌<◌, ◌≤◌, ◌⊎◌, inl, inr, Bool, true, false, cond, List, [], ◌∷◌, ◌++◌, map, length, Option, Some, None, refl, sym, ap, subst, ◌∙◌, arith, append_assoc}
-use Rattle.std.specs.Prelude.{◌==◌, find, max, All}
+use Rattle.std.proofs.Common.{◌≡◌, ℕ, zero, suc, ◌≤◌, ◌⊎◌, inl, inr, cond, List, [], ◌∷◌, ◌++◌, map, Some, refl, sym, ap, subst, ◌∙◌, arith}
+use Rattle.std.specs.Prelude.{◌==◌, find, All}
 use Rattle.std.specs.List.{flat_map}
 use Rattle.std.proofs.lemmas.List.Elements.{All-head, All-tail}
 use Rattle.std.proofs.lemmas.Bool.Decides.{eqb_tells}
 use Rattle.if1_graph.specs.declared.graph.Graph.{Graph}
-use Rattle.if1_graph.specs.declared.graph.Graph.TheViews.{out-Graph, roll-Graph, roll-out-Graph, roll-out-Node}
-use Rattle.if1_graph.specs.declared.graph.Graph.TheFolds.{fold-Graph, fold-Node, fold-roll-Graph, fold-roll-Node}
+use Rattle.if1_graph.specs.declared.graph.Graph.TheViews.{out-Graph, roll-out-Graph, roll-out-Node}
+use Rattle.if1_graph.specs.declared.graph.Graph.TheFolds.{fold-Node, fold-roll-Graph, fold-roll-Node}
 use Rattle.if1_graph.specs.declared.graph.Node.{Node, out-Node}
 use Rattle.if1_graph.specs.Units.{greatest, level_below, levels, Home, Function, Inside, Place, number_of, each_from, places_of}
-use Rattle.lowered_units.specs.Listed.{ListedNode, ListedGraph, Listing, NodeListing, first_number, all_of, listing, node_listing}
-use Rattle.lowered_units.proofs.OneUnit.{listing-at, node-listing-at, nodes_in, inside_in, head_of}
+use Rattle.lowered_units.specs.Listed.{ListedGraph, Listing, NodeListing, all_of, listing, node_listing}
+use Rattle.lowered_units.proofs.OneUnit.{listing-at, node-listing-at, inside_in, head_of}
 
 -- ---- members of lists
 

@@ -25,3 +25,8 @@ pub mod Example
 pub mod Stable
 pub mod Lined
 pub mod Whole
+pub mod Edges
+pub mod Forming
+pub mod Bodies
+pub mod Placed
+pub mod Formed

@@ -1,13 +1,13 @@
 -- What fills a port carries what a line of its function says, and each of these has its label in the table.
-use Rattle.std.proofs.Common.{◌≡◌, ℕ, zero, suc, ◌+◌, ◌<◌, ◌≤◌, ◌⊎◌, inl, inr, List, [], ◌∷◌, ◌++◌, map, length, slice_get, Option, Some, None, refl, sym, ap, subst, ◌∙◌, arith}
+use Rattle.std.proofs.Common.{◌≡◌, ℕ, suc, ◌+◌, ◌≤◌, ◌⊎◌, inl, inr, List, [], ◌∷◌, ◌++◌, map, length, refl, sym, ap, subst, ◌∙◌, arith}
 use Rattle.std.proofs.lemmas.List.{length-append, length-map}
 use Rattle.type_table.specs.declared.form.Form.{Form}
 use Rattle.typed_tree.specs.declared.program.Function.{Function}
 use Rattle.typed_tree.specs.declared.program.Program.{Program}
 use Rattle.lowering.specs.Feeds.{Feed, Literal, Named, Absent, Port, Carried, Callee, Wire, one_carried, carried}
-use Rattle.lowering.specs.Graphs.{Action, Row, Call, Whole, callee, LoweredNode, LoweredGraph, Lowered, graph_lines, size, inputs, resolved, closed_wires, closed_nodes, closed, closed_graphs}
+use Rattle.lowering.specs.Graphs.{Action, Row, Call, Whole, callee, LoweredNode, LoweredGraph, Lowered, graph_lines, size, inputs, closed_wires, closed_nodes, closed_graphs}
 use Rattle.lowering.specs.Programs.{function_lowered, functions_lowered, graphs}
-use Rattle.lowering.specs.Types.{Table, Labelled, basics, carried_label, function_label, with_types, Need, header_need, body_needs, needs, with_needs, table, label_of, header_label}
+use Rattle.lowering.specs.Types.{Table, Labelled, basics, carried_label, function_label, with_types, Need, header_need, body_needs, with_needs, table}
 use Rattle.lowered_units.specs.Fitting.{IsFitting}
 use Rattle.lowered_units.proofs.Built.{IsGap, IsLineType, Built, b_only, b_then, b_node, b_whole, b_tag, AllBuilt, no_graph, a_graph}
 use Rattle.lowered_units.proofs.Entries.{length-new}
@@ -15,10 +15,10 @@ use Rattle.lowered_units.proofs.Heads.{In, in-left, in-right}
 use Rattle.lowered_units.proofs.Lines.{AreLines, all-lines}
 use Rattle.lowered_units.proofs.Programs.{functions, program-built, function-count}
 use Rattle.lowered_units.proofs.Rights.{closed-gap}
-use Rattle.lowered_units.proofs.Stable.{carried-stays, function-stays}
-use Rattle.lowered_units.proofs.Tabled.{IsWellTable, IsWell, IsHeaded, function-well, carried-well, lines-well, basics-well}
-use Rattle.lowered_units.proofs.Tables.{Grows, grows-none, grows-then, types-grow, function-grows}
-use Rattle.lowered_units.proofs.Typed.{headed, integers-in, bodies-well, headers-well}
+use Rattle.lowered_units.proofs.Stable.{carried-stays}
+use Rattle.lowered_units.proofs.Tabled.{IsWellTable, IsWell, carried-well, lines-well, basics-well}
+use Rattle.lowered_units.proofs.Tables.{Grows, grows-none, grows-then, types-grow}
+use Rattle.lowered_units.proofs.Typed.{headed, integers-in, headers-well}
 
 -- ---- wires by lines
 
@@ -135,7 +135,7 @@ module _ (forms : List Form) (functions : ℕ) where
 
 -- ---- labels
 
-grown-length : (ts later : Table) → Grows ts later → length ts ≤ length later
+pub grown-length : (ts later : Table) → Grows ts later → length ts ≤ length later
 grown-length ts later g = omega (arith, ap length g.is, length-append ts g.rest)
 
 abbrev pub HasLabel : Table → Labelled → Type 0
@@ -187,11 +187,11 @@ module _ (p : Program) (fit : IsFitting p) where
           let next = with_types p.types p.names p.functions (graph_lines (m ∷ [])) ts in
           grows-then ts next (with_needs (body_needs p fs ms) next) (types-grow p.types p.names p.functions (graph_lines (m ∷ [])) ts) (needs-grow fs ms next)
 
-  after-headers : (fs : List Function) (ns : List Need) (ts : Table) → with_needs (map (header_need p) fs ++ ns) ts ≡ with_needs ns (with_needs (map (header_need p) fs) ts)
+  pub after-headers : (fs : List Function) (ns : List Need) (ts : Table) → with_needs (map (header_need p) fs ++ ns) ts ≡ with_needs ns (with_needs (map (header_need p) fs) ts)
   after-headers [] ns ts = refl
   after-headers (f ∷ fs) ns ts = after-headers fs ns (function_label p.types p.names f ts).table
 
-  abbrev header_table : Table
+  abbrev pub header_table : Table
   header_table = with_needs (map (header_need p) p.functions) basics
 
   nil-right : (ns : List Need) → ns ++ [] ≡ ns

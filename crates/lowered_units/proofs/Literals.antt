@@ -1,6 +1,6 @@
 -- A constant of a type is read from its spelling as its value.
 use Rattle.std.proofs.Common.{◌≡◌, ℕ, zero, suc, ◌+◌, ◌-◌, ◌*◌, ◌/◌, ◌%◌, ◌^◌, ◌<◌, ◌≤◌, ℤ, pos, negsuc, neg_ℤ, Bool, true, false, cond, not, ◌&&◌, ◌||◌, leb, List, [], ◌∷◌, ◌++◌, slice_get, Option, Some, None, refl, sym, ap, subst, ◌∙◌, arith, option_map, inl, inr}
-use Rattle.std.specs.Prelude.{decimal, ◌==◌, nat_lt, nat_le, if◌then◌else◌}
+use Rattle.std.specs.Prelude.{decimal, ◌==◌, if◌then◌else◌}
 use Rattle.std.specs.Char.{is_ascii_digit}
 use Rattle.std.specs.Fmt.{signed_decimal}
 use Rattle.std.specs.List.{list_all}
@@ -17,8 +17,8 @@ use Rattle.sisal_tree.specs.declared.expr.Constant.TheVariants as constant
 use Rattle.type_table.specs.declared.form.Form.{Form}
 use Rattle.type_table.specs.declared.form.Form.TheVariants as form
 use Rattle.typed_tree.specs.declared.program.Program.{Program}
-use Rattle.if1_line.proofs.Decimals.{and_true, and_parts}
-use Rattle.if1_graph.specs.declared.graph.TypeEntry.{TypeEntry}
+use Rattle.if1_line.specs.Spelling.{is_quotable}
+use Rattle.if1_line.proofs.Decimals.{and_true, and_parts, each_so}
 use Rattle.if1_graph.specs.declared.graph.Unit1.{Unit1}
 use Rattle.if1_graph.specs.declared.row.Want.{Want}
 use Rattle.if1_graph.specs.declared.row.Want.TheVariants as want
@@ -26,14 +26,14 @@ use Rattle.if1_graph.specs.Kinds.{kind_at}
 use Rattle.if1_graph.specs.Tables.{◌>>=◌}
 use Rattle.if1_graph.specs.Types.{entry_at}
 use Rattle.if1_graph.specs.Literals.{digits_value, whole, signed, integer, character, item_text}
-use Rattle.graph_meaning.specs.Carried.{Carried, Value}
+use Rattle.graph_meaning.specs.Carried.{Value}
 use Rattle.graph_meaning.specs.Networks.{fixed, of_basic, or_explicit}
 use Rattle.lowering.specs.Feeds.{One}
-use Rattle.lowering.specs.Types.{Table, basics, form_label, label_within, table, label_of}
+use Rattle.lowering.specs.Types.{basics, form_label, label_within, table, label_of}
 use Rattle.lowered_units.specs.Networks.{constant_value}
-use Rattle.lowered_units.specs.Units.{constant_text, entries_from, IsTranslated}
+use Rattle.lowered_units.specs.Units.{constant_text, entries_from}
 use Rattle.lowered_units.proofs.Built.{IsConstantOf}
-use Rattle.lowered_units.proofs.Tables.{Grows, table-begins}
+use Rattle.lowered_units.proofs.Tables.{table-begins}
 
 -- ---- integers
 
@@ -103,6 +103,31 @@ integer_read (negsuc n) f =
     let e : signed (45 ∷ decimal (suc n)) ≡ Some (negsuc n) = signed_minus n (omega (arith, ltb-true n (2 ^ 63) f)) in
     ap (λ (o : Option ℤ). o >>= λ n. if fits_64 n then Some n else None) e ∙ ap (λ (b : Bool). cond b (Some (negsuc n)) None) f
 
+-- ---- spelled by characters that may stand in quotes
+
+or_right : (a b : Bool) → b ≡ true → (a || b) ≡ true
+or_right true b h = refl
+or_right false b h = h
+
+printed : (c : ℕ) → 35 ≤ c → c ≤ 126 → is_quotable c ≡ true
+printed c low high =
+    let other : (c == 34) ≡ false = elim (eqb_tells c 34) [ inl t ↦ absurd (omega (arith, t.1)) | inr f ↦ f.0 ] in
+    and_true _ _ (or_right (c == 9) _ (and_true (leb 32 c) (leb c 126) (le-leb 32 c (omega (arith, low))) (le-leb c 126 high))) (ap not other)
+
+digit_quotable : (c : ℕ) → is_ascii_digit c ≡ true → is_quotable c ≡ true
+digit_quotable c h =
+    let l = and_parts (leb 48 c) (leb c 57) h in
+    printed c (omega (arith, leb-true 48 c l.0)) (omega (arith, leb-true c 57 l.1))
+
+decimal_quotable : (n : ℕ) → n < 2 ^ 64 → list_all is_quotable (decimal n) ≡ true
+decimal_quotable n h =
+    let row = row_of n h in
+    each_so is_ascii_digit is_quotable digit_quotable (decimal n) (subst (λ (ds : List ℕ). list_all is_ascii_digit ds ≡ true) (sym row.is) row.digits)
+
+pub integer_quotable : (z : ℤ) → fits_64 z ≡ true → list_all is_quotable (signed_decimal z) ≡ true
+integer_quotable (pos n) f = decimal_quotable n (omega (arith, ltb-true n (2 ^ 63) f))
+integer_quotable (negsuc n) f = decimal_quotable (suc n) (omega (arith, ltb-true n (2 ^ 63) f))
+
 -- ---- characters
 
 unfoldable all_below : (ℕ → Bool) → ℕ → Bool
@@ -124,7 +149,7 @@ is_at c None = false
 is_at c (Some d) = d == c
 
 unfoldable is_right : ℕ → Bool
-is_right c = is_at c (character (char_text c))
+is_right c = is_at c (character (char_text c)) && list_all is_quotable (char_text c)
 
 all_right : all_below is_right 128 ≡ true
 unfolding all_below is_right is_at
@@ -137,7 +162,11 @@ at_some c (Some d) h = let e = eqb_tells d c in elim e [ inl t ↦ ap Some t.1 |
 
 pub character_read : (c : ℕ) → c < 128 → character (char_text c) ≡ Some c
 unfolding is_right
-character_read c h = at_some c (character (char_text c)) (all_so is_right 128 c all_right h)
+character_read c h = at_some c (character (char_text c)) (and_parts (is_at c (character (char_text c))) (list_all is_quotable (char_text c)) (all_so is_right 128 c all_right h)).0
+
+pub character_quotable : (c : ℕ) → c < 128 → list_all is_quotable (char_text c) ≡ true
+unfolding is_right
+character_quotable c h = (and_parts (is_at c (character (char_text c))) (list_all is_quotable (char_text c)) (all_so is_right 128 c all_right h)).1
 
 -- ---- a literal at a port that wants no name
 

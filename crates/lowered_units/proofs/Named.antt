@@ -1,17 +1,16 @@
 -- Nodes by their labels, and functions by their names.
-use Rattle.std.proofs.Common.{◌≡◌, ℕ, zero, suc, ◌+◌, ◌<◌, ◌≤◌, inl, inr, Bool, true, false, cond, List, [], ◌∷◌, ◌++◌, map, length, get_or, slice_get, Option, Some, None, refl, sym, ap, subst, ◌∙◌, arith}
-use Rattle.std.specs.Prelude.{◌==◌, find, bytes_eq, All}
+use Rattle.std.proofs.Common.{◌≡◌, ℕ, zero, suc, ◌+◌, ◌<◌, inl, inr, Bool, true, false, cond, List, [], ◌∷◌, map, length, get_or, slice_get, Some, None, refl, sym, ap, ◌∙◌, arith}
+use Rattle.std.specs.Prelude.{find, bytes_eq}
 use Rattle.std.proofs.lemmas.Slice.Eq.{bytes_eq-Decides}
 use Rattle.std.proofs.lemmas.Bool.Decides.{eqb_tells}
 use Rattle.if1_graph.specs.declared.graph.Graph.{Graph}
 use Rattle.if1_graph.specs.declared.graph.Graph.TheViews.{out-Graph}
-use Rattle.if1_graph.specs.declared.graph.Node.{Node, out-Node}
+use Rattle.if1_graph.specs.declared.graph.Node.{Node}
 use Rattle.if1_graph.specs.Units.{label_of, node_at}
-use Rattle.graph_meaning.specs.Demand.{Vertex}
 use Rattle.typed_tree.specs.declared.program.Function.{Function}
 use Rattle.typed_tree.specs.declared.program.Program.{Program}
 use Rattle.lowering.specs.Graphs.{Action, Row, Call, Whole, LoweredNode, Lowered, size, numbers, closed}
-use Rattle.lowered_units.specs.Listed.{ListedNode, ListedGraph, Listing, NodeListing, listing, node_listing}
+use Rattle.lowered_units.specs.Listed.{ListedNode, ListedGraph, NodeListing, listing, node_listing}
 use Rattle.lowered_units.specs.Units.{listed_node, listed_nodes, inner_graphs, name_of, function_graph, function_listings}
 use Rattle.lowered_units.proofs.OneUnit.{node-listing-at, nodes_in, head_of, inside_in, nil-is-no-cons, heads, tails}
 use Rattle.lowered_units.proofs.Heads.{In, listing-is}

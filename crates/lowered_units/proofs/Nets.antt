@@ -1,5 +1,5 @@
 -- A graph of a translated unit runs as the lowered graph of its number.
-use Rattle.std.proofs.Common.{◌≡◌, ℕ, zero, suc, ◌+◌, ◌<◌, ◌≤◌, inl, inr, Bool, true, false, List, [], ◌∷◌, ◌++◌, map, length, drop, get_or, slice_get, Option, Some, None, refl, sym, ap, subst, ◌∙◌, arith}
+use Rattle.std.proofs.Common.{◌≡◌, ℕ, zero, suc, ◌+◌, ◌<◌, ◌≤◌, inl, inr, List, [], ◌∷◌, map, length, drop, slice_get, Option, Some, None, refl, sym, ap, subst, ◌∙◌, arith}
 use Rattle.std.specs.Prelude.{find, filter}
 use Rattle.if1_graph.specs.declared.graph.Graph.{Graph}
 use Rattle.if1_graph.specs.declared.graph.Graph.TheViews.{out-Graph}
@@ -13,7 +13,6 @@ use Rattle.if1_graph.specs.declared.op.Simple.TheVariants as simple
 use Rattle.if1_graph.specs.declared.op.Compound.{Compound}
 use Rattle.if1_graph.specs.declared.op.Compound.TheVariants as compound
 use Rattle.if1_graph.specs.declared.row.Want.{Want}
-use Rattle.if1_graph.specs.declared.row.Want.TheVariants as want
 use Rattle.if1_graph.specs.Ops.{simple_at, compound_at}
 use Rattle.if1_graph.specs.Rows.{operand_of}
 use Rattle.if1_graph.specs.Tables.{◌>>=◌}
@@ -22,7 +21,7 @@ use Rattle.if1_graph.specs.Units as units
 use Rattle.if1_graph.specs.Formed.{function_named, want_at}
 use Rattle.if1_graph.specs.Ports.{count_from, literal_at, text_of}
 use Rattle.graph_meaning.specs.Carried.{Name}
-use Rattle.graph_meaning.specs.Demand.{Source, Fixed, Kind, Plain, Whole, Vertex, Net}
+use Rattle.graph_meaning.specs.Demand.{Fixed, Plain, Whole}
 use Rattle.graph_meaning.specs.Forms as form
 use Rattle.graph_meaning.specs.Networks as net
 use Rattle.graph_meaning.specs.Networks.{source_by, source_at, shape_of, number_or_zero, callee_number, simple_kind, kind_as, ins_of, vertex_of}
@@ -34,7 +33,7 @@ use Rattle.lowering.specs.Operations.{integer}
 use Rattle.lowering.specs.Programs.{graph_at, number_of}
 use Rattle.lowering.specs.Types.{table, label_of as type_label_of}
 use Rattle.lowered_units.specs.Listed.{ListedNode, NodeListing, first_number, listing}
-use Rattle.lowered_units.specs.Networks.{source_of, sources_of, form_of, kind_of, vertex, vertices, net_of, shapes}
+use Rattle.lowered_units.specs.Networks.{sources_of, form_of, kind_of, vertex, vertices, net_of, shapes}
 use Rattle.lowered_units.specs.Units.{simple_code, compound_code, edge, edges_into, node_edges, edges_of, called_name, listed_node, listed_nodes, entries_from}
 use Rattle.lowered_units.proofs.Built.{AreParts, AreGood, AreFilled, Fills, fills_row, fills_reduction, fills_call, IsPlainRow}
 use Rattle.lowered_units.proofs.Built as built
@@ -44,11 +43,11 @@ use Rattle.lowered_units.proofs.OneUnit.{node-listing-at, nodes_in}
 use Rattle.lowered_units.proofs.Heads.{In, listing-is}
 use Rattle.lowered_units.proofs.Blocks.{to_node, to_port, find-filtered, edges-at, results-at, port_of, over-ports, source_for, block-sources, behind-sources, block-width, behind-width}
 use Rattle.lowered_units.proofs.Codes.{simple-is, no-compound, compound-is, no-simple, wanted, plain-want, call-want, reduce-want, number_in, form-is}
-use Rattle.lowered_units.proofs.Named.{row_of, Match, match, none-before, Standing, standing, Called}
+use Rattle.lowered_units.proofs.Named.{row_of, Match, match, none-before, Standing, standing}
 
 -- ---- what the listing of a node tells
 
-row-is : (n : Node) → row_of n ≡ record { label = (out-Node n).label; op = (out-Node n).op; parts = map first_number (map listing (out-Node n).subs); assoc = (out-Node n).assoc; before = (out-Node n).before; name = (out-Node n).name }
+pub row-is : (n : Node) → row_of n ≡ record { label = (out-Node n).label; op = (out-Node n).op; parts = map first_number (map listing (out-Node n).subs); assoc = (out-Node n).assoc; before = (out-Node n).before; name = (out-Node n).name }
 row-is n = ap (λ (i : NodeListing). i.node) (node-listing-at n)
 
 pub op-of : (n : Node) (x : ListedNode) → row_of n ≡ x → (out-Node n).op ≡ x.op
@@ -57,14 +56,14 @@ op-of n x e = ap (λ (y : ListedNode). y.op) (sym (row-is n) ∙ e)
 pub before-of : (n : Node) (x : ListedNode) → row_of n ≡ x → (out-Node n).before ≡ x.before
 before-of n x e = ap (λ (y : ListedNode). y.before) (sym (row-is n) ∙ e)
 
-assoc-of : (n : Node) (x : ListedNode) → row_of n ≡ x → (out-Node n).assoc ≡ x.assoc
+pub assoc-of : (n : Node) (x : ListedNode) → row_of n ≡ x → (out-Node n).assoc ≡ x.assoc
 assoc-of n x e = ap (λ (y : ListedNode). y.assoc) (sym (row-is n) ∙ e)
 
 firsts : (gs : List Graph) → map number_in gs ≡ map first_number (map listing gs)
 firsts [] = refl
 firsts (g ∷ gs) = ap (λ k. k ∷ map number_in gs) (sym (ap first_number (listing-is g))) ∙ ap (λ l. first_number (listing g) ∷ l) (firsts gs)
 
-parts-of : (n : Node) (x : ListedNode) → row_of n ≡ x → map number_in (out-Node n).subs ≡ x.parts
+pub parts-of : (n : Node) (x : ListedNode) → row_of n ≡ x → map number_in (out-Node n).subs ≡ x.parts
 parts-of n x e = firsts (out-Node n).subs ∙ ap (λ (y : ListedNode). y.parts) (sym (row-is n) ∙ e)
 
 -- every row but Call is a plain one

@@ -1,5 +1,5 @@
 -- A translated unit is normal.
-use Rattle.std.proofs.Common.{◌≡◌, ℕ, zero, suc, ◌+◌, ◌<◌, ◌≤◌, inl, inr, List, [], ◌∷◌, ◌++◌, map, length, slice_get, Option, Some, None, refl, sym, ap, subst, ◌∙◌, arith}
+use Rattle.std.proofs.Common.{◌≡◌, ℕ, zero, suc, ◌+◌, ◌≤◌, inl, inr, List, [], ◌∷◌, length, slice_get, Some, refl, sym, ap, subst, ◌∙◌, arith}
 use Rattle.std.specs.Prelude.{All, AllPairs}
 use Rattle.std.specs.List.Sorted.{IsStrictlyIncreasing}
 use Rattle.std.proofs.lemmas.List.Elements.{All-nil, All-cons, All-append}
@@ -14,35 +14,33 @@ use Rattle.if1_graph.specs.declared.op.Simple.{Simple}
 use Rattle.if1_graph.specs.declared.op.Simple.TheVariants as simple
 use Rattle.if1_graph.specs.Formed.{want_at}
 use Rattle.if1_graph.specs.Normal.{Precedes, canonical_as, canonical_edge, IsNormalGraph, IsNormal}
-use Rattle.if1_graph.specs.Ports.{count_from}
 use Rattle.if1_graph.specs.Rows.{operand_of}
 use Rattle.if1_graph.specs.Types.{entry_at}
-use Rattle.if1_graph.specs.Units.{label_of, most_levels, Place, places}
+use Rattle.if1_graph.specs.Units.{most_levels, Place, places}
 use Rattle.typed_tree.specs.declared.program.Program.{Program}
-use Rattle.type_table.specs.declared.form.Form.{Form}
-use Rattle.lowering.specs.Feeds.{Feed, Literal, Named, Absent, Port, Carried, One, Many, Callee, Wire, wire}
+use Rattle.lowering.specs.Feeds.{Feed, Literal, Named, Absent, Port, Carried, One, Many, Callee, Wire}
 use Rattle.lowering.specs.Graphs.{Action, Row, Call, Whole, LoweredNode, LoweredGraph, node}
 use Rattle.lowering.specs.Operations.{integer}
 use Rattle.lowering.specs.Programs.{graph_at}
 use Rattle.lowering.specs.Types.{label_of as type_label_of}
 use Rattle.lowered_units.specs.Fitting.{IsFitting}
-use Rattle.lowered_units.specs.Listed.{ListedGraph, ListedNode, Listing, all_of, listing}
-use Rattle.lowered_units.specs.Units.{constant_text, simple_code, compound_code, edge, edge_if, edges_into, node_edges, edges_of, called_name, listed_node, listed_nodes, origin_of, IsTranslated}
+use Rattle.lowered_units.specs.Listed.{all_of}
+use Rattle.lowered_units.specs.Units.{constant_text, edge, edge_if, edges_into, node_edges, edges_of, called_name, listed_node, listed_nodes, origin_of, IsTranslated}
 use Rattle.lowered_units.proofs.Built.{IsGap, IsGoodFeed, IsGood, AreGood, AreFilled, Fills, fills_row, fills_reduction, fills_call}
 use Rattle.lowered_units.proofs.Built as built
 use Rattle.lowered_units.proofs.Canonical.{constant-stays, reduction-stays, callee-stays}
 use Rattle.lowered_units.proofs.Codes.{wanted, plain-want, call-want, reduce-want}
-use Rattle.lowered_units.proofs.Entries.{whole_listing, IsEntry, entry}
-use Rattle.lowered_units.proofs.Heads.{In, listing-is, Within, Lie, unit-lies, all-within}
+use Rattle.lowered_units.proofs.Entries.{whole_listing, entry}
+use Rattle.lowered_units.proofs.Heads.{In, listing-is, Lie, unit-lies, all-within}
 use Rattle.lowered_units.proofs.OneUnit.{head_of, nodes_in}
 use Rattle.lowered_units.proofs.Literals.{IsValueWant}
-use Rattle.lowered_units.proofs.Named.{row_of, Match, match, none-before, Standing, standing}
+use Rattle.lowered_units.proofs.Named.{Match, match, none-before, Standing, standing}
 use Rattle.lowered_units.proofs.Nets.{op-of, before-of, row-wants, whole-wants, boundary-wants}
 use Rattle.lowered_units.proofs.Ordered.{rising, labels-are, edges-sorted}
 use Rattle.lowered_units.proofs.Programs.{functions, basics, right-of}
 use Rattle.lowered_units.proofs.Rights.{IsRightNode, AreRight, IsRightGraph}
 
-node-beside : (label : ℕ) (ns : List Node) (vs : List LoweredNode) → Match label ns vs → (i : ℕ) (v : LoweredNode) → slice_get vs i ≡ Some v → (n : Node) × (slice_get ns i ≡ Some n)
+pub node-beside : (label : ℕ) (ns : List Node) (vs : List LoweredNode) → Match label ns vs → (i : ℕ) (v : LoweredNode) → slice_get vs i ≡ Some v → (n : Node) × (slice_get ns i ≡ Some n)
 node-beside label [] [] m i v e = absurd cc
 node-beside label [] (x ∷ vs) m i v e = absurd m
 node-beside label (n ∷ ns) [] m i v e = absurd m

@@ -1,24 +1,23 @@
 -- What a fitting program becomes, as it is made.
-use Rattle.std.proofs.Common.{◌≡◌, ℕ, zero, suc, ◌+◌, ◌<◌, ◌≤◌, Bool, true, false, List, [], ◌∷◌, ◌++◌, map, length, get_or, slice_get, Option, Some, None, refl, sym, ap, subst, ◌∙◌, arith}
+use Rattle.std.proofs.Common.{◌≡◌, ℕ, zero, suc, ◌+◌, ◌<◌, List, [], ◌∷◌, ◌++◌, map, length, slice_get, Option, Some, None, refl, sym, ap, subst, ◌∙◌, arith}
 use Rattle.std.specs.Prelude.{All}
-use Rattle.std.proofs.lemmas.List.{length-map}
 use Rattle.std.proofs.lemmas.List.Elements.{All-head, All-tail}
-use Rattle.std.proofs.lemmas.Option.{slice_get_within, slice_get-get_or, get_or_from_slice_get}
+use Rattle.std.proofs.lemmas.Option.{slice_get_within}
 use Rattle.if1_graph.specs.declared.op.Simple.TheVariants as simple
 use Rattle.type_table.specs.declared.form.Form.{Form}
 use Rattle.type_table.specs.declared.form.Form.TheVariants as form
 use Rattle.type_table.specs.declared.form.Member.{Member}
-use Rattle.type_table.specs.Forms.{members_of, parts}
-use Rattle.type_table.specs.Tables.{IsTable, basic_forms, IsOver, members_if}
+use Rattle.type_table.specs.Forms.{parts}
+use Rattle.type_table.specs.Tables.{IsTable, basic_forms, members_if}
 use Rattle.typed_tree.specs.declared.expr.TypedExpr.{TypedExpr}
 use Rattle.typed_tree.specs.declared.program.Function.{Function}
 use Rattle.typed_tree.specs.declared.program.Program.{Program}
 use Rattle.typed_tree.specs.Types.{AreNumbers}
 use Rattle.fitting_trees.specs.Fitting.{Header, BodyFits, FunctionFits, FunctionsFit}
 use Rattle.lowering.specs.Feeds.{One}
-use Rattle.lowering.specs.Graphs.{LoweredGraph, Lowered, Lowering, size, new_graph, new_graphs}
-use Rattle.lowering.specs.Operations.{Lowers, all_lowered}
-use Rattle.lowering.specs.Choices.{element_of, element_in, content_of, type_in}
+use Rattle.lowering.specs.Graphs.{LoweredGraph, size, new_graph, new_graphs}
+use Rattle.lowering.specs.Operations.{all_lowered}
+use Rattle.lowering.specs.Choices.{element_in, type_in}
 use Rattle.lowering.specs.Loops.{own_inputs}
 use Rattle.lowering.specs.Phrases.{each, phrase, lowers}
 use Rattle.lowering.specs.Programs.{stub, bodies, function_lowered, functions_lowered, graphs, graph_at}

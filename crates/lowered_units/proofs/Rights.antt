@@ -1,13 +1,11 @@
 -- Each lowered graph: what fills the ports of its nodes, and how many results the graphs inside of a node have.
-use Rattle.std.proofs.Common.{◌≡◌, ℕ, zero, suc, ◌+◌, ◌<◌, ◌≤◌, inl, inr, Bool, true, false, List, [], ◌∷◌, ◌++◌, map, length, slice_get, Option, Some, None, refl, sym, ap, subst, ◌∙◌, arith}
+use Rattle.std.proofs.Common.{◌≡◌, ℕ, zero, suc, ◌+◌, inl, inr, Bool, true, false, List, [], ◌∷◌, ◌++◌, map, length, slice_get, Option, Some, None, refl, sym, ap, subst, ◌∙◌, arith}
 use Rattle.std.specs.Prelude.{if◌then◌else◌}
-use Rattle.std.proofs.lemmas.List.{length-map, length-append}
-use Rattle.if1_graph.specs.declared.op.Simple.TheVariants as simple
-use Rattle.if1_graph.specs.declared.op.Compound.{Compound}
+use Rattle.std.proofs.lemmas.List.{length-map}
 use Rattle.if1_graph.specs.declared.op.Compound.TheVariants as compound
 use Rattle.type_table.specs.declared.form.Form.{Form}
-use Rattle.lowering.specs.Feeds.{Feed, Literal, Named, Absent, Port, Carried, One, Many, Callee, Wire, wire, outside, outsides, has, with_new, distinct}
-use Rattle.lowering.specs.Graphs.{Action, Row, Call, Whole, LoweredNode, node, LoweredGraph, Lowered, used_by, used, uses, all_uses, inputs, size, numbers, resolved, closed_wire, closed_wires, closed_nodes, closed, closed_graphs}
+use Rattle.lowering.specs.Feeds.{Feed, Literal, Named, Absent, Port, Carried, Wire, outside, outsides, has, with_new, distinct}
+use Rattle.lowering.specs.Graphs.{Action, Row, Call, Whole, LoweredNode, LoweredGraph, Lowered, used_by, used, uses, all_uses, inputs, size, numbers, resolved, closed_wire, closed_wires, closed_nodes, closed_graphs}
 use Rattle.lowered_units.proofs.Built.{AreParts, counts, IsGap, IsGoodFeed, IsGood, AreGood, AreFilled, Fills, fills_row, fills_reduction, fills_call, Built, b_only, b_then, b_node, b_whole, b_tag, AllBuilt, no_graph, a_graph}
 use Rattle.lowered_units.proofs.Built as built
 

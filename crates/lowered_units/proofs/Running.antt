@@ -1,32 +1,28 @@
 -- The graphs of a translated unit run as they are lowered.
-use Rattle.std.proofs.Common.{◌≡◌, ℕ, zero, suc, ◌+◌, ◌<◌, ◌≤◌, inl, inr, Bool, true, false, List, [], ◌∷◌, map, length, get_or, slice_get, Option, Some, None, refl, sym, ap, subst, ◌∙◌, arith}
+use Rattle.std.proofs.Common.{◌≡◌, ℕ, zero, suc, ◌<◌, inl, List, [], ◌∷◌, map, length, slice_get, Option, Some, None, refl, sym, ap, subst, ◌∙◌, arith}
 use Rattle.std.specs.Prelude.{filter, All}
-use Rattle.std.proofs.lemmas.Option.{slice_get_within, slice_get-get_or, get_or_from_slice_get}
+use Rattle.std.proofs.lemmas.Option.{get_or_from_slice_get}
 use Rattle.std.proofs.lemmas.List.{length-map}
 use Rattle.if1_graph.specs.declared.graph.Graph.{Graph}
 use Rattle.if1_graph.specs.declared.graph.Graph.TheViews.{out-Graph}
-use Rattle.if1_graph.specs.declared.graph.Node.{Node, out-Node}
-use Rattle.if1_graph.specs.declared.graph.Edge.{Edge}
 use Rattle.if1_graph.specs.declared.graph.Unit1.{Unit1}
-use Rattle.if1_graph.specs.declared.op.Simple.{Simple}
-use Rattle.if1_graph.specs.Units.{greatest, most_levels, number_of as number_at, places, results}
-use Rattle.if1_graph.specs.Units as units
+use Rattle.if1_graph.specs.Units.{greatest, most_levels, places, results}
 use Rattle.if1_graph.specs.Formed.{function_named}
 use Rattle.graph_meaning.specs.Networks as net
 use Rattle.graph_meaning.specs.Networks.{network, number_or_zero, shape_of}
 use Rattle.typed_tree.specs.declared.program.Function.{Function}
 use Rattle.typed_tree.specs.declared.program.Program.{Program}
-use Rattle.lowering.specs.Graphs.{LoweredGraph, Lowered, Lowering, new_graph, new_graphs, size}
+use Rattle.lowering.specs.Graphs.{LoweredGraph}
 use Rattle.lowering.specs.Programs.{function_lowered, functions_lowered, graph_at, number_of}
 use Rattle.lowered_units.specs.Fitting.{HasName, IsFitting}
 use Rattle.lowered_units.specs.Laws.{IsNested}
-use Rattle.lowered_units.specs.Listed.{ListedGraph, Listing, all_of, listing}
+use Rattle.lowered_units.specs.Listed.{ListedGraph, all_of}
 use Rattle.lowered_units.specs.Networks.{net_of, shape_in, shapes}
-use Rattle.lowered_units.specs.Units.{called_name, listed_nodes, edges_into, edges_of, function_listings, name_of, IsTranslated}
+use Rattle.lowered_units.specs.Units.{called_name, listed_nodes, edges_of, name_of, IsTranslated}
 use Rattle.lowered_units.proofs.Built as built
 use Rattle.lowered_units.proofs.Blocks.{port_of, to_node, results-at, block-width}
 use Rattle.lowered_units.proofs.Entries.{length-new, whole_listing, IsEntry, entry, numbered}
-use Rattle.lowered_units.proofs.Heads.{In, listing-is, Within, Lie, unit-heads, unit-lies, all-within, part-within, Found, find-place}
+use Rattle.lowered_units.proofs.Heads.{In, listing-is, Lie, unit-heads, unit-lies, all-within, part-within, find-place}
 use Rattle.lowered_units.proofs.OneUnit.{nodes_in, head_of}
 use Rattle.lowered_units.proofs.Named.{Called, called}
 use Rattle.lowered_units.proofs.Nets.{Agrees, AreCalled, net-is}
@@ -61,12 +57,19 @@ module _ (p : Program) (u : Unit1) (fit : IsFitting p) (t : IsTranslated p u) (n
           past (x ∷ fs) (suc f) i e = past fs f (omega (arith, i)) e
       by (Some h) e = (h, e)
 
+  pub found-function : (f : ℕ) → f < functions p fit → (h : Function) × (slice_get p.functions f ≡ Some h) × Called p u.graphs h (number_of p f)
+  found-function f i =
+      let h = function-at f (omega (arith, i, function-count p fit)) in (
+        h.0,
+        h.1,
+        called p 0 1 p.functions (functions_lowered p) u.graphs (sym (length-new p 1 (map (function_lowered p.types) p.functions) ∙ length-map p.functions (function_lowered p.types))) t.graphs f h.0 h.1
+            (λ j x e s. fit.once j f (name_of p x) (has-name j x e) (subst (HasName p f) (sym s) (has-name f h.0 h.1))),
+      )
+
   calls : AreCalled p u t.types (functions p fit)
   calls f i =
-      let h = function-at f (omega (arith, i, function-count p fit)) in
-      let c = called p 0 1 p.functions (functions_lowered p) u.graphs (sym (length-new p 1 (map (function_lowered p.types) p.functions) ∙ length-map p.functions (function_lowered p.types))) t.graphs f h.0 h.1
-      (λ j x e s. fit.once j f (name_of p x) (has-name j x e) (subst (HasName p f) (sym s) (has-name f h.0 h.1))) in
-      ap (λ o. number_or_zero (function_named u.graphs (called_name p o))) h.1 ∙ (ap number_or_zero c.found ∙ c.number)
+      let h = found-function f i in
+      ap (λ o. number_or_zero (function_named u.graphs (called_name p o))) h.1 ∙ (ap number_or_zero h.2.found ∙ h.2.number)
 
   -- ---- the graphs by their numbers
 

@@ -1,15 +1,14 @@
 -- What a table has entered has the same label in every later table.
-use Rattle.std.proofs.Common.{◌≡◌, ℕ, zero, suc, ◌+◌, ◌<◌, ◌≤◌, ◌⊎◌, inl, inr, Bool, true, false, cond, ◌&&◌, List, [], ◌∷◌, ◌++◌, map, length, slice_get, Option, Some, None, refl, sym, ap, subst, ◌∙◌, arith, append_assoc}
+use Rattle.std.proofs.Common.{◌≡◌, ℕ, zero, suc, ◌+◌, Bool, true, false, ◌&&◌, List, [], ◌∷◌, ◌++◌, map, length, slice_get, Option, Some, None, refl, ap, ◌∙◌, arith, append_assoc}
 use Rattle.std.specs.Prelude.{nat_eq, bytes_eq, if◌then◌else◌}
 use Rattle.std.proofs.lemmas.Bool.{eq-eqb}
-use Rattle.std.proofs.lemmas.List.{length-append}
 use Rattle.std.proofs.lemmas.Slice.Eq.{bytes_eq-Decides}
 use Rattle.type_table.specs.declared.form.Form.{Form}
 use Rattle.type_table.specs.declared.form.Form.TheVariants.{Boolean, Character, Integer, Null, Array, Stream, Record, Union}
 use Rattle.typed_tree.specs.declared.program.Function.{Function}
 use Rattle.lowering.specs.Feeds.{Carried, One, Many, Callee}
-use Rattle.lowering.specs.Types.{Entry, entry, is_entry, Table, Labelled, labelled, label_from, or_new, enter, Part, members, named, over, form_label, label_within, type_label, tuple_label, function_label, callee_label, carried_label, with_types, deepest}
-use Rattle.lowered_units.proofs.Tables.{Grows, grows-then, enter-grows, members-grow, within-grows, type-grows, tuple-grows, function-grows, carried-grows, types-grow}
+use Rattle.lowering.specs.Types.{Entry, entry, is_entry, Table, Labelled, labelled, label_from, or_new, enter, Part, members, named, over, form_label, label_within, type_label, tuple_label, function_label, callee_label, carried_label, deepest}
+use Rattle.lowered_units.proofs.Tables.{Grows, grows-then, enter-grows, within-grows, type-grows, tuple-grows}
 
 -- ---- entries
 

@@ -1,6 +1,6 @@
 -- Each entry of the table of a fitting program is one of its kind, over entries that are there.
-use Rattle.std.proofs.Common.{◌≡◌, ℕ, zero, suc, ◌+◌, ◌<◌, ◌≤◌, ◌⊎◌, inl, inr, Bool, true, false, cond, List, [], ◌∷◌, ◌++◌, map, length, get_or, slice_get, Option, Some, None, refl, sym, ap, subst, ◌∙◌, arith}
-use Rattle.std.specs.Prelude.{All, IsTrue, codes}
+use Rattle.std.proofs.Common.{◌≡◌, ℕ, zero, suc, ◌+◌, ◌<◌, ◌≤◌, ◌⊎◌, inl, inr, List, [], ◌∷◌, ◌++◌, map, length, get_or, slice_get, Option, Some, None, refl, sym, subst, arith}
+use Rattle.std.specs.Prelude.{All}
 use Rattle.std.proofs.lemmas.List.{length-append}
 use Rattle.std.proofs.lemmas.Option.{slice_get_within}
 use Rattle.std.proofs.lemmas.List.Elements.{All-head, All-tail}
@@ -8,11 +8,11 @@ use Rattle.if1_line.specs.Spelling.{IsName}
 use Rattle.type_table.specs.declared.form.Form.{Form}
 use Rattle.type_table.specs.declared.form.Form.TheVariants as form
 use Rattle.type_table.specs.declared.form.Member.{Member}
-use Rattle.type_table.specs.Forms.{parts, deepest, form_depth}
-use Rattle.type_table.specs.Tables.{depths, IsOver, IsTable}
+use Rattle.type_table.specs.Forms.{deepest, form_depth}
+use Rattle.type_table.specs.Tables.{depths, IsTable}
 use Rattle.typed_tree.specs.declared.program.Function.{Function}
 use Rattle.lowering.specs.Feeds.{Carried, One, Many, Callee}
-use Rattle.lowering.specs.Types.{Entry, entry, Table, label_from, Labelled, labelled, or_new, enter, basics, Part, members, named, over, form_label, label_within, type_label, tuple_label, function_label, callee_label, carried_label, with_types}
+use Rattle.lowering.specs.Types.{Entry, entry, Table, label_from, Labelled, or_new, enter, basics, Part, members, named, over, form_label, label_within, type_label, tuple_label, function_label, callee_label, carried_label, with_types}
 use Rattle.lowered_units.proofs.Canonical.{HasCode, found-code}
 use Rattle.lowered_units.proofs.Built.{IsLineType}
 use Rattle.lowered_units.proofs.Depths.{depth_at}

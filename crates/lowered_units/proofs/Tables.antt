@@ -1,6 +1,5 @@
 -- A table only grows.
-use Rattle.std.proofs.Common.{◌≡◌, ℕ, zero, suc, List, [], ◌∷◌, ◌++◌, map, length, slice_get, Option, Some, None, refl, sym, ap, ◌∙◌, append_assoc}
-use Rattle.std.specs.Prelude.{get_or}
+use Rattle.std.proofs.Common.{◌≡◌, ℕ, zero, suc, List, [], ◌∷◌, ◌++◌, map, slice_get, Option, Some, None, refl, sym, ap, ◌∙◌, append_assoc}
 use Rattle.type_table.specs.declared.form.Form.{Form}
 use Rattle.type_table.specs.declared.form.Form.TheVariants.{Boolean, Character, Integer, Null, Array, Stream, Record, Union}
 use Rattle.typed_tree.specs.declared.program.Function.{Function}
@@ -8,7 +7,7 @@ use Rattle.typed_tree.specs.declared.program.Program.{Program}
 use Rattle.lowering.specs.Feeds.{Carried, One, Many, Callee}
 use Rattle.lowering.specs.Graphs.{Lowered, graph_lines}
 use Rattle.lowering.specs.Programs.{functions_lowered}
-use Rattle.lowering.specs.Types.{Entry, entry, Table, Labelled, label_from, or_new, enter, basics, Part, members, named, over, form_label, label_within, type_label, tuple_label, function_label, callee_label, carried_label, with_types, deepest, Need, header_need, body_needs, needs, with_needs, table}
+use Rattle.lowering.specs.Types.{Entry, entry, Table, Labelled, label_from, or_new, enter, basics, Part, members, named, over, form_label, label_within, type_label, tuple_label, function_label, callee_label, carried_label, with_types, deepest, Need, header_need, body_needs, with_needs, table}
 
 pub record Grows (before after : Table) : Type 0 where
   pub rest : Table
@@ -91,7 +90,7 @@ headers-grow p [] ns ts g = g ts
 headers-grow p (f ∷ fs) ns ts g =
     grows-then ts (function_label p.types p.names f ts).table (with_needs (map (header_need p) fs ++ ns) (function_label p.types p.names f ts).table) (function-grows p.types p.names f ts) (headers-grow p fs ns (function_label p.types p.names f ts).table g)
 
-bodies-grow : (p : Program) (fs : List Function) (ms : List Lowered) (ts : Table) → Grows ts (with_needs (body_needs p fs ms) ts)
+pub bodies-grow : (p : Program) (fs : List Function) (ms : List Lowered) (ts : Table) → Grows ts (with_needs (body_needs p fs ms) ts)
 bodies-grow p [] ms ts = grows-none ts
 bodies-grow p (f ∷ fs) [] ts = grows-none ts
 bodies-grow p (f ∷ fs) (m ∷ ms) ts =

@@ -1,24 +1,19 @@
 -- The table of types of a translated unit is formed.
 use Rattle.std.proofs.Common.{◌≡◌, ℕ, zero, suc, ◌+◌, ◌<◌, ◌≤◌, ◌⊎◌, inl, inr, Bool, true, false, List, [], ◌∷◌, ◌++◌, map, length, slice_get, Option, Some, None, refl, sym, ap, subst, ◌∙◌, arith, option_map}
-use Rattle.std.specs.Prelude.{All, IsSome, IsTrue, nat_lt, if◌then◌else◌, is_some, ◌^◌}
+use Rattle.std.specs.Prelude.{All, nat_lt, if◌then◌else◌, is_some}
 use Rattle.std.specs.List.Sorted.{IsStrictlyIncreasing}
 use Rattle.std.proofs.lemmas.Bool.{ltb-false}
-use Rattle.std.proofs.lemmas.List.{length-map}
 use Rattle.std.proofs.lemmas.List.Elements.{All-nil, All-cons}
 use Rattle.std.proofs.lemmas.Option.{slice_get_within}
-use Rattle.if1_line.specs.Spelling.{IsLabel, IsName}
+use Rattle.if1_line.specs.Spelling.{IsName}
 use Rattle.if1_graph.specs.declared.graph.TypeEntry.{TypeEntry}
-use Rattle.if1_graph.specs.declared.graph.Unit1.{Unit1}
-use Rattle.if1_graph.specs.Formed.{IsType, IsTypeOrEnd, AreNumbers as AreEntryNumbers, IsEntry, most, IsTable as IsTypeTable}
+use Rattle.if1_graph.specs.Formed.{IsType, IsTypeOrEnd, AreNumbers as AreEntryNumbers, IsEntry, IsTable as IsTypeTable}
 use Rattle.if1_graph.specs.Kinds.{kind_at, basic_at}
 use Rattle.if1_graph.specs.Ports.{count_from}
-use Rattle.if1_graph.specs.Types.{entry_at}
-use Rattle.type_table.specs.declared.form.Form.{Form}
 use Rattle.type_table.specs.declared.form.Form.TheVariants.{Integer}
 use Rattle.typed_tree.specs.declared.program.Function.{Function}
 use Rattle.typed_tree.specs.declared.program.Program.{Program}
 use Rattle.typed_tree.specs.Types.{AreNumbers}
-use Rattle.flow_value.specs.declared.ty.Ty.{Ty}
 use Rattle.fitting_trees.specs.Fitting.{Header, FunctionFits, FunctionsFit}
 use Rattle.lowering.specs.Feeds.{One}
 use Rattle.lowering.specs.Graphs.{Lowered, size, graph_lines}
@@ -26,14 +21,14 @@ use Rattle.lowering.specs.Programs.{functions_lowered}
 use Rattle.lowering.specs.Types.{Entry, Table, basics, with_types, function_label, Need, header_need, body_needs, needs, with_needs, table}
 use Rattle.lowering.specs.TooMany.{most_types, types_over, graphs_over, or_else, too_many}
 use Rattle.lowered_units.specs.Fitting.{IsFitting}
-use Rattle.lowered_units.specs.Units.{entries_from, IsTranslated}
+use Rattle.lowered_units.specs.Units.{entries_from}
 use Rattle.lowered_units.proofs.Built.{AreTypes, AllBuilt, no_graph, a_graph}
 use Rattle.lowered_units.proofs.BuiltTrees.{numbers-types}
 use Rattle.lowered_units.proofs.Canonical.{as_type, entry-is}
-use Rattle.lowered_units.proofs.Lines.{AreLines, lines-both, all-lines}
+use Rattle.lowered_units.proofs.Lines.{all-lines}
 use Rattle.lowered_units.proofs.Ordered.{rising}
 use Rattle.lowered_units.proofs.Programs.{functions, basics as basic_types, program-built, function-count}
-use Rattle.lowered_units.proofs.Tabled.{IsOverEntry, IsMemberEntry, IsFunctionEntry, IsBasicEntry, IsSound, AreSound, IsWellTable, IsHeaded, AreIn, function-well, lines-well, basics-well}
+use Rattle.lowered_units.proofs.Tabled.{IsSound, AreSound, IsWellTable, IsHeaded, AreIn, function-well, lines-well, basics-well}
 
 -- ---- the table is well
 

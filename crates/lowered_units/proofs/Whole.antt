@@ -1,22 +1,20 @@
 -- The types of edges are whole: they are there and hold no reals.
-use Rattle.std.proofs.Common.{◌≡◌, ℕ, zero, suc, ◌+◌, ◌<◌, ◌≤◌, ◌⊎◌, inl, inr, Bool, true, false, List, [], ◌∷◌, ◌++◌, map, length, slice_get, Option, Some, None, refl, sym, ap, subst, ◌∙◌, arith, option_map}
-use Rattle.std.proofs.lemmas.Option.{slice_get_within}
+use Rattle.std.proofs.Common.{◌≡◌, ℕ, zero, suc, ◌≤◌, ◌⊎◌, inl, inr, true, false, [], ◌∷◌, length, slice_get, Option, Some, None, refl, sym, ap, subst, ◌∙◌, arith, option_map}
 use Rattle.if1_graph.specs.declared.graph.TypeEntry.{TypeEntry}
-use Rattle.if1_graph.specs.Formed.{IsType, IsWholeType, HasReal, itself, within, IsRealType, Holds, is_real, is_basic}
+use Rattle.if1_graph.specs.Formed.{IsWholeType, HasReal, itself, within, IsRealType, is_real, is_basic}
 use Rattle.if1_graph.specs.Kinds.{kind_at, basic_at}
-use Rattle.if1_graph.specs.Types.{entry_at}
 use Rattle.typed_tree.specs.declared.program.Program.{Program}
 use Rattle.lowering.specs.Feeds.{Carried}
 use Rattle.lowering.specs.Graphs.{graph_lines}
 use Rattle.lowering.specs.Programs.{functions_lowered}
-use Rattle.lowering.specs.TooMany.{most_types, too_many}
+use Rattle.lowering.specs.TooMany.{too_many}
 use Rattle.lowering.specs.Types.{Entry, Table, table, label_of}
 use Rattle.lowered_units.specs.Fitting.{IsFitting}
 use Rattle.lowered_units.specs.Units.{entries_from}
 use Rattle.lowered_units.proofs.Canonical.{as_type, entry-is, no-zero}
 use Rattle.lowered_units.proofs.Heads.{In}
-use Rattle.lowered_units.proofs.Lined.{HasLabel, line-labelled}
-use Rattle.lowered_units.proofs.Tabled.{IsSound, AreSound, IsBasicEntry, IsOverEntry, IsMemberEntry, IsFunctionEntry}
+use Rattle.lowered_units.proofs.Lined.{line-labelled}
+use Rattle.lowered_units.proofs.Tabled.{IsSound, AreSound}
 use Rattle.lowered_units.proofs.Typed.{table-well, few-types, is-type}
 
 sound-at : (n : ℕ) (ts : Table) → AreSound n ts → (i : ℕ) (e : Entry) → slice_get ts i ≡ Some e → IsSound n e

@@ -2,7 +2,7 @@
 use Rattle.std.specs.Prelude.{◌≡◌, ◌≤◌, ℕ, Some, None, All}
 use Rattle.typed_tree.specs.declared.program.Program.{Program}
 use Rattle.if1_graph.specs.declared.graph.Unit1.{Unit1}
-use Rattle.if1_graph.specs.Formed.{IsTable}
+use Rattle.if1_graph.specs.Formed.{IsTable, IsFormed}
 use Rattle.if1_graph.specs.Normal.{IsNormal}
 use Rattle.if1_graph.specs.Units.{levels, most_levels}
 use Rattle.graph_meaning.specs.Networks.{network}
@@ -11,6 +11,7 @@ use Rattle.lowering.specs.Programs.{graph_at, number_of}
 use Rattle.lowering.specs.TooMany.{too_many}
 use Rattle.lowered_units.specs.Fitting.{IsFitting}
 use Rattle.lowered_units.specs.Networks.{net_of, shapes}
+use Rattle.lowered_units.specs.Small.{HasSmallPorts}
 use Rattle.lowered_units.specs.Units.{IsTranslated}
 
 -- a program has at most one unit
@@ -33,3 +34,7 @@ AreNormal = (p : Program) (u : Unit1) → IsFitting p → IsTranslated p u → I
 -- each type of the unit is formed, and there are no more than a unit may have
 abbrev pub AreTablesFormed : Type 0
 AreTablesFormed = (p : Program) (u : Unit1) → IsFitting p → too_many p ≡ None → IsTranslated p u → IsTable u.types
+
+-- a unit within the limits is formed and normal
+abbrev pub AreFormed : Type 0
+AreFormed = (p : Program) (u : Unit1) → IsFitting p → too_many p ≡ None → HasSmallPorts p → IsTranslated p u → IsNested u → IsFormed u × IsNormal u

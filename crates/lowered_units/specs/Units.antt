@@ -1,5 +1,5 @@
 -- The unit of a program: lowered graphs with the labels of the table of types (IF1 manual M-170, text form).
-use Rattle.std.specs.Prelude.{◌≡◌, ℕ, suc, ◌+◌, Bool, true, false, nat_eq, codes, List, [], ◌∷◌, ◌++◌, map, get_or, slice_get, Option, Some, None}
+use Rattle.std.specs.Prelude.{◌≡◌, ℕ, suc, ◌+◌, true, false, nat_eq, List, [], ◌∷◌, ◌++◌, map, get_or, slice_get, Option, Some, None}
 use Rattle.std.specs.List.{list_any}
 use Rattle.flow_value.specs.declared.operation.Scalar1.{Scalar1}
 use Rattle.flow_value.specs.declared.operation.Scalar1.TheVariants as unary
@@ -25,7 +25,7 @@ use Rattle.if1_graph.specs.Literals.{scalar_text}
 use Rattle.lowering.specs.Feeds.{Feed, Literal, Named, Absent, Port, Callee, Wire}
 use Rattle.lowering.specs.Graphs.{Action, Row, Call, Whole, LoweredNode, LoweredGraph, Lowered, size, closed}
 use Rattle.lowering.specs.Programs.{functions_lowered}
-use Rattle.lowering.specs.Types.{Entry, Table, table, label_of, header_label}
+use Rattle.lowering.specs.Types.{Table, table, label_of, header_label}
 use Rattle.lowered_units.specs.Listed.{ListedNode, ListedGraph, Listing, listing}
 
 -- ---- opcodes

@@ -1,5 +1,5 @@
 //! The laws of translated units.
-ghost use Rattle.lowered_units.specs.Laws.{AreLowered, AreNormal, AreTablesFormed, IsOneUnit};
+ghost use Rattle.lowered_units.specs.Laws.{AreFormed, AreLowered, AreNormal, AreTablesFormed, IsOneUnit};
 
 /// A program has at most one unit.
 pub fn a_program_is_one_unit()
@@ -16,6 +16,12 @@ pub fn tables_of_translated_units_are_formed()
 /// literals are spelled canonically.
 pub fn translated_units_are_normal()
     ensures { AreNormal }
+{}
+
+/// A translated unit within the limits, whose ports fit 32 bits and whose graphs nest at most 200 levels
+/// deep, is formed and normal.
+pub fn translated_units_are_formed()
+    ensures { AreFormed }
 {}
 
 /// Each graph of a translated unit runs as the lowered graph of its number: its nodes are the lowered
