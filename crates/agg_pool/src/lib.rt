@@ -10,6 +10,3 @@ mod table;
 pub use entry::{Building, Entry};
 pub use parts::{Key, Lease, Segment};
 pub use pool::Pool;
-
-#[cfg(test)]
-mod tests;

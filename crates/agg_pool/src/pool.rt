@@ -7,6 +7,7 @@ ghost use Rattle.flow_value.specs.Bounds.{IsWithinLength, bounded};
 ghost use Rattle.flow_value.specs.declared.value.Val.TheVariants as value;
 ghost use Rattle.segment.specs.Places.{away, unwritten, written, is_written, IsOf};
 ghost use Rattle.segment.specs.Runs.{part, spliced};
+ghost use Rattle.agg_pool.specs.Tables.{used};
 ghost use Rattle.agg_pool.specs.Pools.{entry_at, HoldsAnd, IfHolds, BuildsAnd, IfBuilds, IsIdleIfAny};
 ghost use Rattle.agg_pool.specs.declared.entry.Entry.TheVariants as entry;
 
@@ -21,13 +22,15 @@ use std::marker::Model;
 use std::mem::replace;
 
 /// Values and arrays that are being built, under keys. It cannot be dropped: it ends by [`Pool::end`]. Contracts see
-/// the entry of each number, and `spare`, the number of values that can be put in with no memory.
+/// the entry of each number, and `spare`, how many values were promised a place and can be put in with no memory.
 ///
-/// A lent value has to stay where it is, so each lies in a box of its own. The boxes are kept and used again.
+/// A lent value has to stay where it is, so each lies in a box of its own. The numbers and boxes of what was taken out
+/// are kept and used again, so a pool is as large as what it held at once, and what was promised.
 pub struct Pool {
     entries: Vec<Option<Entry>>,
     free: Vec<usize>,
-    spare: Vec<Box<Val>>,
+    boxes: Vec<Box<Val>>,
+    spare: usize,
 }
 
 impl Model for Pool {
@@ -41,9 +44,9 @@ impl Model for Pool {
 
     ghost coded = { pool_code e.the_row.coded };
 
-    ghost view = { λ p. record { entries = p.entries.items; spare = vec_len p.spare } };
+    ghost view = { λ p. record { entries = p.entries.items; spare = p.spare } };
 
-    ghost invariant = { λ p. IsTable p.entries.items p.free.items × (vec_len p.spare ≡ vec_len p.free) × (length p.entries.items ≤ vec_capacity p.free) × (length p.entries.items ≤ vec_capacity p.spare) };
+    ghost invariant = { λ p. IsTable p.entries.items p.free.items × (vec_len p.boxes ≡ vec_len p.free) × (length p.entries.items ≤ vec_capacity p.free) × (length p.entries.items ≤ vec_capacity p.boxes) × (p.spare ≤ vec_len p.free) };
 }
 
 impl Pool {
@@ -55,33 +58,50 @@ impl Pool {
         Pool {
             entries: Vec::new(alloc),
             free: Vec::new(alloc),
-            spare: Vec::new(alloc),
+            boxes: Vec::new(alloc),
+            spare: 0,
         }
     }
 
-    /// Makes it possible to put in `n` values with no memory. On want of memory some of that may have been done.
-    #[tactic(auto, using(crate::proofs::Tables::same_end))]
-    pub fn reserve(&mut self, alloc: Global, n: usize) -> Result<(), NoMemory>
+    /// Makes it possible to put in `n` values with no memory: places of what was taken out are promised first. On want
+    /// of memory some of that may have been done.
+    pub fn reserve(&mut self, n: usize) -> Result<(), NoMemory>
         ensures enough { OnOk result (n ≤ self.new.spare) }
         ensures never_less { self.old.spare ≤ self.new.spare }
         ensures entries { (number : ℕ) → entry_at self.new number ≡ entry_at self.old number }
+        ensures small { used self.old.entries + n ≤ length self.old.entries → self.new.entries ≡ self.old.entries }
     {
-        while self.spare.len() < n {
-            self.add_spare(alloc)?;
+        while self.spare < n {
+            self.promise()?;
         }
         Ok(())
     }
 
-    /// One more box, and a number for what it will hold.
-    fn add_spare(&mut self, alloc: Global) -> Result<(), NoMemory>
-        ensures ok { OnOk result (self.new ≡ record self.old { entries = self.old.entries ++ None ∷ []; spare = self.old.spare + 1 }) }
+    /// Promises one more place: a free one, or where each is promised a new one.
+    fn promise(&mut self) -> Result<(), NoMemory>
+        ensures ok { OnOk result (self.new.spare ≡ self.old.spare + 1) }
+        ensures err { OnErr result (self.new ≡ self.old) }
+        ensures entries { (number : ℕ) → entry_at self.new number ≡ entry_at self.old number }
+        ensures used { used self.new.entries ≡ used self.old.entries }
+        ensures small { used self.old.entries + self.old.spare < length self.old.entries → self.new.entries ≡ self.old.entries }
+    {
+        if self.spare == self.free.len() {
+            self.add_place()?;
+        }
+        self.spare += 1;
+        Ok(())
+    }
+
+    /// One more free number, and a box for what it will hold.
+    fn add_place(&mut self) -> Result<(), NoMemory>
+        ensures ok { OnOk result (self.new ≡ record self.old { entries = self.old.entries ++ None ∷ [] }) }
         ensures err { OnErr result (self.new ≡ self.old) }
     {
-        let place = Box::new(alloc, Val::Null)?;
-        make_room(&mut self.entries, &mut self.free, &mut self.spare)?;
+        let place = Box::new(*self.entries.allocator(), Val::Null)?;
+        make_room(&mut self.entries, &mut self.free, &mut self.boxes)?;
         self.free.push_reserved(self.entries.len());
         self.entries.push_reserved(None);
-        self.spare.push_reserved(place);
+        self.boxes.push_reserved(place);
         Ok(())
     }
 
@@ -95,12 +115,13 @@ impl Pool {
         ensures known { result.number < length self.old.entries }
         ensures spare { self.new.spare + 1 ≡ self.old.spare }
     {
-        let Some(mut place) = self.spare.pop() else {
+        let Some(mut place) = self.boxes.pop() else {
             unreachable!()
         };
         let Some(number) = self.free.pop() else {
             unreachable!()
         };
+        self.spare -= 1;
         drop(Box::replace(&mut place, value));
         let old = replace(
             &mut self.entries[number],
@@ -143,11 +164,11 @@ impl Pool {
         entry.give_back(lease);
     }
 
-    /// Takes a value out, once no lease of it is out. Its box is spare again.
+    /// Takes a value out, once no lease of it is out. Its number and its box are free again.
     pub fn take(&mut self, key: Key) -> Val
         requires none_out { HoldsAnd (entry_at self.old key.number) (λ w. w.out ≡ 0) }
         ensures value { IfHolds (entry_at self.old key.number) (λ w. result ≡ w.value) }
-        ensures gone { self.new ≡ record self.old { entries = slice_set self.old.entries key.number None; spare = self.old.spare + 1 } }
+        ensures gone { self.new ≡ record self.old { entries = slice_set self.old.entries key.number None } }
         ensures now { entry_at self.new key.number ≡ None }
         ensures others { (n : ℕ) → n ≢ key.number → entry_at self.new n ≡ entry_at self.old n }
     {
@@ -158,23 +179,60 @@ impl Pool {
         let mut place = owner.take();
         let value = Box::replace(&mut place, Val::Null);
         self.free.push_reserved(key.number);
-        self.spare.push_reserved(place);
+        self.boxes.push_reserved(place);
         value
     }
 
-    /// Begins an array of `n` places, under a key that was not in use. On want of memory the entries are as before.
-    pub fn build(&mut self, alloc: Global, n: usize) -> Result<Key, NoMemory>
+    /// Begins an array of `n` places, under a key that was not in use. A number is added only where each that is free
+    /// is promised. On want of memory the entries are as before.
+    pub fn build(&mut self, n: usize) -> Result<Key, NoMemory>
         requires few { n ≤ 4194304 }
-        ensures ok { IfOk result (λ key. (start : Ptr) × (key.number ≡ length self.old.entries) × (self.new.entries ≡ self.old.entries ++ Some (entry.Parts (record { start = start; places = replicate n unwritten })) ∷ [])) }
         ensures now { IfOk result (λ key. (start : Ptr) × (entry_at self.new key.number ≡ Some (entry.Parts (record { start = start; places = replicate n unwritten })))) }
         ensures others { IfOk result (λ key. (m : ℕ) → m ≢ key.number → entry_at self.new m ≡ entry_at self.old m) }
         ensures was_vacant { IfOk result (λ key. entry_at self.old key.number ≡ None) }
+        ensures known { IfOk result (λ key. key.number < length self.new.entries) }
+        ensures small { used self.old.entries + self.old.spare < length self.old.entries → length self.new.entries ≡ length self.old.entries }
+        ensures one_more { length self.new.entries ≤ length self.old.entries + 1 }
         ensures err { OnErr result (self.new.entries ≡ self.old.entries) }
         ensures spare { self.new.spare ≡ self.old.spare }
     {
-        let items = blanks(alloc, n)?;
-        let place = Box::new(alloc, Val::Null)?;
-        make_room(&mut self.entries, &mut self.free, &mut self.spare)?;
+        let items = blanks(*self.entries.allocator(), n)?;
+        if self.spare < self.free.len() {
+            Ok(self.build_free(items))
+        } else {
+            self.build_last(items)
+        }
+    }
+
+    /// Begins an array under a free number that is not promised.
+    fn build_free(&mut self, items: Vec<Val>) -> Key
+        requires free { used self.old.entries + self.old.spare < length self.old.entries }
+        ensures now { (start : Ptr) × (self.new ≡ record self.old { entries = slice_set self.old.entries result.number (Some (entry.Parts (record { start = start; places = replicate (vec_len items) unwritten }))) }) }
+        ensures was_vacant { entry_at self.old result.number ≡ None }
+        ensures known { result.number < length self.old.entries }
+    {
+        let Some(place) = self.boxes.pop() else {
+            unreachable!()
+        };
+        let Some(number) = self.free.pop() else {
+            unreachable!()
+        };
+        let room = Room::new(items);
+        let old = replace(
+            &mut self.entries[number],
+            Some(Entry::Parts(Building { room, place })),
+        );
+        let None = old else { unreachable!() };
+        Key { number }
+    }
+
+    /// Begins an array under a new number.
+    fn build_last(&mut self, items: Vec<Val>) -> Result<Key, NoMemory>
+        ensures ok { IfOk result (λ key. (start : Ptr) × (key.number ≡ length self.old.entries) × (self.new ≡ record self.old { entries = self.old.entries ++ Some (entry.Parts (record { start = start; places = replicate (vec_len items) unwritten })) ∷ [] })) }
+        ensures err { OnErr result (self.new ≡ self.old) }
+    {
+        let place = Box::new(*self.entries.allocator(), Val::Null)?;
+        make_room(&mut self.entries, &mut self.free, &mut self.boxes)?;
         let number = self.entries.len();
         let room = Room::new(items);
         self.entries
@@ -240,6 +298,7 @@ impl Pool {
         let Pool {
             mut entries,
             free: _,
+            boxes: _,
             spare: _,
         } = self;
         while let Some(slot) = entries.pop() {

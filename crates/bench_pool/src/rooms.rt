@@ -27,7 +27,7 @@ fn make_room(alloc: Global, places: usize, write: bool) -> Result<(), NoMemory>
     requires few { places ≤ 4194304 }
 {
     let mut pool = Pool::new(alloc);
-    let built = pool.build(alloc, places);
+    let built = pool.build(places);
     let Ok(key) = built else {
         pool.end();
         return Err(NoMemory);

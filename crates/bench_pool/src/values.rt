@@ -19,7 +19,7 @@ fn pool_of_one(alloc: Global) -> Result<Pool, NoMemory>
     ensures idle { IfOk result (λ pool. (number : ℕ) → IsIdleIfAny (entry_at pool number)) }
 {
     let mut pool = Pool::new(alloc);
-    let reserved = pool.reserve(alloc, 1);
+    let reserved = pool.reserve(1);
     let Ok(()) = reserved else {
         pool.end();
         return Err(NoMemory);
@@ -27,14 +27,13 @@ fn pool_of_one(alloc: Global) -> Result<Pool, NoMemory>
     Ok(pool)
 }
 
-fn put_and_take(pool: &mut Pool, value: Val) -> Val
-    requires spare { 0 < pool.old.spare }
-    ensures value { result ≡ value }
-    ensures spare { pool.new.spare ≡ pool.old.spare }
+fn put_and_take(pool: &mut Pool, value: Val) -> Result<Val, NoMemory>
+    ensures value { IfOk result (λ taken. taken ≡ value) }
     ensures entries { (number : ℕ) → entry_at pool.new number ≡ entry_at pool.old number }
 {
+    pool.reserve(1)?;
     let key = pool.put(value);
-    pool.take(key)
+    Ok(pool.take(key))
 }
 
 /// Puts a number in and takes it out, so many times. Gives the sum of what was taken out.
@@ -42,7 +41,10 @@ pub fn put_often(alloc: Global, steps: i64) -> Result<i64, NoMemory> {
     let mut pool = pool_of_one(alloc)?;
     let mut sum = 0i64;
     for i in 0..steps {
-        let value = put_and_take(&mut pool, Val::Int(i));
+        let Ok(value) = put_and_take(&mut pool, Val::Int(i)) else {
+            pool.end();
+            return Err(NoMemory);
+        };
         sum = sum.wrapping_add(number_of(&value));
     }
     pool.end();

@@ -8,14 +8,14 @@ use Rattle.atomic_table.specs.Table.{Final, Seen}
 use Rattle.fire_lock.specs.declared.entry.Entry.{Entry}
 use Rattle.fire_lock.specs.declared.view.View.{View}
 use Rattle.fire_lock.specs.declared.view.Place.{Place}
-use Rattle.fire_lock.specs.History.{Continues, Reached}
+use Rattle.fire_lock.specs.History.{own, Continues, Reached}
 use Rattle.fire_lock.specs.Rules.{Rests, Kept}
 use Rattle.fire_lock.proofs.Owned.{none_left}
 use Rattle.fire_lock.proofs.Seats.{holds_not}
 
 pub closes_it : {M E R : Type 0} (starts : M → Type 0) (plays : M → ℕ → E → R → M → Type 0) (passes : ℕ) (origin : M) (id : ℕ) (v : View M E R) (ws : List ℕ) (xs : List (Place M E R))
     → Rests v → v.from ≡ 0 → v.until ≡ passes → Final (Seen (Kept starts plays passes origin) id v) ws xs
-    → (p : Place M E R) × (get_elem? xs 0 ≡ some p) × starts origin × Reached plays origin v.seen p.machine
+    → (p : Place M E R) × (get_elem? xs 0 ≡ some p) × starts origin × Reached plays origin v.seen p.machine × (own 0 passes v.seen ≡ v.seen)
 closes_it {M} {E} {R} starts plays passes origin id v ws xs rests zero_from all_until f =
     let s = f.0 in let b = f.1.0 in let at = f.1.1 in let fit = b.each id v at in let bit = b.bit in let some_numbers = rests.2 in
     let free : b.held ≡ 0 = dite (ℕ_discrete b.held 0) (λ z. z) (λ held.
@@ -27,4 +27,5 @@ closes_it {M} {E} {R} starts plays passes origin id v ws xs rests zero_from all_
       f.4 0 home.0 (ap (λ l. get_elem? l 0) home.1),
       b.began,
       subst (λ (y : List (Entry E R) × M). Reached plays origin y.0 y.1) (λ i. (sym whole i, sym home.2 i)) b.led,
+      subst (λ (l : List (Entry E R)). own 0 passes l ≡ l) (sym whole) b.all,
     )

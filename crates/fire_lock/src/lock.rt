@@ -186,6 +186,7 @@ impl<M: Machine> FireLock<M> {
         requires all { (pass.from ≡ 0) × (pass.until ≡ self.passes) }
         ensures starts { M.starts self.start }
         ensures reached { Reached M.plays self.start pass.seen result }
+        ensures all { own 0 self.passes pass.seen ≡ pass.seen }
     {
         let Pass {
             seat,

@@ -9,6 +9,3 @@ mod tree;
 
 pub use first::{first_form, one_program};
 pub use tree::Expr;
-
-#[cfg(test)]
-mod tests;

@@ -12,8 +12,6 @@ mod product;
 mod reduction;
 mod seen;
 mod sum;
-#[cfg(test)]
-mod tests;
 
 pub use catenate::Catenate;
 pub use extremes::{Greatest, Least};

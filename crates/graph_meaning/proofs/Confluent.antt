@@ -212,6 +212,7 @@ module _ (run : Run) (limit : ℕ) (good : IsExecution run) where
         results = λ h g complete memory. ((λ e. results-cost h g e), (λ k. to-results h g complete.0.0 complete.0.1 memory k));
         turn_limit = λ h g complete memory. ((λ e c k. limit-cost h g e c k), (λ k. to-limit h g complete.0.0 complete.0.1 memory k));
         count_is_cost = λ h g e. cost-of h g (results-stand run limit h g e).1;
+        within = λ h g memory c k le kind e. to-results h g kind e memory (c, k, le);
       }
     where
       results-cost : (h : History) → Legal run limit h → HasEnded run limit h Results → (c : ℕ) × Cost run c × (c ≤ limit)

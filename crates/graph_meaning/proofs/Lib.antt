@@ -25,6 +25,8 @@ pub mod StorageUnits
 pub mod PlainValues
 pub mod PlainCosts
 pub mod PlainDepths
+pub mod PlainFires
+pub mod PlainAdds
 pub mod Settled
 pub mod Sums
 pub mod SumsOnce

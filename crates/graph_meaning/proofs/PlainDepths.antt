@@ -18,11 +18,11 @@ module _ (u : Network) where
     carries-on _ _ _ _ _ (input n g ins p) m le = input m g ins p
     carries-on _ _ _ _ _ (output n g ins l p v ks rs f a b) m le = output m g ins l p v ks rs f (all-on n g ins v.ins ks a m le) (outputs-on n v.kind ks rs b m le)
 
-    all-on : (n g : ℕ) (ins : List Carried) (os : List Source) (cs : List Carried) → CarryAll u n g ins os cs → (m : ℕ) → n ≤ m → CarryAll u m g ins os cs
+    pub all-on : (n g : ℕ) (ins : List Carried) (os : List Source) (cs : List Carried) → CarryAll u n g ins os cs → (m : ℕ) → n ≤ m → CarryAll u m g ins os cs
     all-on _ _ _ _ _ (no_port n g ins) m le = no_port m g ins
     all-on _ _ _ _ _ (port n g ins o os c cs a b) m le = port m g ins o os c cs (carries-on n g ins o c a m le) (all-on n g ins os cs b m le)
 
-    outputs-on : (n : ℕ) (k : Kind) (ks rs : List Carried) → Outputs u n k ks rs → (m : ℕ) → n ≤ m → Outputs u m k ks rs
+    pub outputs-on : (n : ℕ) (k : Kind) (ks rs : List Carried) → Outputs u n k ks rs → (m : ℕ) → n ≤ m → Outputs u m k ks rs
     outputs-on _ _ _ _ (simple n row shape ks) m le = simple m row shape ks
     outputs-on _ _ _ _ (whole n form ks rs a) m le = whole m form ks rs (leads-on n form ks (next_of (first form ks)) rs a m le)
 
@@ -32,7 +32,7 @@ module _ (u : Network) where
     leads-on _ _ _ _ _ (enters_deeper n form ks t g ins stage ms rs d a b) m le = deeper-enters n m le form ks t g ins stage ms rs d (all-on n g ins (u g).results ms a) (leads-on n form ks (follow form ks stage ms) rs b)
     leads-on _ _ _ _ _ (iterates n form ks g row rows ms lists rs a b) m le = iterates m form ks g row rows ms lists rs (rows-on n g (row ∷ rows) lists a m le) (leads-on n form ks (gather form ks ms lists) rs b m le)
 
-    rows-on : (n g : ℕ) (rows lists : List (List Carried)) → MeanAll u n g rows lists → (m : ℕ) → n ≤ m → MeanAll u m g rows lists
+    pub rows-on : (n g : ℕ) (rows lists : List (List Carried)) → MeanAll u n g rows lists → (m : ℕ) → n ≤ m → MeanAll u m g rows lists
     rows-on _ _ _ _ (no_row n g) m le = no_row m g
     rows-on _ _ _ _ (a_row n g ins rs rows lists a b) m le = a_row m g ins rs rows lists (all-on n g ins (u g).results rs a m le) (rows-on n g rows lists b m le)
 

@@ -5,7 +5,7 @@ use Rattle.graph_meaning.specs.NodeValues.{op}
 use Rattle.graph_meaning.specs.Forms.{Form, Next, Stage, Enter, Iterate, Leave, next_of, first, follow, gather}
 use Rattle.graph_meaning.specs.Demand.{Source, Port, Fixed, Kind, Plain, Whole, Vertex, Network, Of, Rest, at_label, and_then, all, outputs, demanded, operands, graph_meaning, of_kind, of_node, leads_to, dem}
 use Rattle.graph_meaning.specs.Plain.{is_deeper, Carries, fixed, input, output, CarryAll, no_port, port, Outputs, simple, whole, Leads, leaves, enters, enters_deeper, iterates, MeanAll, no_row, a_row}
-use Rattle.graph_meaning.specs.Laws.{AreDepthsOfOneMeaning, IsMeaningOne}
+use Rattle.graph_meaning.specs.Laws.{AreDepthsOfOneMeaning, AreCarriedOnce, IsMeaningOne}
 use Rattle.graph_meaning.proofs.Depths.{Below, all-below, demanded-below, node-below, leads-below, dem-below}
 use Rattle.graph_meaning.proofs.Settled.{far-enough}
 
@@ -205,9 +205,13 @@ plain-values u g ins rs = (
   λ k. (k.0, operands-stand u k.0 k.0 (omega arith) g ins (u g).results rs k.1),
 )
 
-pub one-meaning : IsMeaningOne
-one-meaning u g ins rs other n m a b =
-    let x = operands-given u n g ins (u g).results rs a in
-    let y = operands-given u m g ins (u g).results other b in
+pub carried-once : AreCarriedOnce
+carried-once u g ins os cs others n m a b =
+    let x = operands-given u n g ins os cs a in
+    let y = operands-given u m g ins os others b in
     let d = x.0 + y.0 in
-    some-same rs other (sym (dem-below x.0 d (omega arith) u g ins rs x.1) ∙ dem-below y.0 d (omega arith) u g ins other y.1)
+    let far = length (u g).nodes in
+    some-same cs others (sym (all-raised u g ins x.0 d far far (omega arith) (omega arith) os cs x.1) ∙ all-raised u g ins y.0 d far far (omega arith) (omega arith) os others y.1)
+
+pub one-meaning : IsMeaningOne
+one-meaning u g ins rs other n m a b = carried-once u g ins (u g).results rs other n m a b

@@ -175,13 +175,15 @@ IsComplete run limit h = ((k : EndKind) × HasEnded run limit h k) × IsSettled 
 
 -- Every legal complete history that does not end for want of memory ends with Results exactly where the cost is at most
 -- the limit, and with TurnLimit exactly where the cost is above the limit or not defined.
--- With Results, the count is the cost.
+-- With Results, the count is the cost. Where the cost is at most the limit, a legal history that has ended, complete or not and
+-- not for want of memory, has ended with Results.
 pub record IsConfluent (run : Run) (limit : ℕ) : Type 0 where
   pub results : (h : History) → Legal run limit h → IsComplete run limit h → (HasEnded run limit h OutOfMemory → ⊥) →
       HasEnded run limit h Results ↔ ((c : ℕ) × Cost run c × (c ≤ limit))
   pub turn_limit : (h : History) → Legal run limit h → IsComplete run limit h → (HasEnded run limit h OutOfMemory → ⊥) →
       HasEnded run limit h TurnLimit ↔ ((c : ℕ) → Cost run c → limit < c)
   pub count_is_cost : (h : History) → Legal run limit h → HasEnded run limit h Results → Cost run (count h)
+  pub within : (h : History) → Legal run limit h → (HasEnded run limit h OutOfMemory → ⊥) → (c : ℕ) → Cost run c → c ≤ limit → (k : EndKind) → HasEnded run limit h k → HasEnded run limit h Results
 
 -- Some item is claimable as long as the history has not ended and no claimed item is unfinished.
 pub record IsNeverStuck (run : Run) (limit : ℕ) : Type 0 where

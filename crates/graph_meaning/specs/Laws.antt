@@ -21,10 +21,10 @@ use Rattle.graph_meaning.specs.NodeValues as shape
 use Rattle.graph_meaning.specs.Strict.{IsFit, first_strict, AreErrors}
 use Rattle.graph_meaning.specs.Forms.{Form, Stage, Enter}
 use Rattle.graph_meaning.specs.Entered.{Item, Node, IsLast, cost}
-use Rattle.graph_meaning.specs.Demand.{Kind, Plain, Whole, Network, Cut, IsCut, AreOrderly, WaitsFor, dem, tree}
+use Rattle.graph_meaning.specs.Demand.{Source, Kind, Plain, Whole, Network, Cut, IsCut, AreOrderly, WaitsFor, dem, tree}
 use Rattle.graph_meaning.specs.Networks.{kind_of, net_of, network}
 use Rattle.if1_marks.specs.Orders.{AreOrdersRight, HasNoLists}
-use Rattle.graph_meaning.specs.Plain.{is_deeper, Leads, Means, Costs}
+use Rattle.graph_meaning.specs.Plain.{is_deeper, CarryAll, Leads, Means, Costs}
 use Rattle.graph_meaning.specs.Storage.{Weights, GraphAdds, Storage, is_consumed_at, is_left, Copies, Writes}
 use Rattle.graph_meaning.specs.StorageUnits.{storage_of, UnitCopies, UnitWrites}
 use Rattle.graph_meaning.specs.Histories.{History, Legal, Claimable, is_made, Run, Cost, IsConfluent, IsNeverStuck}
@@ -121,6 +121,10 @@ IsMeaningStable = (u : Network) (g : ℕ) (ins rs : List Carried) (n m : ℕ) �
 abbrev pub IsNothingCalledAtZero : Type 0
 IsNothingCalledAtZero = (u : Network) (form : Form) (ks : List Carried) (turn : Bool) (g : ℕ) (ins : List Carried) (stage : Stage) (rs : List Carried) → Leads u 0 form ks (Enter turn g ins stage) rs → is_deeper form turn ≡ false
 
+-- what is carried by any list of ports is one, whatever depths of calls and turns give it
+abbrev pub AreCarriedOnce : Type 0
+AreCarriedOnce = (u : Network) (g : ℕ) (ins : List Carried) (os : List Source) (cs others : List Carried) (n m : ℕ) → CarryAll u n g ins os cs → CarryAll u m g ins os others → cs ≡ others
+
 -- no two depths of calls and turns give different results
 abbrev pub IsMeaningOne : Type 0
 IsMeaningOne = (u : Network) (g : ℕ) (ins rs other : List Carried) (n m : ℕ) → Means u n g ins rs → Means u m g ins other → rs ≡ other
@@ -145,6 +149,14 @@ IsSumOne = (u : Network) (w : Weights) (g : ℕ) (ins : List Carried) (n m s t :
 -- nor different costs
 abbrev pub IsCostOne : Type 0
 IsCostOne = (u : Network) (g : ℕ) (ins : List Carried) (n m c d : ℕ) → Costs u n g ins c → Costs u m g ins d → c ≡ d
+
+-- the cost that a depth of calls and turns gives, every greater one gives
+abbrev pub IsPlainCostStable : Type 0
+IsPlainCostStable = (u : Network) (g : ℕ) (ins : List Carried) (c n m : ℕ) → n ≤ m → Costs u n g ins c → Costs u m g ins c
+
+-- and so each sum by its recursion
+abbrev pub IsSumStable : Type 0
+IsSumStable = (u : Network) (w : Weights) (g : ℕ) (ins : List Carried) (s n m : ℕ) → n ≤ m → GraphAdds u w n g ins s → GraphAdds u w m g ins s
 
 -- Where the own item of a node may be claimed, every node for which it waits along data edges and ordering lists, itself or
 -- by others, has its last item made.

@@ -1,5 +1,5 @@
 //! The laws of a graph's meaning, of its cost, and of its histories.
-ghost use Rattle.graph_meaning.specs.Laws.{AreValuesStable, AreCostsStable, DoTreesGrow, IsCostTheSum, IsCostOfAnyCut, IsMeantWhereCosted, AreExecutionsConfluent, AreExecutionsNeverStuck, AreRunsConfluent, AreRunsNeverStuck, AreUnitsOrderly, HaveUnitsOneEnd, AreOrdersRightWithoutLists, AreFoundByNumber, AreOutputsCounted, IsLeastPortGiven, AreDepthsOfOneMeaning, IsMeaningOne, AreDepthsOfOneCost, IsMeaningStable, IsNothingCalledAtZero, AreSumsDefined, AreCopiesDefined, IsSumOne, IsCostOne, AreUsersFinished, AreUnitCopiesDefined, AreUnitCopiesOne, AreUnmarkedCopied, HaveSoundUnitsOneEnd, AreTakersLast};
+ghost use Rattle.graph_meaning.specs.Laws.{AreValuesStable, AreCostsStable, DoTreesGrow, IsCostTheSum, IsCostOfAnyCut, IsMeantWhereCosted, AreExecutionsConfluent, AreExecutionsNeverStuck, AreRunsConfluent, AreRunsNeverStuck, AreUnitsOrderly, HaveUnitsOneEnd, AreOrdersRightWithoutLists, AreFoundByNumber, AreOutputsCounted, IsLeastPortGiven, AreDepthsOfOneMeaning, AreCarriedOnce, IsMeaningOne, AreDepthsOfOneCost, IsMeaningStable, IsPlainCostStable, IsSumStable, IsNothingCalledAtZero, AreSumsDefined, AreCopiesDefined, IsSumOne, IsCostOne, AreUsersFinished, AreUnitCopiesDefined, AreUnitCopiesOne, AreUnmarkedCopied, HaveSoundUnitsOneEnd, AreTakersLast};
 
 /// The results of a graph that one depth gives are given at every greater one.
 pub fn values_are_stable()
@@ -86,6 +86,11 @@ pub fn depths_have_one_meaning()
     ensures { AreDepthsOfOneMeaning }
 {}
 
+/// What is carried by any list of ports is one, whatever depths of calls and turns give it.
+pub fn what_ports_carry_is_one()
+    ensures { AreCarriedOnce }
+{}
+
 /// No two depths of calls and turns give different results.
 pub fn the_meaning_is_one()
     ensures { IsMeaningOne }
@@ -124,6 +129,16 @@ pub fn the_sum_is_one()
 /// No two depths of calls and turns give different costs.
 pub fn the_cost_is_one()
     ensures { IsCostOne }
+{}
+
+/// The cost that a depth of calls and turns gives, every greater one gives.
+pub fn the_plain_cost_is_stable()
+    ensures { IsPlainCostStable }
+{}
+
+/// So is it with each sum by the recursion of the cost.
+pub fn the_sum_is_stable()
+    ensures { IsSumStable }
 {}
 
 /// Where a node may be claimed, every node for which it waits has finished.

@@ -11,6 +11,7 @@ pub use laws::{
     ready_units_are_orderly, ready_units_have_one_end, runs_are_confluent, runs_are_never_stuck,
     sound_units_have_one_end, sums_are_defined_where_the_cost_is, the_cost_is_of_any_cut,
     the_cost_is_one, the_cost_is_the_sum, the_error_of_the_least_port_is_given, the_meaning_is_one,
-    the_meaning_is_stable, the_sum_is_one, trees_grow, unmarked_consuming_edges_are_copied,
-    users_are_finished_before_a_taker, values_are_given_where_the_cost_is, values_are_stable,
+    the_meaning_is_stable, the_plain_cost_is_stable, the_sum_is_one, the_sum_is_stable, trees_grow,
+    unmarked_consuming_edges_are_copied, users_are_finished_before_a_taker,
+    values_are_given_where_the_cost_is, values_are_stable, what_ports_carry_is_one,
 };

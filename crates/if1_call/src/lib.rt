@@ -8,6 +8,3 @@ mod marks;
 pub use canonical::canonical_text;
 pub use fault::Refusal;
 pub use marks::is_unmarked;
-
-#[cfg(test)]
-mod tests;

@@ -21,6 +21,3 @@ pub use row::{
     Gives, Rest, Use, Want, gives_of, is_consumed, is_strict, operand_of, operands_of, output_of,
     rest_of,
 };
-
-#[cfg(test)]
-mod tests;

@@ -8,8 +8,6 @@ mod number;
 mod part;
 mod pragma;
 mod read;
-#[cfg(test)]
-mod tests;
 mod write;
 
 pub use laws::{opening_is_spelled, read_is_spelled, text_is_read, written_is_read};

@@ -16,16 +16,17 @@ use Rattle.if1_marks.specs.Owned.{leaving, is_owned}
 use Rattle.if1_marks.specs.Orders.{Precedes, fed, listed, between, ComesBefore, IsOrderRight}
 use Rattle.if1_marks.specs.Faults.{IsWrongOnList, absent, itself, behind, IsToBlame, may_not, twice, takes_too, not_before}
 use Rattle.if1_marks.specs.Sound.{MayTake, edges_to_its_node, takers_of_its_port, IsTakerRight, AreMarksRight}
-use Rattle.if1_marks.specs.Laws.{IsFaultless, IsOrderKnown, AreFaultlessSound}
+use Rattle.if1_marks.specs.Laws.{IsFaultless, AreFaultlessSound}
 use Rattle.if1_marks.proofs.Lists.{here, there, here-or-there, in-none, found-in, in-filter}
 use Rattle.if1_marks.proofs.Tests.{same-number, no-both, not-true}
 use Rattle.if1_marks.proofs.Taken.{in-leaving}
+use Rattle.if1_marks.proofs.Known.{order-known}
 use Rattle.if1_marks.proofs.Unlisted.{joined, target-there}
 
 -- ---- lists
 
 -- what passes a test passes it, and was there
-passed : {A : Type 0} (p : A → Bool) (xs : List A) (x : A) → Contains (filter p xs) x → Contains xs x × (p x ≡ true)
+pub passed : {A : Type 0} (p : A → Bool) (xs : List A) (x : A) → Contains (filter p xs) x → Contains xs x × (p x ≡ true)
 passed p [] x h = in-none x h
 passed p (y ∷ xs) x h = go (p y) refl h (passed p xs x)
   where
@@ -38,7 +39,7 @@ passed p (y ∷ xs) x h = go (p y) refl h (passed p xs x)
     go false e h rest = let r = rest h in (there y xs x r.0, r.1)
 
 -- no more pass a test that implies another than pass that
-no-more : {A : Type 0} (p q : A → Bool) (xs : List A) → ((x : A) → Contains xs x → p x ≡ true → q x ≡ true) → length (filter p xs) ≤ length (filter q xs)
+pub no-more : {A : Type 0} (p q : A → Bool) (xs : List A) → ((x : A) → Contains xs x → p x ≡ true → q x ≡ true) → length (filter p xs) ≤ length (filter q xs)
 no-more p q [] h = omega arith
 no-more p q (x ∷ xs) h = go (p x) (q x) (h x (here x xs)) (no-more p q xs (λ y there-y. h y (there x xs y there-y)))
   where
@@ -48,13 +49,13 @@ no-more p q (x ∷ xs) h = go (p x) (q x) (h x (here x xs)) (no-more p q xs (λ 
     go false true i le = omega (arith, le)
     go false false i le = le
 
-some-there : {A : Type 0} (xs : List A) (x : A) → Contains xs x → 1 ≤ length xs
+pub some-there : {A : Type 0} (xs : List A) (x : A) → Contains xs x → 1 ≤ length xs
 some-there [] x h = in-none x h
 some-there (y ∷ xs) x h = omega arith
 
 -- ---- a taking edge
 
-module _ (u : Unit1) (p : Place) (known : IsOrderKnown p) (e : Edge) (there-e : Contains (out-Graph p.graph).edges e) (takes : e.takes ≡ true) (none : (reader : ℕ) → ¬ IsToBlame u p e reader) where
+module _ (u : Unit1) (p : Place) (e : Edge) (there-e : Contains (out-Graph p.graph).edges e) (takes : e.takes ≡ true) (none : (reader : ℕ) → ¬ IsToBlame u p e reader) where
   abbrev fellows : List Edge
   fellows = leaving p.graph e.from
 
@@ -95,7 +96,7 @@ module _ (u : Unit1) (p : Place) (known : IsOrderKnown p) (e : Edge) (there-e : 
   comes : (f : Edge) → Contains (filter (λ f. not (f.node == e.node)) fellows) f → ComesBefore p.graph f.node e.node
   comes f h =
       let r = passed (λ f. not (f.node == e.node)) fellows f h in
-      elim (known f.node e.node) [
+      elim (order-known p.graph f.node e.node) [
         | inl c ↦ c
         | inr never ↦ absurd (none f.node (not_before f r.0 (λ same. no-both (f.node == e.node) (eq-eqb f.node e.node same) (not-true (f.node == e.node) r.1)) never))
       ]
@@ -178,13 +179,13 @@ module _ (p : Place) (ordered : All (IsOrdered p) (ends p.graph)) (none : (n : N
   right-order = record { named = named; acyclic = acyclic }
 
 pub faultless-sound : AreFaultlessSound
-faultless-sound u ready known faultless =
+faultless-sound u ready faultless =
     All-weaker (Contains (places u)) (AreMarksRight u)
     (λ p h.
     let none = All-contains (IsFaultless u) (places u) p faultless h in
     record {
       takers = All-weaker (Contains (out-Graph p.graph).edges) (λ e. e.takes ≡ true → IsTakerRight u p e)
-          (λ e there-e takes. right u p (All-contains IsOrderKnown (places u) p known h) e there-e takes (λ reader w. none.takers e reader there-e takes w))
+          (λ e there-e takes. right u p e there-e takes (λ reader w. none.takers e reader there-e takes w))
           (out-Graph p.graph).edges (All-contains_itself (out-Graph p.graph).edges);
       order = right-order p (All-contains (λ p. All (IsOrdered p) (ends p.graph)) (places u) p ready.acyclic h) none.lists;
     })

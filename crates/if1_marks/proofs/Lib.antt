@@ -4,8 +4,15 @@ pub mod Consumed
 pub mod Lent
 pub mod Taken
 pub mod Unlisted
+pub mod Ways
+pub mod Known
 pub mod Examples
 pub mod Blameless
 pub mod Faultless
 pub mod SoundExamples
 pub mod Unmarked
+pub mod AlikeLists
+pub mod AlikeGraphs
+pub mod AlikePorts
+pub mod AlikeTypes
+pub mod AlikeUnits

@@ -44,7 +44,7 @@ unmarked-node-at n =
 
 -- ---- the recursion
 
-any-untaken : (p : Edge → Bool) → ((e : Edge) → p (untaken e) ≡ p e) → (es : List Edge) → list_any p (map untaken es) ≡ list_any p es
+pub any-untaken : (p : Edge → Bool) → ((e : Edge) → p (untaken e) ≡ p e) → (es : List Edge) → list_any p (map untaken es) ≡ list_any p es
 any-untaken p same [] = refl
 any-untaken p same (e ∷ es) = ap (λ b. b || list_any p (map untaken es)) (same e) ∙ ap (λ b. p e || b) (any-untaken p same es)
 
@@ -106,13 +106,13 @@ module _ (ts : List TypeEntry) where
 
 -- ---- parts of a graph without its marks
 
-label-same : (n : Node) → label_of (unmarked_node n) ≡ label_of n
+pub label-same : (n : Node) → label_of (unmarked_node n) ≡ label_of n
 label-same n = ap (λ (x : Node-F Graph Node). x.label) (unmarked-node-at n)
 
-name-same : (g : Graph) → (out-Graph (unmarked g)).name ≡ (out-Graph g).name
+pub name-same : (g : Graph) → (out-Graph (unmarked g)).name ≡ (out-Graph g).name
 name-same g = ap (λ (x : Graph-F Graph Node). x.name) (unmarked-at g)
 
-found-mapped : {A B : Type 0} (f : A → B) (p : B → Bool) (q : A → Bool) → ((x : A) → p (f x) ≡ q x) → (xs : List A) → find p (map f xs) ≡ option_map f (find q xs)
+pub found-mapped : {A B : Type 0} (f : A → B) (p : B → Bool) (q : A → Bool) → ((x : A) → p (f x) ≡ q x) → (xs : List A) → find p (map f xs) ≡ option_map f (find q xs)
 found-mapped f p q same [] = refl
 found-mapped f p q same (x ∷ xs) =
     ap (λ b. cond b (Some (f x)) (find p (map f xs))) (same x)
@@ -123,7 +123,7 @@ found-mapped f p q same (x ∷ xs) =
     chosen true = refl
     chosen false = refl
 
-filter-mapped : {A : Type 0} (f : A → A) (p : A → Bool) → ((x : A) → p (f x) ≡ p x) → (xs : List A) → filter p (map f xs) ≡ map f (filter p xs)
+pub filter-mapped : {A : Type 0} (f : A → A) (p : A → Bool) → ((x : A) → p (f x) ≡ p x) → (xs : List A) → filter p (map f xs) ≡ map f (filter p xs)
 filter-mapped f p same [] = refl
 filter-mapped f p same (x ∷ xs) =
     ap (λ b. cond b (f x ∷ filter p (map f xs)) (filter p (map f xs))) (same x)
@@ -134,30 +134,30 @@ filter-mapped f p same (x ∷ xs) =
     chosen true = refl
     chosen false = refl
 
-node-at-same : (g : Graph) (l : ℕ) → node_at (out-Graph (unmarked g)).nodes l ≡ option_map unmarked_node (node_at (out-Graph g).nodes l)
+pub node-at-same : (g : Graph) (l : ℕ) → node_at (out-Graph (unmarked g)).nodes l ≡ option_map unmarked_node (node_at (out-Graph g).nodes l)
 node-at-same g l =
     ap (λ (x : Graph-F Graph Node). node_at x.nodes l) (unmarked-at g)
     ∙ found-mapped unmarked_node (λ n. label_of n == l) (λ n. label_of n == l) (λ n. ap (λ k. k == l) (label-same n)) (out-Graph g).nodes
 
-edge-into-same : (g : Graph) (l port : ℕ) → edge_into (unmarked g) l port ≡ option_map untaken (edge_into g l port)
+pub edge-into-same : (g : Graph) (l port : ℕ) → edge_into (unmarked g) l port ≡ option_map untaken (edge_into g l port)
 edge-into-same g l port =
     ap (λ (x : Graph-F Graph Node). find (λ e. (e.node == l) && (e.port == port)) x.edges) (unmarked-at g)
     ∙ found-mapped untaken (λ e. (e.node == l) && (e.port == port)) (λ e. (e.node == l) && (e.port == port)) (λ e. refl) (out-Graph g).edges
 
-edges-from-same : (g : Graph) (l port : ℕ) → edges_from (unmarked g) l port ≡ map untaken (edges_from g l port)
+pub edges-from-same : (g : Graph) (l port : ℕ) → edges_from (unmarked g) l port ≡ map untaken (edges_from g l port)
 edges-from-same g l port =
     ap (λ (x : Graph-F Graph Node). filter (λ e. leaves l port e.from) x.edges) (unmarked-at g)
     ∙ filter-mapped untaken (λ e. leaves l port e.from) (λ e. refl) (out-Graph g).edges
 
-over-untaken : {A : Type 0} (f : Edge → A) → ((e : Edge) → f (untaken e) ≡ f e) → (es : List Edge) → map f (map untaken es) ≡ map f es
+pub over-untaken : {A : Type 0} (f : Edge → A) → ((e : Edge) → f (untaken e) ≡ f e) → (es : List Edge) → map f (map untaken es) ≡ map f es
 over-untaken f same [] = refl
 over-untaken f same (e ∷ es) = ap (λ x. x ∷ map f (map untaken es)) (same e) ∙ ap (λ xs. f e ∷ xs) (over-untaken f same es)
 
-as-long : (es : List Edge) → length (map untaken es) ≡ length es
+pub as-long : (es : List Edge) → length (map untaken es) ≡ length es
 as-long [] = refl
 as-long (e ∷ es) = ap suc (as-long es)
 
-width-same : (g : Graph) (l : ℕ) → width (unmarked g) l ≡ width g l
+pub width-same : (g : Graph) (l : ℕ) → width (unmarked g) l ≡ width g l
 width-same g l =
     ap (λ (x : Graph-F Graph Node). greatest (map (λ e. e.port) (filter (λ e. e.node == l) x.edges))) (unmarked-at g)
     ∙ (ap (λ es. greatest (map (λ e. e.port) es)) (filter-mapped untaken (λ e. e.node == l) (λ e. refl) (out-Graph g).edges)
@@ -168,7 +168,7 @@ used-same g port =
     ap (λ (x : Graph-F Graph Node). list_any (λ e. leaves 0 port e.from) x.edges) (unmarked-at g)
     ∙ any-untaken (λ e. leaves 0 port e.from) (λ e. refl) (out-Graph g).edges
 
-subs-same : (n : Node) → (out-Node (unmarked_node n)).subs ≡ map unmarked (out-Node n).subs
+pub subs-same : (n : Node) → (out-Node (unmarked_node n)).subs ≡ map unmarked (out-Node n).subs
 subs-same n = ap (λ (x : Node-F Graph Node). x.subs) (unmarked-node-at n)
 
 -- ---- what is consumed
@@ -259,7 +259,7 @@ results-same (g ∷ gs) = width-same g 0
 -- ---- what is owned
 
 module _ (u : Unit1) (outer : Graph) (n : Node) (g : Graph) (port : ℕ) where
-  width-of-node : width (unmarked outer) (label_of (unmarked_node n)) ≡ width outer (label_of n)
+  pub width-of-node : width (unmarked outer) (label_of (unmarked_node n)) ≡ width outer (label_of n)
   width-of-node = ap (width (unmarked outer)) (label-same n) ∙ width-same outer (label_of n)
 
   own-same : is_own (unmarked_unit u) (unmarked outer) (unmarked_node n) (unmarked g) port ≡ is_own u outer n g port
@@ -309,7 +309,7 @@ module _ (u : Unit1) (outer : Graph) (n : Node) (g : Graph) (port : ℕ) where
   as-same None = refl
   as-same (Some cp) = in-same cp.0 cp.1
 
-part-same : (n : Node) (k : ℕ) → part_of (unmarked_node n) k ≡ part_of n k
+pub part-same : (n : Node) (k : ℕ) → part_of (unmarked_node n) k ≡ part_of n k
 part-same n k = ap (λ (x : Node-F Graph Node). compound_at x.op >>= λ c. part_at c k >>= λ part. Some (c, part)) (unmarked-node-at n)
 
 input-same : (u : Unit1) (g : Graph) (home : Home) (port : ℕ) → is_input_owned (unmarked_unit u) (unmarked g) (unmarked_home home) port ≡ is_input_owned u g home port
@@ -332,7 +332,7 @@ marks-not-looked-at u p =
 
 -- ---- places
 
-map-append : {A B : Type 0} (f : A → B) (xs ys : List A) → map f (xs ++ ys) ≡ map f xs ++ map f ys
+pub map-append : {A B : Type 0} (f : A → B) (xs ys : List A) → map f (xs ++ ys) ≡ map f xs ++ map f ys
 map-append f [] ys = refl
 map-append f (x ∷ xs) ys = ap (λ zs. f x ∷ zs) (map-append f xs ys)
 
@@ -363,7 +363,7 @@ places-of-same (suc more) home g =
     ∙ each-same (λ k s. places_of more (In (unmarked g) (unmarked_node n) k) s) (λ k s. places_of more (In g n k) s) (λ k s. places-of-same more (In g n k) s) 0 (out-Node n).subs)
     (out-Graph g).nodes)
 
-places-same : (u : Unit1) → places (unmarked_unit u) ≡ map unmarked_place (places u)
+pub places-same : (u : Unit1) → places (unmarked_unit u) ≡ map unmarked_place (places u)
 places-same u = each-same (λ k g. places_of most_levels (Function k) g) (λ k g. places_of most_levels (Function k) g) (λ k g. places-of-same most_levels (Function k) g) 0 u.graphs
 
 all-mapped : {A B : Type 0} (P : B → Type 0) (f : A → B) → ((x : A) → P (f x)) → (xs : List A) → All P (map f xs)

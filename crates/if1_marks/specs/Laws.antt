@@ -17,6 +17,7 @@ use Rattle.if1_graph.specs.Ready.{IsReady}
 use Rattle.if1_graph.specs.Units.{label_of, node_at, width, Home, Function, Inside, Place, places}
 use Rattle.if1_marks.specs.Given.{is_call, is_consumed_by, is_given_inside, is_used_inside, is_consuming}
 use Rattle.if1_marks.specs.Owned.{is_owned}
+use Rattle.if1_marks.specs.Ways.{Links, Leads, leads_by}
 use Rattle.if1_marks.specs.Orders.{Precedes, ComesBefore, AreOrdersRight, HasNoLists, HasNoTakers}
 use Rattle.if1_marks.specs.Unmarked.{untaken, unmarked, unmarked_unit, unmarked_place}
 use Rattle.if1_marks.specs.Faults.{IsWrongOnList, IsToBlame}
@@ -98,6 +99,16 @@ pub record AreInputsLent (u : Unit1) (g : Graph) (port : ℕ) : Type 0 where
 abbrev pub AreLent : Type 0
 AreLent = (u : Unit1) (g : Graph) (port : ℕ) → AreInputsLent u g port
 
+-- ---- which node comes before which
+
+-- by numbers among which is each one that a link leads to
+abbrev pub AreWaysFound : Type 0
+AreWaysFound = (links : Links) (ks : List ℕ) → ((l m : ℕ) → links l m ≡ true → Contains ks m) → (l m : ℕ) → (leads_by links ks l m ≡ true) ↔ Leads links l m
+
+-- of each two nodes of a graph it is known whether the one comes before the other
+abbrev pub IsOrderKnown : Type 0
+IsOrderKnown = (g : Graph) (l m : ℕ) → ComesBefore g l m ⊎ (¬ ComesBefore g l m)
+
 -- ---- what sound marks give
 
 -- in sound marks no two edges take from one port
@@ -138,13 +149,9 @@ pub record IsFaultless (u : Unit1) (p : Place) : Type 0 where
 abbrev pub AreSoundFaultless : Type 0
 AreSoundFaultless = (u : Unit1) → IsReady u → IsSound u → All (IsFaultless u) (places u)
 
--- of each two nodes of the graph it is known whether the one comes before the other
-abbrev pub IsOrderKnown : Place → Type 0
-IsOrderKnown p = (l m : ℕ) → ComesBefore p.graph l m ⊎ (¬ ComesBefore p.graph l m)
-
 -- and marks of a ready unit that have no fault are sound
 abbrev pub AreFaultlessSound : Type 0
-AreFaultlessSound = (u : Unit1) → IsReady u → All IsOrderKnown (places u) → All (IsFaultless u) (places u) → IsSound u
+AreFaultlessSound = (u : Unit1) → IsReady u → All (IsFaultless u) (places u) → IsSound u
 
 -- ---- the rules look at no marks
 

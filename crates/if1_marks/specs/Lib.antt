@@ -2,7 +2,9 @@ pub mod Aggregates
 pub mod Given
 pub mod Owned
 pub mod Orders
+pub mod Ways
 pub mod Sound
 pub mod Faults
 pub mod Unmarked
+pub mod Alike
 pub mod Laws

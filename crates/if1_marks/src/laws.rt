@@ -1,5 +1,6 @@
 //! The laws of the storage rules.
-ghost use Rattle.if1_marks.specs.Laws.{IsGivenByEdge, IsConsumedWhereGiven, AreLent, IsTakenOnce, IsTakerLast, IsTakenAlone, IsSoundInOrder, IsReadyInOrder, IsUnmarkedSound, AreSoundFaultless, AreFaultlessSound, AreMarksNotLookedAt, AreUnmarkedWithout};
+ghost use Rattle.if1_marks.specs.Alike.{AreAlikeFormed, AreAlikeReady, AreAlikeNormal, AreUnmarkedAsBefore};
+ghost use Rattle.if1_marks.specs.Laws.{IsGivenByEdge, IsConsumedWhereGiven, AreLent, AreWaysFound, IsOrderKnown, IsTakenOnce, IsTakerLast, IsTakenAlone, IsSoundInOrder, IsReadyInOrder, IsUnmarkedSound, AreSoundFaultless, AreFaultlessSound, AreMarksNotLookedAt, AreUnmarkedWithout};
 
 /// An input of a graph is given exactly where a consuming edge that leads to no Call leaves it.
 pub fn given_inputs_have_a_consuming_edge()
@@ -15,6 +16,16 @@ pub fn compound_nodes_consume_what_is_given()
 /// What is lent is not owned.
 pub fn what_is_lent_is_not_owned()
     ensures { AreLent }
+{}
+
+/// A way along links is found by the numbers to which links lead.
+pub fn ways_are_found()
+    ensures { AreWaysFound }
+{}
+
+/// Of each two nodes of a graph it is known whether the one comes before the other.
+pub fn the_order_is_known()
+    ensures { IsOrderKnown }
 {}
 
 /// In sound marks no two edges take from one port.
@@ -67,4 +78,24 @@ pub fn the_rules_look_at_no_marks()
 /// A unit without its marks has the same graphs at the same places, and no marks.
 pub fn unmarked_units_have_no_marks()
     ensures { AreUnmarkedWithout }
+{}
+
+/// A formed unit with other marks is formed, where these marks can be spelled.
+pub fn alike_units_are_formed()
+    ensures { AreAlikeFormed }
+{}
+
+/// A ready unit with other marks is ready.
+pub fn alike_units_are_ready()
+    ensures { AreAlikeReady }
+{}
+
+/// A normal unit with other marks is normal, where the labels of each ordering list rise.
+pub fn alike_units_are_normal()
+    ensures { AreAlikeNormal }
+{}
+
+/// A unit without its marks is formed, ready and normal where it was.
+pub fn units_without_marks_are_as_before()
+    ensures { AreUnmarkedAsBefore }
 {}

@@ -80,14 +80,14 @@ skipped labels es e lists w apart = record {
 }
 
 module _ (lists : Lists) (s t : ℕ) (h : t < length lists) where
-  abbrev next : Lists
+  abbrev pub next : Lists
   next = set lists t (feeders_of lists t ++ s ∷ [])
 
   next_same : feeders_of next t ≡ feeders_of lists t ++ s ∷ []
   next_same = get_or-set_same lists t (feeders_of lists t ++ s ∷ []) [] h
 
   -- what the lists have after an entry
-  entry_cases : (p q : ℕ) → Contains (feeders_of next q) p → Contains (feeders_of lists q) p ⊎ ((s ≡ p) × (t ≡ q))
+  pub entry_cases : (p q : ℕ) → Contains (feeders_of next q) p → Contains (feeders_of lists q) p ⊎ ((s ≡ p) × (t ≡ q))
   entry_cases p q c =
       elim (cases_eq q t) [
         | inl same ↦
@@ -98,7 +98,7 @@ module _ (lists : Lists) (s t : ℕ) (h : t < length lists) where
         | inr other ↦ inl (list_contained p (get_or-set_other lists t q (feeders_of lists t ++ s ∷ []) [] other) c)
       ]
 
-  entry_kept : (p q : ℕ) → Contains (feeders_of lists q) p → Contains (feeders_of next q) p
+  pub entry_kept : (p q : ℕ) → Contains (feeders_of lists q) p → Contains (feeders_of next q) p
   entry_kept p q c =
       elim (cases_eq q t) [
         | inl same ↦
@@ -107,7 +107,7 @@ module _ (lists : Lists) (s t : ℕ) (h : t < length lists) where
         | inr other ↦ list_contained p (sym (get_or-set_other lists t q (feeders_of lists t ++ s ∷ []) [] other)) c
       ]
 
-  entry_new : Contains (feeders_of next t) s
+  pub entry_new : Contains (feeders_of next t) s
   entry_new = list_contained s (sym next_same) (Contains-push (feeders_of lists t) s)
 
 -- an edge between two labels is entered

@@ -19,7 +19,8 @@ pub enum NodeOrder {
     Circle(u32),
 }
 
-fn labelled(alloc: Global, labels: &[u32], places: &[usize]) -> Result<Numbers, NoMemory>
+/// The labels at these places.
+pub fn labelled(alloc: Global, labels: &[u32], places: &[usize]) -> Result<Numbers, NoMemory>
     requires { All (λ k. k < length labels.now) places.now }
     ensures { IfOk result (λ ls. ls ≡ map (slice_index labels.now) places.now) }
 {

@@ -21,7 +21,8 @@ pub fn labels_of(alloc: Global, nodes: &[Node]) -> Result<Numbers, NoMemory>
     Ok(labels)
 }
 
-fn place_of(labels: &[u32], label: u32) -> Option<usize>
+/// The place of a label among rising ones. Halves the list until it is found.
+pub fn place_of(labels: &[u32], label: u32) -> Option<usize>
     requires { IsStrictlyIncreasing labels.now }
     ensures { MatchOption result (¬ Contains labels.now label) (λ k. IsPlace labels.now k label) }
 {
@@ -41,7 +42,9 @@ fn no_feeders(alloc: Global, places: usize) -> Result<Vec<Places>, NoMemory>
     Ok(lists)
 }
 
-fn join(labels: &[u32], from: u32, to: u32, lists: &mut Vec<Places>) -> Result<(), NoMemory>
+/// Enters that an edge leads from the node of the first label to that of the second; where one of them
+/// is not there, the lists stay as they are.
+pub fn join(labels: &[u32], from: u32, to: u32, lists: &mut Vec<Places>) -> Result<(), NoMemory>
     requires rising { IsStrictlyIncreasing labels.now }
     requires fit { length lists.old.items ≡ length labels.now }
     ensures { OnOk result (IsJoined labels.now from to lists.old.items lists.new.items) }

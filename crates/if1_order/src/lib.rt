@@ -6,5 +6,7 @@ mod circles;
 mod feeders;
 mod walk;
 
-pub use arranged::{NodeOrder, order};
+pub use arranged::{NodeOrder, labelled, order};
 pub use circles::{ports_link, wrong_order};
+pub use feeders::{feeders_by, join, labels_of, place_of};
+pub use walk::{Places, Sorted, sort};

@@ -14,8 +14,6 @@ mod part;
 mod read;
 mod reals;
 mod table;
-#[cfg(test)]
-mod tests;
 
 pub use laws::accepted_has_no_fault;
 pub use read::read_if1;

@@ -1,5 +1,5 @@
 //! The lines of graphs, one after another.
-ghost use Rattle.std.specs.Prelude.{◌≡◌, ℕ, suc, List, [], ◌∷◌, ◌++◌, None, Some, IfOk, All};
+ghost use Rattle.std.specs.Prelude.{◌≡◌, ◌≢◌, ℕ, suc, List, [], ◌∷◌, ◌++◌, None, Some, IfOk, All};
 ghost use Rattle.std.specs.List.{flat_map};
 ghost use Rattle.if1_line.specs.declared.line.Line.TheVariants.{Function, Subgraph, Import, Open, Close};
 ghost use Rattle.if1_graph.specs.Lines.{edge_line};
@@ -18,7 +18,7 @@ use crate::judge::Known;
 use crate::level::{Level, graphs_of, with_edge, with_node};
 use crate::part::Part;
 use flow_value::{Name, NoMemory, Seq};
-use if1_graph::{Edge, Imports, Node, Origin};
+use if1_graph::{Edge, GraphList, Imports, Node, Origin};
 use if1_line::Line;
 use std::alloc::Global;
 
@@ -290,6 +290,19 @@ fn wrong_count(count: u32, graphs: usize) -> Option<Kind>
     }
 }
 
+/// The graphs of a node; none where a fault is named, so that no graph nests deeper than graphs may:
+/// what was read goes, and would go level by level.
+fn unless_wrong(alloc: Global, first: Option<Fault>, graphs: GraphList) -> GraphList
+    ensures kept { first ≡ None → result ≡ graphs }
+    ensures none { first ≢ None → result ≡ [] }
+{
+    if first.is_some() {
+        Seq::new(alloc)
+    } else {
+        graphs
+    }
+}
+
 fn close_line(
     alloc: Global,
     known: &Known,
@@ -322,7 +335,7 @@ fn close_line(
     let (graphs, first) = graphs_of(alloc, known, level, first)?;
     let first = after(first, line, wrong_count(count, graphs.len()));
     let mut node = node;
-    node.subs = graphs;
+    node.subs = unless_wrong(alloc, first, graphs);
     let (level, wrong) = with_node(around, line, node)?;
     Ok(Machine {
         imports,

@@ -8,6 +8,3 @@ mod ready;
 
 pub use check::valid;
 pub use ready::Ready;
-
-#[cfg(test)]
-mod tests;

@@ -7,6 +7,3 @@ mod write;
 
 pub use laws::written_is_read;
 pub use write::write_if1;
-
-#[cfg(test)]
-mod tests;

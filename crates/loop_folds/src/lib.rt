@@ -6,8 +6,6 @@ mod folding;
 mod making;
 mod masking;
 mod masks;
-#[cfg(test)]
-mod tests;
 
 pub use clause::Clause;
 pub use folding::Folding;

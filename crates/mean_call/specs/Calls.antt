@@ -5,7 +5,7 @@ use Rattle.std.specs.Option.{is_none}
 use Rattle.flow_value.specs.declared.ty.Ty.{Ty}
 use Rattle.flow_value.specs.declared.value.Val.{Val}
 use Rattle.run_words.specs.declared.command.MeanSet.{MeanSet}
-use Rattle.source_meaning.specs.Meaning.{calls}
+use Rattle.meaning.specs.Plain.{plain_calls}
 use Rattle.typed_tree.specs.Entries.{entry_of}
 use Rattle.typed_tree.specs.Types.{AreNumbers}
 use Rattle.typed_tree.specs.declared.program.Function.{Function}
@@ -60,7 +60,7 @@ pub record Gives (p : Program) (set : MeanSet) (values : List Val) : Type 0 wher
   pub read : AreRead set.values types args
   pub depth : ℕ
   pub steps : ℕ
-  pub given : calls depth p.functions function args ≡ Some (values, steps)
+  pub given : plain_calls depth p.functions function args ≡ Some (values, steps)
   pub within : steps ≤ set.limit
 
 -- There is no entry.
@@ -84,7 +84,7 @@ pub record PassesLimit (p : Program) (set : MeanSet) : Type 0 where
   pub entry : IsEntry p set.entry function types
   pub args : List Val
   pub read : AreRead set.values types args
-  pub longer : (depth steps : ℕ) (values : List Val) → calls depth p.functions function args ≡ Some (values, steps) → set.limit < steps
+  pub longer : (depth steps : ℕ) (values : List Val) → plain_calls depth p.functions function args ≡ Some (values, steps) → set.limit < steps
 
 -- why there are no values
 abbrev pub IsRefused : Program → MeanSet → Refusal → Type 0

@@ -11,8 +11,9 @@ use crate::entry::find_entry;
 use crate::fault::{ArgumentFault, Refusal};
 use crate::linking::unlinked;
 use flow_value::Items;
+use meaning_laws::plain_mean;
 use run_words::MeanSet;
-use source_meaning::{MeanFault, mean};
+use source_meaning::MeanFault;
 use std::alloc::Global;
 use typed_tree::Program;
 
@@ -28,7 +29,7 @@ pub fn evaluate(alloc: Global, program: &Program, set: &MeanSet) -> Result<Items
         return Err(Refusal::Argument(ArgumentFault::Entry));
     };
     let args = arguments(alloc, set.values.as_slice(), entry.types.as_slice())?;
-    match mean(alloc, program, entry.function, args, set.limit) {
+    match plain_mean(alloc, program, entry.function, args, set.limit) {
         Ok(found) => Ok(found.values),
         Err(MeanFault::TurnLimit) => Err(Refusal::TurnLimit),
         Err(MeanFault::NoMemory) => Err(Refusal::NoMemory),

@@ -1,8 +1,8 @@
 -- The two definitions give the same.
 use Rattle.std.proofs.Common.{◌≡◌, ℕ, ◌+◌, ◌≤◌, List, Some, refl, sym, ◌∙◌, arith}
 use Rattle.flow_value.specs.declared.value.Val.{Val}
-use Rattle.source_meaning.specs.Timed.{Timed, Below}
-use Rattle.meaning_laws.specs.Plain.{plain_calls, plain_meaning}
+use Rattle.meaning.specs.Timed.{Timed, Below}
+use Rattle.meaning.specs.Plain.{plain_calls, plain_meaning}
 use Rattle.meaning_laws.specs.Laws.{IsNothingCalledAtZero, IsBodyOneLess, IsMeaningStable, AreCallsStable, IsMeaningOne, IsCallOne, DoesMeaningFall, DoCallsFall, IsMeaningTheSame, AreCallsTheSame, AreLimitsTheSame}
 use Rattle.meaning_laws.proofs.Deeper.{plain_greater, calls_greater}
 use Rattle.meaning_laws.proofs.Falls.{meaning_falls, calls_fall}

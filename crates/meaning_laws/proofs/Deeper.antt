@@ -7,14 +7,14 @@ use Rattle.typed_tree.specs.declared.expr.TypedKind.TheViews.{roll-TypedKind}
 use Rattle.typed_tree.specs.declared.expr.TypedKind.TheOpen.{TypedKind-F, TypedExpr-F}
 use Rattle.typed_tree.specs.declared.expr.TypedKind.TheFolds.{map-TypedKind, map-TypedExpr, ind-TypedExpr}
 use Rattle.typed_tree.specs.declared.expr.Turns.{Turns}
-use Rattle.source_meaning.specs.declared.words.Test.TheVariants as test
-use Rattle.source_meaning.specs.Timed.{Timed, andthen, Below}
-use Rattle.source_meaning.specs.Words.{test_of, goes_on}
-use Rattle.source_meaning.specs.Meaning.{Gives, Members, each, folded, unless_failed}
+use Rattle.meaning.specs.declared.words.Test.TheVariants as test
+use Rattle.meaning.specs.Timed.{Timed, andthen, Below}
+use Rattle.meaning.specs.Words.{test_of, goes_on}
+use Rattle.meaning.specs.Meaning.{Gives, Members, each, folded, unless_failed}
 use Rattle.source_meaning.specs.Pending.{Program}
 use Rattle.source_meaning.proofs.Laws.{below_refl, below_none, below_plus, below_then, below_trans, below_same}
 use Rattle.source_meaning.proofs.Grows.{Less, LessAll, LessDefs, all_below, defined_below, each_below, turned_of_below, turn_below}
-use Rattle.meaning_laws.specs.Plain.{Depth, Deep, at, all_at, called, turns_at, members_at, kind_at, plain, plain_kind, depth, plain_calls, plain_meaning}
+use Rattle.meaning.specs.Plain.{Depth, Deep, at, all_at, called, turns_at, members_at, kind_at, plain, plain_kind, depth, plain_calls, plain_meaning}
 use Rattle.meaning_laws.proofs.Forms.{LessCalls, group, call, apply, scope, choice, arms, product, form_below, function_below}
 use Rattle.meaning_laws.proofs.Layers.{plain_is, plain_layer_is}
 

@@ -9,10 +9,10 @@ use Rattle.typed_tree.specs.declared.expr.TypedKind.TheOpen.{TypedKind-F}
 use Rattle.typed_tree.specs.declared.expr.Case.{Case}
 use Rattle.typed_tree.specs.declared.expr.Product.{Product}
 use Rattle.typed_tree.specs.declared.program.Function.{Function}
-use Rattle.source_meaning.specs.Timed.{Below}
-use Rattle.source_meaning.specs.Words.{value_at, test_of}
-use Rattle.source_meaning.specs.Sources.{places_of}
-use Rattle.source_meaning.specs.Meaning.{Gives, kind_gives, results_of, function_gives}
+use Rattle.meaning.specs.Timed.{Below}
+use Rattle.meaning.specs.Words.{value_at, test_of}
+use Rattle.meaning.specs.Sources.{places_of}
+use Rattle.meaning.specs.Meaning.{Gives, kind_gives, results_of, function_gives}
 use Rattle.source_meaning.proofs.Laws.{below_refl, below_plus, below_then}
 use Rattle.source_meaning.proofs.Grows.{Less, LessAll, LessDefs, all_below, body_below, chosen_below, arm_of_below, arms_less, over_below}
 

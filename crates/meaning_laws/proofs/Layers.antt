@@ -6,9 +6,9 @@ use Rattle.typed_tree.specs.declared.expr.TypedKind.{TypedKind}
 use Rattle.typed_tree.specs.declared.expr.TypedKind.TheViews.{roll-TypedKind}
 use Rattle.typed_tree.specs.declared.expr.TypedKind.TheOpen.{TypedKind-F}
 use Rattle.typed_tree.specs.declared.expr.TypedKind.TheFolds.{map-TypedKind, fold-roll-TypedKind, fold-roll-TypedExpr}
-use Rattle.source_meaning.specs.Timed.{plus}
-use Rattle.source_meaning.specs.Meaning.{Gives}
-use Rattle.meaning_laws.specs.Plain.{Depth, Deep, kind_at, expr_at, plain, plain_kind}
+use Rattle.meaning.specs.Timed.{plus}
+use Rattle.meaning.specs.Meaning.{Gives}
+use Rattle.meaning.specs.Plain.{Depth, Deep, kind_at, expr_at, plain, plain_kind}
 
 pub plain_is : (e : TypedExpr) (d : Depth) (env : List Val) → plain e d env ≡ plus 1 (plain_kind e.kind d (length e.types) env)
 plain_is e d env = ap (λ g. g d env) (fold-roll-TypedExpr (Depth → ℕ → Gives) Deep kind_at expr_at (record { line = e.line; types = e.types; kind = e.kind }))

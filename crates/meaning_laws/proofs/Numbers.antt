@@ -2,13 +2,13 @@
 use Rattle.std.proofs.Common.{◌≡◌, zero, suc, List, [], ◌∷◌, ◌++◌, map, refl, ap, ◌∙◌}
 use Rattle.flow_value.specs.declared.value.Val.{Val}
 use Rattle.typed_tree.specs.declared.expr.TypedExpr.{TypedExpr}
-use Rattle.source_meaning.specs.declared.words.Test.{Test}
-use Rattle.source_meaning.specs.declared.words.Test.TheVariants as test
-use Rattle.source_meaning.specs.Timed.{Timed, given, plus, andthen}
-use Rattle.source_meaning.specs.Words.{test_of, goes_on}
-use Rattle.source_meaning.specs.Meaning.{Gives, Members, member, all_of, turned, turn}
+use Rattle.meaning.specs.declared.words.Test.{Test}
+use Rattle.meaning.specs.declared.words.Test.TheVariants as test
+use Rattle.meaning.specs.Timed.{Timed, given, plus, andthen}
+use Rattle.meaning.specs.Words.{test_of, goes_on}
+use Rattle.meaning.specs.Meaning.{Gives, Members, member, all_of, turned, turn}
 use Rattle.source_meaning.proofs.Laws.{then_same}
-use Rattle.meaning_laws.specs.Plain.{Depth, at, all_at, turns_at, plain, depth, plain_meaning}
+use Rattle.meaning.specs.Plain.{Depth, at, all_at, turns_at, plain, depth, plain_meaning}
 use Rattle.meaning_laws.specs.Laws.{AreTurnsOneLess}
 
 at_plain : (d : Depth) (es : List TypedExpr) → at d (map plain es) ≡ map (λ e. plain e d) es

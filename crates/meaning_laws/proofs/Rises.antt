@@ -9,14 +9,14 @@ use Rattle.typed_tree.specs.declared.expr.TypedKind.TheOpen.{TypedKind-F, TypedE
 use Rattle.typed_tree.specs.declared.expr.TypedKind.TheFolds.{map-TypedKind, map-TypedExpr, ind-TypedExpr}
 use Rattle.typed_tree.specs.declared.expr.Turns.{Turns}
 use Rattle.typed_tree.specs.declared.program.Function.{Function}
-use Rattle.source_meaning.specs.declared.words.Test.TheVariants as test
-use Rattle.source_meaning.specs.Timed.{Below}
-use Rattle.source_meaning.specs.Words.{test_of, goes_on}
-use Rattle.source_meaning.specs.Meaning.{Gives, all_of, turned, turns, members, kind_gives, results_of, function_gives, calls, meaning, kind_meaning}
+use Rattle.meaning.specs.declared.words.Test.TheVariants as test
+use Rattle.meaning.specs.Timed.{Below}
+use Rattle.meaning.specs.Words.{test_of, goes_on}
+use Rattle.meaning.specs.Meaning.{Gives, all_of, turned, turns, members, kind_gives, results_of, function_gives, calls, meaning, kind_meaning}
 use Rattle.source_meaning.specs.Pending.{Program}
 use Rattle.source_meaning.proofs.Laws.{below_refl, below_none, below_plus, below_then, below_trans, below_same}
 use Rattle.source_meaning.proofs.Grows.{meaning_is, layer_is, Less, LessAll, LessDefs, all_below, defined_below, turned_of_below, turn_below}
-use Rattle.meaning_laws.specs.Plain.{Depth, Deep, at, all_at, turns_at, members_at, kind_at, plain, plain_kind, depth, plain_calls, plain_meaning}
+use Rattle.meaning.specs.Plain.{Depth, Deep, at, all_at, turns_at, members_at, kind_at, plain, plain_kind, depth, plain_calls, plain_meaning}
 use Rattle.meaning_laws.proofs.Forms.{LessCalls, group, call, apply, scope, choice, arms, product, form_below}
 use Rattle.meaning_laws.proofs.Layers.{plain_is, plain_layer_is}
 use Rattle.meaning_laws.proofs.Deeper.{clauses_below}

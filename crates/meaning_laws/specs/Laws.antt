@@ -5,10 +5,10 @@ use Rattle.flow_value.specs.declared.value.Val.{Val}
 use Rattle.typed_tree.specs.declared.expr.TypedExpr.{TypedExpr}
 use Rattle.typed_tree.specs.declared.expr.Turns.{Turns}
 use Rattle.typed_tree.specs.declared.program.Function.{Function}
-use Rattle.source_meaning.specs.Timed.{Timed}
-use Rattle.source_meaning.specs.Meaning.{all_of, turned, function_gives, calls, meaning}
-use Rattle.source_meaning.specs.Descents.{descending}
-use Rattle.meaning_laws.specs.Plain.{turns_at, plain, depth, plain_calls, plain_meaning}
+use Rattle.meaning.specs.Timed.{Timed}
+use Rattle.meaning.specs.Meaning.{all_of, turned, function_gives, calls, meaning}
+use Rattle.meaning.specs.Descents.{descending}
+use Rattle.meaning.specs.Plain.{turns_at, plain, depth, plain_calls, plain_meaning}
 
 abbrev pub Program : Type 0
 Program = List Function

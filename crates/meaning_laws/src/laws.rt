@@ -1,7 +1,7 @@
 //! The laws of the definition with a depth of calls and turns alone.
 ghost use Rattle.std.specs.Prelude.{◌≡◌, ◌≤◌, IfOk, IfErr};
 ghost use Rattle.meaning_laws.specs.Laws.{IsGiven, PassesAlways, IsNothingCalledAtZero, IsBodyOneLess, AreTurnsOneLess, IsMeaningStable, AreCallsStable, IsMeaningOne, IsCallOne, DoesMeaningFall, DoCallsFall, IsMeaningTheSame, AreCallsTheSame, AreLimitsTheSame};
-ghost use Rattle.meaning_laws.specs.Plain.{plain_calls};
+ghost use Rattle.meaning.specs.Plain.{plain_calls};
 
 use flow_value::Items;
 use source_meaning::{Found, MeanFault, mean};

@@ -7,6 +7,8 @@ use Rattle.run_words.specs.declared.command.Keyword.{Keyword}
 use Rattle.run_words.specs.declared.command.Keyword.TheVariants as keyword
 use Rattle.run_words.specs.declared.command.RunSet.{RunSet}
 use Rattle.run_words.specs.declared.command.MeanSet.{MeanSet}
+use Rattle.run_words.specs.declared.command.CompileSet.{CompileSet}
+use Rattle.run_words.specs.declared.command.AgainSet.{AgainSet}
 use Rattle.run_words.specs.declared.options.Options.{Options}
 
 -- the bytes of the words
@@ -25,10 +27,13 @@ keyword_word keyword.Compile = codes "compile"
 keyword_word keyword.If1 = codes "if1"
 keyword_word keyword.Mean = codes "mean"
 keyword_word keyword.Gen = codes "gen"
+keyword_word keyword.Link = codes "link"
+keyword_word keyword.Verify = codes "verify"
+keyword_word keyword.Again = codes "again"
 keyword_word keyword.Help = codes "--help"
 keyword_word keyword.Version = codes "--version"
 
--- What `run` and `mean` are to do: what the options say, and otherwise this.
+-- What commands are to do: what the options say, and otherwise this.
 abbrev pub run_set : Options → List (List ℕ) → RunSet
 run_set given values = record {
   if1 = given.if1;
@@ -37,12 +42,28 @@ run_set given values = record {
   limit = unwrap_or given.limit 10000000;
   order = unwrap_or given.order 0;
   stats = given.stats;
+  opt = given.opt;
+  trace = given.trace;
   values = values;
 }
+
+abbrev pub compile_set : Options → CompileSet
+compile_set given = record { opt = given.opt; dot = given.dot; why = given.why; code = given.code }
 
 abbrev pub mean_set : Options → List (List ℕ) → MeanSet
 mean_set given values = record {
   entry = unwrap_or given.entry (codes "main");
   limit = unwrap_or given.limit 10000000;
+  values = values;
+}
+
+-- the argument of this number gets this value
+abbrev pub again_set : Options → ℕ → List ℕ → List (List ℕ) → AgainSet
+again_set given place value values = record {
+  if1 = given.if1;
+  entry = unwrap_or given.entry (codes "main");
+  limit = unwrap_or given.limit 10000000;
+  place = place;
+  value = value;
   values = values;
 }

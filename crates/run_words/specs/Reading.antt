@@ -1,9 +1,9 @@
 -- Reading words from left to right, with the first fault that is met.
-use Rattle.std.specs.Prelude.{◌≡◌, ℕ, ◌+◌, ◌&&◌, nat_le, List, [], ◌∷◌, Option, Some, None, Result, Ok, Err, codes, if◌then◌else◌}
+use Rattle.std.specs.Prelude.{◌≡◌, ℕ, ◌+◌, ◌&&◌, not, nat_le, List, [], ◌∷◌, Option, Some, None, Result, Ok, Err, codes, if◌then◌else◌}
 use Rattle.std.specs.Str.{bytes_eq}
 use Rattle.run_words.specs.Numbers.{is_numeral, number_of}
-use Rattle.run_words.specs.Options.{takes, no_options, has_flag, has_setting, with_flag}
-use Rattle.run_words.specs.Commands.{begins_with_dash, run_set, mean_set}
+use Rattle.run_words.specs.Options.{takes, has_values, no_options, has_flag, has_setting, with_flag}
+use Rattle.run_words.specs.Commands.{begins_with_dash, run_set, mean_set, compile_set, again_set}
 use Rattle.run_words.specs.declared.fault.WordFault.{WordFault}
 use Rattle.run_words.specs.declared.fault.WordFault.TheVariants as fault
 use Rattle.run_words.specs.declared.command.Command.{Command}
@@ -56,18 +56,24 @@ abbrev pub option_named : List ℕ → Option Named
 option_named word =
     if bytes_eq word (codes "--if1") then Some (named.Flag flag.If1)
     else if bytes_eq word (codes "--stats") then Some (named.Flag flag.Stats)
+    else if bytes_eq word (codes "--opt") then Some (named.Flag flag.Opt)
+    else if bytes_eq word (codes "--trace") then Some (named.Flag flag.Trace)
+    else if bytes_eq word (codes "--dot") then Some (named.Flag flag.Dot)
+    else if bytes_eq word (codes "--why") then Some (named.Flag flag.Why)
+    else if bytes_eq word (codes "--code") then Some (named.Flag flag.Code)
     else if bytes_eq word (codes "--entry") then Some (named.Setting setting.Entry)
     else if bytes_eq word (codes "--workers") then Some (named.Setting setting.Workers)
     else if bytes_eq word (codes "--limit") then Some (named.Setting setting.Limit)
     else if bytes_eq word (codes "--order") then Some (named.Setting setting.Order)
     else None
 
-abbrev pub taken : Runner → Option Named → Option Named
-taken runner None = None
-taken runner (Some option) = if takes runner option then Some option else None
+abbrev pub taken : Runner → Options → Option Named → Option Named
+taken runner given None = None
+taken runner given (Some option) = if takes runner given option then Some option else None
 
-abbrev pub option_of : Runner → List ℕ → Option Named
-option_of runner word = taken runner (option_named word)
+-- the option of a command that a word names, beside those given
+abbrev pub option_of : Runner → Options → List ℕ → Option Named
+option_of runner given word = taken runner given (option_named word)
 
 -- the command that a word names
 abbrev pub keyword_named : List ℕ → Option Keyword
@@ -77,6 +83,9 @@ keyword_named word =
     else if bytes_eq word (codes "if1") then Some keyword.If1
     else if bytes_eq word (codes "mean") then Some keyword.Mean
     else if bytes_eq word (codes "gen") then Some keyword.Gen
+    else if bytes_eq word (codes "link") then Some keyword.Link
+    else if bytes_eq word (codes "verify") then Some keyword.Verify
+    else if bytes_eq word (codes "again") then Some keyword.Again
     else if bytes_eq word (codes "--help") then Some keyword.Help
     else if bytes_eq word (codes "--version") then Some keyword.Version
     else None
@@ -92,16 +101,18 @@ after_option None given k go = Err (fault.Unknown k)
 after_option (Some (named.Flag f)) given k go = if has_flag given f then Err (fault.Repeated k) else go AnOption (with_flag given f)
 after_option (Some (named.Setting s)) given k go = if has_setting given s then Err (fault.Repeated k) else go (ItsValue s) given
 
--- What the options say, and the values. The first word is word k.
-abbrev pub reads : List (List ℕ) → Runner → Wanted → Options → ℕ → Result (Options × List (List ℕ)) WordFault
-reads [] runner AnOption given k = Ok (given, [])
+-- what the options say, the number of the first value's word, and the values
+abbrev pub Read : Type 0
+Read = Options × ℕ × List (List ℕ)
+
+-- What options and values say. The first word is word k.
+abbrev pub reads : List (List ℕ) → Runner → Wanted → Options → ℕ → Result Read WordFault
+reads [] runner AnOption given k = Ok (given, k, [])
 reads [] runner (ItsValue s) given k = Err fault.Missing
 reads (word ∷ later) runner AnOption given k =
-    if begins_with_dash word
-    then (if bytes_eq word (codes "--")
-    then Ok (given, later)
-    else after_option (option_of runner word) given k (λ next more. reads later runner next more (k + 1)))
-    else Ok (given, word ∷ later)
+    if not (begins_with_dash word) && has_values runner then Ok (given, k, word ∷ later)
+    else if bytes_eq word (codes "--") && has_values runner then Ok (given, k + 1, later)
+    else after_option (option_of runner given word) given k (λ next more. reads later runner next more (k + 1))
 reads (word ∷ later) runner (ItsValue s) given k = with_setting given s k word >>= λ more. reads later runner AnOption more (k + 1)
 
 -- a command that takes no further word
@@ -114,11 +125,31 @@ reads_gen [] = Err fault.Missing
 reads_gen (word ∷ []) = number_at 1 500 2 word >>= λ n. Ok (command.Gen n)
 reads_gen (word ∷ more ∷ later) = number_at 1 500 2 word >>= λ n. Err (fault.Unknown 3)
 
+-- `again` with the place and the new value, of which the first is word k, and the values
+abbrev pub reads_change : Options → ℕ → List (List ℕ) → Result Command WordFault
+reads_change given k [] = Err fault.Missing
+reads_change given k (word ∷ []) = number_at 1 65535 k word >>= λ n. Err fault.Missing
+reads_change given k (word ∷ value ∷ values) = number_at 1 65535 k word >>= λ n. Ok (command.Again (again_set given n value values))
+
+-- a command with its options and values, the first of which is word k
+abbrev pub ended : Runner → Options → ℕ → List (List ℕ) → Result Command WordFault
+ended runner.Run given k values = Ok (command.Run (run_set given values))
+ended runner.Mean given k values = Ok (command.Mean (mean_set given values))
+ended runner.Compile given k values = Ok (command.Compile (compile_set given))
+ended runner.Verify given k values = Ok (command.Verify (mean_set given values))
+ended runner.Again given k values = reads_change given k values
+
+abbrev pub reads_runner : Runner → List (List ℕ) → Result Command WordFault
+reads_runner runner later = reads later runner AnOption no_options 2 >>= λ read. ended runner read.0 read.1 read.2
+
 abbrev pub reads_after : Keyword → List (List ℕ) → Result Command WordFault
-reads_after keyword.Run later = reads later runner.Run AnOption no_options 2 >>= λ read. Ok (command.Run (run_set read.0 read.1))
-reads_after keyword.Mean later = reads later runner.Mean AnOption no_options 2 >>= λ read. Ok (command.Mean (mean_set read.0 read.1))
+reads_after keyword.Run later = reads_runner runner.Run later
+reads_after keyword.Mean later = reads_runner runner.Mean later
+reads_after keyword.Compile later = reads_runner runner.Compile later
+reads_after keyword.Verify later = reads_runner runner.Verify later
+reads_after keyword.Again later = reads_runner runner.Again later
 reads_after keyword.Gen later = reads_gen later
-reads_after keyword.Compile later = reads_alone command.Compile later
+reads_after keyword.Link later = reads_alone command.Link later
 reads_after keyword.If1 later = reads_alone command.If1 later
 reads_after keyword.Help later = reads_alone command.Help later
 reads_after keyword.Version later = reads_alone command.Version later

@@ -7,7 +7,8 @@ use flow_value::NoMemory;
 /// The first fault of the words from the left. Words count from 1.
 #[derive(Clone, Copy, Debug, PartialEq, Eq)]
 pub enum WordFault {
-    /// The words end where a command, the number of `gen` or the value of an option is wanted.
+    /// The words end where a command, the number of `gen`, the value of an option, or the place or the new value of `again` is
+    /// wanted.
     Missing,
     /// This word is no command, is none of the command's options, or is one too many.
     Unknown(usize),

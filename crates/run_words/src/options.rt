@@ -1,6 +1,6 @@
 //! The options of the commands that run a program.
 ghost use Rattle.std.specs.Prelude.{◌≡◌};
-ghost use Rattle.run_words.specs.Options.{takes, has_flag, with_flag, has_setting, no_options};
+ghost use Rattle.run_words.specs.Options.{has, has_flag, has_setting, has_values, is_beside, no_options, takes, with_flag};
 ghost use Rattle.run_words.specs.Reading.{Gives, option_named, option_of, with_setting};
 
 use crate::fault::WordFault;
@@ -8,13 +8,19 @@ use crate::number::number_in;
 use flow_value::Name;
 use std::alloc::Global;
 
-/// A command that runs a program, and has options.
+/// A command that has options.
 #[derive(Clone, Copy, Debug, PartialEq, Eq)]
 pub enum Runner {
     /// `run`
     Run,
     /// `mean`
     Mean,
+    /// `compile`
+    Compile,
+    /// `verify`
+    Verify,
+    /// `again`
+    Again,
 }
 
 /// An option that stands alone.
@@ -24,6 +30,16 @@ pub enum Flag {
     If1,
     /// `--stats`
     Stats,
+    /// `--opt`
+    Opt,
+    /// `--trace`
+    Trace,
+    /// `--dot`
+    Dot,
+    /// `--why`
+    Why,
+    /// `--code`
+    Code,
 }
 
 /// An option that takes the next word.
@@ -63,28 +79,59 @@ pub struct Options {
     pub order: Option<u32>,
     /// Whether there is `--stats`.
     pub stats: bool,
+    /// Whether there is `--opt`.
+    pub opt: bool,
+    /// Whether there is `--trace`.
+    pub trace: bool,
+    /// Whether there is `--dot`.
+    pub dot: bool,
+    /// Whether there is `--why`.
+    pub why: bool,
+    /// Whether there is `--code`.
+    pub code: bool,
 }
 
 impl Runner {
-    /// Whether the command has the option.
-    fn takes(self, option: Named) -> bool
-        ensures { result ≡ takes self option }
+    /// Whether values may follow the options.
+    pub fn has_values(self) -> bool
+        ensures { result ≡ has_values self }
     {
-        match self {
-            Runner::Run => true,
-            Runner::Mean => matches!(
-                option,
-                Named::Setting(Setting::Entry) | Named::Setting(Setting::Limit)
-            ),
+        !matches!(self, Runner::Compile)
+    }
+
+    /// Whether the command has the option.
+    fn has(self, option: Named) -> bool
+        ensures { result ≡ has self option }
+    {
+        match option {
+            Named::Flag(Flag::If1) => matches!(self, Runner::Run | Runner::Again),
+            Named::Flag(Flag::Opt) => matches!(self, Runner::Run | Runner::Compile),
+            Named::Flag(Flag::Dot) | Named::Flag(Flag::Why) | Named::Flag(Flag::Code) => {
+                matches!(self, Runner::Compile)
+            }
+            Named::Setting(Setting::Entry) | Named::Setting(Setting::Limit) => {
+                !matches!(self, Runner::Compile)
+            }
+            Named::Flag(Flag::Stats)
+            | Named::Flag(Flag::Trace)
+            | Named::Setting(Setting::Workers)
+            | Named::Setting(Setting::Order) => matches!(self, Runner::Run),
         }
     }
 
-    /// The option of the command that a word names.
-    pub fn option_of(self, word: &str) -> Option<Named>
-        ensures { result ≡ option_of self word.now }
+    /// Whether the command takes the option beside those given.
+    fn takes(self, given: &Options, option: Named) -> bool
+        ensures { result ≡ takes self given.now option }
+    {
+        self.has(option) && given.may_stand_beside(option)
+    }
+
+    /// The option of the command that a word names, where it may stand beside those given.
+    pub fn option_of(self, given: &Options, word: &str) -> Option<Named>
+        ensures { result ≡ option_of self given.now word.now }
     {
         match option_named(word) {
-            Some(option) if self.takes(option) => Some(option),
+            Some(option) if self.takes(given, option) => Some(option),
             _ => None,
         }
     }
@@ -98,6 +145,16 @@ fn option_named(word: &str) -> Option<Named>
         Some(Named::Flag(Flag::If1))
     } else if word == "--stats" {
         Some(Named::Flag(Flag::Stats))
+    } else if word == "--opt" {
+        Some(Named::Flag(Flag::Opt))
+    } else if word == "--trace" {
+        Some(Named::Flag(Flag::Trace))
+    } else if word == "--dot" {
+        Some(Named::Flag(Flag::Dot))
+    } else if word == "--why" {
+        Some(Named::Flag(Flag::Why))
+    } else if word == "--code" {
+        Some(Named::Flag(Flag::Code))
     } else if word == "--entry" {
         Some(Named::Setting(Setting::Entry))
     } else if word == "--workers" {
@@ -123,6 +180,23 @@ impl Options {
             limit: None,
             order: None,
             stats: false,
+            opt: false,
+            trace: false,
+            dot: false,
+            why: false,
+            code: false,
+        }
+    }
+
+    /// Whether an option may stand beside these: of `--dot`, `--why` and `--code` one stands alone.
+    fn may_stand_beside(&self, option: Named) -> bool
+        ensures { result ≡ is_beside self.now option }
+    {
+        match option {
+            Named::Flag(Flag::Dot) => !(self.why || self.code),
+            Named::Flag(Flag::Why) => !(self.dot || self.code),
+            Named::Flag(Flag::Code) => !(self.dot || self.why),
+            _ => true,
         }
     }
 
@@ -133,6 +207,11 @@ impl Options {
         match flag {
             Flag::If1 => self.if1,
             Flag::Stats => self.stats,
+            Flag::Opt => self.opt,
+            Flag::Trace => self.trace,
+            Flag::Dot => self.dot,
+            Flag::Why => self.why,
+            Flag::Code => self.code,
         }
     }
 
@@ -158,6 +237,14 @@ impl Options {
                 stats: true,
                 ..self
             },
+            Flag::Opt => Options { opt: true, ..self },
+            Flag::Trace => Options {
+                trace: true,
+                ..self
+            },
+            Flag::Dot => Options { dot: true, ..self },
+            Flag::Why => Options { why: true, ..self },
+            Flag::Code => Options { code: true, ..self },
         }
     }
 

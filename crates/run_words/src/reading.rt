@@ -1,15 +1,13 @@
 //! Reads the words from left to right.
 ghost use Rattle.std.specs.Prelude.{◌≡◌, ◌≢◌, ◌⊎◌, ℕ, List, IfOk, IfErr, unwrap_or, codes, Ok, Err};
-ghost use Rattle.run_words.specs.Commands.{bytes_of, begins_with_dash, run_set, mean_set};
-ghost use Rattle.run_words.specs.Options.{no_options};
-ghost use Rattle.run_words.specs.Reading.{Gives, reads, reads_gen, reads_after, reads_alone, reads_words, AnOption};
+ghost use Rattle.run_words.specs.Commands.{again_set, begins_with_dash, bytes_of, compile_set, mean_set, run_set};
+ghost use Rattle.run_words.specs.Reading.{Gives, ended, reads_alone, reads_change, reads_gen, reads_runner, reads_words};
 ghost use Rattle.run_words.specs.Words.{IsCommand, HasFault};
 ghost use Rattle.run_words.specs.declared.fault.WordFault.TheVariants.{NoMemory as no_memory};
 ghost use Rattle.run_words.specs.declared.fault.WordFault.{WordFault};
 ghost use Rattle.run_words.specs.declared.command.Command.{Command};
-ghost use Rattle.run_words.specs.declared.command.Keyword.TheVariants as keyword;
 
-use crate::command::{Command, Keyword, MeanSet, RunSet, keyword_named};
+use crate::command::{AgainSet, Command, CompileSet, Keyword, MeanSet, RunSet, keyword_named};
 use crate::fault::WordFault;
 use crate::number::number_in;
 use crate::options::{Named, Options, Runner};
@@ -49,11 +47,14 @@ fn read(alloc: Global, words: &[String]) -> Result<Command, WordFault>
     };
     match keyword_named(word.as_str()) {
         None => Err(WordFault::Unknown(1)),
-        Some(Keyword::Run) => read_run(alloc, later),
-        Some(Keyword::Mean) => read_mean(alloc, later),
+        Some(Keyword::Run) => read_options(alloc, Runner::Run, later),
+        Some(Keyword::Mean) => read_options(alloc, Runner::Mean, later),
+        Some(Keyword::Compile) => read_options(alloc, Runner::Compile, later),
+        Some(Keyword::Verify) => read_options(alloc, Runner::Verify, later),
+        Some(Keyword::Again) => read_options(alloc, Runner::Again, later),
         Some(Keyword::Gen) => read_gen(later),
-        Some(Keyword::Compile) => alone(Command::Compile, later),
         Some(Keyword::If1) => alone(Command::If1, later),
+        Some(Keyword::Link) => alone(Command::Link, later),
         Some(Keyword::Help) => alone(Command::Help, later),
         Some(Keyword::Version) => alone(Command::Version, later),
     }
@@ -85,22 +86,6 @@ fn read_gen(later: &[String]) -> Result<Command, WordFault>
     }
 }
 
-/// `run` with its options and values.
-fn read_run(alloc: Global, later: &[String]) -> Result<Command, WordFault>
-    ensures { Gives result (reads_after keyword.Run (bytes_of later.now)) }
-{
-    let (options, values) = read_options(alloc, Runner::Run, later)?;
-    Ok(Command::Run(run_set(alloc, options, values)?))
-}
-
-/// `mean` with its options and values.
-fn read_mean(alloc: Global, later: &[String]) -> Result<Command, WordFault>
-    ensures { Gives result (reads_after keyword.Mean (bytes_of later.now)) }
-{
-    let (options, values) = read_options(alloc, Runner::Mean, later)?;
-    Ok(Command::Mean(mean_set(alloc, options, values)?))
-}
-
 fn run_set(alloc: Global, options: Options, values: Texts) -> Result<RunSet, NoMemory>
     ensures { IfOk result (λ set. set ≡ run_set options values) }
 {
@@ -111,6 +96,8 @@ fn run_set(alloc: Global, options: Options, values: Texts) -> Result<RunSet, NoM
         limit: options.limit.unwrap_or(LIMIT),
         order: options.order.unwrap_or(0),
         stats: options.stats,
+        opt: options.opt,
+        trace: options.trace,
         values,
     })
 }
@@ -125,6 +112,36 @@ fn mean_set(alloc: Global, options: Options, values: Texts) -> Result<MeanSet, N
     })
 }
 
+fn compile_set(options: &Options) -> CompileSet
+    ensures { result ≡ compile_set options.now }
+{
+    CompileSet {
+        opt: options.opt,
+        dot: options.dot,
+        why: options.why,
+        code: options.code,
+    }
+}
+
+fn again_set(
+    alloc: Global,
+    options: Options,
+    place: u32,
+    value: Text,
+    values: Texts,
+) -> Result<AgainSet, NoMemory>
+    ensures { IfOk result (λ set. set ≡ again_set options place value values) }
+{
+    Ok(AgainSet {
+        if1: options.if1,
+        entry: entry_or_main(alloc, options.entry)?,
+        limit: options.limit.unwrap_or(LIMIT),
+        place,
+        value,
+        values,
+    })
+}
+
 fn entry_or_main(alloc: Global, entry: Option<Name>) -> Result<Name, NoMemory>
     ensures { IfOk result (λ name. name ≡ unwrap_or entry (codes "main")) }
 {
@@ -134,25 +151,21 @@ fn entry_or_main(alloc: Global, entry: Option<Name>) -> Result<Name, NoMemory>
     }
 }
 
-/// What the options say, and the values. The first of the words is word 2.
-fn read_options(
-    alloc: Global,
-    runner: Runner,
-    words: &[String],
-) -> Result<(Options, Texts), WordFault>
-    ensures { Gives result (reads (bytes_of words.now) runner AnOption no_options 2) }
+/// A command with its options and values. The first of the words is word 2.
+fn read_options(alloc: Global, runner: Runner, words: &[String]) -> Result<Command, WordFault>
+    ensures { Gives result (reads_runner runner (bytes_of words.now)) }
 {
     let mut given = Options::none();
     let mut place = 2;
     let mut rest = words;
     while let Some((word, later)) = rest.split_first() {
-        if !begins_with_dash(word.as_str()) {
-            return with_values(alloc, given, rest);
+        if !begins_with_dash(word.as_str()) && runner.has_values() {
+            return ended(alloc, runner, given, place, rest);
         }
-        if word.as_str() == "--" {
-            return with_values(alloc, given, later);
+        if word.as_str() == "--" && runner.has_values() {
+            return ended(alloc, runner, given, place + 1, later);
         }
-        match runner.option_of(word.as_str()) {
+        match runner.option_of(&given, word.as_str()) {
             None => return Err(WordFault::Unknown(place)),
             Some(Named::Flag(flag)) => {
                 if given.has_flag(flag) {
@@ -175,22 +188,58 @@ fn read_options(
             }
         }
     }
-    with_values(alloc, given, rest)
+    ended(alloc, runner, given, place, rest)
 }
 
-/// The options with the values behind them.
-fn with_values(
+/// The command with these options and values, of which the first is word `place`.
+fn ended(
+    alloc: Global,
+    runner: Runner,
+    given: Options,
+    place: usize,
+    values: &[String],
+) -> Result<Command, WordFault>
+    ensures { Gives result (ended runner given place (bytes_of values.now)) }
+{
+    match runner {
+        Runner::Run => Ok(Command::Run(run_set(alloc, given, texts_of(alloc, values)?)?)),
+        Runner::Mean => Ok(Command::Mean(mean_set(alloc, given, texts_of(alloc, values)?)?)),
+        Runner::Compile => Ok(Command::Compile(compile_set(&given))),
+        Runner::Verify => Ok(Command::Verify(mean_set(alloc, given, texts_of(alloc, values)?)?)),
+        Runner::Again => change(alloc, given, place, values),
+    }
+}
+
+/// `again` with the number of an argument, which is word `place`, its new value and the values.
+fn change(
     alloc: Global,
     given: Options,
+    place: usize,
     values: &[String],
-) -> Result<(Options, Texts), WordFault>
-    ensures { Gives result (Ok (given, bytes_of values.now)) }
+) -> Result<Command, WordFault>
+    ensures { Gives result (reads_change given place (bytes_of values.now)) }
+{
+    let Some((word, more)) = values.split_first() else {
+        return Err(WordFault::Missing);
+    };
+    let argument = number_in(word.as_str(), place, 1, 65535)? as u32;
+    let Some((value, later)) = more.split_first() else {
+        return Err(WordFault::Missing);
+    };
+    let value = Text::from_slice(alloc, value.as_bytes())?;
+    let set = again_set(alloc, given, argument, value, texts_of(alloc, later)?)?;
+    Ok(Command::Again(set))
+}
+
+/// The words as texts.
+fn texts_of(alloc: Global, words: &[String]) -> Result<Texts, NoMemory>
+    ensures { IfOk result (λ texts. texts ≡ bytes_of words.now) }
 {
     let mut texts = Texts::new(alloc);
-    for value in values {
-        texts.add(Text::from_slice(alloc, value.as_bytes())?)?;
+    for word in words {
+        texts.add(Text::from_slice(alloc, word.as_bytes())?)?;
     }
-    Ok((given, texts))
+    Ok(texts)
 }
 
 /// Whether a word begins as an option does.

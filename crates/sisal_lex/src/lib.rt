@@ -14,6 +14,3 @@ mod words;
 pub use fault::LexFault;
 pub use lexer::lex;
 pub use token::{Kind, Sign, Token, Tokens, Word};
-
-#[cfg(test)]
-mod tests;

@@ -9,6 +9,3 @@ mod units;
 
 pub use fault::ParseFault;
 pub use units::parse;
-
-#[cfg(test)]
-mod tests;

@@ -19,7 +19,10 @@ use Rattle.sisal_top.specs.declared.status.Status.TheVariants as status
 -- what a command prints, where these bytes are the text
 abbrev pub Asks : Command → List ℕ → List ℕ → Type 0
 Asks (command.Run set) bytes printed = IsPlain set × Prints bytes printed
-Asks command.Compile bytes printed = ⊥
+Asks (command.Compile set) bytes printed = ⊥
+Asks command.Link bytes printed = ⊥
+Asks (command.Verify set) bytes printed = ⊥
+Asks (command.Again set) bytes printed = ⊥
 Asks command.If1 bytes printed = IsCanonicalOf bytes printed
 Asks (command.Mean set) bytes printed = PrintsMeaning set bytes printed
 Asks (command.Gen n) bytes printed = printed ≡ program n
@@ -29,7 +32,10 @@ Asks command.Version bytes printed = printed ≡ version_text
 -- which commands and texts are not built yet
 abbrev pub IsLater : Command → List ℕ → Type 0
 IsLater (command.Run set) bytes = IsPlain set → IsNotYet bytes
-IsLater command.Compile bytes = Unit {0}
+IsLater (command.Compile set) bytes = Unit {0}
+IsLater command.Link bytes = Unit {0}
+IsLater (command.Verify set) bytes = Unit {0}
+IsLater (command.Again set) bytes = Unit {0}
 IsLater command.If1 bytes = IsRefusedFor bytes unit.Marked
 IsLater (command.Mean set) bytes = ⊥
 IsLater (command.Gen n) bytes = ⊥

@@ -58,16 +58,19 @@ HasNoUnit bytes refusal = (tokens : Tokens) × (tokens_of bytes ≡ Ok tokens) �
 abbrev pub IsRefused : List ℕ → Status → Type 0
 IsRefused bytes refusal = HasNoTokens bytes refusal ⊎ HasNoUnit bytes refusal
 
--- `run` of a SISAL text and its function `main`, with no values, no totals and the usual limit: the
+-- `run` of a SISAL text and its function `main`, with no values, no totals, no trace and the usual limit, as translated: the
 -- number of workers and the order may be given, since nothing depends on them
 abbrev pub IsPlain : RunSet → Type 0
-IsPlain set = (set.if1 ≡ false) × (set.entry ≡ codes "main") × (set.limit ≡ 10000000) × (set.stats ≡ false) × (set.values ≡ [])
+IsPlain set = (set.if1 ≡ false) × (set.entry ≡ codes "main") × (set.limit ≡ 10000000) × (set.stats ≡ false) × (set.opt ≡ false) × (set.trace ≡ false) × (set.values ≡ [])
 
 -- the commands that read the text: a plain `run`, `mean` and `if1`
 abbrev pub ReadsText : Command → Type 0
 ReadsText (command.Run set) = IsPlain set
 ReadsText (command.Mean set) = Unit {0}
-ReadsText command.Compile = ⊥
+ReadsText (command.Compile set) = ⊥
+ReadsText command.Link = ⊥
+ReadsText (command.Verify set) = ⊥
+ReadsText (command.Again set) = ⊥
 ReadsText command.If1 = Unit {0}
 ReadsText (command.Gen n) = ⊥
 ReadsText command.Help = ⊥

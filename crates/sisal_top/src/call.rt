@@ -28,7 +28,7 @@ const MOST_BYTES: usize = 4194304;
 /// The limit of a run where none is given.
 const USUAL_LIMIT: u64 = 10000000;
 
-/// Whether a run is one of the function `main`, with no values, no totals and the usual limit.
+/// Whether a run is one of the function `main`, with no values, no totals, no trace and the usual limit.
 fn is_plain(set: &RunSet) -> bool
     ensures { IsTrue result ↔ IsPlain set.now }
 {
@@ -36,6 +36,8 @@ fn is_plain(set: &RunSet) -> bool
         && set.entry.as_slice() == b"main".as_slice()
         && set.limit == USUAL_LIMIT
         && !set.stats
+        && !set.opt
+        && !set.trace
         && set.values.is_empty()
 }
 
@@ -151,7 +153,9 @@ fn perform<S: Source>(alloc: Global, command: Command, text: &mut S) -> Result<T
         }
         Command::Mean(set) => mean(alloc, &set, text),
         Command::If1 => if1(alloc, text),
-        Command::Compile => Err(Status::Later),
+        Command::Compile(_) | Command::Link | Command::Verify(_) | Command::Again(_) => {
+            Err(Status::Later)
+        }
     }
 }
 

@@ -14,6 +14,3 @@ mod texts;
 pub use call::sisal;
 pub use lines::report;
 pub use status::{Status, SyntaxFault};
-
-#[cfg(test)]
-mod tests;

@@ -8,18 +8,28 @@ use std::alloc::Global;
 const HELP: &[u8] = b"usage: sisal COMMAND [OPTIONS] [VALUES]
 The program text is read from standard input.
 
-run [OPTIONS] [VALUES]   runs the entry function and prints one result a line
-compile                  prints the graphs of a SISAL text as IF1
-if1                      checks an IF1 text and prints it in canonical form
 mean [OPTIONS] [VALUES]  evaluates a SISAL text by the meaning of its source
+if1                      checks an IF1 text and prints it in canonical form
+run [OPTIONS] [VALUES]   runs the entry function and prints one result a line
 gen N                    prints a generated program, N from 1 to 500
---help                   prints this text
---version                prints the version
+--help, --version        print this text, and the version
 
-Options of run: --if1, --entry NAME, --workers W, --limit T, --order K, --stats.
 Options of mean: --entry NAME, --limit T. The word -- ends the options.
-The status is 0 where all is done; docs/PROGRAM.md tells the others. What is not
-built yet ends with status 11.
+
+To come, until then status 11: run with values or options, and of all but programs
+of integers, +, -, * and let; if1 of texts with marks; the options of run --if1,
+--entry NAME, --limit T, --workers W, --order K, --stats, --opt, --trace; and
+compile [--opt] [--dot, --why or --code]  prints the graphs of a SISAL text
+link                                      joins the parts of an IF1 text
+verify [--entry NAME] [--limit T] [VALUES]
+                                          checks the trace of a run
+again [--if1] [--entry NAME] [--limit T] P NEW [VALUES]
+                                          runs once more with argument P changed
+
+Statuses: 0 done, 1 words, 2 reading, 3 writing, 4 memory, 5 no SISAL, 6 types,
+7 no IF1, 8 entry or values, 9 limit, 10 too long, 11 to come, 12 a function of
+another text. Each line that is printed has its heading in docs/ERRORS.md; commands
+and options are told in docs/PROGRAM.md, the language in docs/TUTORIAL.md.
 ";
 
 const VERSION: &[u8] = b"sisal 0.1 (SISAL 1.2 over whole numbers)

@@ -8,8 +8,8 @@ use Rattle.loop_folds.specs.declared.masking.Masking.{Masking}
 use Rattle.loop_folds.specs.declared.masking.Masking.TheVariants as masking
 use Rattle.loop_folds.specs.Masks.{keep_of}
 use Rattle.typed_tree.specs.declared.expr.ClauseForm.{ClauseForm}
-use Rattle.source_meaning.specs.Rows.{span, cells_in, with_cells, with_row}
-use Rattle.source_meaning.specs.Words.{value_at}
+use Rattle.meaning.specs.Rows.{span, cells_in, with_cells, with_row}
+use Rattle.meaning.specs.Words.{value_at}
 
 no_cells_more : (fs : List ClauseCells) → with_cells fs [] ≡ fs
 no_cells_more [] = refl

@@ -12,17 +12,17 @@ use Rattle.typed_tree.specs.declared.expr.TypedExpr.{TypedExpr}
 use Rattle.typed_tree.specs.declared.expr.TypedKind.{TypedKind}
 use Rattle.typed_tree.specs.declared.expr.TypedKind.TheVariants as kind
 use Rattle.typed_tree.specs.declared.expr.TypedKind.TheOpen.{TypedKind-F}
-use Rattle.source_meaning.specs.declared.words.Test.{Test}
-use Rattle.source_meaning.specs.declared.words.Test.TheVariants as test
+use Rattle.meaning.specs.declared.words.Test.{Test}
+use Rattle.meaning.specs.declared.words.Test.TheVariants as test
 use Rattle.source_meaning.specs.declared.slots.Slot.{Slot}
 use Rattle.source_meaning.specs.declared.state.Walked.{Walked}
 use Rattle.source_meaning.specs.declared.state.Walk.{Walk}
-use Rattle.source_meaning.specs.Timed.{Timed, given, plus, andthen, Passes}
-use Rattle.source_meaning.specs.Words.{test_of}
+use Rattle.meaning.specs.Timed.{Timed, given, plus, andthen, Passes}
+use Rattle.meaning.specs.Words.{test_of}
 use Rattle.source_meaning.specs.Slots.{slot_value, slot_values}
-use Rattle.source_meaning.specs.Sources.{names_at, lower_of}
-use Rattle.source_meaning.specs.Rows.{with_row, with_rows, made}
-use Rattle.source_meaning.specs.Meaning.{Gives, all_of, defined, chosen, each, environments, at_place, meaning, kind_meaning, meanings, definitions}
+use Rattle.meaning.specs.Sources.{names_at, lower_of}
+use Rattle.meaning.specs.Rows.{with_row, with_rows, made}
+use Rattle.meaning.specs.Meaning.{Gives, all_of, defined, chosen, each, environments, at_place, meaning, kind_meaning, meanings, definitions}
 use Rattle.source_meaning.specs.Pending.{Program, Rest, walked_body, walk}
 use Rattle.source_meaning.proofs.Laws.{given_then, then_given, then_then, then_same, plus_then, plus_plus, joined, passes_now}
 use Rattle.source_meaning.proofs.Grows.{meaning_is, layer_is}

@@ -8,10 +8,10 @@ use Rattle.typed_tree.specs.declared.expr.TypedExpr.{TypedExpr}
 use Rattle.source_meaning.specs.declared.state.Turned.{Turned}
 use Rattle.source_meaning.specs.declared.state.Round.{Round}
 use Rattle.source_meaning.specs.declared.state.After.TheVariants as after
-use Rattle.source_meaning.specs.Timed.{Timed, given, plus, andthen}
-use Rattle.source_meaning.specs.Words.{failed}
-use Rattle.source_meaning.specs.Rows.{no_rows, with_rows, made}
-use Rattle.source_meaning.specs.Meaning.{body_of, each, folded, Members, members, unless_failed, looped, meaning, meanings, definitions}
+use Rattle.meaning.specs.Timed.{Timed, given, plus, andthen}
+use Rattle.meaning.specs.Words.{failed}
+use Rattle.meaning.specs.Rows.{no_rows, with_rows, made}
+use Rattle.meaning.specs.Meaning.{body_of, each, folded, Members, members, unless_failed, looped, meaning, meanings, definitions}
 use Rattle.source_meaning.specs.Pending.{Program, Rest, turned_next, initial_gives, closed, round, finish}
 use Rattle.source_meaning.proofs.Laws.{given_then, then_then, plus_then, joined}
 use Rattle.source_meaning.proofs.Rests.{defined_then}

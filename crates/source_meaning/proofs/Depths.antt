@@ -1,8 +1,8 @@
 -- What is given at one depth is given at every greater one, and it is one.
 use Rattle.std.proofs.Common.{◌≡◌, ℕ, zero, suc, ◌+◌, ◌-◌, ◌≤◌, List, Some, sym, subst, ◌∙◌, arith}
 use Rattle.flow_value.specs.declared.value.Val.{Val}
-use Rattle.source_meaning.specs.Timed.{Below}
-use Rattle.source_meaning.specs.Meaning.{calls}
+use Rattle.meaning.specs.Timed.{Below}
+use Rattle.meaning.specs.Meaning.{calls}
 use Rattle.source_meaning.specs.Pending.{Program}
 use Rattle.source_meaning.proofs.Laws.{below_refl, below_trans}
 use Rattle.source_meaning.proofs.Grows.{calls_grow}

@@ -7,8 +7,8 @@ use Rattle.source_meaning.specs.declared.state.Frame.{Frame}
 use Rattle.source_meaning.specs.declared.state.Frame.TheVariants as frame
 use Rattle.source_meaning.specs.declared.state.After.{After}
 use Rattle.source_meaning.specs.declared.state.After.TheVariants as after
-use Rattle.source_meaning.specs.Timed.{Timed, plus, andthen, Passes}
-use Rattle.source_meaning.specs.Meaning.{meaning, kind_meaning, meanings}
+use Rattle.meaning.specs.Timed.{Timed, plus, andthen, Passes}
+use Rattle.meaning.specs.Meaning.{meaning, kind_meaning, meanings}
 use Rattle.source_meaning.specs.Pending.{Program, Rest, finish, frame_rest, rest, bind_weight, listing_weight, weight}
 use Rattle.source_meaning.proofs.Laws.{plus_zero, plus_plus, plus_at, passes_now}
 use Rattle.source_meaning.proofs.Grows.{meaning_is}

@@ -9,9 +9,9 @@ use Rattle.typed_tree.specs.declared.expr.TypedExpr.{TypedExpr}
 use Rattle.typed_tree.specs.declared.expr.TypedKind.{TypedKind}
 use Rattle.typed_tree.specs.declared.expr.TypedKind.TheVariants as kind
 use Rattle.typed_tree.specs.declared.expr.TypedKind.TheOpen.{TypedKind-F}
-use Rattle.source_meaning.specs.Timed.{Timed, given, plus, andthen}
-use Rattle.source_meaning.specs.Words.{value_at}
-use Rattle.source_meaning.specs.Meaning.{meaning, kind_meaning, meanings}
+use Rattle.meaning.specs.Timed.{Timed, given, plus, andthen}
+use Rattle.meaning.specs.Words.{value_at}
+use Rattle.meaning.specs.Meaning.{meaning, kind_meaning, meanings}
 use Rattle.source_meaning.specs.Pending.{Program}
 use Rattle.source_meaning.proofs.Laws.{given_then, plus_plus, plus_then, joined, swap}
 use Rattle.source_meaning.proofs.Grows.{meaning_is, layer_is}

@@ -5,16 +5,16 @@ use Rattle.flow_value.specs.declared.value.Val.{Val}
 use Rattle.loop_folds.specs.declared.clause.Clause.{Clause}
 use Rattle.loop_folds.specs.Clauses.{ClauseCells}
 use Rattle.typed_tree.specs.declared.expr.TypedExpr.{TypedExpr}
-use Rattle.source_meaning.specs.declared.words.Test.{Test}
-use Rattle.source_meaning.specs.declared.words.Test.TheVariants as test
+use Rattle.meaning.specs.declared.words.Test.{Test}
+use Rattle.meaning.specs.declared.words.Test.TheVariants as test
 use Rattle.source_meaning.specs.declared.state.Turned.{Turned}
 use Rattle.source_meaning.specs.declared.state.Round.{Round}
 use Rattle.source_meaning.specs.declared.state.Frame.{Frame}
 use Rattle.source_meaning.specs.declared.state.After.TheVariants as after
-use Rattle.source_meaning.specs.Timed.{Timed, given, plus, andthen, Moves, Passes}
-use Rattle.source_meaning.specs.Words.{test_of, goes_on}
-use Rattle.source_meaning.specs.Rows.{no_rows, with_row}
-use Rattle.source_meaning.specs.Meaning.{renew, meanings, definitions}
+use Rattle.meaning.specs.Timed.{Timed, given, plus, andthen, Moves, Passes}
+use Rattle.meaning.specs.Words.{test_of, goes_on}
+use Rattle.meaning.specs.Rows.{no_rows, with_row}
+use Rattle.meaning.specs.Meaning.{renew, meanings, definitions}
 use Rattle.source_meaning.specs.Pending.{Program, Rest, turned_next, round, tested, finish, rest, before}
 use Rattle.source_meaning.specs.Turning.{Replaced, standing, turning}
 use Rattle.source_meaning.proofs.Laws.{given_then, then_same, plus_plus, moves_same, moves_on, passes_back, passes_now}

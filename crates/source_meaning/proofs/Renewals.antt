@@ -4,7 +4,7 @@ use Rattle.std.specs.Prelude.{slice_get, unwrap_or}
 use Rattle.std.proofs.lemmas.List.{take-append-drop, set-append_left, set_past, length-take, length-drop, length-set, length-append, take-append-le, drop-append-le, drop_all, append_assoc, append-nil}
 use Rattle.std.proofs.Math.Seq.{take-append_seam, drop-append_seam}
 use Rattle.flow_value.specs.declared.value.Val.{Val}
-use Rattle.source_meaning.specs.Meaning.{renew, renew_one}
+use Rattle.meaning.specs.Meaning.{renew, renew_one}
 
 module _ {X : Type 0} where
   -- a list in three parts

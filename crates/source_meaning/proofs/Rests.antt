@@ -8,8 +8,8 @@ use Rattle.flow_value.specs.declared.cause.Cause.{Cause}
 use Rattle.loop_folds.specs.Clauses.{ClauseCells}
 use Rattle.typed_tree.specs.declared.expr.TypedExpr.{TypedExpr}
 use Rattle.typed_tree.specs.declared.program.Function.{Function}
-use Rattle.source_meaning.specs.declared.words.Test.{Test}
-use Rattle.source_meaning.specs.declared.words.Test.TheVariants as test
+use Rattle.meaning.specs.declared.words.Test.{Test}
+use Rattle.meaning.specs.declared.words.Test.TheVariants as test
 use Rattle.source_meaning.specs.declared.state.Walked.{Walked}
 use Rattle.source_meaning.specs.declared.state.Walk.{Walk}
 use Rattle.source_meaning.specs.declared.state.Turned.{Turned}
@@ -19,14 +19,14 @@ use Rattle.source_meaning.specs.declared.state.Work.{Work}
 use Rattle.source_meaning.specs.declared.state.Work.TheVariants as work
 use Rattle.source_meaning.specs.declared.state.Frame.{Frame}
 use Rattle.source_meaning.specs.declared.state.Frame.TheVariants as frame
-use Rattle.source_meaning.specs.Timed.{Timed, given, plus, andthen, Below, Moves, Passes}
-use Rattle.source_meaning.specs.Words.{value_at, test_of}
+use Rattle.meaning.specs.Timed.{Timed, given, plus, andthen, Below, Moves, Passes}
+use Rattle.meaning.specs.Words.{value_at, test_of}
 use Rattle.source_meaning.specs.Slots.{slot_values}
-use Rattle.source_meaning.specs.Sources.{places_of}
-use Rattle.source_meaning.specs.Meaning.{Gives, all_of, defined, at_place, calls, meaning, meanings, function_gives}
-use Rattle.source_meaning.specs.Rows.{no_rows}
+use Rattle.meaning.specs.Sources.{places_of}
+use Rattle.meaning.specs.Meaning.{Gives, all_of, defined, at_place, calls, meaning, meanings, function_gives}
+use Rattle.meaning.specs.Rows.{no_rows}
 use Rattle.source_meaning.specs.Pending.{Program, Rest, walked_body, walk, spanned, turned_next, closed, round, tested, collected, finish, operate, frame_rest, last, rest, before}
-use Rattle.source_meaning.proofs.Laws.{below_refl, below_plus, below_then, moves_same, moves_on, plus_zero, then_same, then_then, then_given, joined, given_then}
+use Rattle.source_meaning.proofs.Laws.{below_refl, below_plus, below_then, moves_same, moves_on, plus_zero, plus_plus, plus_then, then_same, then_then, then_given, joined, given_then}
 use Rattle.source_meaning.proofs.Grows.{Less, meanings_grow, definitions_grow, body_grow, calls_grow, members_below, each_below, over_below, chosen_below, arm_below, turned_below}
 
 -- ---- definitions add names
@@ -116,16 +116,14 @@ entered p f s fs env vs = record {
   back = λ n. (suc n, below_plus s _ _ (below_then (calls (suc n) p f vs) (calls (suc n) p f vs) _ _ (below_refl _) (λ ws. rest_grows n p fs env ws)));
 }
 
--- the body of a call stands in the frames
-enter_is : (n : ℕ) (p : Program) (f s : ℕ) (o : Option Function) (fs : List Frame) (env vs : List Val) (b : Timed (List Val)) → slice_get p f ≡ o → b ≡ andthen (function_gives o (meaning n p) vs) (rest n p fs env)
-    → plus s (andthen (calls (suc n) p f vs) (rest n p fs env)) ≡ plus s b
-enter_is n p f s o fs env vs b h e = ap (λ x. plus s (andthen (function_gives x (meaning n p) vs) (rest n p fs env))) h ∙ ap (plus s) (sym e)
+-- a call is the results of its function at the depth below
+pub entered_as : (p : Program) (f s : ℕ) (o : Option Function) (fs : List Frame) (env vs : List Val) → slice_get p f ≡ o
+    → Moves (λ n. plus s (andthen (calls n p f vs) (rest n p fs env))) (λ n. plus s (andthen (function_gives o (meaning n p) vs) (rest n p fs env)))
+entered_as p f s o fs env vs h = moves_on _ _ _ (entered p f s fs env vs) (moves_same _ _ (λ n. ap (λ x. plus s (andthen (function_gives x (meaning n p) vs) (rest n p fs env))) h))
 
-pub enter_moves : (p : Program) (f s t : ℕ) (o : Option Function) (fs : List Frame) (env vs : List Val) (b : ℕ → Timed (List Val)) → slice_get p f ≡ o → t ≡ s → ((n : ℕ) → b n ≡ andthen (function_gives o (meaning n p) vs) (rest n p fs env))
-    → Moves (λ n. plus s (andthen (calls n p f vs) (rest n p fs env))) (λ n. plus t (b n))
-enter_moves p f s t o fs env vs b h q e =
-    moves_on (λ n. plus s (andthen (calls n p f vs) (rest n p fs env))) (λ n. plus s (andthen (calls (suc n) p f vs) (rest n p fs env))) (λ n. plus t (b n)) (entered p f s fs env vs)
-    (moves_same _ _ (λ n. enter_is n p f s o fs env vs (b n) h (e n) ∙ ap (λ x. plus x (b n)) (sym q)))
+-- values that are given after so many steps
+pub stepped : (s k : ℕ) (xs : List Val) (F : List Val → Timed (List Val)) → plus s (andthen (plus k (given xs)) F) ≡ plus (s + k) (F xs)
+stepped s k xs F = ap (plus s) (plus_then k (given xs) F ∙ ap (plus k) (given_then xs F)) ∙ plus_plus s k (F xs)
 
 -- ---- the same pending work under another name
 

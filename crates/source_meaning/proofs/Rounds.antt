@@ -3,14 +3,14 @@ use Rattle.std.proofs.Common.{◌≡◌, ℕ, suc, Bool, true, false, List, [], 
 use Rattle.flow_value.specs.declared.value.Val.{Val}
 use Rattle.loop_folds.specs.Clauses.{ClauseCells}
 use Rattle.typed_tree.specs.declared.expr.TypedExpr.{TypedExpr}
-use Rattle.source_meaning.specs.declared.words.Test.{Test}
-use Rattle.source_meaning.specs.declared.words.Test.TheVariants as test
+use Rattle.meaning.specs.declared.words.Test.{Test}
+use Rattle.meaning.specs.declared.words.Test.TheVariants as test
 use Rattle.source_meaning.specs.declared.state.Turned.{Turned}
 use Rattle.source_meaning.specs.declared.state.Frame.{Frame}
-use Rattle.source_meaning.specs.Timed.{Timed, given, plus, andthen, Below, Moves}
-use Rattle.source_meaning.specs.Words.{failed, test_of, goes_on}
-use Rattle.source_meaning.specs.Rows.{with_row, with_rows}
-use Rattle.source_meaning.specs.Meaning.{Gives, Members, member, each, turn, turns, meanings}
+use Rattle.meaning.specs.Timed.{Timed, given, plus, andthen, Below, Moves}
+use Rattle.meaning.specs.Words.{failed, test_of, goes_on}
+use Rattle.meaning.specs.Rows.{with_row, with_rows}
+use Rattle.meaning.specs.Meaning.{Gives, Members, member, each, turn, turns, meanings}
 use Rattle.source_meaning.specs.Pending.{Program, Rest, turned_next, ended, closed, round, tested, collected, rest}
 use Rattle.source_meaning.proofs.Laws.{below_refl, below_plus, below_then, below_trans, below_same, given_then, then_same, then_then, then_plus, plus_then, swap, joined, moves_same}
 use Rattle.source_meaning.proofs.Grows.{Less, meanings_grow, members_below, each_below}

@@ -13,13 +13,13 @@ use Rattle.loop_folds.specs.declared.masking.Keep.TheVariants.{Kept, Dropped, Fa
 use Rattle.loop_folds.specs.Clauses.{Cell, ClauseCells, no_cells, first_failure, kept_values, gathered, unless_failed, fold_value}
 use Rattle.loop_folds.specs.Masks.{keep_of}
 use Rattle.typed_tree.specs.declared.expr.ClauseForm.{ClauseForm}
-use Rattle.source_meaning.specs.declared.words.Test.{Test}
-use Rattle.source_meaning.specs.declared.words.Test.TheVariants as test
+use Rattle.meaning.specs.declared.words.Test.{Test}
+use Rattle.meaning.specs.declared.words.Test.TheVariants as test
 use Rattle.source_meaning.specs.declared.state.Turned.{Turned}
-use Rattle.source_meaning.specs.Timed.{Timed, given, plus, andthen}
-use Rattle.source_meaning.specs.Words.{value_at, test_of, goes_on}
-use Rattle.source_meaning.specs.Rows.{span, cells_in, with_cell, with_cells, no_rows, with_row, with_rows, made}
-use Rattle.source_meaning.specs.Meaning.{Gives, Members, each, turns, meanings}
+use Rattle.meaning.specs.Timed.{Timed, given, plus, andthen}
+use Rattle.meaning.specs.Words.{value_at, test_of, goes_on}
+use Rattle.meaning.specs.Rows.{span, cells_in, with_cell, with_cells, no_rows, with_row, with_rows, made}
+use Rattle.meaning.specs.Meaning.{Gives, Members, each, turns, meanings}
 use Rattle.source_meaning.specs.Pending.{Program, Rest, turned_next, ended, closed, round}
 use Rattle.source_meaning.specs.Turning.{Fits, is_last, all_last, Alike, AllAlike, Replaced, Spared}
 use Rattle.source_meaning.proofs.Laws.{then_same}

@@ -9,8 +9,8 @@ use Rattle.flow_value.specs.declared.value.Val.{Val}
 use Rattle.typed_tree.specs.declared.expr.TypedExpr.{TypedExpr}
 use Rattle.source_meaning.specs.declared.state.Round.{Round}
 use Rattle.source_meaning.specs.declared.state.After.TheVariants as after
-use Rattle.source_meaning.specs.Timed.{Timed, given, plus, andthen}
-use Rattle.source_meaning.specs.Meaning.{renew, renew_one, meaning, meanings, definitions}
+use Rattle.meaning.specs.Timed.{Timed, given, plus, andthen}
+use Rattle.meaning.specs.Meaning.{renew, renew_one, meaning, meanings, definitions}
 use Rattle.source_meaning.specs.Pending.{Program, Rest, finish, round}
 use Rattle.source_meaning.specs.Reads.{reads, defs_read}
 use Rattle.source_meaning.specs.Turning.{IsPlan, turning}

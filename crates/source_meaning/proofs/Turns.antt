@@ -5,13 +5,13 @@ use Rattle.std.proofs.lemmas.List.{take-append-drop, take-append-le, take_all, d
 use Rattle.std.proofs.Math.Seq.{take-append_seam}
 use Rattle.flow_value.specs.declared.value.Val.{Val}
 use Rattle.loop_folds.specs.Clauses.{ClauseCells}
-use Rattle.source_meaning.specs.declared.words.Test.TheVariants as test
+use Rattle.meaning.specs.declared.words.Test.TheVariants as test
 use Rattle.source_meaning.specs.declared.state.Turned.{Turned}
 use Rattle.source_meaning.specs.declared.state.Round.{Round}
 use Rattle.source_meaning.specs.declared.state.Frame.{Frame}
 use Rattle.source_meaning.specs.declared.state.After.TheVariants as after
-use Rattle.source_meaning.specs.Timed.{Timed, given, plus, andthen, Moves}
-use Rattle.source_meaning.specs.Meaning.{Gives, defined, renew, renew_one, meaning, meanings, definitions}
+use Rattle.meaning.specs.Timed.{Timed, given, plus, andthen, Moves}
+use Rattle.meaning.specs.Meaning.{Gives, defined, renew, renew_one, meaning, meanings, definitions}
 use Rattle.source_meaning.specs.Pending.{Program, Rest, turned_next, round, tested, collected, finish, rest, before}
 use Rattle.source_meaning.specs.Turning.{standing}
 use Rattle.source_meaning.proofs.Laws.{given_then, joined, moves_to}

@@ -3,17 +3,17 @@ use Rattle.std.proofs.Common.{◌≡◌, ℕ, suc, ◌+◌, ◌-◌, List, [], �
 use Rattle.std.proofs.Math.Seq.{take-append_seam}
 use Rattle.flow_value.specs.declared.value.Val.{Val}
 use Rattle.loop_folds.specs.Clauses.{ClauseCells}
-use Rattle.source_meaning.specs.declared.sources.Places.{Places}
-use Rattle.source_meaning.specs.declared.sources.Places.TheVariants as places
+use Rattle.meaning.specs.declared.sources.Places.{Places}
+use Rattle.meaning.specs.declared.sources.Places.TheVariants as places
 use Rattle.source_meaning.specs.declared.state.Walked.{Walked}
 use Rattle.source_meaning.specs.declared.state.Walk.{Walk}
 use Rattle.source_meaning.specs.declared.state.Frame.{Frame}
 use Rattle.source_meaning.specs.declared.state.After.TheVariants as after
-use Rattle.source_meaning.specs.Timed.{Timed, given, plus, andthen}
+use Rattle.meaning.specs.Timed.{Timed, given, plus, andthen}
 use Rattle.source_meaning.specs.Slots.{slot_values}
-use Rattle.source_meaning.specs.Sources.{places_of, names_at, lower_of}
-use Rattle.source_meaning.specs.Rows.{no_rows, with_row, with_rows, made}
-use Rattle.source_meaning.specs.Meaning.{Gives, all_of, defined, each, environments, at_place, folded, over, meaning, meanings, definitions}
+use Rattle.meaning.specs.Sources.{places_of, names_at, lower_of}
+use Rattle.meaning.specs.Rows.{no_rows, with_row, with_rows, made}
+use Rattle.meaning.specs.Meaning.{Gives, all_of, defined, each, environments, at_place, folded, over, meaning, meanings, definitions}
 use Rattle.source_meaning.specs.Pending.{Program, Rest, walked_body, walk, spanned, finish, rest, whole}
 use Rattle.source_meaning.proofs.Laws.{given_then, then_then, plus_then, plus_plus, joined}
 use Rattle.source_meaning.proofs.Rests.{defined_then}

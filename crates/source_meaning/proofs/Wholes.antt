@@ -21,10 +21,10 @@ use Rattle.typed_tree.specs.declared.expr.TypedExpr.{TypedExpr}
 use Rattle.typed_tree.specs.declared.expr.TypedKind.{TypedKind}
 use Rattle.typed_tree.specs.declared.expr.TypedKind.TheVariants as kind
 use Rattle.typed_tree.specs.declared.expr.TypedKind.TheOpen.{TypedKind-F}
-use Rattle.source_meaning.specs.declared.words.Test.TheVariants as test
-use Rattle.source_meaning.specs.Timed.{Timed, given, plus, andthen}
-use Rattle.source_meaning.specs.Words.{constant_value, value_at, test_part, test_of}
-use Rattle.source_meaning.specs.Meaning.{meaning, kind_meaning, meanings}
+use Rattle.meaning.specs.declared.words.Test.TheVariants as test
+use Rattle.meaning.specs.Timed.{Timed, given, plus, andthen}
+use Rattle.meaning.specs.Words.{constant_value, value_at, test_part, test_of}
+use Rattle.meaning.specs.Meaning.{meaning, kind_meaning, meanings}
 use Rattle.source_meaning.specs.Pending.{Program}
 use Rattle.source_meaning.proofs.AtOnce.{counted, only_is, both_are, applied, group_is, apply_is, said_yes, said_no}
 use Rattle.source_meaning.proofs.Grows.{layer_is}

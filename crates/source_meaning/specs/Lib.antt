@@ -1,10 +1,4 @@
-pub mod Timed
-pub mod Words
 pub mod Slots
-pub mod Sources
-pub mod Rows
-pub mod Meaning
 pub mod Reads
 pub mod Pending
 pub mod Turning
-pub mod Descents

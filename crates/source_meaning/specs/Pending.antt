@@ -7,8 +7,8 @@ use Rattle.value_ops.specs.Operations.{op_value}
 use Rattle.loop_folds.specs.Clauses.{ClauseCells}
 use Rattle.typed_tree.specs.declared.expr.TypedExpr.{TypedExpr}
 use Rattle.typed_tree.specs.declared.program.Function.{Function}
-use Rattle.source_meaning.specs.declared.words.Test.{Test}
-use Rattle.source_meaning.specs.declared.words.Test.TheVariants as test
+use Rattle.meaning.specs.declared.words.Test.{Test}
+use Rattle.meaning.specs.declared.words.Test.TheVariants as test
 use Rattle.source_meaning.specs.declared.state.Walked.{Walked}
 use Rattle.source_meaning.specs.declared.state.Walk.{Walk}
 use Rattle.source_meaning.specs.declared.state.Turned.{Turned}
@@ -18,12 +18,12 @@ use Rattle.source_meaning.specs.declared.state.Work.{Work}
 use Rattle.source_meaning.specs.declared.state.Work.TheVariants as work
 use Rattle.source_meaning.specs.declared.state.Frame.{Frame}
 use Rattle.source_meaning.specs.declared.state.Frame.TheVariants as frame
-use Rattle.source_meaning.specs.Timed.{Timed, given, plus, andthen}
-use Rattle.source_meaning.specs.Words.{value_at, failed, test_of, goes_on}
+use Rattle.meaning.specs.Timed.{Timed, given, plus, andthen}
+use Rattle.meaning.specs.Words.{value_at, failed, test_of, goes_on}
 use Rattle.source_meaning.specs.Slots.{slot_values}
-use Rattle.source_meaning.specs.Sources.{places_of, lower_of}
-use Rattle.source_meaning.specs.Rows.{no_rows, with_row, with_rows, made}
-use Rattle.source_meaning.specs.Meaning.{Gives, all_of, defined, body_of, chosen, arm_of, each, environments, at_place, over, renew, turned, looped, members, calls, meaning, meanings, definitions}
+use Rattle.meaning.specs.Sources.{places_of, lower_of}
+use Rattle.meaning.specs.Rows.{no_rows, with_row, with_rows, made}
+use Rattle.meaning.specs.Meaning.{Gives, all_of, defined, body_of, chosen, arm_of, each, environments, at_place, over, renew, turned, looped, members, calls, meaning, meanings, definitions}
 
 abbrev pub Program : Type 0
 Program = List Function

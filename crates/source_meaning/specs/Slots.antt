@@ -5,7 +5,7 @@ use Rattle.source_meaning.specs.declared.slots.Slot.{Slot}
 use Rattle.source_meaning.specs.declared.slots.Slot.TheVariants as slot
 use Rattle.source_meaning.specs.declared.slots.Given.{Given}
 use Rattle.source_meaning.specs.declared.slots.Given.TheVariants as given
-use Rattle.source_meaning.specs.Words.{value_at}
+use Rattle.meaning.specs.Words.{value_at}
 
 abbrev pub slot_value : List Val → Slot → Val
 slot_value env (slot.Name x) = value_at env x

@@ -12,11 +12,11 @@ use Rattle.typed_tree.specs.declared.expr.ClauseForm.{ClauseForm}
 use Rattle.source_meaning.specs.declared.state.Round.{Round}
 use Rattle.source_meaning.specs.declared.state.Frame.{Frame}
 use Rattle.source_meaning.specs.declared.state.After.TheVariants as after
-use Rattle.source_meaning.specs.Timed.{Timed, plus, andthen}
-use Rattle.source_meaning.specs.Words.{value_at}
-use Rattle.source_meaning.specs.Rows.{span, with_row}
+use Rattle.meaning.specs.Timed.{Timed, plus, andthen}
+use Rattle.meaning.specs.Words.{value_at}
+use Rattle.meaning.specs.Rows.{span, with_row}
 use Rattle.source_meaning.specs.Reads.{defs_read}
-use Rattle.source_meaning.specs.Meaning.{meanings, definitions}
+use Rattle.meaning.specs.Meaning.{meanings, definitions}
 use Rattle.source_meaning.specs.Pending.{Program, Rest, round, finish, rest}
 
 -- a loop before a turn, after so many steps

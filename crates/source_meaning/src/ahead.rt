@@ -1,8 +1,8 @@
 //! The first parts of a list whose values come at once.
 ghost use Rattle.std.specs.Prelude.{◌≡◌, ℕ, ◌+◌, ◌<◌, ◌≤◌, List, [], ◌∷◌, ◌++◌, length, IfOk, IfSome};
 ghost use Rattle.flow_value.specs.declared.value.Val.{Val};
-ghost use Rattle.source_meaning.specs.Timed.{Timed, plus, andthen};
-ghost use Rattle.source_meaning.specs.Meaning.{meanings};
+ghost use Rattle.meaning.specs.Timed.{Timed, plus, andthen};
+ghost use Rattle.meaning.specs.Meaning.{meanings};
 ghost use Rattle.source_meaning.specs.Pending.{Program, bind_weight};
 
 use crate::direct::{direct, is_direct, sum};

@@ -1,7 +1,7 @@
 //! How an expression is begun.
 ghost use Rattle.std.specs.Prelude.{◌≡◌, ℕ, ◌+◌, ◌≤◌, OnOk, map};
-ghost use Rattle.source_meaning.specs.Timed.{andthen, plus};
-ghost use Rattle.source_meaning.specs.Meaning.{meaning, kind_meaning, body_of};
+ghost use Rattle.meaning.specs.Timed.{andthen, plus};
+ghost use Rattle.meaning.specs.Meaning.{meaning, kind_meaning, body_of};
 ghost use Rattle.source_meaning.specs.Pending.{Program, rest, load, initial_gives};
 ghost use Rattle.source_meaning.specs.Slots.{given_values};
 

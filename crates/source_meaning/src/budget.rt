@@ -1,8 +1,8 @@
 //! Steps, values that are given, and frames that are put.
 ghost use Rattle.std.specs.Prelude.{◌≡◌, ℕ, ◌+◌, ◌<◌, ◌≤◌, List, [], ◌∷◌, ◌++◌, OnOk, IsTrue};
 ghost use Rattle.flow_value.specs.declared.value.Val.{Val};
-ghost use Rattle.source_meaning.specs.Timed.{andthen};
-ghost use Rattle.source_meaning.specs.Meaning.{meanings, definitions};
+ghost use Rattle.meaning.specs.Timed.{andthen};
+ghost use Rattle.meaning.specs.Meaning.{meanings, definitions};
 ghost use Rattle.source_meaning.specs.Pending.{Program, rest, finish, operate, load, listing_weight};
 ghost use Rattle.source_meaning.specs.Slots.{given_values};
 

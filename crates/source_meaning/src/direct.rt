@@ -2,15 +2,16 @@
 //! work.
 ghost use Rattle.std.specs.Prelude.{◌≡◌, ℕ, ◌+◌, [], ◌∷◌, IfOk, IfSome, Some};
 ghost use Rattle.value_ops.specs.Operations.{op_value};
-ghost use Rattle.source_meaning.specs.Timed.{given, plus, andthen};
+ghost use Rattle.meaning.specs.Timed.{given, plus, andthen};
 ghost use Rattle.source_meaning.specs.Slots.{slot_value, slot_values};
-ghost use Rattle.source_meaning.specs.Meaning.{meaning, meanings, kind_meaning};
+ghost use Rattle.meaning.specs.Meaning.{meaning, meanings, kind_meaning};
 ghost use Rattle.source_meaning.specs.Pending.{Program};
 
 use crate::slots::{Slot, lent, operate};
 use crate::whole::{Form, form_of, truth_of, whole_of};
-use crate::words::{Test, constant_value, test_of, value_at};
+use crate::words::{constant_value, test_of, value_at};
 use flow_value::{Cause, Items, NoMemory, Scalar2, Seq, Val, scalar2};
+use meaning::Test;
 use std::alloc::Global;
 use typed_tree::{TypedExpr, TypedKind};
 use value_ops::Operation;

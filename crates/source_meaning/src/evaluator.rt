@@ -1,8 +1,11 @@
 //! The values of a function.
 ghost use Rattle.std.specs.Prelude.{◌≡◌, ℕ, ◌+◌, ◌<◌, ◌≤◌, List, IfOk, IfErr, IfSome, Some, None, Ok};
 ghost use Rattle.flow_value.specs.declared.value.Val.{Val};
-ghost use Rattle.source_meaning.specs.Meaning.{Members, calls};
-ghost use Rattle.source_meaning.specs.Descents.{turns_to, turns_down};
+ghost use Rattle.meaning.specs.Timed.{given, plus, Moves, Passes};
+ghost use Rattle.meaning.specs.Meaning.{Members, calls};
+ghost use Rattle.meaning.specs.Descents.{turns_to, turns_down};
+ghost use Rattle.source_meaning.specs.Slots.{given_values};
+ghost use Rattle.source_meaning.specs.Pending.{before};
 ghost use Rattle.typed_tree.specs.declared.expr.TypedExpr.{TypedExpr};
 ghost use Rattle.typed_tree.specs.declared.expr.Turns.{Turns};
 ghost use Rattle.typed_tree.specs.declared.program.Function.{Function};
@@ -10,11 +13,11 @@ ghost use Rattle.typed_tree.specs.declared.program.Function.{Function};
 use crate::finish::enter;
 use crate::machine::run;
 use crate::slots::{Given, add_values};
-use crate::state::{Going, State};
+use crate::state::{After, Going, State};
 use flow_value::{Items, NoMemory};
 use std::alloc::Global;
 use thiserror::Error;
-use typed_tree::Program;
+use typed_tree::{Function, Program};
 
 /// The values of a function, and the steps that they took.
 #[derive(Drop)]
@@ -36,6 +39,28 @@ pub enum MeanFault {
     NoMemory,
 }
 
+/// Goes into a function, and on until no work is left, or the limit is reached.
+fn start<'a>(
+    alloc: Global,
+    program: &'a [Function],
+    limit: u64,
+    state: &mut State<'a>,
+    function: u32,
+    args: Items,
+) -> Result<Going, NoMemory>
+    ensures moves { IfOk result (λ g. g ≡ Going.On → Moves (λ n. before n program.now state.old.steps state.old.frames.items state.old.names (After.Enter function) args) (λ n. plus state.new.steps (given (given_values state.new.given)))) }
+    ensures limit { IfOk result (λ g. g ≡ Going.Limit → Passes limit (λ n. before n program.now state.old.steps state.old.frames.items state.old.names (After.Enter function) args)) }
+    ensures bound { IfOk result (λ g. state.old.steps ≤ limit → state.new.steps ≤ limit) }
+{
+    match enter(alloc, program, limit, state, function, args)? {
+        Going::On => {
+            let going = run(alloc, program, limit, state)?;
+            Ok(going)
+        }
+        Going::Limit => Ok(Going::Limit),
+    }
+}
+
 /// Evaluates a function.
 fn evaluate(
     alloc: Global,
@@ -54,8 +79,7 @@ fn evaluate(
         given: Given::Nothing,
         steps: 0,
     };
-    enter(alloc, functions, &mut state, function, args)?;
-    match run(alloc, functions, limit, &mut state)? {
+    match start(alloc, functions, limit, &mut state, function, args)? {
         Going::On => {
             let State { given, steps, .. } = state;
             let mut values = Items::new(alloc);

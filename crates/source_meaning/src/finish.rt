@@ -1,19 +1,20 @@
 //! What is done with the values of a list of expressions.
 ghost use Rattle.std.specs.Prelude.{◌≡◌, ℕ, ◌+◌, ◌<◌, ◌≤◌, List, OnOk, IfOk, map, length};
-ghost use Rattle.source_meaning.specs.Timed.{andthen, Moves, Passes};
-ghost use Rattle.source_meaning.specs.Words.{failed, value_at};
-ghost use Rattle.source_meaning.specs.Meaning.{meaning, definitions, results_of, with_content, arm_at, all_of};
+ghost use Rattle.meaning.specs.Timed.{given, plus, andthen, Moves, Passes};
+ghost use Rattle.meaning.specs.Words.{failed, value_at};
+ghost use Rattle.meaning.specs.Meaning.{meaning, definitions, results_of, with_content, arm_at, arm_place, all_of};
 ghost use Rattle.source_meaning.specs.Pending.{Program, rest, load, weight, whole, before, fuel, StartsFull};
 ghost use Rattle.source_meaning.specs.Slots.{given_values};
 
 use crate::loops::{collect, end_place, end_turn, renew, start_round};
 use crate::slots::Given;
 use crate::state::{After, Going, State};
-use crate::words::{Test, failed, test_of};
+use crate::words::{failed, test_of};
 use flow_value::{Cause, Items, NoMemory, Seq, Val, item_at};
+use meaning::Test;
 use std::alloc::Global;
 use std::mem;
-use typed_tree::{Case, Function, TypedExpr};
+use typed_tree::{Case, Choice, Function, TypedExpr};
 
 /// Gives the same error for each of so many results.
 pub fn give_failed(
@@ -30,6 +31,26 @@ pub fn give_failed(
     let values = failed(alloc, results, cause)?;
     state.given = Given::Many(values);
     Ok(())
+}
+
+/// Gives `error(explicit)` for each of so many results, with a step for each.
+fn give_stub(
+    alloc: Global,
+    limit: u64,
+    state: &mut State<'_>,
+    results: usize,
+) -> Result<Going, NoMemory>
+    ensures same { IfOk result (λ g. g ≡ Going.On → (n : ℕ) (p : Program) → plus state.old.steps (andthen (plus results (given (failed results Cause.Explicit))) (rest n p state.old.frames.items state.old.names)) ≡ whole n p state.new.steps state.new.frames.items state.new.names (given_values state.new.given)) }
+    ensures limit { IfOk result (λ g. g ≡ Going.Limit → (p : Program) → Passes limit (λ n. plus state.old.steps (andthen (plus results (given (failed results Cause.Explicit))) (rest n p state.old.frames.items state.old.names)))) }
+    ensures load { state.new.frames ≡ state.old.frames }
+    ensures steps { state.old.steps ≤ state.new.steps }
+    ensures bound { IfOk result (λ g. state.old.steps ≤ limit → state.new.steps ≤ limit) }
+{
+    if !state.count(limit, results) {
+        return Ok(Going::Limit);
+    }
+    give_failed(alloc, state, results, Cause::Explicit)?;
+    Ok(Going::On)
 }
 
 /// The definitions from the first on that has an expression.
@@ -77,42 +98,50 @@ fn bind<'a>(
 pub fn enter<'a>(
     alloc: Global,
     program: &'a [Function],
+    limit: u64,
     state: &mut State<'a>,
     number: u32,
     values: Items,
-) -> Result<(), NoMemory>
-    ensures moves { OnOk result (Moves (λ n. before n program.now state.old.steps state.old.frames.items state.old.names (After.Enter number) values) (λ n. whole n program.now state.new.steps state.new.frames.items state.new.names (given_values state.new.given))) }
-    ensures steps { state.new.steps ≡ state.old.steps }
-    ensures load { OnOk result (load state.new.frames.items ≤ load state.old.frames.items + 1) }
+) -> Result<Going, NoMemory>
+    ensures moves { IfOk result (λ g. g ≡ Going.On → Moves (λ n. before n program.now state.old.steps state.old.frames.items state.old.names (After.Enter number) values) (λ n. whole n program.now state.new.steps state.new.frames.items state.new.names (given_values state.new.given))) }
+    ensures limit { IfOk result (λ g. g ≡ Going.Limit → Passes limit (λ n. before n program.now state.old.steps state.old.frames.items state.old.names (After.Enter number) values)) }
+    ensures fuel { IfOk result (λ g. g ≡ Going.On → fuel limit state.new.steps state.new.frames.items < fuel limit state.old.steps state.old.frames.items + 2) }
+    ensures bound { IfOk result (λ g. state.old.steps ≤ limit → state.new.steps ≤ limit) }
 {
     match item_at(program, number as usize) {
         Some(function) => {
-            enter_function(alloc, state, function, values)?;
-            Ok(())
+            let going = enter_function(alloc, limit, state, function, values)?;
+            Ok(going)
         }
         None => {
             state.given = Given::Nothing;
-            Ok(())
+            Ok(Going::On)
         }
     }
 }
 
 fn enter_function<'a>(
     alloc: Global,
+    limit: u64,
     state: &mut State<'a>,
     function: &'a Function,
     values: Items,
-) -> Result<(), NoMemory>
-    ensures means { OnOk result ((n : ℕ) (p : Program) → rest n p state.new.frames.items state.new.names (given_values state.new.given) ≡ andthen (results_of (length function.now.results) function.now.body (meaning n p) values) (rest n p state.old.frames.items state.old.names)) }
-    ensures steps { state.new.steps ≡ state.old.steps }
-    ensures load { OnOk result (load state.new.frames.items ≤ load state.old.frames.items + 1) }
+) -> Result<Going, NoMemory>
+    ensures same { IfOk result (λ g. g ≡ Going.On → (n : ℕ) (p : Program) → plus state.old.steps (andthen (results_of (length function.now.results) function.now.body (meaning n p) values) (rest n p state.old.frames.items state.old.names)) ≡ whole n p state.new.steps state.new.frames.items state.new.names (given_values state.new.given)) }
+    ensures limit { IfOk result (λ g. g ≡ Going.Limit → (p : Program) → Passes limit (λ n. plus state.old.steps (andthen (results_of (length function.now.results) function.now.body (meaning n p) values) (rest n p state.old.frames.items state.old.names)))) }
+    ensures fuel { IfOk result (λ g. g ≡ Going.On → fuel limit state.new.steps state.new.frames.items < fuel limit state.old.steps state.old.frames.items + 2) }
+    ensures bound { IfOk result (λ g. state.old.steps ≤ limit → state.new.steps ≤ limit) }
 {
     match &function.body {
         Some(body) => {
             let saved = mem::replace(&mut state.names, values);
-            state.list(alloc, After::Leave(saved), body.as_slice())
+            state.list(alloc, After::Leave(saved), body.as_slice())?;
+            Ok(Going::On)
         }
-        None => give_failed(alloc, state, function.results.len(), Cause::Explicit),
+        None => {
+            let going = give_stub(alloc, limit, state, function.results.len())?;
+            Ok(going)
+        }
     }
 }
 
@@ -146,6 +175,18 @@ fn first_value(values: Items) -> Val
     }
 }
 
+/// The place of the arm of a tag.
+fn arm_place(choices: &[Choice], others: u32, tag: u32) -> u32
+    ensures { result ≡ arm_place choices.now others tag }
+{
+    for choice in choices {
+        if choice.tag == tag {
+            return choice.arm;
+        }
+    }
+    others
+}
+
 /// Takes the arm of a union's tag, or its error.
 fn pick<'a>(
     alloc: Global,
@@ -161,7 +202,7 @@ fn pick<'a>(
 {
     match first_value(values) {
         Val::Uni(tag, content) => {
-            let place = item_at(case.choices.as_slice(), tag as usize).copied();
+            let place = arm_place(case.choices.as_slice(), case.others, tag);
             enter_arm(
                 alloc,
                 state,
@@ -184,7 +225,7 @@ fn enter_arm<'a>(
     case: &'a Case,
     arms: &'a Seq<Seq<TypedExpr>>,
     results: usize,
-    place: Option<u32>,
+    place: u32,
     content: Val,
 ) -> Result<(), NoMemory>
     ensures means { OnOk result ((n : ℕ) (p : Program) → rest n p state.new.frames.items state.new.names (given_values state.new.given)
@@ -192,9 +233,6 @@ fn enter_arm<'a>(
     ensures steps { state.new.steps ≡ state.old.steps }
     ensures load { OnOk result (load state.new.frames.items ≤ load state.old.frames.items + 1) }
 {
-    let Some(place) = place else {
-        return give_failed(alloc, state, results, Cause::Tag);
-    };
     let Some(arm) = item_at(arms.as_slice(), place as usize) else {
         return give_failed(alloc, state, results, Cause::Tag);
     };
@@ -240,8 +278,8 @@ pub fn finish<'a>(
             Ok(Going::On)
         }
         After::Enter(number) => {
-            enter(alloc, program, state, number, values)?;
-            Ok(Going::On)
+            let going = enter(alloc, program, limit, state, number, values)?;
+            Ok(going)
         }
         After::Leave(saved) => {
             state.names = saved;

@@ -1,9 +1,9 @@
 //! Loops.
 ghost use Rattle.std.specs.Prelude.{◌≡◌, ℕ, ◌+◌, ◌<◌, ◌≤◌, [], ◌∷◌, ◌++◌, OnOk, IfOk, IfSome, None, take, drop, length, slice_get, slice_set, unwrap_or, MatchOption, true};
-ghost use Rattle.source_meaning.specs.Timed.{andthen, plus, Moves, Passes};
-ghost use Rattle.source_meaning.specs.Words.{goes_on, test_of};
+ghost use Rattle.meaning.specs.Timed.{andthen, plus, Moves, Passes};
+ghost use Rattle.meaning.specs.Words.{goes_on, test_of};
 ghost use Rattle.source_meaning.specs.Slots.{slot_values, given_values};
-ghost use Rattle.source_meaning.specs.Meaning.{over, renew as renewed_names};
+ghost use Rattle.meaning.specs.Meaning.{over, renew as renewed_names};
 ghost use Rattle.source_meaning.specs.Pending.{Program, Rest, rest, load, whole, before, fuel, walked_body, walk, spanned, tested, ended};
 ghost use Rattle.source_meaning.specs.Turning.{Fits, IsPlan, standing, turning};
 
@@ -11,13 +11,14 @@ use crate::direct::sum;
 use crate::finish::give_failed;
 use crate::rows::{add_given, add_row, made, no_rows};
 use crate::slots::{Given, Slot, add_values};
-use crate::sources::{Places, lower_of, names_at, places_of};
+use crate::sources::{lower_of, names_at, places_of};
 use crate::sparing::{add_before, direct_before};
 use crate::state::{After, Going, Round, State, Turned, Walk, Walked};
 use crate::strides::{direct_place, is_direct_body};
 use crate::turning::{make_turn, plan};
-use crate::words::{Test, goes_on, test_of};
+use crate::words::{goes_on, test_of};
 use flow_value::{Items, NoMemory, Seq, Val, item_at};
+use meaning::{Places, Test};
 use std::alloc::Global;
 use std::mem;
 use typed_tree::TypedExpr;

@@ -1,7 +1,7 @@
 //! The evaluator. All pending work stands in its frames, on the heap.
 ghost use Rattle.std.specs.Prelude.{◌≡◌, ℕ, ◌+◌, ◌-◌, ◌*◌, ◌<◌, ◌≤◌, List, [], ◌∷◌, ◌++◌, OnOk, IfOk, IsTrue};
-ghost use Rattle.source_meaning.specs.Timed.{given, andthen, plus, Moves, Passes};
-ghost use Rattle.source_meaning.specs.Meaning.{meaning};
+ghost use Rattle.meaning.specs.Timed.{given, andthen, plus, Moves, Passes};
+ghost use Rattle.meaning.specs.Meaning.{meaning};
 ghost use Rattle.source_meaning.specs.Slots.{slot_values, given_values};
 ghost use Rattle.source_meaning.specs.Pending.{Program, rest, frame_rest, frame_weight, load, whole, before_work, fuel};
 

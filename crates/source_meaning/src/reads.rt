@@ -3,7 +3,7 @@ ghost use Rattle.std.specs.Prelude.{◌≡◌, ℕ, false, List, slice_set};
 ghost use Rattle.flow_value.specs.declared.value.Val.{Val};
 ghost use Rattle.typed_tree.specs.declared.expr.TypedExpr.{TypedExpr};
 ghost use Rattle.typed_tree.specs.declared.program.Function.{Function};
-ghost use Rattle.source_meaning.specs.Meaning.{meaning};
+ghost use Rattle.meaning.specs.Meaning.{meaning};
 ghost use Rattle.source_meaning.specs.Reads.{reads, kind_reads, list_reads, defs_read};
 
 use flow_value::Seq;

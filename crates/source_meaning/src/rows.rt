@@ -3,8 +3,8 @@ ghost use Rattle.std.specs.Prelude.{◌≡◌, ◌+◌, List, [], ◌∷◌, ◌
 ghost use Rattle.std.specs.Vec.Iter.{into_iter_items};
 ghost use Rattle.loop_folds.specs.Clauses.{Cell};
 ghost use Rattle.loop_folds.specs.Masks.{keep_of};
-ghost use Rattle.source_meaning.specs.Rows.{no_rows, span, cells_in, with_cells, with_row, made};
-ghost use Rattle.source_meaning.specs.Words.{value_at};
+ghost use Rattle.meaning.specs.Rows.{no_rows, span, cells_in, with_cells, with_row, made};
+ghost use Rattle.meaning.specs.Words.{value_at};
 ghost use Rattle.source_meaning.specs.Slots.{given_values};
 ghost use Rattle.flow_value.specs.declared.value.Val.{Val};
 

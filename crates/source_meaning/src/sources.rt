@@ -4,24 +4,16 @@ ghost use Rattle.std.specs.Option.{option_copied};
 ghost use Rattle.flow_value.specs.declared.value.Val.TheVariants as val;
 ghost use Rattle.flow_value.specs.declared.value.Val.TheViews.{out-Val};
 ghost use Rattle.flow_value.specs.declared.cause.Cause.TheVariants as cause;
-ghost use Rattle.source_meaning.specs.Words.{value_at};
+ghost use Rattle.meaning.specs.Words.{value_at};
 ghost use Rattle.source_meaning.specs.Slots.{slot_values};
-ghost use Rattle.source_meaning.specs.Sources.{width, up_to, range_size, list_size, size_of, sizes_of, first_failure, are_size, common, places_of, number_in, element_at, index_in, names_of, names_at, lower_of};
+ghost use Rattle.meaning.specs.Sources.{width, up_to, range_size, list_size, size_of, sizes_of, first_failure, are_size, common, places_of, number_in, element_at, index_in, names_of, names_at, lower_of};
 
 use crate::slots::{Slot, lent};
 use crate::words::copied_value;
 use flow_value::{Cause, Items, NoMemory, Seq, Val, item_at, whole};
+use meaning::Places;
 use std::alloc::Global;
 use typed_tree::Source;
-
-/// How many places generators have.
-#[derive(Clone, Copy, Debug, PartialEq, Eq)]
-pub enum Places {
-    /// So many.
-    Count(usize),
-    /// None: an error with this cause.
-    Failed(Cause),
-}
 
 /// The bounds that are left behind those of a generator.
 fn behind(source: Source, bounds: &[Slot]) -> &[Slot]

@@ -4,12 +4,12 @@ ghost use Rattle.std.specs.Prelude.{◌≡◌, ◌+◌, ℕ, false, List, [], �
 ghost use Rattle.std.specs.Vec.Iter.{into_iter_items};
 ghost use Rattle.flow_value.specs.declared.value.Val.{Val};
 ghost use Rattle.loop_folds.specs.Masks.{keep_of};
-ghost use Rattle.source_meaning.specs.Rows.{span, with_row};
+ghost use Rattle.meaning.specs.Rows.{span, with_row};
 ghost use Rattle.source_meaning.specs.Slots.{slot_values, given_values};
-ghost use Rattle.source_meaning.specs.Timed.{Timed, plus, andthen};
+ghost use Rattle.meaning.specs.Timed.{Timed, plus, andthen};
 ghost use Rattle.source_meaning.specs.Turning.{Fits, Replaced, Spared, all_last, is_last};
-ghost use Rattle.source_meaning.specs.Words.{value_at, goes_on, test_of};
-ghost use Rattle.source_meaning.specs.Meaning.{meanings};
+ghost use Rattle.meaning.specs.Words.{value_at, goes_on, test_of};
+ghost use Rattle.meaning.specs.Meaning.{meanings};
 ghost use Rattle.source_meaning.specs.Pending.{Program};
 
 use crate::direct::{LentOutcomes, lent_parts, sum};
@@ -17,9 +17,10 @@ use crate::rows::add_row;
 use crate::slots::{Given, Slot, add_values};
 use crate::state::Turned;
 use crate::strides::direct_test;
-use crate::words::{Test, value_at as copy_at};
+use crate::words::value_at as copy_at;
 use flow_value::{Cause, Items, NoMemory, Seq, Val};
 use loop_folds::{Clause, Folding, Masking};
+use meaning::Test;
 use std::alloc::Global;
 use std::vec::IntoIter;
 use typed_tree::ClauseForm;

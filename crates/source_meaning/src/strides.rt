@@ -1,11 +1,11 @@
 //! The bodies of loops whose values come at once.
 ghost use Rattle.std.specs.Prelude.{◌≡◌, ℕ, ◌+◌, ◌<◌, List, [], ◌∷◌, ◌++◌, IfOk, IfSome, Some, None, take, length};
 ghost use Rattle.flow_value.specs.declared.value.Val.{Val};
-ghost use Rattle.source_meaning.specs.Timed.{Timed, plus, andthen};
-ghost use Rattle.source_meaning.specs.Words.{goes_on, test_of};
+ghost use Rattle.meaning.specs.Timed.{Timed, plus, andthen};
+ghost use Rattle.meaning.specs.Words.{goes_on, test_of};
 ghost use Rattle.source_meaning.specs.Slots.{given_values, slot_values};
-ghost use Rattle.source_meaning.specs.Sources.{names_at};
-ghost use Rattle.source_meaning.specs.Meaning.{meanings, definitions};
+ghost use Rattle.meaning.specs.Sources.{names_at};
+ghost use Rattle.meaning.specs.Meaning.{meanings, definitions};
 ghost use Rattle.source_meaning.specs.Pending.{Program, walked_body};
 
 use crate::direct::{are_direct, direct, direct_only, sum};
@@ -13,8 +13,9 @@ use crate::slots::{Given, Slot, add_values};
 use crate::sources::add_names_at;
 use crate::state::{Turned, Walked};
 use crate::whole::{Truth, Whole, truth_only, whole_only};
-use crate::words::{Test, goes_on, test_of};
+use crate::words::{goes_on, test_of};
 use flow_value::{Items, NoMemory, Seq, Val};
+use meaning::Test;
 use std::alloc::Global;
 use typed_tree::TypedExpr;
 

@@ -3,9 +3,9 @@ ghost use Rattle.std.specs.Prelude.{◌≡◌, ℕ, ◌+◌, [], ◌∷◌, IfOk
 ghost use Rattle.flow_value.specs.declared.value.Val.TheVariants as val;
 ghost use Rattle.flow_value.specs.declared.cause.Cause.TheVariants as cause;
 ghost use Rattle.value_ops.specs.Operations.{op_value};
-ghost use Rattle.source_meaning.specs.Timed.{given, plus, andthen};
-ghost use Rattle.source_meaning.specs.Words.{value_at};
-ghost use Rattle.source_meaning.specs.Meaning.{meaning, meanings, kind_meaning};
+ghost use Rattle.meaning.specs.Timed.{given, plus, andthen};
+ghost use Rattle.meaning.specs.Words.{value_at};
+ghost use Rattle.meaning.specs.Meaning.{meaning, meanings, kind_meaning};
 ghost use Rattle.source_meaning.specs.Pending.{Program};
 
 use crate::direct::{Outcome, direct, direct_only, sum};
@@ -13,8 +13,9 @@ use crate::elements::update_element;
 use crate::slots::{Given, Slot, add_slots, operate};
 use crate::strides::direct_row;
 use crate::whole::whole_of;
-use crate::words::{Test, test_of, value_at as copy_at};
+use crate::words::{test_of, value_at as copy_at};
 use flow_value::{Cause, Items, NoMemory, Seq, Val};
+use meaning::Test;
 use std::alloc::Global;
 use std::mem;
 use typed_tree::{TypedExpr, TypedKind};

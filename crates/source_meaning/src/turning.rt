@@ -1,7 +1,7 @@
 //! The names of a turn of a `for initial`, as far as they come at once.
 ghost use Rattle.std.specs.Prelude.{◌≡◌, ℕ, ◌+◌, ◌-◌, ◌<◌, ◌≤◌, List, [], ◌∷◌, IfOk, IfSome, Some, None, false, length, unwrap_or, slice_get};
 ghost use Rattle.typed_tree.specs.declared.expr.TypedExpr.{TypedExpr};
-ghost use Rattle.source_meaning.specs.Timed.{plus};
+ghost use Rattle.meaning.specs.Timed.{plus};
 ghost use Rattle.source_meaning.specs.Reads.{defs_read};
 ghost use Rattle.source_meaning.specs.Pending.{Program, Rest};
 ghost use Rattle.source_meaning.specs.Turning.{IsPlan, turning};

@@ -3,9 +3,9 @@
 ghost use Rattle.std.specs.Prelude.{◌≡◌, ℕ, ◌+◌, [], ◌∷◌, IfSome, Some};
 ghost use Rattle.flow_value.specs.Scalar.{on_integers, on_booleans, row1};
 ghost use Rattle.value_ops.specs.Operations.{op_value};
-ghost use Rattle.source_meaning.specs.Timed.{given, plus, andthen};
-ghost use Rattle.source_meaning.specs.Words.{constant_value, value_at};
-ghost use Rattle.source_meaning.specs.Meaning.{meaning, meanings, kind_meaning};
+ghost use Rattle.meaning.specs.Timed.{given, plus, andthen};
+ghost use Rattle.meaning.specs.Words.{constant_value, value_at};
+ghost use Rattle.meaning.specs.Meaning.{meaning, meanings, kind_meaning};
 ghost use Rattle.source_meaning.specs.Pending.{Program};
 
 use crate::elements::lent_element;

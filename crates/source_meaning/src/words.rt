@@ -1,22 +1,12 @@
 //! Values of names and constants, and what tests say.
 ghost use Rattle.std.specs.Prelude.{◌≡◌, map, IfOk};
 ghost use Rattle.flow_value.specs.declared.value.Val.TheVariants as val;
-ghost use Rattle.source_meaning.specs.Words.{value_at, constant_value, failed, test_of, goes_on};
+ghost use Rattle.meaning.specs.Words.{value_at, constant_value, failed, test_of, goes_on};
 
 use flow_value::{Cause, Items, NoMemory, Val, array_of, copy, item_at};
+use meaning::Test;
 use sisal_tree::Constant;
 use std::alloc::Global;
-
-/// What a test says.
-#[derive(Clone, Copy, Debug, PartialEq, Eq)]
-pub enum Test {
-    /// It holds.
-    Yes,
-    /// It does not hold.
-    No,
-    /// It is an error with this cause.
-    Failed(Cause),
-}
 
 /// What a test says that gave these values.
 pub fn test_of(values: &[Val]) -> Test

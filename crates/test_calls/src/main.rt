@@ -1,9 +1,13 @@
 //! Calls the program on each line of standard input, which is a name, the words and a text,
 //! with tabs between them; the words have `^` between them, and `@` stands for a line feed of the
-//! text. Prints the name, what the call printed and the status. The stored run evaluates the
-//! programs of `examples/` and small ones for each cause of a refusal, and checks IF1 texts: units
-//! that are right, one for each fault, and one cut after each byte. What it must print comes from a
-//! separate implementation.
+//! text. Behind the text there may stand pairs of a number and a piece, which the text goes on with so
+//! often. Prints the name, what the call printed and the status. A first word `!read` has the second
+//! read of the text fail, `!write` the second write of results, `!report` the first write of a
+//! refusal; then few bytes move at once. The stored run evaluates the programs of `examples/` and
+//! small ones for each cause of a refusal, has rows for words, tokens, syntax, scalars, folds,
+//! arrays, records, streams and value texts, and checks IF1 texts: units that are right, one for
+//! each fault, one cut after each byte, and deep ones. What it must print comes from a separate
+//! implementation.
 #![tactic(auto)]
 
 use flow_io::{MemSink, MemSource};
@@ -13,8 +17,59 @@ use std::alloc::Global;
 use std::io;
 use std::io::{BufRead, BufReader};
 
-/// The most bytes that move at once.
-const MOST: usize = 4096;
+/// The most bytes that move at once, where no call is planned to fail and where one is.
+const MANY: usize = 4096;
+
+const FEW: usize = 16;
+
+/// The planned calls of a source or a sink that fail: none, the first and the second.
+const NONE: [u64; 0] = [];
+
+const FIRST: [u64; 1] = [0];
+
+const SECOND: [u64; 1] = [1];
+
+/// The words of a call, and how its source and its sinks behave.
+#[derive(Copy)]
+struct Planned<'a> {
+    words: &'a str,
+    most: usize,
+    reads: &'a [u64],
+    writes: &'a [u64],
+    reports: &'a [u64],
+}
+
+/// What a row's words ask for.
+fn planned(words: &str) -> Planned<'_> {
+    let (first, rest) = words.split_once('^').unwrap_or(("", ""));
+    let plan = Planned {
+        words: rest,
+        most: FEW,
+        reads: &NONE,
+        writes: &NONE,
+        reports: &NONE,
+    };
+    match first {
+        "!read" => Planned {
+            reads: &SECOND,
+            ..plan
+        },
+        "!write" => Planned {
+            writes: &SECOND,
+            most: 4,
+            ..plan
+        },
+        "!report" => Planned {
+            reports: &FIRST,
+            ..plan
+        },
+        _ => Planned {
+            words,
+            most: MANY,
+            ..plan
+        },
+    }
+}
 
 /// What a call did.
 #[derive(Drop)]
@@ -38,13 +93,34 @@ fn words_of(alloc: Global, words: &str) -> Result<Vec<String>, NoMemory> {
     Ok(all)
 }
 
-/// The call on a text.
-fn call(alloc: Global, words: &str, text: &str) -> Result<Ended, NoMemory> {
-    let words = words_of(alloc, words)?;
-    let bytes = Seq::from_slice(alloc, text.as_bytes())?;
-    let mut from = MemSource::new(bytes, MOST, Seq::new(alloc));
-    let mut out = MemSink::new(alloc, MOST, Seq::new(alloc));
-    let mut err = MemSink::new(alloc, MOST, Seq::new(alloc));
+/// The text of a row.
+fn text_of(alloc: Global, row: &str) -> Result<Vec<u8>, NoMemory> {
+    let mut text = Vec::new(alloc);
+    let mut times = 1;
+    let mut is_number = false;
+    for part in row.split('\t') {
+        if is_number {
+            times = part.parse::<u32>().unwrap_or(0);
+        } else {
+            for _ in 0..times {
+                if text.extend_from_slice(part.as_bytes()).is_err() {
+                    return Err(NoMemory);
+                }
+            }
+        }
+        is_number = !is_number;
+    }
+    Ok(text)
+}
+
+/// The call on the text of a row.
+fn call(alloc: Global, plan: Planned<'_>, row: &str) -> Result<Ended, NoMemory> {
+    let words = words_of(alloc, plan.words)?;
+    let text = text_of(alloc, row)?;
+    let bytes = Seq::from_slice(alloc, text.as_slice())?;
+    let mut from = MemSource::new(bytes, plan.most, Seq::from_slice(alloc, plan.reads)?);
+    let mut out = MemSink::new(alloc, plan.most, Seq::from_slice(alloc, plan.writes)?);
+    let mut err = MemSink::new(alloc, MANY, Seq::from_slice(alloc, plan.reports)?);
     let status = sisal(alloc, words.as_slice(), &mut from, &mut out, &mut err);
     Ok(Ended { status, out, err })
 }
@@ -60,7 +136,7 @@ fn main(rt: HostRuntime) -> io::Result<()> {
         let row = line?.replace(rt.alloc(), "@", "\n")?;
         let (name, rest) = row.split_once('\t').unwrap_or(("no name", ""));
         let (words, text) = rest.split_once('\t').unwrap_or(("", ""));
-        match call(rt.alloc(), words, text) {
+        match call(rt.alloc(), planned(words), text) {
             Ok(ended) => {
                 let out = shown(ended.out.bytes().as_slice());
                 let err = shown(ended.err.bytes().as_slice());

@@ -6,7 +6,6 @@ ghost use Rattle.agg_pool.specs.Pools.{entry_at, HoldsAnd, BuildsAnd};
 
 use agg_pool::{Key, Pool, Segment};
 use flow_value::{NoMemory, Val};
-use std::alloc::Global;
 use std::thread::{Threads, join_mut};
 
 /// Two threads write a segment each.
@@ -55,10 +54,10 @@ fn build_and_end<R: Threads>(rt: &R, mut pool: Pool, key: Key) -> Val
 }
 
 /// The array of 10 and 20 from 1, which two threads write.
-pub fn build_by_two<R: Threads>(rt: &R, alloc: Global, mut pool: Pool) -> Result<Val, NoMemory>
+pub fn build_by_two<R: Threads>(rt: &R, mut pool: Pool) -> Result<Val, NoMemory>
     requires vacant { (n : ℕ) → entry_at pool n ≡ None }
 {
-    match pool.build(alloc, 2) {
+    match pool.build(2) {
         Ok(key) => Ok(build_and_end(rt, pool, key)),
         Err(fail) => {
             pool.end();

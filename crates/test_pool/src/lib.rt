@@ -4,12 +4,14 @@
 #![tactic(auto)]
 
 mod building;
+mod gathering;
 mod lending;
 mod opening;
 mod refusing;
 mod sharing;
 
 pub use building::build_by_two;
+pub use gathering::gather_often;
 pub use lending::{Seen, lend_to_two};
 pub use opening::empty_pool;
 pub use refusing::{Kept, build_beside, reserve_beside};

@@ -12,7 +12,7 @@ pub fn empty_pool(alloc: Global, values: usize) -> Result<Pool, NoMemory>
     ensures vacant { IfOk result (λ pool. (n : ℕ) → entry_at pool n ≡ None) }
 {
     let mut pool = Pool::new(alloc);
-    match pool.reserve(alloc, values) {
+    match pool.reserve(values) {
         Ok(()) => Ok(pool),
         Err(fail) => {
             pool.end();

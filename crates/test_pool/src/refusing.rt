@@ -5,7 +5,6 @@ ghost use Rattle.agg_pool.specs.Pools.{entry_at, HoldsAnd, IsIdleIfAny};
 use crate::lending::{number, pass_through};
 use agg_pool::{Key, Pool};
 use flow_value::{NoMemory, Val};
-use std::alloc::Global;
 
 /// What was held while memory was asked for, and what passed through after that.
 pub type Kept = (i64, i64);
@@ -23,22 +22,22 @@ fn look_and_end(mut pool: Pool, key: Key) -> Kept
 }
 
 /// Holds a value while the pool asks for room for `n` values.
-pub fn reserve_beside(alloc: Global, mut pool: Pool, n: usize) -> Kept
+pub fn reserve_beside(mut pool: Pool, n: usize) -> Kept
     requires room { 2 ≤ pool.spare }
     requires vacant { (m : ℕ) → entry_at pool m ≡ None }
 {
     let key = pool.put(Val::Int(7));
-    let _granted = pool.reserve(alloc, n);
+    let _granted = pool.reserve(n);
     look_and_end(pool, key)
 }
 
 /// Holds a value while the pool asks for an array of one place.
-pub fn build_beside(alloc: Global, mut pool: Pool) -> Kept
+pub fn build_beside(mut pool: Pool) -> Kept
     requires room { 2 ≤ pool.spare }
     requires vacant { (m : ℕ) → entry_at pool m ≡ None }
 {
     let key = pool.put(Val::Int(7));
-    match pool.build(alloc, 1) {
+    match pool.build(1) {
         Ok(_room) => look_and_end(pool, key),
         Err(NoMemory) => look_and_end(pool, key),
     }

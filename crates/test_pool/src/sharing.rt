@@ -110,7 +110,7 @@ pub fn build_by_four<R: Threads + Sync>(
         pool.end();
         return Err(NoMemory);
     };
-    let Ok(key) = pool.build(alloc, n) else {
+    let Ok(key) = pool.build(n) else {
         parts.destroy_empty();
         pool.end();
         return Err(NoMemory);

@@ -1,4 +1,7 @@
-use crate::{build_beside, build_by_four, build_by_two, empty_pool, lend_to_two, reserve_beside};
+use crate::{
+    build_beside, build_by_four, build_by_two, empty_pool, gather_often, lend_to_two,
+    reserve_beside,
+};
 use flow_value::{Items, Val, array_of, same};
 use std::alloc::Global;
 use std::test::Fail;
@@ -26,7 +29,7 @@ fn array(alloc: Global, numbers: &[i64]) -> Result<Val, Fail> {
 fn an_array_is_written_by_two_threads(rt: HostRuntime) -> Result<(), Fail> {
     let alloc = rt.alloc();
     let pool = empty_pool(alloc, 0)?;
-    let built = build_by_two(&rt, alloc, pool)?;
+    let built = build_by_two(&rt, pool)?;
     assert!(rt; same(&built, &array(alloc, &[10, 20])?));
     Ok(())
 }
@@ -49,6 +52,16 @@ fn sixteen_segments_are_written_by_four_threads(rt: HostRuntime) -> Result<(), F
     Ok(())
 }
 
+#[test]
+fn a_million_arrays_one_after_another_lie_under_one_key(rt: HostRuntime) -> Result<(), Fail> {
+    let pool = empty_pool(rt.alloc(), 1)?;
+    let Some(keys) = gather_often(pool, 1_000_000) else {
+        return Err(Fail::new("no memory"));
+    };
+    assert_eq!(rt; keys, 1);
+    Ok(())
+}
+
 // Where memory is ample nothing is refused: `rt try --test --fail-alloc N` refuses the Nth request of each test. The pool
 // has the first seven, and those of `reserve` and `build` come next.
 
@@ -58,7 +71,7 @@ fn a_pool_that_is_refused_room_is_as_it_was(rt: HostRuntime) {
     let Ok(pool) = empty_pool(alloc, 4) else {
         return;
     };
-    assert_eq!(rt; reserve_beside(alloc, pool, 5), (7, 5));
+    assert_eq!(rt; reserve_beside(pool, 5), (7, 5));
 }
 
 #[test]
@@ -67,5 +80,5 @@ fn a_pool_that_is_refused_an_array_is_as_it_was(rt: HostRuntime) {
     let Ok(pool) = empty_pool(alloc, 4) else {
         return;
     };
-    assert_eq!(rt; build_beside(alloc, pool), (7, 5));
+    assert_eq!(rt; build_beside(pool), (7, 5));
 }

@@ -8,6 +8,3 @@ mod types;
 
 pub use form::{Form, Member};
 pub use types::{BOOLEAN, CHARACTER, INTEGER, NULL, TEXT, Types};
-
-#[cfg(test)]
-mod tests;

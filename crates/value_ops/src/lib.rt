@@ -15,8 +15,6 @@ mod records;
 mod rows;
 mod scalars;
 mod sizes;
-#[cfg(test)]
-mod tests;
 mod values;
 
 pub use operation::Operation;

@@ -7,8 +7,6 @@ mod read;
 mod scalars;
 mod spelling;
 mod survey;
-#[cfg(test)]
-mod tests;
 mod token;
 
 pub use fault::ValueFault;

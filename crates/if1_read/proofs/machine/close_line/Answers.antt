@@ -11,8 +11,8 @@ pub returns-clause-turns : goal.returns-clause-turns
 returns-clause-turns c = λ sound assoc before name.
     let outer : c.args.machine.outer.items ≡ c.pop.new.self.items ++ c.in-Some.around ∷ [] = search rules in
     let was = out-Node c.args.node in
-    let made = node_of was.label was.op c.in_ok-graphs.graphs was.assoc was.before was.name in
-    let marks : marks_of made ≡ (was.label, was.op) = marks_are was.label was.op c.in_ok-graphs.graphs was.assoc was.before was.name in
+    let made = node_of was.label was.op c.unless_wrong.result was.assoc was.before was.name in
+    let marks : marks_of made ≡ (was.label, was.op) = marks_are was.label was.op c.unless_wrong.result was.assoc was.before was.name in
     let here = sheet_of c.in-Some.around in
     close_turns c.args.known.now c.args.machine c.args.line _ was.label was.op c.args.count assoc before name c.in-Some.around c.len.result c.in_ok-graphs.first
     c.after-first.result c.in_ok-level.wrong outer (c.len.ensures ∙ c.in_ok-graphs.ensures.begun) (c.in_ok-graphs.ensures.found sound)

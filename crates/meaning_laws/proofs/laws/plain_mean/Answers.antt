@@ -1,9 +1,9 @@
 use Rattle.std.proofs.Common.{◌≡◌, ◌≤◌}
 use Rattle.std.proofs.lemmas.Result.{IfOk-weaker, IfErr-weaker}
 use Rattle.source_meaning.specs.declared.evaluator.MeanFault.TheVariants as fault
-use Rattle.source_meaning.specs.Meaning.{calls}
+use Rattle.meaning.specs.Meaning.{calls}
 use Rattle.meaning_laws.specs.Laws.{Program, IsGiven, PassesAlways}
-use Rattle.meaning_laws.specs.Plain.{plain_calls}
+use Rattle.meaning.specs.Plain.{plain_calls}
 use Rattle.meaning_laws.proofs.Agree.{calls_same, limits_same}
 use Rattle.meaning_laws.proofs.laws.plain_mean.Goals as goal
 

@@ -1,7 +1,7 @@
 use Rattle.std.proofs.Common.{rules, arith, ◌≡◌, ◌≤◌, ◌<◌, ◌∙◌, ℕ, ◌+◌, [], ◌∷◌, ◌++◌, List, ap, sym}
 use Rattle.flow_value.specs.declared.value.Val.{Val}
-use Rattle.source_meaning.specs.Timed.{plus, andthen}
-use Rattle.source_meaning.specs.Meaning.{meanings}
+use Rattle.meaning.specs.Timed.{plus, andthen}
+use Rattle.meaning.specs.Meaning.{meanings}
 use Rattle.source_meaning.specs.Pending.{Program, bind_weight}
 use Rattle.source_meaning.proofs.Laws.{plus_zero}
 use Rattle.source_meaning.proofs.Forward.{Goes, light, heavy}

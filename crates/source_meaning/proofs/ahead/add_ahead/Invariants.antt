@@ -1,6 +1,6 @@
 use Rattle.std.proofs.Common.{◌≡◌, ◌≤◌, ◌+◌, ◌++◌, ℕ, length}
-use Rattle.source_meaning.specs.Timed.{plus, andthen}
-use Rattle.source_meaning.specs.Meaning.{meanings}
+use Rattle.meaning.specs.Timed.{plus, andthen}
+use Rattle.meaning.specs.Meaning.{meanings}
 use Rattle.source_meaning.specs.Pending.{Program, bind_weight}
 use Rattle.source_meaning.proofs.Forward.{Goes}
 use Rattle.source_meaning.proofs.ahead.add_ahead.Given as goal

@@ -1,5 +1,5 @@
 use Rattle.std.proofs.Common.{rules, arith, ◌≡◌, ℕ, ◌+◌, ◌<◌, [], ◌∷◌, length, Some, ap}
-use Rattle.source_meaning.specs.Meaning.{meaning}
+use Rattle.meaning.specs.Meaning.{meaning}
 use Rattle.source_meaning.specs.Pending.{Program}
 use Rattle.source_meaning.proofs.Forward.{next_part, stepped}
 use Rattle.source_meaning.proofs.ahead.next_value.Goals as goal

@@ -3,9 +3,9 @@ use Rattle.std.proofs.lemmas.List.{take_all}
 use Rattle.std.proofs.lemmas.Option.{IfSome_then}
 use Rattle.value_ops.specs.declared.operation.Operation.TheVariants as op
 use Rattle.value_ops.specs.Operations.{op_value}
-use Rattle.source_meaning.specs.Timed.{given, andthen}
+use Rattle.meaning.specs.Timed.{given, andthen}
 use Rattle.source_meaning.specs.Slots.{slot_value, slot_values}
-use Rattle.source_meaning.specs.Meaning.{meaning, meanings, kind_meaning}
+use Rattle.meaning.specs.Meaning.{meaning, meanings, kind_meaning}
 use Rattle.source_meaning.specs.Pending.{Program}
 use Rattle.source_meaning.proofs.AtOnce.{one_of, two_of, counted, only_is, both_are, row_step, behind_steps, applied, group_is, apply_is, said_yes, said_no, said_failed, slots_behind}
 use Rattle.source_meaning.proofs.direct.+direct.Goals as goal

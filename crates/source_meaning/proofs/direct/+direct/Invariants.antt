@@ -1,6 +1,6 @@
 use Rattle.std.proofs.Common.{◌≡◌, ℕ, take, Some}
 use Rattle.source_meaning.specs.Slots.{slot_values}
-use Rattle.source_meaning.specs.Meaning.{meanings}
+use Rattle.meaning.specs.Meaning.{meanings}
 use Rattle.source_meaning.specs.Pending.{Program}
 use Rattle.source_meaning.proofs.direct.+direct.Given as goal
 

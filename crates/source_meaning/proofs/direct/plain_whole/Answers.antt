@@ -2,7 +2,7 @@ use Rattle.std.proofs.Common.{rules, ◌≡◌, ◌∙◌, ℕ, [], ◌∷◌, S
 use mir.Syntax.{w64}
 use mir.Val.{SFits}
 use Rattle.flow_value.specs.declared.value.Val.TheVariants as val
-use Rattle.source_meaning.specs.Meaning.{meaning}
+use Rattle.meaning.specs.Meaning.{meaning}
 use Rattle.source_meaning.specs.Pending.{Program}
 use Rattle.source_meaning.proofs.Wholes.{read_back}
 use Rattle.source_meaning.proofs.direct.plain_whole.Goals as goal

@@ -1,8 +1,8 @@
 use Rattle.std.proofs.Common.{rules, ◌≡◌, ℕ, List, [], ◌∷◌, ◌++◌, refl, sym, ap, ◌∙◌}
 use Rattle.flow_value.specs.declared.value.Val.{Val}
-use Rattle.source_meaning.specs.Timed.{plus, andthen}
+use Rattle.meaning.specs.Timed.{plus, andthen}
 use Rattle.source_meaning.specs.Slots.{given_values}
-use Rattle.source_meaning.specs.Meaning.{definitions}
+use Rattle.meaning.specs.Meaning.{definitions}
 use Rattle.source_meaning.specs.Pending.{Rest, rest}
 use Rattle.source_meaning.proofs.Follows.{binds, bound, whole_as}
 use Rattle.source_meaning.proofs.finish.bind.Goals as goal

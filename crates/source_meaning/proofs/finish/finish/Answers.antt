@@ -9,8 +9,11 @@ returns-in_ok-bind-in-Bind-clause-moves c = λ g. along c.args.program.now c.arg
 pub returns-in-Unbind-clause-moves : goal.returns-in-Unbind-clause-moves
 returns-in-Unbind-clause-moves c = λ g. moves_same _ _ (λ n. search rules)
 
-pub returns-in_ok-enter-in-Enter-clause-moves : goal.returns-in_ok-enter-in-Enter-clause-moves
-returns-in_ok-enter-in-Enter-clause-moves c = λ g. along c.args.program.now c.args.state.now.steps c.args.state.now.frames.items c.args.state.now.names c.args.values _ _ _ c.in-Enter.is c.in_ok-enter-in-Enter.ensures.moves
+pub returns-in_ok-going-in-Enter-clause-moves : goal.returns-in_ok-going-in-Enter-clause-moves
+returns-in_ok-going-in-Enter-clause-moves c = λ g. along c.args.program.now c.args.state.now.steps c.args.state.now.frames.items c.args.state.now.names c.args.values _ _ _ c.in-Enter.is (c.in_ok-going-in-Enter.ensures.moves g)
+
+pub returns-in_ok-going-in-Enter-clause-limit : goal.returns-in_ok-going-in-Enter-clause-limit
+returns-in_ok-going-in-Enter-clause-limit c = λ g. along_limit c.args.limit c.args.program.now c.args.state.now.steps c.args.state.now.frames.items c.args.state.now.names c.args.values _ _ c.in-Enter.is (c.in_ok-going-in-Enter.ensures.limit g)
 
 pub returns-in-Leave-clause-moves : goal.returns-in-Leave-clause-moves
 returns-in-Leave-clause-moves c = λ g. moves_same _ _ (λ n. search rules)

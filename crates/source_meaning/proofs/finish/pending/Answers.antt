@@ -1,5 +1,5 @@
 use Rattle.std.proofs.Common.{rules, ◌≡◌, [], ◌∷◌, sym, ap, ◌∙◌}
-use Rattle.source_meaning.specs.Meaning.{definitions}
+use Rattle.meaning.specs.Meaning.{definitions}
 use Rattle.source_meaning.proofs.Follows.{no_names}
 use Rattle.source_meaning.proofs.finish.pending.Goals as goal
 

@@ -1,6 +1,6 @@
 use Rattle.std.proofs.Common.{◌≡◌, ℕ, List, length}
 use Rattle.flow_value.specs.declared.value.Val.{Val}
-use Rattle.source_meaning.specs.Meaning.{definitions}
+use Rattle.meaning.specs.Meaning.{definitions}
 use Rattle.source_meaning.specs.Pending.{Program}
 use Rattle.source_meaning.proofs.finish.pending.Given as goal
 

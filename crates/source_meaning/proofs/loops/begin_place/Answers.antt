@@ -1,9 +1,9 @@
 use Rattle.std.proofs.Common.{rules, ◌≡◌, suc, ◌-◌, ◌++◌, ap, ◌∙◌, arith}
-use Rattle.source_meaning.specs.Timed.{plus, andthen}
+use Rattle.meaning.specs.Timed.{plus, andthen}
 use Rattle.source_meaning.specs.Slots.{slot_values, given_values}
-use Rattle.source_meaning.specs.Sources.{names_at}
+use Rattle.meaning.specs.Sources.{names_at}
 use Rattle.source_meaning.specs.Pending.{rest, finish}
-use Rattle.source_meaning.specs.Meaning.{meanings, definitions}
+use Rattle.meaning.specs.Meaning.{meanings, definitions}
 use Rattle.source_meaning.specs.declared.state.After.TheVariants as after
 use Rattle.source_meaning.proofs.Walks.{walk_step}
 use Rattle.source_meaning.proofs.loops.begin_place.Goals as goal

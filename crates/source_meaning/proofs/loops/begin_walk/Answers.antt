@@ -1,7 +1,7 @@
 use Rattle.std.proofs.Common.{◌≡◌, refl, ap, ◌∙◌}
 use Rattle.source_meaning.specs.declared.state.Walk.{Walk}
-use Rattle.source_meaning.specs.Timed.{plus}
-use Rattle.source_meaning.specs.Rows.{no_rows}
+use Rattle.meaning.specs.Timed.{plus}
+use Rattle.meaning.specs.Rows.{no_rows}
 use Rattle.source_meaning.specs.Pending.{rest}
 use Rattle.source_meaning.proofs.Laws.{moves_same, passes_back}
 use Rattle.source_meaning.proofs.Walks.{open_count}

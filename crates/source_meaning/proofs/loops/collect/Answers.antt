@@ -1,8 +1,8 @@
 use Rattle.std.proofs.Common.{rules, ◌≡◌, false, take, drop, sym, ap, ◌∙◌}
-use Rattle.source_meaning.specs.Timed.{plus}
-use Rattle.source_meaning.specs.Rows.{with_row}
+use Rattle.meaning.specs.Timed.{plus}
+use Rattle.meaning.specs.Rows.{with_row}
 use Rattle.source_meaning.specs.Pending.{rest, tested}
-use Rattle.source_meaning.specs.declared.words.Test.TheVariants as test
+use Rattle.meaning.specs.declared.words.Test.TheVariants as test
 use Rattle.source_meaning.proofs.Laws.{moves_same, passes_back}
 use Rattle.source_meaning.proofs.Turns.{untested}
 use Rattle.source_meaning.proofs.loops.collect.Goals as goal

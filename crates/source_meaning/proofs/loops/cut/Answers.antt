@@ -1,6 +1,6 @@
 use Rattle.std.proofs.Common.{rules, ◌≡◌, ◌∙◌, List, [], ◌++◌, ap, sym}
 use Rattle.flow_value.specs.declared.value.Val.{Val}
-use Rattle.source_meaning.specs.Timed.{Timed}
+use Rattle.meaning.specs.Timed.{Timed}
 use Rattle.source_meaning.specs.declared.state.Round.{Round}
 use Rattle.source_meaning.specs.Slots.{given_values}
 use Rattle.source_meaning.specs.Pending.{rest}

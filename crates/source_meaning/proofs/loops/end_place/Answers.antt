@@ -1,6 +1,6 @@
 use Rattle.std.proofs.Common.{◌≡◌, sym, ap, ◌∙◌}
-use Rattle.source_meaning.specs.Timed.{plus}
-use Rattle.source_meaning.specs.Rows.{with_row}
+use Rattle.meaning.specs.Timed.{plus}
+use Rattle.meaning.specs.Rows.{with_row}
 use Rattle.source_meaning.specs.Pending.{rest, walk}
 use Rattle.source_meaning.proofs.Laws.{moves_same, passes_back}
 use Rattle.source_meaning.proofs.loops.end_place.Goals as goal

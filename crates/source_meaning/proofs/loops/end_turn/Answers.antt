@@ -1,8 +1,8 @@
 use Rattle.std.proofs.Common.{rules, ◌≡◌, take, drop, ap}
-use Rattle.source_meaning.specs.Timed.{plus}
-use Rattle.source_meaning.specs.Words.{goes_on, test_of}
+use Rattle.meaning.specs.Timed.{plus}
+use Rattle.meaning.specs.Words.{goes_on, test_of}
 use Rattle.source_meaning.specs.Pending.{rest, tested}
-use Rattle.source_meaning.specs.declared.words.Test.TheVariants as test
+use Rattle.meaning.specs.declared.words.Test.TheVariants as test
 use Rattle.source_meaning.proofs.Laws.{moves_same, passes_back}
 use Rattle.source_meaning.proofs.loops.end_turn.Goals as goal
 

@@ -1,8 +1,8 @@
 use Rattle.std.proofs.Common.{rules, w64, FitsSigned, ◌≡◌, ◌+◌, length, sym, ap, ◌∙◌}
 use Rattle.std.proofs.lemmas.Int.{to_z-of_z}
 use Rattle.source_meaning.specs.Slots.{slot_values}
-use Rattle.source_meaning.specs.Sources.{lower_of}
-use Rattle.source_meaning.specs.Rows.{made}
+use Rattle.meaning.specs.Sources.{lower_of}
+use Rattle.meaning.specs.Rows.{made}
 use Rattle.source_meaning.specs.Pending.{rest}
 use Rattle.source_meaning.proofs.Walks.{walk_end, whole_is}
 use Rattle.source_meaning.proofs.loops.end_walk.Goals as goal

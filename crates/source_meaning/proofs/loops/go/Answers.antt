@@ -1,8 +1,8 @@
 use Rattle.std.proofs.Common.{rules, ◌≡◌, ◌+◌, true, [], length, take, drop, refl, sym, ap, ◌∙◌}
-use Rattle.source_meaning.specs.Timed.{plus, andthen}
+use Rattle.meaning.specs.Timed.{plus, andthen}
 use Rattle.source_meaning.specs.Slots.{given_values}
 use Rattle.source_meaning.specs.Pending.{rest, round, turned_next, finish}
-use Rattle.source_meaning.specs.Meaning.{meanings, definitions}
+use Rattle.meaning.specs.Meaning.{meanings, definitions}
 use Rattle.source_meaning.specs.declared.state.After.TheVariants as after
 use Rattle.source_meaning.proofs.Laws.{plus_plus}
 use Rattle.source_meaning.proofs.Walks.{whole_is}

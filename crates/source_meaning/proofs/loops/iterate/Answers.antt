@@ -1,5 +1,5 @@
 use Rattle.std.proofs.Common.{rules, ◌≡◌, ◌∙◌, ℕ, ap, sym}
-use Rattle.source_meaning.specs.Timed.{plus}
+use Rattle.meaning.specs.Timed.{plus}
 use Rattle.source_meaning.specs.Pending.{Program, Rest, rest, walk}
 use Rattle.source_meaning.proofs.Laws.{moves_same, passes_back}
 use Rattle.source_meaning.proofs.loops.iterate.Goals as goal

@@ -1,7 +1,7 @@
 use Rattle.std.proofs.Common.{rules, arith, ◌≡◌, ◌∙◌, ℕ, ◌+◌, ◌<◌, [], ◌++◌, take, drop, ap, sym, subst}
-use Rattle.source_meaning.specs.Timed.{plus}
+use Rattle.meaning.specs.Timed.{plus}
 use Rattle.source_meaning.specs.Slots.{given_values}
-use Rattle.source_meaning.specs.Meaning.{renew}
+use Rattle.meaning.specs.Meaning.{renew}
 use Rattle.source_meaning.specs.Pending.{Program, Rest, rest}
 use Rattle.source_meaning.specs.Turning.{turning}
 use Rattle.source_meaning.proofs.Over.{nothing_left, made_is, made_late, cut_is}

@@ -1,5 +1,5 @@
 use Rattle.std.proofs.Common.{ap}
-use Rattle.source_meaning.specs.Timed.{plus}
+use Rattle.meaning.specs.Timed.{plus}
 use Rattle.source_meaning.specs.Slots.{slot_values}
 use Rattle.source_meaning.specs.Pending.{rest}
 use Rattle.source_meaning.proofs.Laws.{moves_same, passes_back}

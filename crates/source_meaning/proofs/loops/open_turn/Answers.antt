@@ -1,9 +1,9 @@
 use Rattle.std.proofs.Common.{rules, arith, ◌≡◌, ◌∙◌, ℕ, ◌+◌, ◌<◌, ◌≤◌, ◌++◌, true, length, take, drop, ap, sym, refl, subst}
 use Rattle.std.specs.Option.{IfSome}
 use Rattle.source_meaning.specs.declared.state.Round.{Round}
-use Rattle.source_meaning.specs.Timed.{Moves, plus}
+use Rattle.meaning.specs.Timed.{Moves, plus}
 use Rattle.source_meaning.specs.Slots.{slot_values}
-use Rattle.source_meaning.specs.Rows.{with_row}
+use Rattle.meaning.specs.Rows.{with_row}
 use Rattle.source_meaning.specs.Pending.{Program, rest}
 use Rattle.source_meaning.specs.Turning.{Fits, Replaced, standing, turning}
 use Rattle.source_meaning.proofs.Over.{Before, opened, late}

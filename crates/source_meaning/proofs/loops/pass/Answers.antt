@@ -1,9 +1,9 @@
 use Rattle.std.proofs.Common.{rules, arith, ◌≡◌, ◌∙◌, ℕ, suc, ◌+◌, ◌-◌, ◌<◌, ◌++◌, Some, ap, sym, refl}
 use Rattle.source_meaning.specs.declared.state.Walk.{Walk}
-use Rattle.source_meaning.specs.Timed.{plus}
+use Rattle.meaning.specs.Timed.{plus}
 use Rattle.source_meaning.specs.Slots.{given_values, slot_values}
-use Rattle.source_meaning.specs.Sources.{names_at}
-use Rattle.source_meaning.specs.Rows.{with_row}
+use Rattle.meaning.specs.Sources.{names_at}
+use Rattle.meaning.specs.Rows.{with_row}
 use Rattle.source_meaning.specs.Pending.{Program, walked_body, walk}
 use Rattle.source_meaning.proofs.Laws.{passes_now}
 use Rattle.source_meaning.proofs.AtOnce.{pass_is}

@@ -1,5 +1,5 @@
 use Rattle.std.proofs.Common.{◌≡◌, ◌++◌, take, drop, ap, ◌∙◌}
-use Rattle.source_meaning.specs.Meaning.{renew}
+use Rattle.meaning.specs.Meaning.{renew}
 use Rattle.source_meaning.proofs.Laws.{moves_same, moves_on}
 use Rattle.source_meaning.proofs.Turns.{renew_is}
 use Rattle.source_meaning.proofs.loops.renew.Goals as goal

@@ -1,5 +1,5 @@
 use Rattle.std.proofs.Common.{◌≡◌, ◌++◌, take, drop, length}
-use Rattle.source_meaning.specs.Meaning.{renew}
+use Rattle.meaning.specs.Meaning.{renew}
 use Rattle.source_meaning.proofs.loops.renew_names.Given as goal
 
 -- the names in force now, with those of the turn that are still to renew, decide the loop names

@@ -1,7 +1,7 @@
 use Rattle.std.proofs.Common.{rules, ◌≡◌, ◌+◌, length, sym, ap, ◌∙◌}
-use Rattle.source_meaning.specs.Timed.{plus}
+use Rattle.meaning.specs.Timed.{plus}
 use Rattle.source_meaning.specs.Slots.{slot_values}
-use Rattle.source_meaning.specs.Sources.{places_of}
+use Rattle.meaning.specs.Sources.{places_of}
 use Rattle.source_meaning.specs.Pending.{rest}
 use Rattle.source_meaning.proofs.Laws.{moves_same, passes_back}
 use Rattle.source_meaning.proofs.Walks.{opened, span_is}

@@ -1,6 +1,6 @@
 use Rattle.std.proofs.Common.{rules, ◌≡◌, sym, refl, subst}
 use Rattle.source_meaning.specs.declared.state.Round.{Round}
-use Rattle.source_meaning.specs.Rows.{no_rows}
+use Rattle.meaning.specs.Rows.{no_rows}
 use Rattle.source_meaning.specs.Turning.{Fits}
 use Rattle.source_meaning.proofs.Laws.{moves_same, moves_on, passes_back}
 use Rattle.source_meaning.proofs.Over.{start_is_standing}

@@ -1,5 +1,5 @@
 use Rattle.std.proofs.Common.{◌≡◌, ◌≤◌, ◌+◌, ℕ, if◌then◌else◌}
-use Rattle.source_meaning.specs.Timed.{plus}
+use Rattle.meaning.specs.Timed.{plus}
 use Rattle.source_meaning.specs.Pending.{Program, Rest, walk}
 use Rattle.source_meaning.proofs.loops.stride.Given as goal
 

@@ -1,5 +1,5 @@
 use Rattle.std.proofs.Common.{◌≡◌, ◌≤◌, ◌+◌, ◌-◌, ℕ}
-use Rattle.source_meaning.specs.Timed.{Moves}
+use Rattle.meaning.specs.Timed.{Moves}
 use Rattle.source_meaning.specs.Pending.{Program}
 use Rattle.source_meaning.specs.Turning.{Fits, standing}
 use Rattle.source_meaning.proofs.loops.turns_over.Given as goal

@@ -2,9 +2,9 @@ use Rattle.std.proofs.Common.{rules, ◌≡◌, ◌+◌, List, [], ◌∷◌, �
 use Rattle.flow_value.specs.declared.value.Val.{Val}
 use Rattle.source_meaning.specs.declared.state.Operating.{Operating}
 use Rattle.source_meaning.specs.declared.state.Frame.TheVariants as frame
-use Rattle.source_meaning.specs.Timed.{andthen, plus}
+use Rattle.meaning.specs.Timed.{andthen, plus}
 use Rattle.source_meaning.specs.Slots.{slot_values, given_values}
-use Rattle.source_meaning.specs.Meaning.{meaning}
+use Rattle.meaning.specs.Meaning.{meaning}
 use Rattle.source_meaning.specs.Pending.{rest, frame_rest}
 use Rattle.source_meaning.proofs.Laws.{moves_same, passes_back}
 use Rattle.source_meaning.proofs.Rests.{nil_of}

@@ -2,8 +2,8 @@ use Rattle.std.proofs.Common.{rules, arith, ◌≡◌, ◌≤◌, ◌<◌, ◌�
 use Rattle.flow_value.specs.declared.value.Val.{Val}
 use Rattle.source_meaning.specs.declared.state.Listing.{Listing}
 use Rattle.source_meaning.specs.declared.state.Frame.{Frame}
-use Rattle.source_meaning.specs.Timed.{plus, andthen}
-use Rattle.source_meaning.specs.Meaning.{meanings}
+use Rattle.meaning.specs.Timed.{plus, andthen}
+use Rattle.meaning.specs.Meaning.{meanings}
 use Rattle.source_meaning.specs.Slots.{given_values}
 use Rattle.source_meaning.specs.Pending.{Program, load, listing_weight}
 use Rattle.source_meaning.proofs.Laws.{moves_same, moves_on, passes_back}

@@ -1,5 +1,5 @@
 use Rattle.std.proofs.Common.{◌≤◌}
-use Rattle.source_meaning.specs.Timed.{Moves}
+use Rattle.meaning.specs.Timed.{Moves}
 use Rattle.source_meaning.specs.Slots.{given_values}
 use Rattle.source_meaning.specs.Pending.{whole, fuel}
 use Rattle.source_meaning.proofs.machine.run.Given as goal

@@ -1,6 +1,6 @@
 use Rattle.std.proofs.Common.{◌≡◌, [], ◌∷◌, sym, ap, subst, ◌∙◌}
 use Rattle.value_ops.specs.Operations.{op_value}
-use Rattle.source_meaning.specs.Timed.{plus, Passes}
+use Rattle.meaning.specs.Timed.{plus, Passes}
 use Rattle.source_meaning.specs.Slots.{slot_values}
 use Rattle.source_meaning.specs.Pending.{rest, before_work}
 use Rattle.source_meaning.proofs.machine.work.Goals as goal

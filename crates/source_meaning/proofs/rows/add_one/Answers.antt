@@ -2,8 +2,8 @@ use Rattle.std.proofs.Common.{rules, ◌≡◌, ◌+◌, [], ◌∷◌, ◌++◌
 use Rattle.loop_folds.specs.Clauses.{Cell}
 use Rattle.loop_folds.specs.declared.masking.Keep.TheVariants as keep
 use Rattle.flow_value.specs.declared.value.Val.{Val}
-use Rattle.source_meaning.specs.Rows.{cells_in, with_cells}
-use Rattle.source_meaning.specs.Words.{value_at}
+use Rattle.meaning.specs.Rows.{cells_in, with_cells}
+use Rattle.meaning.specs.Words.{value_at}
 use Rattle.source_meaning.proofs.AddedRows.{one_row}
 use Rattle.source_meaning.proofs.rows.add_one.Goals as goal
 

@@ -1,6 +1,6 @@
 use Rattle.std.proofs.Common.{◌∙◌, ap, sym}
 use Rattle.std.specs.Vec.Iter.{into_iter_items}
-use Rattle.source_meaning.specs.Rows.{with_row}
+use Rattle.meaning.specs.Rows.{with_row}
 use Rattle.source_meaning.proofs.AddedRows.{row_done}
 use Rattle.source_meaning.proofs.rows.add_row.Goals as goal
 

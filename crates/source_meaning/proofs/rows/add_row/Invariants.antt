@@ -1,6 +1,6 @@
 use Rattle.std.proofs.Common.{◌≡◌, ◌++◌, take, drop}
 use Rattle.std.specs.Vec.Iter.{into_iter_items}
-use Rattle.source_meaning.specs.Rows.{cells_in, with_cells, with_row}
+use Rattle.meaning.specs.Rows.{cells_in, with_cells, with_row}
 use Rattle.source_meaning.proofs.rows.add_row.Given as goal
 
 -- the clauses that have their values, with those that are still to have them, are all

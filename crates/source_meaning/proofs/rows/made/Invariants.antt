@@ -1,5 +1,5 @@
 use Rattle.std.proofs.Common.{◌≡◌}
-use Rattle.source_meaning.specs.Rows.{made}
+use Rattle.meaning.specs.Rows.{made}
 use Rattle.source_meaning.proofs.rows.made.Given as goal
 
 abbrev pub invariant-loop-clause : goal.invariant-loop-clause

@@ -1,7 +1,7 @@
 use Rattle.std.proofs.Common.{◌∙◌, ap, sym, drop}
 use Rattle.std.specs.Vec.Iter.{into_iter_items}
 use Rattle.loop_folds.specs.Masks.{keep_of}
-use Rattle.source_meaning.specs.Words.{value_at}
+use Rattle.meaning.specs.Words.{value_at}
 use Rattle.source_meaning.proofs.AddedRows.{second_value, two_dropped, masked_span}
 use Rattle.source_meaning.proofs.rows.next_cell.Goals as goal
 

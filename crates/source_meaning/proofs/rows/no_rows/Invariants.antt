@@ -1,5 +1,5 @@
 use Rattle.std.proofs.Common.{◌≡◌, ◌++◌, drop}
-use Rattle.source_meaning.specs.Rows.{no_rows}
+use Rattle.meaning.specs.Rows.{no_rows}
 use Rattle.source_meaning.proofs.rows.no_rows.Given as goal
 
 abbrev pub invariant-loop-form : goal.invariant-loop-form

@@ -2,9 +2,9 @@ use Rattle.std.proofs.Common.{◌≡◌, ◌∙◌, [], ◌∷◌, ◌++◌, tak
 use Rattle.std.proofs.lemmas.Result.{on_ok_weaker}
 use Rattle.flow_value.specs.declared.value.Val.TheViews.{out-Val}
 use Rattle.typed_tree.specs.declared.expr.Source.TheVariants as source
-use Rattle.source_meaning.specs.Words.{value_at}
+use Rattle.meaning.specs.Words.{value_at}
 use Rattle.source_meaning.specs.Slots.{slot_values}
-use Rattle.source_meaning.specs.Sources.{element_at, index_in, names_of}
+use Rattle.meaning.specs.Sources.{element_at, index_in, names_of}
 use Rattle.source_meaning.proofs.sources.add_generated.Goals as goal
 
 pub returns : goal.returns

@@ -1,6 +1,6 @@
 use Rattle.std.proofs.Common.{◌≡◌, ◌++◌, length, take, drop}
 use Rattle.source_meaning.specs.Slots.{slot_values}
-use Rattle.source_meaning.specs.Sources.{names_at}
+use Rattle.meaning.specs.Sources.{names_at}
 use Rattle.source_meaning.proofs.sources.add_names_at.Given as goal
 
 -- the names so far, and those to come, are those of all generators

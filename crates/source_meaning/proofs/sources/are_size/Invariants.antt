@@ -1,5 +1,5 @@
 use Rattle.std.proofs.Common.{◌≡◌, drop}
-use Rattle.source_meaning.specs.Sources.{are_size}
+use Rattle.meaning.specs.Sources.{are_size}
 use Rattle.source_meaning.proofs.sources.are_size.Given as goal
 
 abbrev pub invariant-loop-size : goal.invariant-loop-size

@@ -1,5 +1,5 @@
 use Rattle.std.proofs.Common.{◌≡◌, drop}
-use Rattle.source_meaning.specs.Sources.{first_failure}
+use Rattle.meaning.specs.Sources.{first_failure}
 use Rattle.source_meaning.proofs.sources.first_failure.Given as goal
 
 abbrev pub invariant-loop-size : goal.invariant-loop-size

@@ -2,7 +2,7 @@ use Rattle.std.proofs.Common.{◌≡◌, ◌++◌, drop}
 use Rattle.flow_value.specs.declared.value.Val.TheVariants as val
 use Rattle.flow_value.specs.declared.cause.Cause.TheVariants as cause
 use Rattle.source_meaning.specs.Slots.{slot_values}
-use Rattle.source_meaning.specs.Sources.{names_at}
+use Rattle.meaning.specs.Sources.{names_at}
 use Rattle.source_meaning.proofs.sources.names_at.Given as goal
 
 -- the values so far, and those to come, are those of all generators

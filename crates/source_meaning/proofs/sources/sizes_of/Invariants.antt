@@ -2,7 +2,7 @@ use Rattle.std.proofs.Common.{◌≡◌, ◌++◌, drop}
 use Rattle.flow_value.specs.declared.value.Val.TheVariants as val
 use Rattle.flow_value.specs.declared.cause.Cause.TheVariants as cause
 use Rattle.source_meaning.specs.Slots.{slot_values}
-use Rattle.source_meaning.specs.Sources.{sizes_of}
+use Rattle.meaning.specs.Sources.{sizes_of}
 use Rattle.source_meaning.proofs.sources.sizes_of.Given as goal
 
 -- the sizes so far, and those to come, are those of all generators

@@ -1,6 +1,6 @@
 use Rattle.std.proofs.Common.{rules, ◌≡◌, true, sym, subst}
 use Rattle.source_meaning.specs.Slots.{slot_values}
-use Rattle.source_meaning.specs.Rows.{with_row}
+use Rattle.meaning.specs.Rows.{with_row}
 use Rattle.source_meaning.specs.Turning.{Fits, Replaced, Spared, all_last}
 use Rattle.source_meaning.proofs.Spared.{clauses_left, clauses_alike, fits_row}
 use Rattle.source_meaning.proofs.sparing.add_before.Goals as goal

@@ -1,12 +1,12 @@
 use Rattle.std.proofs.Common.{rules, ◌≡◌, ◌∙◌, ℕ, ◌+◌, List, Some, ap, sym, subst}
 use Rattle.std.specs.Option.{IfSome}
 use Rattle.flow_value.specs.declared.value.Val.{Val}
-use Rattle.source_meaning.specs.declared.words.Test.{Test}
-use Rattle.source_meaning.specs.declared.words.Test.TheVariants as test
-use Rattle.source_meaning.specs.Timed.{Timed, plus, andthen}
+use Rattle.meaning.specs.declared.words.Test.{Test}
+use Rattle.meaning.specs.declared.words.Test.TheVariants as test
+use Rattle.meaning.specs.Timed.{Timed, plus, andthen}
 use Rattle.source_meaning.specs.Slots.{slot_values}
-use Rattle.source_meaning.specs.Words.{test_of, goes_on}
-use Rattle.source_meaning.specs.Meaning.{meanings}
+use Rattle.meaning.specs.Words.{test_of, goes_on}
+use Rattle.meaning.specs.Meaning.{meanings}
 use Rattle.source_meaning.specs.Pending.{Program}
 use Rattle.source_meaning.proofs.Laws.{plus_plus}
 use Rattle.source_meaning.proofs.sparing.direct_before.Goals as goal

@@ -1,6 +1,6 @@
 use Rattle.std.proofs.Common.{rules, ◌≡◌, ◌∙◌, ℕ, ◌+◌, Some, ap, sym}
 use Rattle.source_meaning.specs.Slots.{given_values}
-use Rattle.source_meaning.specs.Meaning.{meanings, definitions}
+use Rattle.meaning.specs.Meaning.{meanings, definitions}
 use Rattle.source_meaning.specs.Pending.{Program}
 use Rattle.source_meaning.proofs.AtOnce.{body_is}
 use Rattle.source_meaning.proofs.strides.defined_body.Goals as goal

@@ -1,7 +1,7 @@
 use Rattle.std.proofs.Common.{rules, ◌≡◌, ◌∙◌, ℕ, ◌+◌, ◌++◌, Some, take, length, ap, sym}
 use Rattle.std.proofs.lemmas.List.{take_all}
 use Rattle.source_meaning.specs.Slots.{given_values}
-use Rattle.source_meaning.specs.Meaning.{meanings, definitions}
+use Rattle.meaning.specs.Meaning.{meanings, definitions}
 use Rattle.source_meaning.specs.Pending.{Program}
 use Rattle.source_meaning.proofs.AtOnce.{definitions_step, kept_behind}
 use Rattle.source_meaning.proofs.strides.direct_definitions.Goals as goal

@@ -1,5 +1,5 @@
 use Rattle.std.proofs.Common.{◌≡◌, ℕ, take, length, Some}
-use Rattle.source_meaning.specs.Meaning.{definitions}
+use Rattle.meaning.specs.Meaning.{definitions}
 use Rattle.source_meaning.specs.Pending.{Program}
 use Rattle.source_meaning.proofs.strides.direct_definitions.Given as goal
 

@@ -2,7 +2,7 @@ use Rattle.std.proofs.Common.{rules, ◌≡◌, ◌∙◌, ℕ, ◌++◌, Some, 
 use Rattle.std.proofs.Math.Seq.{take-append_seam}
 use Rattle.std.proofs.lemmas.Option.{IfSome_then}
 use Rattle.source_meaning.specs.Slots.{slot_values}
-use Rattle.source_meaning.specs.Sources.{names_at}
+use Rattle.meaning.specs.Sources.{names_at}
 use Rattle.source_meaning.specs.Pending.{walked_body}
 use Rattle.source_meaning.proofs.AtOnce.{kept_cut}
 use Rattle.source_meaning.proofs.strides.direct_place.Goals as goal

@@ -1,6 +1,6 @@
 use Rattle.std.proofs.Common.{rules, ◌≡◌, ◌∙◌, ℕ, ◌+◌, [], ◌∷◌, ◌++◌, Some, ap, sym}
 use Rattle.std.proofs.lemmas.List.{take_all}
-use Rattle.source_meaning.specs.Meaning.{meaning, meanings}
+use Rattle.meaning.specs.Meaning.{meaning, meanings}
 use Rattle.source_meaning.specs.Pending.{Program}
 use Rattle.source_meaning.proofs.AtOnce.{row_step}
 use Rattle.source_meaning.proofs.strides.direct_row.Goals as goal

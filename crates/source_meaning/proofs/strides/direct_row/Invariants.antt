@@ -1,5 +1,5 @@
 use Rattle.std.proofs.Common.{◌≡◌, ℕ, take, Some}
-use Rattle.source_meaning.specs.Meaning.{meanings}
+use Rattle.meaning.specs.Meaning.{meanings}
 use Rattle.source_meaning.specs.Pending.{Program}
 use Rattle.source_meaning.proofs.strides.direct_row.Given as goal
 

@@ -1,10 +1,10 @@
 use Rattle.std.proofs.Common.{rules, ◌≡◌, ◌∙◌, ℕ, [], ◌∷◌, Some, ap, sym}
 use Rattle.std.proofs.lemmas.Option.{IfSome_then}
 use Rattle.flow_value.specs.declared.value.Val.TheVariants as val
-use Rattle.source_meaning.specs.declared.words.Test.TheVariants as test
-use Rattle.source_meaning.specs.Timed.{plus, andthen}
-use Rattle.source_meaning.specs.Words.{test_of, goes_on}
-use Rattle.source_meaning.specs.Meaning.{meanings}
+use Rattle.meaning.specs.declared.words.Test.TheVariants as test
+use Rattle.meaning.specs.Timed.{plus, andthen}
+use Rattle.meaning.specs.Words.{test_of, goes_on}
+use Rattle.meaning.specs.Meaning.{meanings}
 use Rattle.source_meaning.specs.Pending.{Program}
 use Rattle.source_meaning.proofs.strides.direct_test.Goals as goal
 

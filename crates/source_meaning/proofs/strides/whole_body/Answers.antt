@@ -1,7 +1,7 @@
 use Rattle.std.proofs.Common.{rules, ◌≡◌, ◌∙◌, ℕ, [], ◌∷◌, Some, ap, sym}
 use Rattle.std.proofs.lemmas.Option.{IfSome_then}
 use Rattle.flow_value.specs.declared.value.Val.TheVariants as val
-use Rattle.source_meaning.specs.Meaning.{meanings}
+use Rattle.meaning.specs.Meaning.{meanings}
 use Rattle.source_meaning.proofs.AtOnce.{bare_body}
 use Rattle.source_meaning.proofs.strides.whole_body.Goals as goal
 

@@ -3,8 +3,8 @@ use Rattle.std.proofs.lemmas.Option.{IfSome_then}
 use Rattle.flow_value.specs.declared.value.Val.TheVariants as val
 use Rattle.value_ops.specs.declared.operation.Operation.TheVariants as op
 use Rattle.value_ops.specs.Operations.{op_value}
-use Rattle.source_meaning.specs.Timed.{plus}
-use Rattle.source_meaning.specs.Meaning.{meaning, meanings, kind_meaning}
+use Rattle.meaning.specs.Timed.{plus}
+use Rattle.meaning.specs.Meaning.{meaning, meanings, kind_meaning}
 use Rattle.source_meaning.specs.Pending.{Program}
 use Rattle.source_meaning.proofs.AtOnce.{one_of, group_is, apply_is, said_yes, said_no, said_failed, behind_steps, both_are}
 use Rattle.source_meaning.proofs.Moved.{expr_moved, form_moved, apply_moved, three_of}

@@ -1,5 +1,5 @@
 use Rattle.std.proofs.Common.{rules, ◌≡◌, ◌∙◌, ℕ, ◌+◌, [], ◌∷◌, Some, ap, sym, refl}
-use Rattle.source_meaning.specs.Meaning.{meaning}
+use Rattle.meaning.specs.Meaning.{meaning}
 use Rattle.source_meaning.specs.Pending.{Program}
 use Rattle.source_meaning.proofs.AtOnce.{behind_steps}
 use Rattle.source_meaning.proofs.taking.take_nothing.Goals as goal

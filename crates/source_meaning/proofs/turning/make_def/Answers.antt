@@ -1,7 +1,7 @@
 use Rattle.std.proofs.Common.{rules, ◌≡◌, ◌∙◌, false, [], ◌∷◌, Some, ap, subst}
 use Rattle.std.specs.Option.{IfSome}
 use Rattle.std.proofs.lemmas.Option.{IfSome_then}
-use Rattle.source_meaning.specs.Timed.{plus}
+use Rattle.meaning.specs.Timed.{plus}
 use Rattle.source_meaning.specs.Reads.{defs_read}
 use Rattle.source_meaning.specs.Turning.{turning}
 use Rattle.source_meaning.specs.declared.state.Round.{Round}

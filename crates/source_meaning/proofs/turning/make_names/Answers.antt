@@ -1,6 +1,6 @@
 use Rattle.std.proofs.Common.{rules, ◌≡◌, ◌∙◌, ℕ, ◌+◌, [], ◌∷◌, ◌++◌, Some, ap, sym}
-use Rattle.source_meaning.specs.Timed.{plus}
-use Rattle.source_meaning.specs.Meaning.{meanings}
+use Rattle.meaning.specs.Timed.{plus}
+use Rattle.meaning.specs.Meaning.{meanings}
 use Rattle.source_meaning.specs.Pending.{Program}
 use Rattle.source_meaning.specs.Turning.{turning}
 use Rattle.source_meaning.proofs.Taken.{def_made}

@@ -1,7 +1,7 @@
 use Rattle.std.proofs.Common.{rules, ◌≡◌, ◌∙◌, ℕ, false, List, ◌∷◌, ap, sym, subst}
 use Rattle.std.specs.Option.{IfSome}
 use Rattle.typed_tree.specs.declared.expr.TypedExpr.{TypedExpr}
-use Rattle.source_meaning.specs.Timed.{plus}
+use Rattle.meaning.specs.Timed.{plus}
 use Rattle.source_meaning.specs.Reads.{defs_read}
 use Rattle.source_meaning.specs.Pending.{Program, Rest}
 use Rattle.source_meaning.specs.Turning.{IsPlan, turning}

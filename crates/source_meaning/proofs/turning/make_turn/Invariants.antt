@@ -1,5 +1,5 @@
 use Rattle.std.proofs.Common.{◌≡◌, ℕ, length}
-use Rattle.source_meaning.specs.Timed.{plus}
+use Rattle.meaning.specs.Timed.{plus}
 use Rattle.source_meaning.specs.Pending.{Program, Rest}
 use Rattle.source_meaning.specs.Turning.{IsPlan, turning}
 use Rattle.source_meaning.proofs.turning.make_turn.Given as goal

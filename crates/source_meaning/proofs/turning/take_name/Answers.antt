@@ -2,8 +2,8 @@ use Rattle.std.proofs.Common.{rules, ◌≡◌, ◌∙◌, ℕ, [], ◌∷◌, �
 use Rattle.std.specs.Prelude.{slice_set}
 use Rattle.flow_value.specs.declared.value.Val.TheVariants as val
 use Rattle.flow_value.specs.declared.cause.Cause.TheVariants as cause
-use Rattle.source_meaning.specs.Timed.{plus}
-use Rattle.source_meaning.specs.Meaning.{meaning}
+use Rattle.meaning.specs.Timed.{plus}
+use Rattle.meaning.specs.Meaning.{meaning}
 use Rattle.source_meaning.specs.Pending.{Program}
 use Rattle.source_meaning.proofs.Taken.{name_taken}
 use Rattle.source_meaning.proofs.turning.take_name.Goals as goal

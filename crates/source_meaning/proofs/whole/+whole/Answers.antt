@@ -6,8 +6,8 @@ use Rattle.flow_value.specs.declared.value.Val.TheVariants as val
 use Rattle.flow_value.specs.Scalar.{on_integers, on_booleans, row1}
 use Rattle.value_ops.specs.declared.operation.Operation.TheVariants as op
 use Rattle.value_ops.specs.Operations.{op_value}
-use Rattle.source_meaning.specs.Timed.{given, andthen}
-use Rattle.source_meaning.specs.Meaning.{meaning, meanings, kind_meaning}
+use Rattle.meaning.specs.Timed.{given, andthen}
+use Rattle.meaning.specs.Meaning.{meaning, meanings, kind_meaning}
 use Rattle.source_meaning.specs.Pending.{Program}
 use Rattle.source_meaning.proofs.AtOnce.{one_of, two_of, only_is, both_are, group_is, apply_is}
 use Rattle.source_meaning.proofs.Wholes.{arm_no, arm_yes, both_read_back, operated, other_is, read_back, stepped}

@@ -23,9 +23,10 @@ invariant_of-self c =
     let one = inv.1 in
     let two = inv.2 in
     let three = inv.3 in
+    let four = inv.4 in
     let room = c.pop.ensures.capacity in
     let room' = c.pop-2.ensures.capacity in
-    (after.0, omega arith, omega arith, omega arith)
+    (after.0, omega arith, omega arith, omega arith, omega arith)
 
 pub returns-clause-now : goal.returns-clause-now
 returns-clause-now c =

@@ -35,6 +35,7 @@ invariant_of-self c =
       inv.1,
       omega arith,
       omega arith,
+      inv.4,
     )
 
 -- src/pool.rt:201:5
@@ -42,7 +43,7 @@ pub returns : goal.returns
 returns c =
     let slots = c.self.inside.entries.items in
     let k = c.args.key.number in
-    let view : List (Option Entry) → PoolView = λ l. record { entries = l; spare = c.self.inside.spare.len } in
+    let view : List (Option Entry) → PoolView = λ l. record { entries = l; spare = c.self.inside.spare } in
     let was = builds_is (entry_at (view slots) k) _
     (subst (λ (v : PoolView). BuildsAnd (entry_at v k) (λ room. IsTrue (list_all is_written room.places))) (sym c.self.view_is) c.requires.written) in
     let gone = c.replace-old.new.dest in

@@ -1,0 +1,4 @@
+pub mod Laws
+pub mod Multiples
+pub mod Operands
+pub mod Rows

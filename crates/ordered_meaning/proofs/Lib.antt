@@ -1,0 +1,11 @@
+pub mod Shuffled
+pub mod Sorting
+pub mod Bound
+pub mod Growing
+pub mod Recorded
+pub mod Complete
+pub mod Same
+pub mod Taking
+pub mod UnitTaking
+pub mod Computed
+pub mod Examples

@@ -1,0 +1,4 @@
+pub mod Ordered
+pub mod Orders
+pub mod Taking
+pub mod Laws

@@ -1,0 +1,12 @@
+pub mod ChoiceExample
+pub mod Collecting
+pub mod Columns
+pub mod CountExample
+pub mod Folding
+pub mod ForAllExample
+pub mod Layouts
+pub mod LoopExample
+pub mod MadeExamples
+pub mod Refolding
+pub mod Totals
+pub mod Values

@@ -1,0 +1,15 @@
+pub mod Cells
+pub mod Told
+pub mod Stepping
+pub mod Passing
+pub mod Rows
+pub mod Loops
+pub mod ForAlls
+pub mod Forward
+pub mod Ends
+pub mod BackLoops
+pub mod BackForAlls
+pub mod Backward
+pub mod Stopping
+pub mod Facts
+pub mod Weighing

@@ -1,0 +1,5 @@
+pub mod Inside
+pub mod Laws
+pub mod Stopping
+pub mod Facts
+pub mod Weighing

@@ -1,0 +1,7 @@
+pub mod Effects
+pub mod Fitting
+pub mod Refining
+pub mod Supply
+pub mod Whole
+pub mod Ports
+pub mod Example

@@ -1,0 +1,13 @@
+pub mod Delays
+pub mod Entered
+pub mod Placed
+pub mod Wanted
+pub mod Weighed
+pub mod Stretches
+pub mod Tried
+pub mod Answered
+pub mod Arranged
+pub mod Runs
+pub mod Once
+pub mod Listed
+pub mod Marking

@@ -1,0 +1,4 @@
+mod Growth
+mod Names
+mod Places
+mod Steps

@@ -1,0 +1,4 @@
+pub mod ValueKinds
+pub mod Scalars
+pub mod Rows
+pub mod Folds

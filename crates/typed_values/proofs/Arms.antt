@@ -1,0 +1,60 @@
+-- The arm of a `tagcase` that a union takes.
+use Rattle.std.proofs.Common.{◌≡◌, ℕ, zero, suc, Bool, true, false, List, [], ◌∷◌, ◌++◌, Option, Some, None, slice_get, refl, ap, sym, subst, ◌∙◌, arith}
+use Rattle.std.specs.Prelude.{nat_lt, if◌then◌else◌}
+use Rattle.std.proofs.lemmas.Bool.{le-ltb, ltb-true, ltb-false}
+use Rattle.flow_value.specs.declared.value.Val.{Val}
+use Rattle.flow_value.specs.declared.cause.Cause.TheVariants as cause
+use Rattle.flow_value.specs.declared.ty.Ty.{Ty}
+use Rattle.flow_value.specs.Well.{is_well_tag}
+use Rattle.typed_tree.specs.declared.expr.Case.{Case}
+use Rattle.typed_tree.specs.Types.{Member}
+use Rattle.meaning.specs.Timed.{given}
+use Rattle.meaning.specs.Words.{failed}
+use Rattle.meaning.specs.Meaning.{Gives, with_content, arm_in, arm_at}
+use Rattle.fitting_trees.specs.Fitting.{TagsFit}
+use Rattle.typed_rows.specs.Rows.{Of}
+use Rattle.typed_values.proofs.Texts.{lt-nat}
+
+-- the arm at a place, which sees the content where it is one of the first so many
+abbrev pub arm_here : ℕ → ℕ → Option Gives → ℕ → Val → Gives
+arm_here named k None place v env = given (failed k cause.Tag)
+arm_here named k (Some g) place v env = g (with_content named place v env)
+
+pub as_here : (c : Case) (k : ℕ) (o : Option Gives) (place : ℕ) (v : Val) (env : List Val) → arm_in c k o place v env ≡ arm_here c.named k o place v env
+as_here c k None place v env = refl
+as_here c k (Some g) place v env = refl
+
+pub first_content : (named : ℕ) (v : Val) (env : List Val) → with_content (suc named) zero v env ≡ env ++ (v ∷ [])
+first_content named v env = rw (lt-nat 0 (suc named) (omega arith)) refl
+
+pub no_content : (place : ℕ) (v : Val) (env : List Val) → with_content 0 place v env ≡ env
+no_content place v env = rw (le-ltb place 0 (omega arith)) refl
+
+lt_later : (a b : ℕ) → nat_lt (suc a) (suc b) ≡ nat_lt a b
+lt_later a b = by (nat_lt a b) refl
+  where
+    by : (c : Bool) → nat_lt a b ≡ c → nat_lt (suc a) (suc b) ≡ c
+    by true e = let l = ltb-true a b e in lt-nat (suc a) (suc b) (omega (arith, l))
+    by false e = let l = ltb-false a b e in le-ltb (suc a) (suc b) (omega (arith, l))
+
+later_content : (named place : ℕ) (v : Val) (env : List Val) → with_content (suc named) (suc place) v env ≡ with_content named place v env
+later_content named place v env = ap (λ b. if b then env ++ v ∷ [] else env) (lt_later place named)
+
+pub later_arm : (named k : ℕ) (o : Option Gives) (place : ℕ) (v : Val) (env : List Val) → arm_here (suc named) k o (suc place) v env ≡ arm_here named k o place v env
+later_arm named k None place v env = refl
+later_arm named k (Some g) place v env = ap g (later_content named place v env)
+
+pub later_unseen : (k : ℕ) (o : Option Gives) (place : ℕ) (v : Val) (env : List Val) → arm_here 0 k o (suc place) v env ≡ arm_here 0 k o place v env
+later_unseen k None place v env = refl
+later_unseen k (Some g) place v env = ap g (no_content (suc place) v env ∙ sym (no_content place v env))
+
+-- the place of a tag's arm, and what that arm may see
+pub place_there : (arms : ℕ) (contents : List Ty) (ms : List Member) (choices : List ℕ) → TagsFit arms contents ms choices → (tag : ℕ) (v : Val) → is_well_tag ms tag v ≡ true
+    → (place : ℕ) × (slice_get choices tag ≡ Some place) × ((a : Ty) → slice_get contents place ≡ Some a → Of a v)
+place_there arms contents [] choices t tag v q = absurd cc
+place_there arms contents (m ∷ ms) [] t tag v q = absurd t
+place_there arms contents (m ∷ ms) (k ∷ ks) t zero v q = (k, refl, λ a e. subst (λ b. Of b v) (sym (t.1 a e)) q)
+place_there arms contents (m ∷ ms) (k ∷ ks) t (suc tag) v q = place_there arms contents ms ks t.2 tag v q
+
+pub arm_placed : (c : Case) (k : ℕ) (arms : List Gives) (tag place : ℕ) (v : Val) (env : List Val) → slice_get c.choices tag ≡ Some place → arm_at c k arms (slice_get c.choices tag) v env ≡ arm_here c.named k (slice_get arms place) place v env
+arm_placed c k arms tag place v env e = ap (λ o. arm_at c k arms o v env) e ∙ as_here c k (slice_get arms place) place v env
