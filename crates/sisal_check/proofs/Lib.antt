@@ -7,3 +7,4 @@ pub mod Turned
 pub mod Parts
 pub mod Looped
 mod Tops
+pub mod Members

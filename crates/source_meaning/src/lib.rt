@@ -1,5 +1,5 @@
-//! What a typed SISAL program means: the values that its functions give, by the definition of the
-//! language in `specs/`, and an evaluator that computes them.
+//! The values that the functions of a typed SISAL program give, by the definition in `meaning`,
+//! and the evaluator that computes them.
 #![tactic(auto)]
 
 mod ahead;
