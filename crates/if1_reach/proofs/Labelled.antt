@@ -1,22 +1,20 @@
 -- Paths by labels, from ways by places.
-use Rattle.std.proofs.Common.{◌≡◌, ◌≢◌, ◌∙◌, ℕ, ◌+◌, ◌-◌, ◌<◌, ◌≤◌, zero, suc, Bool, true, false, ◌||◌, ◌&&◌, not, List, [], ◌∷◌, length, get_or, slice_index, slice_index_or, map, All, Contains, ◌⊎◌, inl, inr, arith, refl, sym, ap, subst, ◌==◌, Some, None, Option, MatchOption, find}
+use Rattle.std.proofs.Common.{◌≡◌, ◌∙◌, ℕ, ◌+◌, ◌-◌, ◌<◌, zero, suc, true, ◌&&◌, not, List, [], ◌∷◌, length, get_or, slice_index, slice_index_or, map, Contains, inl, inr, arith, refl, sym, ap, subst, ◌==◌, Some, None, Option, MatchOption}
 use Rattle.std.specs.List.{list_any}
 use Rattle.std.specs.List.Sorted.{IsStrictlyIncreasing}
-use Rattle.std.proofs.lemmas.Bool.{or_cases, or_left, or_right, and_parts, and_from, eq-eqb, not-true, cases_lt, cases_eq}
+use Rattle.std.proofs.lemmas.Bool.{or_cases, or_left, or_right, and_parts, and_from, eq-eqb, not-true, cases_lt}
 use Rattle.std.proofs.lemmas.List.{length-map, get_or-map}
-use Rattle.std.proofs.lemmas.List.Elements.{Contains-get_or}
-use Rattle.if1_graph.specs.declared.graph.Edge.{Edge}
 use Rattle.if1_graph.specs.declared.graph.Graph.{Graph}
 use Rattle.if1_graph.specs.declared.graph.Graph.TheViews.{out-Graph}
 use Rattle.if1_graph.specs.declared.graph.Node.{Node, out-Node}
 use Rattle.if1_graph.specs.Units.{label_of, node_at}
 use Rattle.if1_graph.specs.Cycles.{Feeds}
 use Rattle.if1_order.specs.Orders.{node_labels}
-use Rattle.if1_order.specs.Walks.{Lists, feeders_of, AreInside, Leads}
+use Rattle.if1_order.specs.Walks.{Lists, AreInside, Leads}
 use Rattle.if1_order.specs.Feeders.{IsPlace}
-use Rattle.if1_order.proofs.Orders.{same_place, contained_place}
+use Rattle.if1_order.proofs.Orders.{same_place}
 use Rattle.if1_marks.specs.Orders.{Precedes, fed, listed, between}
-use Rattle.if1_marks.proofs.Lists.{in-mapped, found-in, here, there, here-or-there, in-none}
+use Rattle.if1_marks.proofs.Lists.{found-in}
 use Rattle.if1_marks.proofs.Tests.{same-number, any-found, any-there, no-both}
 use Rattle.if1_marks.proofs.Taken.{another}
 use Rattle.marks_made.specs.Ways.{Links, link, on}
@@ -27,7 +25,7 @@ use Rattle.marks_made.proofs.Steps.{from-label, label-from}
 use Rattle.if1_reach.specs.Searches.{IsWay}
 use Rattle.if1_reach.specs.Nets.{is_listed, links_in, AreLinked, IsNet}
 use Rattle.if1_reach.specs.Paths.{IsPath}
-use Rattle.if1_reach.proofs.Links.{to-labels, to-places, ends-there}
+use Rattle.if1_reach.proofs.Links.{to-places, ends-there}
 
 -- the places of a way are places of nodes
 pub way-inside : (lists : Lists) (n from to : ℕ) (ls : List ℕ) → AreInside lists → length lists ≡ n → to < n → IsWay lists from to ls → (k : ℕ) → k < length ls → slice_index ls k < n
@@ -88,17 +86,23 @@ module _ (g : Graph) (up : IsStrictlyIncreasing (node_labels g)) where
           let ij : i ≡ j = same_place (map label_of ns) i j rising (omega (arith, hi, length-map ns label_of)) (omega (arith, hj, length-map ns label_of)) (ai ∙ (same ∙ sym bj)) in
           sym x ∙ (ap (λ k. get_or ns k a) ij ∙ (same-default ns j a b hj ∙ y))
 
-  pub to-links : {l m : ℕ} → Precedes g l m → ways.Leads (links_in g) l m
-  to-links (fed {l = l} {m = m} f) =
-      link (or_left (list_any (is_edge l m) (out-Graph g).edges) (list_any (is_listed l m) (out-Graph g).nodes)
+  pub fed-link : (l m : ℕ) → Feeds g l m → links_in g l m ≡ true
+  fed-link l m f =
+      or_left (list_any (is_edge l m) (out-Graph g).edges) (list_any (is_listed l m) (out-Graph g).nodes)
       (any-there (is_edge l m) (out-Graph g).edges f.edge f.there
       (and_from (comes_from l f.edge.from) ((f.edge.node == m) && not (m == 0)) (from-label l f.edge.from f.source)
-      (and_from (f.edge.node == m) (not (m == 0)) (eq-eqb f.edge.node m f.target) (another m 0 f.no_boundary)))))
-  to-links (listed {l = l} {m = m} n e c) =
+      (and_from (f.edge.node == m) (not (m == 0)) (eq-eqb f.edge.node m f.target) (another m 0 f.no_boundary))))
+
+  pub listed-link : (l m : ℕ) (n : Node) → node_at (out-Graph g).nodes m ≡ Some n → Contains (out-Node n).before l → links_in g l m ≡ true
+  listed-link l m n e c =
       let r = found-in (λ n. label_of n == m) (out-Graph g).nodes n e in
-      link (or_right (list_any (is_edge l m) (out-Graph g).edges) (list_any (is_listed l m) (out-Graph g).nodes)
+      or_right (list_any (is_edge l m) (out-Graph g).edges) (list_any (is_listed l m) (out-Graph g).nodes)
       (any-there (is_listed l m) (out-Graph g).nodes n r.0
-      (and_from (label_of n == m) (list_any (λ k. k == l) (out-Node n).before) r.1 (any-there (λ k. k == l) (out-Node n).before l c (eq-eqb l l refl)))))
+      (and_from (label_of n == m) (list_any (λ k. k == l) (out-Node n).before) r.1 (any-there (λ k. k == l) (out-Node n).before l c (eq-eqb l l refl))))
+
+  pub to-links : {l m : ℕ} → Precedes g l m → ways.Leads (links_in g) l m
+  to-links (fed {l = l} {m = m} f) = link (fed-link l m f)
+  to-links (listed {l = l} {m = m} n e c) = link (listed-link l m n e c)
   to-links (between a b) = on (to-links a) (to-links b)
 
   pub from-links : {l m : ℕ} → ways.Leads (links_in g) l m → Precedes g l m

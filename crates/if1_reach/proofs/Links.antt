@@ -1,19 +1,18 @@
 -- What lists of places say of links, as links are entered.
-use Rattle.std.proofs.Common.{◌≡◌, ◌≢◌, ◌∙◌, ℕ, ◌+◌, ◌<◌, zero, suc, Bool, true, false, ◌&&◌, ◌||◌, not, List, [], ◌∷◌, ◌++◌, length, take, set, get_or, slice_index, map, Contains, ◌⊎◌, inl, inr, arith, refl, sym, ap, subst, ◌==◌}
+use Rattle.std.proofs.Common.{◌≡◌, ◌∙◌, ℕ, ◌<◌, zero, suc, Bool, true, false, ◌&&◌, ◌||◌, not, List, [], ◌∷◌, ◌++◌, length, set, get_or, slice_index, Contains, ◌⊎◌, inl, inr, arith, refl, sym, ap, subst, ◌==◌}
 use Rattle.std.specs.List.{list_any}
 use Rattle.std.specs.List.Sorted.{IsStrictlyIncreasing}
-use Rattle.std.proofs.lemmas.Bool.{or_cases, or_left, or_right, and_parts, and_from, eq-eqb, not-true, or_parts}
-use Rattle.std.proofs.lemmas.List.{length-set, take_more, get_or_default}
+use Rattle.std.proofs.lemmas.Bool.{or_cases, or_left, or_right, and_parts, and_from, eq-eqb, not-true}
+use Rattle.std.proofs.lemmas.List.{length-set}
 use Rattle.std.proofs.lemmas.List.Elements.{Contains-get_or}
 use Rattle.if1_graph.specs.declared.graph.Edge.{Edge}
 use Rattle.if1_graph.specs.declared.graph.Graph.{Graph}
 use Rattle.if1_graph.specs.declared.graph.Graph.TheViews.{out-Graph}
 use Rattle.if1_graph.specs.declared.graph.Node.{Node, out-Node}
-use Rattle.if1_graph.specs.Units.{label_of, node_at}
-use Rattle.if1_order.specs.Orders.{node_labels}
-use Rattle.if1_order.specs.Walks.{Lists, feeders_of, AreInside, Leads, step, onward}
-use Rattle.if1_order.specs.Feeders.{IsEdge, Joins, IsPlace, IsJoined, AreFeeders}
-use Rattle.if1_order.proofs.Orders.{same_place, contained_place, place_contained, entry_cases, entry_kept, entry_new, feeders_inside}
+use Rattle.if1_graph.specs.Units.{label_of}
+use Rattle.if1_order.specs.Walks.{Lists, feeders_of, Leads, step, onward}
+use Rattle.if1_order.specs.Feeders.{Joins, IsPlace, IsJoined, AreFeeders}
+use Rattle.if1_order.proofs.Orders.{same_place, contained_place, entry_cases, entry_kept, entry_new, feeders_inside}
 use Rattle.if1_marks.proofs.Tests.{same-number, any-found, any-there, no-both}
 use Rattle.if1_marks.proofs.Taken.{another}
 use Rattle.marks_made.specs.Ways.{Links, link, on}

@@ -1,10 +1,10 @@
 -- An order of places has ranks.
-use Rattle.std.proofs.Common.{◌≡◌, ◌≢◌, ◌∙◌, ℕ, ◌+◌, ◌<◌, ◌≤◌, zero, suc, List, [], ◌∷◌, length, take, set, get_or, replicate, slice_index, slice_index_or, All, Contains, ◌⊎◌, inl, inr, arith, refl, sym, ap, subst}
-use Rattle.std.proofs.lemmas.Bool.{cases_lt, cases_eq}
+use Rattle.std.proofs.Common.{◌≡◌, ◌≢◌, ◌∙◌, ℕ, ◌+◌, ◌<◌, ◌≤◌, zero, suc, List, [], ◌∷◌, length, take, set, get_or, replicate, slice_index, slice_index_or, All, Contains, inl, inr, arith, sym, ap, subst}
+use Rattle.std.proofs.lemmas.Bool.{cases_lt}
 use Rattle.std.proofs.lemmas.List.{length-set, length-replicate, length-take-le, get_or-set_same, get_or-set_other, get_or_default, get_or-take}
-use Rattle.std.proofs.lemmas.List.Elements.{Contains-get_or, All-from_get_or}
+use Rattle.std.proofs.lemmas.List.Elements.{Contains-get_or}
 use Rattle.if1_graph.specs.Formed.{IsOnce}
-use Rattle.if1_order.specs.Walks.{Lists, feeders_of, AreInside, AreAfter, IsSorted, Leads, step, onward}
+use Rattle.if1_order.specs.Walks.{Lists, feeders_of, IsSorted, Leads, step, onward}
 use Rattle.if1_reach.specs.declared.ranks.Ranks.{Ranks}
 use Rattle.if1_reach.specs.Ranks.{AreRanks, IsRanked}
 use Rattle.if1_reach.proofs.Labelled.{same-default}

@@ -1,14 +1,14 @@
 -- What a search keeps.
-use Rattle.std.proofs.Common.{◌≡◌, ◌≢◌, ℕ, zero, suc, ◌+◌, ◌-◌, ◌<◌, ◌≤◌, Bool, true, false, cond, List, [], ◌∷◌, ◌++◌, length, get_or, set, replicate, slice_index_or, Contains, ◌⊎◌, inl, inr, arith, refl, sym, ap, subst, ◌∙◌}
+use Rattle.std.proofs.Common.{◌≡◌, ℕ, zero, suc, ◌+◌, ◌<◌, ◌≤◌, Bool, true, false, List, [], ◌∷◌, ◌++◌, length, set, replicate, slice_index_or, Contains, inl, inr, arith, refl, sym, ap, subst, ◌∙◌}
 use Rattle.std.specs.List.{sum_by}
 use Rattle.std.proofs.lemmas.Bool.{cases_lt, cases_eq}
-use Rattle.std.proofs.lemmas.List.{length-set, length_push, length-replicate, get_or-set_same, get_or-set_other, get_or_append_left, get_or_push, get_or-replicate, get_or_default}
+use Rattle.std.proofs.lemmas.List.{length-set, length_push, length-replicate, get_or-set_other, get_or_append_left, get_or_push, get_or-replicate, get_or_default}
 use Rattle.std.proofs.lemmas.List.Elements.{Contains-get_or}
 use Rattle.std.proofs.lemmas.List.Sums.{sum_by-set, sum_by-cons}
 use Rattle.if1_order.specs.Walks.{Lists, feeders_of}
 use Rattle.if1_reach.specs.declared.search.Met.{Met}
 use Rattle.if1_reach.specs.declared.search.Search.{Search}
-use Rattle.if1_reach.specs.Searches.{none_met, met_at, at_of, Follows, HasMet, fresh, IsSearch, Adds, HaveMet}
+use Rattle.if1_reach.specs.Searches.{none_met, met_at, at_of, Follows, HasMet, fresh, IsSearch, Adds}
 
 pub at-kept : (to : ℕ) (met more : List Met) (on : ℕ) → on ≤ length met → at_of to (met ++ more) on ≡ at_of to met on
 at-kept to met more zero h = refl

@@ -1,14 +1,13 @@
 -- Least weights by one pass from the end of a stretch.
-use Rattle.std.proofs.Common.{◌≡◌, ◌≢◌, ◌∙◌, ℕ, ◌+◌, ◌-◌, ◌<◌, ◌≤◌, zero, suc, List, [], ◌∷◌, ◌++◌, length, take, set, get_or, slice_index, slice_index_or, All, Contains, ◌⊎◌, inl, inr, arith, refl, sym, ap, subst}
+use Rattle.std.proofs.Common.{◌≡◌, ◌≢◌, ◌∙◌, ℕ, ◌+◌, ◌<◌, ◌≤◌, List, [], ◌∷◌, ◌++◌, length, take, set, slice_index, slice_index_or, Contains, ◌⊎◌, inl, inr, arith, refl, sym, ap, subst}
 use Rattle.std.proofs.lemmas.Bool.{cases_lt, cases_eq}
-use Rattle.std.proofs.lemmas.List.{length-set, get_or-set_same, get_or-set_other, get_or_default, take_more, take_all}
+use Rattle.std.proofs.lemmas.List.{length-set, get_or-set_same, get_or-set_other, take_more, take_all}
 use Rattle.std.proofs.lemmas.List.Elements.{Contains-get_or, Contains-push, Contains-push_cases, Contains-append_left}
 use Rattle.if1_marks.proofs.Lists.{in-none}
 use Rattle.if1_order.specs.Walks.{Lists, feeders_of, AreInside, Leads, step, onward}
 use Rattle.if1_reach.specs.declared.ranks.Ranks.{Ranks}
 use Rattle.if1_reach.specs.Ranks.{IsRanked}
 use Rattle.if1_reach.specs.Least.{AreLowered, IsInStretch, IsOrLeads, AreLeast}
-use Rattle.if1_reach.proofs.Links.{target-inside}
 use Rattle.if1_reach.proofs.Ranking.{leads-up}
 
 pub none-lowered : (v : ℕ) (ws ps : List ℕ) → AreLowered (take 0 ps) v ws ws

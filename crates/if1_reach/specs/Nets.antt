@@ -1,5 +1,5 @@
 -- Links between the nodes of a graph, and lists of the places from which they lead to each node.
-use Rattle.std.specs.Prelude.{◌≡◌, ℕ, ◌<◌, Bool, true, ◌&&◌, ◌||◌, List, map, length, slice_index, Contains, ◌==◌}
+use Rattle.std.specs.Prelude.{◌≡◌, ℕ, ◌<◌, Bool, true, ◌&&◌, ◌||◌, List, length, slice_index, Contains, ◌==◌}
 use Rattle.std.specs.List.{list_any}
 use Rattle.if1_graph.specs.declared.graph.Graph.{Graph}
 use Rattle.if1_graph.specs.declared.graph.Graph.TheViews.{out-Graph}

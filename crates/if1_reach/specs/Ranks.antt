@@ -1,5 +1,5 @@
 -- Orders of places along links, with the rank of each place.
-use Rattle.std.specs.Prelude.{◌≡◌, ℕ, ◌<◌, ◌≤◌, List, length, slice_index, Contains}
+use Rattle.std.specs.Prelude.{◌≡◌, ℕ, ◌<◌, List, length, slice_index, Contains}
 use Rattle.if1_order.specs.Walks.{Lists, feeders_of}
 use Rattle.if1_reach.specs.declared.ranks.Ranks.{Ranks}
 

@@ -1,5 +1,5 @@
 -- A search backwards from an end, and the ways that it finds.
-use Rattle.std.specs.Prelude.{◌≡◌, ◌≢◌, ℕ, zero, suc, ◌+◌, ◌-◌, ◌<◌, ◌≤◌, Bool, true, false, cond, List, [], ◌∷◌, ◌++◌, length, slice_index, slice_index_or, Contains}
+use Rattle.std.specs.Prelude.{◌≡◌, ◌≢◌, ℕ, zero, suc, ◌+◌, ◌-◌, ◌<◌, ◌≤◌, Bool, true, false, cond, List, length, slice_index_or, Contains}
 use Rattle.std.specs.List.{sum_by}
 use Rattle.if1_order.specs.Walks.{Lists, feeders_of}
 use Rattle.if1_reach.specs.declared.search.Met.{Met}

@@ -1,5 +1,5 @@
 -- The nodes to which edges lead from a port, in the order of the edges.
-use Rattle.std.specs.Prelude.{◌≡◌, ℕ, ◌<◌, ◌&&◌, nat_eq, List, [], ◌∷◌, ◌++◌, map, filter, length, slice_index_or, Option, Some, None}
+use Rattle.std.specs.Prelude.{◌≡◌, ℕ, ◌<◌, ◌&&◌, nat_eq, List, [], map, filter, length, slice_index_or, Option, Some, None}
 use Rattle.if1_graph.specs.declared.graph.Edge.{Edge}
 use Rattle.if1_graph.specs.declared.graph.Origin.{Origin}
 use Rattle.if1_graph.specs.declared.graph.Origin.TheVariants.{Port, Lit}

@@ -11,3 +11,4 @@ pub mod Runs
 pub mod Once
 pub mod Listed
 pub mod Marking
+pub mod Shapes

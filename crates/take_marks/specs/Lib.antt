@@ -6,3 +6,4 @@ pub mod Judged
 pub mod Made
 pub mod Noted
 pub mod Applied
+pub mod Laws

@@ -1,4 +1,4 @@
-use Rattle.std.proofs.Common.{◌≡◌, ◌∙◌, ◌+◌, ◌<◌, ◌≤◌, take, slice_index, length, sym, ap, subst, arith, refl}
+use Rattle.std.proofs.Common.{◌∙◌, ◌+◌, ◌<◌, ◌≤◌, take, slice_index, sym, subst}
 use Rattle.if1_reach.specs.Least.{AreLowered}
 use Rattle.if1_reach.proofs.Sinking.{none-lowered, lowered-set, lowered-kept, all-lowered}
 use Rattle.if1_reach.proofs.least.lower.Goals.{then-as_slice-place, else-as_slice-place}

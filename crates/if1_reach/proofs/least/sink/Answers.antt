@@ -1,5 +1,4 @@
-use Rattle.std.proofs.Common.{◌≡◌, ◌∙◌, ◌-◌, ◌<◌, length, slice_index, refl, sym, ap, subst, arith}
-use Rattle.if1_order.specs.Walks.{feeders_of}
+use Rattle.std.proofs.Common.{◌≡◌, ◌-◌, ◌<◌, length, slice_index, refl, sym, ap, subst, arith}
 use Rattle.if1_reach.specs.Least.{AreLowered}
 use Rattle.if1_reach.proofs.Searches.{items-of}
 use Rattle.if1_reach.proofs.Sinking.{sink-start, sink-next, sink-end, fed-inside}

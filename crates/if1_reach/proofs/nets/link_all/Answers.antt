@@ -1,4 +1,4 @@
-use Rattle.std.proofs.Common.{◌≡◌, ◌+◌, ◌∷◌, ◌++◌, [], length, take, subst, refl, ◌∙◌}
+use Rattle.std.proofs.Common.{◌+◌, take, subst, refl, ◌∙◌}
 use Rattle.std.proofs.lemmas.List.{take_more, take_all}
 use Rattle.marks_made.specs.Ways.{Links}
 use Rattle.if1_reach.specs.Nets.{IsNet, with_links}

@@ -1,6 +1,3 @@
-use Rattle.std.proofs.Common.{ap, subst, ◌≡◌}
-use Rattle.if1_graph.specs.declared.graph.Graph.TheViews.{out-Graph}
-use Rattle.marks_made.specs.Made.{is_edge}
 use Rattle.if1_reach.proofs.Links.{net-of-graph}
 use Rattle.if1_reach.proofs.nets.nets_of.Goals as goal
 

@@ -1,5 +1,4 @@
-use Rattle.std.proofs.Common.{◌≡◌, subst, sym, ap, ◌∙◌}
-use Rattle.if1_graph.specs.declared.graph.Graph.TheViews.{out-Graph}
+use Rattle.std.proofs.Common.{subst, sym, ap, ◌∙◌}
 use Rattle.if1_graph.specs.Units.{label_of}
 use Rattle.std.proofs.Common.{map}
 use Rattle.if1_reach.specs.Nets.{AreLinked, links_in}

@@ -1,7 +1,7 @@
-use Rattle.std.proofs.Common.{◌≡◌, subst, sym, length, MatchOption}
+use Rattle.std.proofs.Common.{subst, sym, length, MatchOption}
 use Rattle.if1_order.specs.Walks.{Leads}
 use Rattle.if1_reach.specs.Searches.{IsWay}
-use Rattle.if1_reach.proofs.Labelled.{no-start, no-end, no-path, path-of, way-inside, all-inside}
+use Rattle.if1_reach.proofs.Labelled.{no-start, no-end, no-path, path-of, all-inside}
 use Rattle.if1_reach.proofs.paths.path_by.Goals as goal
 
 pub returns-in_default : goal.returns-in_default

@@ -1,6 +1,6 @@
-use Rattle.std.proofs.Common.{◌≡◌, length, refl, subst}
+use Rattle.std.proofs.Common.{length, refl, subst}
 use Rattle.if1_order.specs.Walks.{Sorts}
-use Rattle.if1_reach.proofs.Ranking.{sorted-all, sorted-once, sorted-ranked}
+use Rattle.if1_reach.proofs.Ranking.{sorted-all, sorted-ranked}
 use Rattle.if1_reach.proofs.ranks.ranked.Goals as goal
 
 pub ranks_in-requires-clause-inside : goal.ranks_in-requires-clause-inside

@@ -1,5 +1,5 @@
 use Rattle.std.proofs.Common.{refl, slice_index}
-use Rattle.if1_reach.proofs.Ranking.{none-set, next-set, all-set}
+use Rattle.if1_reach.proofs.Ranking.{next-set}
 use Rattle.if1_reach.proofs.ranks.ranks_in.Goals as goal
 
 pub loop-rank-preserved : goal.loop-rank-preserved

@@ -1,6 +1,5 @@
-use Rattle.std.proofs.Common.{◌≡◌, ◌<◌, length, refl, sym, ap, subst, arith, Contains, slice_index_or}
+use Rattle.std.proofs.Common.{length, sym, ap, subst, arith, Contains, slice_index_or}
 use Rattle.if1_order.specs.Walks.{feeders_of}
-use Rattle.if1_reach.specs.Searches.{HasMet, at_of}
 use Rattle.if1_reach.proofs.Searches.{adds-on, met-next, all-met, items-of, fed-by, at-same}
 use Rattle.if1_reach.proofs.search.meet_all.Goals as goal
 

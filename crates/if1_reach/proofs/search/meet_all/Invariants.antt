@@ -1,4 +1,4 @@
-use Rattle.std.proofs.Common.{◌≡◌, ◌<◌, ℕ, take, Contains, slice_index_or}
+use Rattle.std.proofs.Common.{◌<◌, ℕ, slice_index_or}
 use Rattle.if1_order.specs.Walks.{feeders_of}
 use Rattle.if1_reach.specs.Searches.{IsSearch, Adds, HasMet}
 use Rattle.if1_reach.proofs.search.meet_all.Given as goal

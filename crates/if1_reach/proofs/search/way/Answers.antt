@@ -1,4 +1,4 @@
-use Rattle.std.proofs.Common.{◌≡◌, ◌≢◌, ◌∙◌, sym, ap, subst, arith, length}
+use Rattle.std.proofs.Common.{◌≢◌, ap, subst, arith}
 use Rattle.if1_reach.specs.declared.search.Met.{Met}
 use Rattle.if1_reach.specs.Searches.{HaveMet, met_at}
 use Rattle.if1_reach.proofs.Ways.{more-done, none-leads}

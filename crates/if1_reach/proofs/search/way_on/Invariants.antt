@@ -1,4 +1,4 @@
-use Rattle.std.proofs.Common.{◌≡◌, ◌-◌, ℕ, length, slice_index_or}
+use Rattle.std.proofs.Common.{◌-◌, length, slice_index_or}
 use Rattle.if1_reach.specs.Searches.{IsWayOn, Follows}
 use Rattle.if1_reach.proofs.search.way_on.Given as goal
 

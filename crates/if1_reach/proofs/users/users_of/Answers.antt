@@ -1,7 +1,4 @@
-use Rattle.std.proofs.Common.{◌≡◌, ◌∙◌, ◌&&◌, nat_eq, sym, ap, subst, refl, Some, None, [], length, slice_index_or, ◌<◌}
-use Rattle.std.proofs.lemmas.List.{get_or_default}
-use Rattle.std.specs.Option.{option_copied}
-use Rattle.indexmap.specs.IndexMap.{get_by}
+use Rattle.std.proofs.Common.{◌≡◌, ◌∙◌, sym, ap, subst, Some, [], length, slice_index_or, ◌<◌}
 use Rattle.if1_reach.specs.Users.{users_in, group_users, group_at}
 use Rattle.if1_reach.proofs.users.users_of.Goals as goal
 
