@@ -1,13 +1,19 @@
 #!/bin/bash
 # Times reading, checking and writing a unit of 65,535 nodes beside CPython's xml.etree, which parses and serialises an XML
-# file of as many elements, in turns in one run. It prints milliseconds, the least of some rounds, without the start of
-# the program. Run it at the top of the repository, on an idle machine; the argument is the rounds.
+# file of as many elements, in turns in one run. Then the same of a record of 60,000 fields and of a function of 60,000
+# results, beside one of half as many. It prints milliseconds, the least of some rounds, without the start of the
+# program. Run it at the top of the repository, on an idle machine; the argument is the rounds.
 set -e
 rounds=${1:-5}
 build=$(mktemp -d)
 trap 'rm -rf "$build"' EXIT
 python3 bench/if1/texts.py "$build/long.if1" "$build/long.xml"
 printf 'T 1 1 3\n' >"$build/short.if1"
+for kind in record function; do
+    for width in 30000 60000; do
+        python3 bench/if1/wide.py "$build/$kind$width.if1" "$kind" "$width"
+    done
+done
 
 program=${BENCH_TEXTS:-$(bench/texts.sh)}
 [ -x "$program" ] || exit 1
@@ -25,7 +31,15 @@ for ((i = 0; i < rounds; i++)); do
     keep xml "$(python3 bench/if1/beside.py "$build/long.xml" 1)"
     keep short "$(milliseconds "$build/short.if1")"
     keep long "$(milliseconds "$build/long.if1")"
+    cp "$build/printed" "$build/first"
+    for wide in record30000 record60000 function30000 function60000; do
+        keep "$wide" "$(milliseconds "$build/$wide.if1")"
+    done
 done
-cat "$build/printed"
+cat "$build/first"
 awk -v a="${least[long]}" -v s="${least[short]}" -v b="${least[xml]}" \
     'BEGIN { printf "read, check and write %.1f ms, xml.etree %.1f ms, ratio %.2f\n", a - s, b, (a - s) / b }'
+for kind in record function; do
+    awk -v k="$kind" -v a="${least[${kind}60000]}" -v b="${least[${kind}30000]}" -v s="${least[short]}" \
+        'BEGIN { printf "%s of 60,000 %.1f ms, of 30,000 %.1f ms, ratio %.2f\n", k, a - s, b - s, (a - s) / (b - s) }'
+done

@@ -147,18 +147,18 @@ class Tree:
     def x_tagcase(self, x, names, olds, h):
         name, e, arms, other = x.p
         tags = [n for n, _ in e.tys[0].fields]
-        choices = [len(arms)] * len(tags)
+        choices = []
         parts = []
         for j, (ts, xs, _) in enumerate(arms):
             for n, _ in ts:
-                choices[tags.index(n)] = j
+                choices.append((tags.index(n), j))
             if name is None:
                 parts.append(self.many(xs, names, olds, h))
             else:
                 parts.append(self.many(xs, dict(names, **{name: h}), olds, h + 1))
         if other is not None:
             parts.append(self.many(other, names, olds, h))
-        return ("Case", (0 if name is None else len(arms), choices), self.many([e], names, olds, h), parts)
+        return ("Case", (0 if name is None else len(arms), choices, len(arms)), self.many([e], names, olds, h), parts)
 
     def clause(self, c, t, masked):
         if c.kind == "array":
@@ -412,15 +412,17 @@ def if_of(test, then, other, ts, env):
 
 
 def case_of(facts, case, arms, ts, ws, env):
-    named, choices = case
+    named, choices, others = case
     tags = facts[type_of(ws[0][1])][1]
+    first_tag = lambda arm: next((tag for tag, a in choices if a == arm), 0)
+    arm_place = lambda tag: next((arm for t, arm in choices if t == tag), others)
     fs = []
     for j, gs in enumerate(arms):
         inside = [into(w) for w in env]
         if j < named:
-            inside = inside + [(("Port", 0, 0, 1), one(tags[choices.index(j)][1]))]
+            inside = inside + [(("Port", 0, 0, 1), one(tags[first_tag(j)][1]))]
         fs.append(all_of(gs, inside))
-    return tag_case(ws[0], fs, choices, ts)
+    return tag_case(ws[0], fs, [arm_place(tag) for tag in range(len(tags))], ts)
 
 # ---- loops
 

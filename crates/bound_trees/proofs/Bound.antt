@@ -19,7 +19,7 @@ use Rattle.typed_tree.specs.declared.expr.ClauseForm.{ClauseForm}
 use Rattle.typed_tree.specs.Scopes.{Scope, define_all, targets, in_turn, renewals}
 use Rattle.typed_tree.specs.Types.{Member, prefix_type}
 use Rattle.typed_tree.specs.Typing as rule
-use Rattle.typed_tree.specs.Typing.{Known, IsSpelled, at, names_in, loop_of, named_arms, with_content, Types, AreTyped, Replaces, HasFields, Defines, Crosses, Generates, AreClauses, IsMask, IsOtherwise}
+use Rattle.typed_tree.specs.Typing.{Known, at, names_in, loop_of, named_arms, with_content, Types, AreTyped, Replaces, HasFields, Defines, Crosses, Generates, AreClauses, IsMask, IsOtherwise}
 use Rattle.typed_tree.specs.Typing.{AreArms as AreTypedArms}
 use Rattle.sisal_tree.specs.declared.expr.Constant.{Constant}
 use Rattle.sisal_tree.specs.declared.expr.Elements.{roll-Elements}
@@ -124,8 +124,7 @@ record Leads (functions : ℕ) (s : Scope) (us : List (List TypedExpr)) (after :
   height : after.height ≡ s.height + levels_in us
   low : IsLow after
 
-module _ (k : Known) (denotes : Written → Ty → Type 0) (functions : ℕ) (many : length k.functions ≡ functions)
-    (once : (x y : ℕ) (spelling : List ℕ) → IsSpelled k x spelling → IsSpelled k y spelling → x ≡ y) where
+module _ (k : Known) (denotes : Written → Ty → Type 0) (functions : ℕ) (many : length k.functions ≡ functions) where
   mutual
     pub bound : (s : Scope) (e : Expr) (t : TypedExpr) (tys : List Ty) → Types k denotes s e t tys → IsLow s → Fine (constants e) → IsBound functions s.height t
     bound s _ _ _ (rule.constant {l = l} {c = c} n) sc lit = is.constant (broken (constants (at l (tree.Constant c))) (c ∷ []) (in_constant l c) lit).0
@@ -179,7 +178,7 @@ module _ (k : Known) (denotes : Written → Ty → Type 0) (functions : ℕ) (ma
     bound s _ _ _ (rule.tag_case {l = l} {ms = ms} {x = x} {e = e} {t = t} {arms = arms} {typed_arms = us} {last = last} {tags = tags} {choices = choices} {tys = tys} {other = other} p q d all o c n) sc lit =
         let parts = case_part l x e arms other lit in
         is.tag_case (one functions s.height t (bound s e t (ty.Uni ms ∷ []) p sc parts.0)) (arms_bound s x ms tys arms us tags q sc parts.1 last (last_bound s tys other last o sc parts.2))
-        (choices_there k denotes once s x ms tys arms us last tags other choices q o all c.each)
+        (choices_there k denotes s x ms tys arms us last tags choices q c.each)
     bound s _ _ _ (rule.for_product {l = l} {tys = tys} {gs = gs} {ds = ds} {cs = cs} {t = t} p) sc lit =
         let parts = product_parts l gs ds cs lit in crossed_bound s l gs ds cs t tys p sc parts.0 parts.1 parts.2
     bound s _ _ _ (rule.for_initial {started = started} {turned = turned} {l = l} {first = firsts} {later = later} {tys = tys} is_first is_until {test = test} {t = t} {ds = ds} {es = es} {us = us} {vs = vs} {cs = cs} {forms = clauses} {ts = ts} p d q r e keeps c n) sc lit =

@@ -218,7 +218,7 @@ module _ (k : Known) (denotes : Written → Ty → Type 0) where
         let r3 = all_shallow s fs us tys r in
         omega (arith, x, y, r1, r2, r3)
     shallow s _ _ _ (rule.tag_case {l = l} {ms = ms} {x = i} {e = e} {t = t} {arms = arms} {typed_arms = us} {last = last} {tags = tags} {choices = choices} {ns = ns} {tys = tys} {other = other} p q d all o c n) =
-        let x = a_case l ns (record { named = named_arms i arms; choices = choices }) (t ∷ []) (us ++ last) in
+        let x = a_case l ns (record { named = named_arms i arms; choices = choices; others = length arms }) (t ∷ []) (us ++ last) in
         let y = in_tag_case l (roll-TagCase (record { name = i; subject = e; arms = arms; otherwise = other })) in
         let z = of_case i e arms other in
         let w = lists_append us last in

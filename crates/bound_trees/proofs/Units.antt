@@ -14,7 +14,6 @@ use Rattle.sisal_lex.specs.Sound.{IsSoundKind, AreSound}
 use Rattle.sisal_lex.specs.declared.token.Token.{Token as Told}
 use Rattle.sisal_grammar.specs.Phrases.{unit}
 use Rattle.sisal_grammar.specs.Placed.{placed}
-use Rattle.type_rules.specs.Typed.{AreSpelledOnce}
 use Rattle.typed_tree.specs.declared.expr.TypedExpr.{TypedExpr}
 use Rattle.typed_tree.specs.declared.program.Function.{Function}
 use Rattle.typed_tree.specs.declared.program.Program.{Program}
@@ -51,7 +50,7 @@ functions_counted : (u : tree.Unit) (forms : List Form) (ds es : List Declared) 
 functions_counted u forms ds _ _ units.no_function = refl
 functions_counted u forms ds _ _ (units.a_function {es = es} {fs = fs} p ps) = ap suc (functions_counted u forms ds es fs ps)
 
-module _ (u : tree.Unit) (once : AreSpelledOnce u.tokens.names) (forms : List Form) (ds : List Declared) (functions : ℕ) (many : length (given ds) ≡ functions) where
+module _ (u : tree.Unit) (forms : List Form) (ds : List Declared) (functions : ℕ) (many : length (given ds) ≡ functions) where
   as_many : length (signatures ds) ≡ functions
   as_many = length-map (given ds) (λ d. d.signature) ∙ many
 
@@ -62,7 +61,7 @@ module _ (u : tree.Unit) (once : AreSpelledOnce u.tokens.names) (forms : List Fo
       let height = defined_height d.signature.parameters d.signature.params no_names even in
       let same : (parameters d.signature).height ≡ length d.signature.parameters = omega (arith, height, even) in
       subst (λ n. IsBoundBody functions n (Some ts)) same
-      (all_bound (known u forms ds d.types) (denotes u d.types) functions as_many (λ x y spelling p q. once x y spelling p q) (parameters d.signature) es ts d.signature.results p
+      (all_bound (known u forms ds d.types) (denotes u d.types) functions as_many (parameters d.signature) es ts d.signature.results p
       (defined_low d.signature.parameters d.signature.params no_names no_names_low) lit)
 
   function_bound : (d : Declared) (f : Function) → IsFit d → IsFunctionOf u forms ds d f → IsBoundIn functions f
@@ -86,15 +85,15 @@ tokens_told names n (t ∷ ts) p =
     (All-head (λ (t : Told). IsSoundKind names t.kind) t ts p, tokens_told names (n + 1) ts (All-tail (λ (t : Told). IsSoundKind names t.kind) t ts p))
 
 pub unit_bound : BoundLaw
-unit_bound u p sound once spells t =
+unit_bound u p sound spells t =
     let names = length u.tokens.names in
     let lit = fine names unit (placed 0 u.tokens.list) (record { defines = u.defines; items = u.items }) spells (tokens_told names 0 u.tokens.list sound) in
     let many = functions_counted u p.types t.declared (given t.declared) p.functions t.functions in
     let fit = All-filter (λ d. is_given d.function) IsFit t.declared (declared_fit u [] u.items t.declared t.declares.declares lit) in
     record {
-      functions = functions_bound u once p.types t.declared (length p.functions) many (given t.declared) p.functions fit t.functions;
-      defines = defines_bound u once p.types t.declared (length p.functions) many u.defines p.defines t.defines;
+      functions = functions_bound u p.types t.declared (length p.functions) many (given t.declared) p.functions fit t.functions;
+      defines = defines_bound u p.types t.declared (length p.functions) many u.defines p.defines t.defines;
     }
 
 pub text_bound : TextLaw
-text_bound bytes u p lexed once spells t = unit_bound u p (tokens_sound bytes u.tokens lexed) once spells t
+text_bound bytes u p lexed spells t = unit_bound u p (tokens_sound bytes u.tokens lexed) spells t

@@ -56,9 +56,9 @@ module _ (functions : ℕ) where
           → AreDefined n us → AreBound (n + levels_in us) ts → IsBound n (with l ns (typed.Let us ts))
       if_else : {n l : ℕ} {ns : List ℕ} {ts us vs : List TypedExpr}
           → AreBound n ts → AreBound n us → AreBound n vs → IsBound n (with l ns (typed.If ts us vs))
-      -- the arm of each tag is there
+      -- the arm of each tag that is named is there
       tag_case : {n l : ℕ} {ns : List ℕ} {c : Case} {ts : List TypedExpr} {arms : List (List TypedExpr)}
-          → AreBound n ts → AreArms n c.named arms → All (λ place. place < length arms) c.choices → IsBound n (with l ns (typed.Case c ts arms))
+          → AreBound n ts → AreArms n c.named arms → All (λ x. x.arm < length arms) c.choices → IsBound n (with l ns (typed.Case c ts arms))
       product : {n l : ℕ} {ns : List ℕ} {p : Product} {bounds : List TypedExpr} {us : List (List TypedExpr)} {ts : List TypedExpr}
           → AreBound n bounds → AreDefined (n + levels_over p.sources) us → AreBound (n + levels_over p.sources + levels_in us) ts
           → IsBound n (with l ns (typed.Product p bounds us ts))

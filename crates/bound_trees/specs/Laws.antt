@@ -7,7 +7,6 @@ use Rattle.typed_tree.specs.declared.expr.TypedKind.TheOpen.{TypedKind-F}
 use Rattle.typed_tree.specs.declared.expr.TypedKind.TheViews.{out-TypedKind}
 use Rattle.typed_tree.specs.declared.program.Program.{Program}
 use Rattle.typed_tree.specs.Units.{IsTyped}
-use Rattle.type_rules.specs.Typed.{AreSpelledOnce}
 use Rattle.sisal_lex.specs.Sound.{AreSound}
 use Rattle.sisal_lex.specs.Tokens.{tokens_of}
 use Rattle.sisal_grammar.specs.Phrases.{unit}
@@ -20,12 +19,12 @@ use Rattle.bound_trees.specs.Bound.{values_in, levels_in, levels_over, IsRenewal
 
 -- a typed unit of the tokens of a text is bound
 abbrev pub BoundLaw : Type 0
-BoundLaw = (u : tree.Unit) (p : Program) → AreSound (length u.tokens.names) u.tokens.list → AreSpelledOnce u.tokens.names
+BoundLaw = (u : tree.Unit) (p : Program) → AreSound (length u.tokens.names) u.tokens.list
     → Spells unit (placed 0 u.tokens.list) (record { defines = u.defines; items = u.items }) → IsTyped u p → IsBoundProgram p
 
 -- so is that of a text, whose tokens keep to this by themselves
 abbrev pub TextLaw : Type 0
-TextLaw = (bytes : List ℕ) (u : tree.Unit) (p : Program) → tokens_of bytes ≡ Ok u.tokens → AreSpelledOnce u.tokens.names
+TextLaw = (bytes : List ℕ) (u : tree.Unit) (p : Program) → tokens_of bytes ≡ Ok u.tokens
     → Spells unit (placed 0 u.tokens.list) (record { defines = u.defines; items = u.items }) → IsTyped u p → IsBoundProgram p
 
 -- the results of the functions of a typed unit nest no deeper than the unit
@@ -41,7 +40,7 @@ HasBoundParts functions n (TypedKind-F.Call f ts) = (f < functions) × AreBound 
 HasBoundParts functions n (TypedKind-F.Apply op ts) = AreBound functions n ts
 HasBoundParts functions n (TypedKind-F.Let us ts) = AreDefined functions n us × AreBound functions (n + levels_in us) ts
 HasBoundParts functions n (TypedKind-F.If ts us vs) = AreBound functions n ts × AreBound functions n us × AreBound functions n vs
-HasBoundParts functions n (TypedKind-F.Case c ts arms) = AreBound functions n ts × AreArms functions n c.named arms × All (λ place. place < length arms) c.choices
+HasBoundParts functions n (TypedKind-F.Case c ts arms) = AreBound functions n ts × AreArms functions n c.named arms × All (λ x. x.arm < length arms) c.choices
 HasBoundParts functions n (TypedKind-F.Product p bounds us ts) =
     let m = n + levels_over p.sources in AreBound functions n bounds × AreDefined functions m us × AreBound functions (m + levels_in us) ts
 HasBoundParts functions n (TypedKind-F.Initial t us test vs ts) =

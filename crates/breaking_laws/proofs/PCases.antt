@@ -1,14 +1,14 @@
 -- `tagcase` that is refused.
-use Rattle.std.proofs.Common.{◌≡◌, ⊎_elim, ℕ, suc, ◌<◌, Bool, true, false, List, [], ◌∷◌, flat_map, length, Option, Some, None, slice_get, get_or, refl, sym, ap, subst, ◌∙◌, arith}
+use Rattle.std.proofs.Common.{◌≡◌, ⊎_elim, ℕ, suc, Bool, true, false, not, if◌then◌else◌, List, [], ◌∷◌, flat_map, Option, Some, None, slice_get, refl, sym, ap, subst, ◌∙◌}
 use Rattle.std.specs.Prelude.{Contains}
 use Rattle.std.proofs.lemmas.List.Elements.{All-contains}
-use Rattle.std.proofs.lemmas.Option.{slice_get_within, slice_get-get_or}
 use Rattle.flow_value.specs.declared.ty.Ty.{Ty}
 use Rattle.flow_value.specs.declared.ty.Ty.TheVariants as ty
 use Rattle.type_table.specs.declared.form.Form.{Form}
 use Rattle.type_table.specs.declared.form.Form.TheVariants as form
 use Rattle.type_table.specs.declared.form.Member.{Member as NumberedMember}
 use Rattle.type_table.specs.Tables.{IsTable}
+use Rattle.type_table.proofs.Members.{is_named}
 use Rattle.sisal_tree.specs.declared.unit.Written.{Written}
 use Rattle.sisal_tree.specs.declared.expr.Arm.{Arm}
 use Rattle.sisal_tree.specs.declared.expr.ExprKind.TheVariants as tree
@@ -19,20 +19,20 @@ use Rattle.typed_tree.specs.Types.{Member, IsNumber, AreNumbers, AreMembers}
 use Rattle.typed_tree.specs.Typing.{Known, Number, Types, AreAllNamed, at}
 use Rattle.typed_tree.specs.Breaks as breaks
 use Rattle.typed_tree.specs.Breaks.{Breaks, NoUnion, in_subject, case_no_union, in_arms, tag_twice, arms_differ, otherwise_differs, in_otherwise}
-use Rattle.type_rules.specs.Arms.{are_all_named}
-use Rattle.type_rules.specs.Parts.{part_if, tags_part, tags_at}
+use Rattle.type_rules.specs.Arms.{is_free, has_arm, have_arms, have_arms_if, are_all_named}
+use Rattle.type_rules.specs.Parts.{part_if, tag_part, tags_part, tag_at, tags_at}
 use Rattle.type_rules.specs.Typed.{AreSpelledOnce}
 use Rattle.type_rules.proofs.Standing.{at_union, one_number}
 use Rattle.type_rules.proofs.Membership.{member_stands}
 use Rattle.value_names.specs.Names.{Names}
 use Rattle.typing_laws.specs.Given.{Given, Parts, Arms}
 use Rattle.typing_laws.specs.Judged.{Agrees, Stands, denotes_in, AllOnes}
-use Rattle.typing_laws.specs.Casing.{tags_in, HasTag, Begins, AreSame, ArmsTyped}
+use Rattle.typing_laws.specs.Casing.{tags_in, Begins, AreSame, ArmsTyped}
 use Rattle.typing_laws.proofs.Later.{used_on, agrees_before}
 use Rattle.typing_laws.proofs.Called.{one_of}
 use Rattle.typing_laws.proofs.Sound.{part_later}
-use Rattle.typing_laws.proofs.Choosing.{union_at, tag_flat}
-use Rattle.typing_laws.proofs.Cased.{arms_begin, union_members, union_type, once_at, not_named, rolled_case}
+use Rattle.typing_laws.proofs.Choosing.{union_at}
+use Rattle.typing_laws.proofs.Cased.{arms_begin, union_members, union_type, rolled_case, named_arm}
 use Rattle.breaking_laws.specs.Broken.{misnames_in, BreaksAt, BreaksInAt}
 use Rattle.breaking_laws.specs.Parts as parts
 use Rattle.breaking_laws.specs.Parts.{BreaksArms, BreaksArmsAt, OneHas, TwoDiffer, ArmsHave, AddsResults, Differs}
@@ -131,26 +131,39 @@ case_otherwise_refused g f0 f1 names l c es rule line used some p =
 
 -- ---- a tag without an arm
 
--- a place that has none
-free_place : (chosen : List (Option ℕ)) → are_all_named chosen ≡ false → (j : ℕ) × (slice_get chosen j ≡ Some None)
-free_place [] e = absurd cc
-free_place (None ∷ chosen) e = (0, refl)
-free_place (Some i ∷ chosen) e = let r = free_place chosen e in (suc r.0, r.1)
+-- one of some tags that has none
+free_tag : (forms : List Form) (union : ℕ) (chosen : List (ℕ × ℕ)) (tags : List NumberedMember) → have_arms forms union chosen tags ≡ false
+    → (j : ℕ) × (m : NumberedMember) × (slice_get tags j ≡ Some m) × (has_arm chosen (tag_at forms union m.name) ≡ false)
+free_tag forms union chosen [] e = absurd cc
+free_tag forms union chosen (m ∷ tags) e = by (has_arm chosen (tag_at forms union m.name)) refl (free_tag forms union chosen tags) e
+  where
+    by : (b : Bool) → has_arm chosen (tag_at forms union m.name) ≡ b
+        → (have_arms forms union chosen tags ≡ false → (j : ℕ) × (o : NumberedMember) × (slice_get tags j ≡ Some o) × (has_arm chosen (tag_at forms union o.name) ≡ false))
+        → (if b then have_arms forms union chosen tags else false) ≡ false
+        → (j : ℕ) × (o : NumberedMember) × (slice_get (m ∷ tags) j ≡ Some o) × (has_arm chosen (tag_at forms union o.name) ≡ false)
+    by true h later e = let r = later e in (suc r.0, r.1, r.2, r.3)
+    by false h later e = (0, m, refl, h)
 
-not_all_named : (g : Given) (f : List Form) (names : Names) (union : ℕ) (arms : List Arm) (done : Arms) → ArmsTyped g f names union arms done → are_all_named done.chosen ≡ false
+not_all_named : (g : Given) (f : List Form) (names : Names) (union : ℕ) (arms : List Arm) (done : Arms) → ArmsTyped g f names union arms done → are_all_named f done.union done.chosen ≡ false
     → (k : Known) (ms : List Member) → Agrees g f k → IsNumber k.forms k.spellings union (ty.Uni ms) → AreAllNamed k (tags_in arms) ms None → ⊥
 not_all_named g f names union arms done p e k ms agrees number all =
+    let is : slice_get f done.union ≡ Some (form.Union p.members) = ap (slice_get f) p.chosen_union ∙ union_at f union p.members p.is_union in
     let here : slice_get k.forms union ≡ Some (form.Union p.members) = union_at k.forms union p.members (part_later f k.forms agrees.grows tags_part union p.members p.is_union) in
     let members : AreMembers k.forms k.spellings p.members ms = union_members k union p.members ms here number in
-    let j = free_place done.chosen e in
-    let within : j.0 < length p.members = (let lt = slice_get_within done.chosen j.0 None j.1 in let s = p.chosen.size in omega (arith, lt, s)) in
-    let m : NumberedMember = get_or p.members j.0 (record { name = 0; ty = 0 }) in
-    let there : slice_get p.members j.0 ≡ Some m = slice_get-get_or p.members j.0 (record { name = 0; ty = 0 }) within in
-    let t = member_stands k.forms k.spellings p.members ms members j.0 m there in
+    let j = free_tag f done.union done.chosen p.members (sym (ap (λ o. have_arms_if f done.union done.chosen (part_if tags_part o)) is) ∙ e) in
+    let m : NumberedMember = j.1 in
+    let t = member_stands k.forms k.spellings p.members ms members j.0 m j.2 in
     let named = All-contains (λ m. (x : ℕ) × (slice_get k.spellings x ≡ Some m.0) × Contains (flat_map (λ tags. tags) (tags_in arms)) x) ms t.0 all (contains_at ms j.0 t.0 t.1) in
     let same : named.0 ≡ m.name = agrees.once named.0 m.name t.0.0 named.1 t.2 in
-    let tag = tag_flat (tags_in arms) named.0 named.2 in
-    not_named k p.members done.chosen (tags_in arms) (once_at k agrees.standing union p.members here) p.chosen j.0 m there j.1 tag.0 (subst (HasTag (tags_in arms) tag.0) same tag.1)
+    let first = is_named m.name 0 p.members j.0 m j.2 refl in
+    let taken : is_free done.chosen first.0.0 ≡ false =
+    named_arm k p.members done.chosen (tags_in arms) p.chosen m.name first.0 first.1 (subst (λ x. Contains (flat_map (λ tags. tags) (tags_in arms)) x) same named.2) in
+    let none : has_arm done.chosen (Some first.0) ≡ false = sym (ap (has_arm done.chosen) (ap (part_if (tag_part m.name)) is ∙ first.1)) ∙ j.3 in
+    clash (is_free done.chosen first.0.0) taken none
+  where
+    clash : (b : Bool) → b ≡ false → not b ≡ false → ⊥
+    clash true e f = cc
+    clash false e f = cc
 
 pub case_no_arm : CaseNoArmLaw
 case_no_arm g f0 f1 f2 names l c subject begun done first second table ones begins adds none e =

@@ -1,17 +1,15 @@
 -- The tags of an arm that are refused.
-use Rattle.std.proofs.Common.{◌≡◌, inl, inr, ℕ, ◌<◌, Bool, true, false, nat_eq, List, [], ◌∷◌, ◌++◌, flat_map, length, Option, Some, None, Result, Ok, Err, slice_get, slice_set, get_or, refl, sym, ap, subst, ◌∙◌, arith}
+use Rattle.std.proofs.Common.{◌≡◌, inl, inr, ℕ, Bool, true, false, nat_eq, List, [], ◌∷◌, ◌++◌, flat_map, length, Option, Some, None, Result, Ok, Err, slice_get, refl, sym, ap, subst, ◌∙◌}
 use Rattle.std.specs.Prelude.{if◌then◌else◌, Contains}
 use Rattle.std.proofs.lemmas.Bool.{eq-eqb}
 use Rattle.std.proofs.lemmas.List.{append_assoc, append-nil, map-append}
 use Rattle.std.proofs.lemmas.List.Elements.{Contains-append_left, Contains-append_right}
-use Rattle.std.proofs.lemmas.Option.{same_Some, slice_get_within, slice_get-get_or}
 use Rattle.std.proofs.lemmas.Grind.{flat_map-append}
 use Rattle.flow_value.specs.declared.ty.Ty.{Ty}
 use Rattle.flow_value.specs.declared.ty.Ty.TheVariants as ty
 use Rattle.type_table.specs.declared.form.Form.{Form}
 use Rattle.type_table.specs.declared.form.Form.TheVariants as form
 use Rattle.type_table.specs.declared.form.Member.{Member as NumberedMember}
-use Rattle.type_table.proofs.Members.{is_member}
 use Rattle.sisal_tree.specs.declared.unit.Named.{Named}
 use Rattle.sisal_tree.specs.declared.unit.Written.{Written}
 use Rattle.sisal_tree.specs.declared.expr.Arm.{Arm, out-Arm}
@@ -26,8 +24,8 @@ use Rattle.type_rules.proofs.Membership.{tag_absent}
 use Rattle.typing_laws.specs.Given.{Given}
 use Rattle.typing_laws.specs.Judged.{Agrees, denotes_in}
 use Rattle.typing_laws.specs.Casing.{tags_in, IsChosen}
-use Rattle.typing_laws.proofs.Choosing.{arm_begins, a_tag, free_is, goes_on, union_at, flat_tag}
-use Rattle.typing_laws.proofs.Cased.{union_members, tag_content, rolled_arm, many_tags}
+use Rattle.typing_laws.proofs.Choosing.{arm_begins, a_tag, goes_on, union_at}
+use Rattle.typing_laws.proofs.Cased.{union_members, tag_content, rolled_arm, many_tags, arm_named}
 use Rattle.breaking_laws.specs.Broken.{misnames_in}
 use Rattle.breaking_laws.specs.Parts as parts
 use Rattle.breaking_laws.specs.Parts.{BreaksArms, BreaksArmsAt, IsNoArm}
@@ -75,19 +73,14 @@ module _ (g : Given) (f : List Form) (k : Known) (known : Agrees g f k) (union :
   no_member x e place a has = tag_absent k.forms k.spellings (known_of g f k known) union ms number x place a (record { spelling = has.spelling; spelled = has.spelled; member = has.member }) e
 
   -- a tag whose place is taken stands before
-  taken : (seen : List Named) (arms : List (Option ℕ)) (x : ℕ) (m : ℕ × ℕ) (i : ℕ) → IsChosen nms arms (tags_in others ++ (names_of seen ∷ [])) → tag_at k.forms union x ≡ Some m → slice_get arms m.0 ≡ Some (Some i)
+  taken : (seen : List Named) (arms : List (ℕ × ℕ)) (x : ℕ) (m : ℕ × ℕ) → IsChosen nms arms (tags_in others ++ (names_of seen ∷ [])) → tag_at k.forms union x ≡ Some m → is_free arms m.0 ≡ false
       → Contains (names_of (arm_tags others ++ seen)) x
-  taken seen arms x m i p found e =
-      let r = p.back m.0 i e in
-      let a = is_member x 0 nms m (sym (ap (part_if (tag_part x)) here) ∙ found) in
-      let b = is_member r.0 0 nms (m.0, r.1) r.2 in
-      let place : a.i ≡ b.i = (let u = a.place in let v = b.place in omega (arith, u, v)) in
-      let same : a.member ≡ b.member = same_Some a.member b.member (sym a.is ∙ ap (slice_get nms) place ∙ b.is) in
-      let is : r.0 ≡ x = sym b.named ∙ ap (λ q. q.name) (sym same) ∙ a.named in
+  taken seen arms x m p found e =
+      let c = arm_named k nms arms (tags_in others ++ (names_of seen ∷ [])) p x m (sym (ap (part_if (tag_part x)) here) ∙ found) e in
       let whole : flat_map (λ names. names) (tags_in others ++ (names_of seen ∷ [])) ≡ names_of (arm_tags others ++ seen) =
       flat_map-append (λ names. names) (tags_in others) (names_of seen ∷ []) ∙ ap (λ l. flat_map (λ names. names) (tags_in others) ++ l) (append-nil (names_of seen)) ∙ ap (λ l. l ++ names_of seen) (names_flat others)
       ∙ sym (map-append (λ n. n.name) (arm_tags others) seen) in
-      subst (λ y. Contains (names_of (arm_tags others ++ seen)) y) is (subst (λ l. Contains l r.0) whole (flat_tag (tags_in others ++ (names_of seen ∷ [])) i r.0 r.3))
+      subst (λ l. Contains l x) whole c
 
   twice_here : (seen : List Named) (t : Named) (ts : List Named) → Contains (names_of (arm_tags others ++ seen)) t.name → IsTwice (arm_tags others ++ (seen ++ (t ∷ ts))) t.line
   twice_here seen t ts c =
@@ -107,38 +100,25 @@ module _ (g : Given) (f : List Form) (k : Known) (known : Agrees g f k) (union :
       clash true g h = cc
       clash false g h = cc
 
-  -- a place that there is is free or taken
-  place_by : (arms : List (Option ℕ)) (m : ℕ × ℕ) (x : ℕ) (seen : List Named) → IsChosen nms arms (tags_in others ++ (names_of seen ∷ [])) → tag_at k.forms union x ≡ Some m → is_free (slice_get arms m.0) ≡ false
-      → (i : ℕ) × (slice_get arms m.0 ≡ Some (Some i))
-  place_by arms m x seen p found e =
-      let a = is_member x 0 nms m (sym (ap (part_if (tag_part x)) here) ∙ found) in
-      let within : m.0 < length arms = (let lt = slice_get_within nms a.i a.member a.is in let u = a.place in let s = p.size in omega (arith, lt, u, s)) in
-      let there = slice_get-get_or arms m.0 None within in
-      by (get_or arms m.0 None) there (sym (ap is_free there) ∙ e)
-    where
-      by : (o : Option ℕ) → slice_get arms m.0 ≡ Some o → is_free (Some o) ≡ false → (i : ℕ) × (slice_get arms m.0 ≡ Some (Some i))
-      by None h e = absurd cc
-      by (Some i) h e = (i, h)
-
-  line_is : (a b : ℕ) → ◌≡◌ {A = Result (Option ℕ × List (Option ℕ)) ℕ} (Err a) (Err b) → a ≡ b
+  line_is : (a b : ℕ) → ◌≡◌ {A = Result (Option ℕ × List (ℕ × ℕ)) ℕ} (Err a) (Err b) → a ≡ b
   line_is a b e = cc
 
   -- what comes where a tag gets its arm
-  abbrev Resumes : List Named → Named → List Named → List (Option ℕ) → ℕ → Type 0
-  Resumes seen t ts arms line = (m : ℕ × ℕ) → tag_at k.forms union t.name ≡ Some m → slice_get arms m.0 ≡ Some None
-      → gives_arm k.forms union (length (tags_in others)) at (Some m.1) (slice_set arms m.0 (Some (length (tags_in others)))) ts ≡ Err line → BreaksTags k ms at (arm_tags others) (seen ++ (t ∷ ts)) line
+  abbrev Resumes : List Named → Named → List Named → List (ℕ × ℕ) → ℕ → Type 0
+  Resumes seen t ts arms line = (m : ℕ × ℕ) → tag_at k.forms union t.name ≡ Some m → is_free arms m.0 ≡ true
+      → gives_arm k.forms union (length (tags_in others)) at (Some m.1) (arms ++ ((m.0, length (tags_in others)) ∷ [])) ts ≡ Err line → BreaksTags k ms at (arm_tags others) (seen ++ (t ∷ ts)) line
 
-  tags_break : (seen ts : List Named) (content : Option ℕ) (arms : List (Option ℕ)) (line : ℕ) → IsChosen nms arms (tags_in others ++ (names_of seen ∷ [])) → HasContent content seen
+  tags_break : (seen ts : List Named) (content : Option ℕ) (arms : List (ℕ × ℕ)) (line : ℕ) → IsChosen nms arms (tags_in others ++ (names_of seen ∷ [])) → HasContent content seen
       → gives_arm k.forms union (length (tags_in others)) at content arms ts ≡ Err line → BreaksTags k ms at (arm_tags others) (seen ++ ts) line
   tags_break seen [] content arms line p before e = absurd (fine (content, arms) e)
     where
-      fine : (r : Option ℕ × List (Option ℕ)) → Ok r ≡ Err line → ⊥
+      fine : (r : Option ℕ × List (ℕ × ℕ)) → Ok r ≡ Err line → ⊥
       fine r e = cc
   tags_break seen (t ∷ ts) content arms line p before e =
       by (tag_at k.forms union t.name) refl
       (λ m found free rest. subst (λ l. BreaksTags k ms at (arm_tags others) l line) (append_assoc seen (t ∷ []) ts)
-      (tags_break (seen ++ (t ∷ [])) ts (Some m.1) (slice_set arms m.0 (Some (length (tags_in others)))) line
-      (subst (λ l. IsChosen nms (slice_set arms m.0 (Some (length (tags_in others)))) (tags_in others ++ (l ∷ []))) (sym (map-append (λ n. n.name) seen (t ∷ [])))
+      (tags_break (seen ++ (t ∷ [])) ts (Some m.1) (arms ++ ((m.0, length (tags_in others)) ∷ [])) line
+      (subst (λ l. IsChosen nms (arms ++ ((m.0, length (tags_in others)) ∷ [])) (tags_in others ++ (l ∷ []))) (sym (map-append (λ n. n.name) seen (t ∷ [])))
       (a_tag nms arms (tags_in others) (names_of seen) t.name m p (sym (ap (part_if (tag_part t.name)) here) ∙ found) free))
       (t, m.0, Contains-append_right seen (t ∷ []) t (contains_first t []), found) rest))
       e
@@ -146,29 +126,28 @@ module _ (g : Given) (f : List Form) (k : Known) (known : Agrees g f k) (union :
       there : Contains (seen ++ (t ∷ ts)) t
       there = Contains-append_right seen (t ∷ ts) t (contains_first t ts)
 
-      content_by : (m : ℕ × ℕ) → tag_at k.forms union t.name ≡ Some m → (c : Option ℕ) → HasContent c seen → agrees c m.1 ≡ false → ◌≡◌ {A = Result (Option ℕ × List (Option ℕ)) ℕ} (Err at) (Err line)
+      content_by : (m : ℕ × ℕ) → tag_at k.forms union t.name ≡ Some m → (c : Option ℕ) → HasContent c seen → agrees c m.1 ≡ false → ◌≡◌ {A = Result (Option ℕ × List (ℕ × ℕ)) ℕ} (Err at) (Err line)
           → BreaksTags k ms at (arm_tags others) (seen ++ (t ∷ ts)) line
       content_by m found None before other e = absurd cc
       content_by m found (Some c) before other e = subst (λ l. BreaksTags k ms at (arm_tags others) (seen ++ (t ∷ ts)) l) (line_is at line e) (differ seen t ts c m before found other)
 
-      agrees_by : (m : ℕ × ℕ) → tag_at k.forms union t.name ≡ Some m → slice_get arms m.0 ≡ Some None → Resumes seen t ts arms line → (b : Bool) → agrees content m.1 ≡ b
-          → (if b then gives_arm k.forms union (length (tags_in others)) at (Some m.1) (slice_set arms m.0 (Some (length (tags_in others)))) ts else Err at) ≡ Err line
+      agrees_by : (m : ℕ × ℕ) → tag_at k.forms union t.name ≡ Some m → is_free arms m.0 ≡ true → Resumes seen t ts arms line → (b : Bool) → agrees content m.1 ≡ b
+          → (if b then gives_arm k.forms union (length (tags_in others)) at (Some m.1) (arms ++ ((m.0, length (tags_in others)) ∷ [])) ts else Err at) ≡ Err line
           → BreaksTags k ms at (arm_tags others) (seen ++ (t ∷ ts)) line
       agrees_by m found free rest true same e = rest m found free e
       agrees_by m found free rest false same e = content_by m found content before same e
 
-      free_by : (m : ℕ × ℕ) → tag_at k.forms union t.name ≡ Some m → Resumes seen t ts arms line → (b : Bool) → is_free (slice_get arms m.0) ≡ b
-          → goes_on k.forms union (length (tags_in others)) at content t ts (if b then Some (m.1, slice_set arms m.0 (Some (length (tags_in others)))) else None) ≡ Err line
+      free_by : (m : ℕ × ℕ) → tag_at k.forms union t.name ≡ Some m → Resumes seen t ts arms line → (b : Bool) → is_free arms m.0 ≡ b
+          → goes_on k.forms union (length (tags_in others)) at content t ts (if b then Some (m.1, arms ++ ((m.0, length (tags_in others)) ∷ [])) else None) ≡ Err line
           → BreaksTags k ms at (arm_tags others) (seen ++ (t ∷ ts)) line
-      free_by m found rest true free e = agrees_by m found (free_is (slice_get arms m.0) free) rest (agrees content m.1) refl e
+      free_by m found rest true free e = agrees_by m found free rest (agrees content m.1) refl e
       free_by m found rest false free e =
-          let i = place_by arms m t.name seen p found free in
-          subst (λ l. BreaksTags k ms at (arm_tags others) (seen ++ (t ∷ ts)) l) (line_is t.line line e) (again (twice_here seen t ts (taken seen arms t.name m i.0 p found i.1)))
+          subst (λ l. BreaksTags k ms at (arm_tags others) (seen ++ (t ∷ ts)) l) (line_is t.line line e) (again (twice_here seen t ts (taken seen arms t.name m p found free)))
 
       by : (o : Option (ℕ × ℕ)) → tag_at k.forms union t.name ≡ o → Resumes seen t ts arms line → goes_on k.forms union (length (tags_in others)) at content t ts (chosen_at arms (length (tags_in others)) o) ≡ Err line
           → BreaksTags k ms at (arm_tags others) (seen ++ (t ∷ ts)) line
       by None found rest e = subst (λ l. BreaksTags k ms at (arm_tags others) (seen ++ (t ∷ ts)) l) (line_is t.line line e) (absent t there (no_member t.name found))
-      by (Some m) found rest e = free_by m found rest (is_free (slice_get arms m.0)) refl e
+      by (Some m) found rest e = free_by m found rest (is_free arms m.0) refl e
 
 tags_break_arm : (k : Known) (denotes : Written → Ty → Type 0) (misnames : Written → ℕ → ℕ → Type 0) (s : scopes.Scope) (x : Option ℕ) (ms : List Member) (others : List Arm) (a : Arm) (line : ℕ)
     → BreaksTags k ms (out-Arm a).line (arm_tags others) (out-Arm a).tags line → BreaksArms k denotes misnames s x ms others (a ∷ []) 18 line

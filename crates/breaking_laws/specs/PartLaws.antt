@@ -257,7 +257,7 @@ CaseOtherwiseLaw = (g : Given) (f0 f1 : List Form) (names : Names) (l : ℕ) (c 
 abbrev pub CaseNoArmLaw : Type 0
 CaseNoArmLaw = (g : Given) (f0 f1 f2 : List Form) (names : Names) (l : ℕ) (c : TagCase) (subject : Parts) (begun done : Arms) → IsUsedIn g f0 f1 → IsUsedIn g f1 f2 → IsTable f2
     → AllOnes g f1 names ((out-TagCase c).subject ∷ []) subject.exprs subject.types → Begins f1 (out-TagCase c).name subject begun → AddsArms g f1 f2 names (out-TagCase c).arms begun done
-    → (out-TagCase c).otherwise ≡ None → are_all_named done.chosen ≡ false → Broken g f0 names (at l (tree.TagCase c)) 18 l
+    → (out-TagCase c).otherwise ≡ None → are_all_named f2 done.union done.chosen ≡ false → Broken g f0 names (at l (tree.TagCase c)) 18 l
 
 abbrev pub CaseDifferLaw : Type 0
 CaseDifferLaw = (g : Given) (f0 f1 f2 : List Form) (names : Names) (l : ℕ) (c : TagCase) (subject : Parts) (begun done : Arms) → IsUsedIn g f0 f1 → IsUsedIn g f1 f2 → IsTable f2

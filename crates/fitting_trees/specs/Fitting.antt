@@ -18,6 +18,7 @@ use Rattle.typed_tree.specs.declared.expr.TypedExpr.{TypedExpr}
 use Rattle.typed_tree.specs.declared.expr.TypedKind.TheVariants as typed
 use Rattle.typed_tree.specs.declared.expr.Case.{Case}
 use Rattle.typed_tree.specs.declared.expr.Product.{Product}
+use Rattle.meaning.specs.Meaning.{arm_place}
 use Rattle.typed_tree.specs.declared.expr.Turns.{Turns}
 use Rattle.typed_tree.specs.declared.expr.ClauseForm.{ClauseForm}
 use Rattle.typed_tree.specs.declared.expr.Source.{Source}
@@ -151,11 +152,12 @@ Renews loop (None ∷ rs) (t ∷ ts) = Renews loop rs ts
 Renews loop (Some x ∷ rs) (t ∷ ts) = (slice_get loop x ≡ Some t) × Renews loop rs ts
 Renews loop _ _ = ⊥
 
--- the arm of each tag is one of so many, and what that arm sees is of the type of the tag's content
-abbrev pub TagsFit : ℕ → List Ty → List Member → List ℕ → Type 0
-TagsFit arms contents [] [] = Unit {0}
-TagsFit arms contents (m ∷ ms) (k ∷ ks) = (k < arms) × ((a : Ty) → slice_get contents k ≡ Some a → a ≡ m.1) × TagsFit arms contents ms ks
-TagsFit arms contents _ _ = ⊥
+-- the arm of each tag from one on is one of so many, and what that arm sees is of the type of the tag's content
+abbrev pub TagsFit : ℕ → List Ty → Case → ℕ → List Member → Type 0
+TagsFit arms contents c tag [] = Unit {0}
+TagsFit arms contents c tag (m ∷ ms) =
+    let place = arm_place c.choices c.others tag in
+    (place < arms) × ((a : Ty) → slice_get contents place ≡ Some a → a ≡ m.1) × TagsFit arms contents c (suc tag) ms
 
 -- ---- trees
 
@@ -182,8 +184,9 @@ module _ (numbers : List ℕ → List Ty → Type 0) (fs : List Header) where
           → AllFit γ ts (ty.Bool ∷ []) → AllFit γ us tys → AllFit γ vs tys → numbers ns tys → Fits γ (with l ns (typed.If ts us vs)) tys
       -- there is an arm, each tag has one, and each arm that sees the content has a tag
       tag_case : {γ tys : List Ty} (ms : List Member) (contents : List Ty) {l : ℕ} {ns : List ℕ} {c : Case} {ts : List TypedExpr} {arms : List (List TypedExpr)}
-          → AllFit γ ts (ty.Uni ms ∷ []) → ArmsFit γ c.named arms contents tys → TagsFit (length arms) contents ms c.choices
-          → ((k : ℕ) → k < c.named → Contains c.choices k) → 1 ≤ length arms → numbers ns tys → Fits γ (with l ns (typed.Case c ts arms)) tys
+          → AllFit γ ts (ty.Uni ms ∷ []) → ArmsFit γ c.named arms contents tys → TagsFit (length arms) contents c 0 ms
+          → ((k : ℕ) → k < c.named → Contains (map (λ x. x.arm) c.choices) k) → All (λ x. x.arm < length arms) c.choices → c.others ≤ length arms
+          → 1 ≤ length arms → numbers ns tys → Fits γ (with l ns (typed.Case c ts arms)) tys
       product : {γ tys names δ row made : List Ty} {l : ℕ} {ns : List ℕ} {p : Product} {bounds : List TypedExpr} {us : List (List TypedExpr)} {ts : List TypedExpr}
           → AllFit γ bounds tys → Goes p.sources tys names → DefsFit (γ ++ names) us δ → AllFit ((γ ++ names) ++ δ) ts row → AreMade p.clauses row made
           → numbers ns made → Fits γ (with l ns (typed.Product p bounds us ts)) made

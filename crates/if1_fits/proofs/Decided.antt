@@ -1,28 +1,27 @@
 -- Each want is decided by numbers.
-use Rattle.std.proofs.Common.{◌≡◌, ◌≢◌, ℕ, zero, suc, ◌<◌, ◌≤◌, ◌+◌, Bool, true, false, ◌&&◌, ◌||◌, ◌==◌, List, [], ◌∷◌, map, length, slice_get, Option, Some, None, option_map, is_some, ◌⊎◌, inl, inr, Decides, refl, sym, ap, ◌∙◌, subst, arith, eqb-true}
+use Rattle.std.proofs.Common.{◌≡◌, ◌≢◌, ℕ, zero, suc, Bool, true, false, ◌&&◌, ◌||◌, ◌==◌, List, [], ◌∷◌, map, slice_get, Option, Some, None, option_map, is_some, ◌⊎◌, inl, inr, Decides, refl, sym, ap, ◌∙◌, subst, eqb-true}
 use Rattle.std.proofs.lemmas.Option.{same_Some}
 use Rattle.std.proofs.lemmas.Bool.{eq-eqb}
 use Rattle.flow_value.specs.declared.ty.Ty.{Ty}
 use Rattle.flow_value.specs.declared.ty.Ty.TheVariants as ty
-use Rattle.flow_value.specs.declared.ty.Ty.TheOpen.{Ty-F}
-use Rattle.flow_value.specs.declared.ty.Ty.TheViews.{out-Ty}
 use Rattle.if1_graph.specs.declared.op.Reducer.{Reducer}
 use Rattle.if1_graph.specs.declared.op.Reducer.TheVariants as reducer
 use Rattle.if1_graph.specs.Tables.{◌>>=◌, at_port}
 use Rattle.if1_graph.specs.Types.{Member, Sort, Plain, Many}
 use Rattle.if1_graph.specs.Types as types
-use Rattle.if1_graph.specs.Typing.{IsSequence, HasElements, IsCarried, IfCarried, IsListed, IsMember, IsReducible}
+use Rattle.if1_graph.specs.Typing.{IsSequence, HasElements, IsCarried, IfCarried, IsListed, IsReducible}
 use Rattle.if1_graph.specs.Ports as ports
 use Rattle.if1_types.specs.declared.forms.SortForm.{SortForm}
 use Rattle.if1_types.specs.declared.forms.SortForm.TheVariants as sort
 use Rattle.if1_types.specs.declared.forms.ListForm.{ListForm}
 use Rattle.if1_types.specs.declared.forms.ListForm.TheVariants as list
 use Rattle.if1_types.specs.Shapes.{Key}
-use Rattle.if1_types.specs.Forms.{IsTy, IsList, IsSort, IsSortForm, IsListForm, AreOnce, AreOne, AreRead, sort_form_at, list_form_at}
+use Rattle.if1_types.specs.Forms.{IsList, IsSort, IsSortForm, IsListForm, AreOnce, AreOne, AreRead, sort_form_at, list_form_at}
 use Rattle.if1_types.proofs.Views.{are_one}
-use Rattle.if1_fits.specs.Views.{first_in, rest_in, arguments_in, results_in, value_of, many_of, array_of, sequence_of, fields_of, kind_or, listed, listed_at, are_same}
+use Rattle.if1_types.specs.Skips.{first_in, rest_in}
+use Rattle.if1_fits.specs.Views.{arguments_in, results_in, value_of, many_of, array_of, sequence_of, kind_or, listed, listed_at, are_same}
 use Rattle.if1_fits.specs.Tests.{IsNumbered, elements_in, is_reducible, is_sequence_of}
-use Rattle.if1_fits.proofs.Viewed.{IsOnly, View, view_as, is_there, same_views, then_view, kind_is, sequence_view, plain_only, many_only, value_view, many_view, sequence_only, sequence_of_view, array_of_view, array_only, either_way, type_kind, of_bool, of_char, of_int, of_null, of_arr, of_stream, of_rec, kind_bool, kind_char, kind_int, kind_null, kind_arr, kind_stream, kind_rec, no_kinds, arr_one, stream_one}
+use Rattle.if1_fits.proofs.Viewed.{IsOnly, View, view_as, is_there, same_views, kind_is, sequence_view, plain_only, many_only, value_view, many_view, sequence_only, sequence_of_view, array_of_view, array_only, either_way, type_kind, of_bool, of_char, of_int, of_null, of_arr, of_stream, of_rec, kind_bool, kind_char, kind_int, kind_null, kind_arr, kind_stream, kind_rec}
 
 plain_one : (t u : Ty) → Plain t ≡ Plain u → t ≡ u
 plain_one t u e = cc

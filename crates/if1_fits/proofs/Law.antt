@@ -1,7 +1,6 @@
 -- The test decides what the table wants.
-use Rattle.std.proofs.Common.{◌≡◌, ◌≢◌, ℕ, zero, suc, ◌<◌, ◌≤◌, ◌+◌, Bool, true, false, ◌&&◌, ◌||◌, ◌==◌, List, [], ◌∷◌, map, length, slice_get, Option, Some, None, is_some, ◌⊎◌, inl, inr, Decides, refl, sym, ap, ◌∙◌, subst, arith}
+use Rattle.std.proofs.Common.{◌≡◌, ℕ, zero, suc, ◌<◌, ◌≤◌, ◌+◌, false, ◌&&◌, ◌||◌, ◌==◌, List, [], ◌∷◌, map, length, slice_get, Option, Some, None, ◌⊎◌, inl, inr, Decides, refl, sym, ap, ◌∙◌, subst, arith}
 use Rattle.std.proofs.lemmas.Option.{same_Some}
-use Rattle.std.proofs.lemmas.List.{length-map}
 use Rattle.flow_value.specs.declared.ty.Ty.{Ty}
 use Rattle.flow_value.specs.declared.ty.Ty.TheVariants as ty
 use Rattle.if1_graph.specs.declared.op.Reducer.{Reducer}
@@ -10,7 +9,7 @@ use Rattle.if1_graph.specs.declared.row.Want.TheVariants as want
 use Rattle.if1_graph.specs.Tables.{◌>>=◌, at_port}
 use Rattle.if1_graph.specs.Types.{Member, Sort, Plain, Many}
 use Rattle.if1_graph.specs.Types as types
-use Rattle.if1_graph.specs.Typing.{Known, Fits, IsBuilt, IsCarried, IsMember, IsSequence, HasElements}
+use Rattle.if1_graph.specs.Typing.{Known, Fits, IsBuilt, IsCarried, IsMember}
 use Rattle.if1_graph.specs.Ports as ports
 use Rattle.if1_types.specs.declared.forms.TyForm.{TyForm}
 use Rattle.if1_types.specs.declared.forms.TyForm.TheVariants as form
@@ -19,9 +18,10 @@ use Rattle.if1_types.specs.declared.forms.ListForm.TheVariants as list
 use Rattle.if1_types.specs.Shapes.{Key, tree_at, trees_in, members_in}
 use Rattle.if1_types.specs.Forms.{IsTy, IsList, IsSort, IsTyForm, IsListForm, AreOnce, AreRead, ty_form_at, list_form_at}
 use Rattle.if1_types.proofs.Views.{members_told}
-use Rattle.if1_fits.specs.Views.{first_in, rest_in, value_of, fields_of, listed_at, are_same}
-use Rattle.if1_fits.specs.Tests.{IsNumbered, IsKnown, fields_fit, some_tag_fits, is_built, is_built_value, fits_at}
-use Rattle.if1_fits.proofs.Viewed.{View, same_views, value_view, plain_only, either_way, no_kinds, type_kind, kind_bool, kind_char, kind_int, kind_null, kind_arr, kind_stream, kind_rec, kind_uni, fields_are, rec_one, uni_one}
+use Rattle.if1_types.specs.Skips.{first_in, rest_in}
+use Rattle.if1_fits.specs.Views.{value_of, fields_of, listed_at, are_same}
+use Rattle.if1_fits.specs.Tests.{IsNumbered, fields_fit, some_tag_fits, is_built, is_built_value, fits_at}
+use Rattle.if1_fits.proofs.Viewed.{View, same_views, value_view, either_way, no_kinds, type_kind, kind_bool, kind_char, kind_int, kind_null, kind_arr, kind_stream, kind_rec, kind_uni, fields_are, rec_one, uni_one}
 use Rattle.if1_fits.proofs.Decided as by
 
 plain_one : (t u : Ty) → Plain t ≡ Plain u → t ≡ u

@@ -1,4 +1,5 @@
 pub mod Viewed
 pub mod Decided
 pub mod Walks
+pub mod Ports
 pub mod Law

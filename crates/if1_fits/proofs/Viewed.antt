@@ -1,26 +1,21 @@
 -- What numbers lead to, and what they stand for.
-use Rattle.std.proofs.Common.{◌≡◌, ◌≢◌, ℕ, zero, suc, ◌<◌, ◌≤◌, ◌+◌, Bool, true, false, ◌&&◌, ◌||◌, ◌==◌, List, [], ◌∷◌, map, length, slice_get, Option, Some, None, option_map, is_some, ◌⊎◌, inl, inr, Decides, refl, sym, ap, ◌∙◌, subst, arith, rules, eqb-true}
-use Rattle.std.proofs.lemmas.Option.{same_Some}
+use Rattle.std.proofs.Common.{◌≡◌, ℕ, Bool, true, false, ◌==◌, List, map, Option, Some, None, is_some, ◌⊎◌, inl, inr, Decides, refl, sym, ap, ◌∙◌, subst, rules, eqb-true}
 use Rattle.std.proofs.lemmas.Bool.{eq-eqb}
 use Rattle.flow_value.specs.declared.ty.Ty.{Ty}
 use Rattle.flow_value.specs.declared.ty.Ty.TheVariants as ty
 use Rattle.flow_value.specs.declared.ty.Ty.TheOpen.{Ty-F}
 use Rattle.flow_value.specs.declared.ty.Ty.TheViews.{out-Ty, the_lemmas}
-use Rattle.if1_graph.specs.Tables.{◌>>=◌, at_port}
+use Rattle.if1_graph.specs.Tables.{◌>>=◌}
 use Rattle.if1_graph.specs.Types.{Member, Sort, Plain, Many}
-use Rattle.if1_graph.specs.Types as types
-use Rattle.if1_graph.specs.Typing.{IsSequence, HasElements, IsCarried, IsListed, IsMember}
+use Rattle.if1_graph.specs.Typing.{IsSequence}
 use Rattle.if1_graph.specs.Ports as ports
 use Rattle.if1_types.specs.declared.forms.SortForm.{SortForm}
 use Rattle.if1_types.specs.declared.forms.SortForm.TheVariants as sort
 use Rattle.if1_types.specs.declared.forms.TyForm.{TyForm}
 use Rattle.if1_types.specs.declared.forms.TyForm.TheVariants as form
-use Rattle.if1_types.specs.declared.forms.ListForm.{ListForm}
-use Rattle.if1_types.specs.declared.forms.ListForm.TheVariants as list
 use Rattle.if1_types.specs.Shapes.{Key}
-use Rattle.if1_types.specs.Forms.{IsTy, IsList, IsSort, IsSortForm, IsTyForm, IsListForm, AreOnce, AreOne, AreRead, sort_form_at, ty_form_at, list_form_at}
-use Rattle.if1_fits.specs.Views.{value_in, many_in, array_in, sequence_in, fields_in, tags_in, kind_in, first_in, rest_in, arguments_in, results_in, value_of, many_of, array_of, sequence_of, fields_of, tags_of, kind_or, listed, listed_at, are_same}
-use Rattle.if1_fits.specs.Tests.{IsNumbered, elements_in}
+use Rattle.if1_types.specs.Forms.{IsTy, IsList, IsSort, IsSortForm, IsTyForm, AreOnce, AreOne, AreRead, sort_form_at, ty_form_at}
+use Rattle.if1_fits.specs.Views.{value_in, many_in, array_in, sequence_in, fields_in, kind_in, value_of, many_of, array_of, sequence_of, fields_of, kind_or, are_same}
 
 -- ---- kinds of types
 

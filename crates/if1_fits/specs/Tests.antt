@@ -1,5 +1,5 @@
 -- Whether a type is one that the table of nodes wants, by numbers.
-use Rattle.std.specs.Prelude.{◌≡◌, ℕ, zero, suc, ◌+◌, Bool, true, false, ◌&&◌, ◌||◌, ◌==◌, List, Option, Some, None, is_some, find}
+use Rattle.std.specs.Prelude.{◌≡◌, ℕ, zero, suc, Bool, true, false, ◌&&◌, ◌||◌, ◌==◌, List, Option, Some, None, is_some}
 use Rattle.if1_graph.specs.declared.op.Reducer.{Reducer}
 use Rattle.if1_graph.specs.declared.op.Reducer.TheVariants as reducer
 use Rattle.if1_graph.specs.declared.row.Want.{Want}
@@ -13,7 +13,8 @@ use Rattle.if1_types.specs.declared.forms.TyForm.{TyForm}
 use Rattle.if1_types.specs.declared.forms.TyForm.TheVariants as form
 use Rattle.if1_types.specs.Shapes.{Key, tree_at, trees_in, members_in}
 use Rattle.if1_types.specs.Forms.{IsSort, sort_form_at, ty_form_at, list_form_at}
-use Rattle.if1_fits.specs.Views.{value_of, many_of, array_of, sequence_of, fields_of, kind_or, first_in, rest_in, listed_at, arguments_in, results_in, are_same}
+use Rattle.if1_types.specs.Skips.{first_in, rest_in}
+use Rattle.if1_fits.specs.Views.{value_of, many_of, array_of, sequence_of, fields_of, kind_or, listed_at, arguments_in, results_in, are_same}
 
 -- a number stands for what is carried, and 0 for nothing
 abbrev pub IsNumbered : List Key → Option Sort → ℕ → Type 0
@@ -49,6 +50,10 @@ module _ (ks : List Key) (at : ℕ → ℕ) where
   some_tag_fits (suc more) l port =
       are_same (first_in (list_form_at ks l)) (value_of ks (at port))
       || elim (rest_in (list_form_at ks l)) [ None ↦ false | Some rest ↦ some_tag_fits more rest (suc port) ]
+
+  -- the tag at a port has the type of what is carried there
+  abbrev pub tag_fits : ℕ → ℕ → Bool
+  tag_fits l port = are_same (listed_at ks (Some l) port) (value_of ks (at port))
 
   abbrev pub is_built : TyForm → Bool
   is_built (form.Record l) = fields_fit (members_in (tree_at (trees_in ks) l)) l 1

@@ -1,16 +1,15 @@
 -- What the numbers of sorts, types and lists of types lead to.
-use Rattle.std.specs.Prelude.{ℕ, zero, suc, Bool, false, ◌==◌, List, Option, Some, None, is_some, find}
+use Rattle.std.specs.Prelude.{ℕ, ◌≤◌, zero, suc, Bool, false, ◌==◌, List, AllPairs, Option, Some, None, find}
 use Rattle.if1_graph.specs.declared.graph.Edge.{Edge}
-use Rattle.if1_graph.specs.Tables.{◌>>=◌}
+use Rattle.if1_graph.specs.Tables.{◌>>=◌, if_keyed}
 use Rattle.if1_types.specs.declared.forms.SortForm.{SortForm}
 use Rattle.if1_types.specs.declared.forms.SortForm.TheVariants as sort
 use Rattle.if1_types.specs.declared.forms.TyForm.{TyForm}
 use Rattle.if1_types.specs.declared.forms.TyForm.TheVariants as form
-use Rattle.if1_types.specs.declared.forms.ListForm.{ListForm}
-use Rattle.if1_types.specs.declared.forms.ListForm.TheVariants as list
 use Rattle.if1_types.specs.Shapes.{Key}
 use Rattle.if1_types.specs.Tables.{number_at}
-use Rattle.if1_types.specs.Forms.{sort_form_at, ty_form_at, list_form_at}
+use Rattle.if1_types.specs.Forms.{sort_form_at, ty_form_at}
+use Rattle.if1_types.specs.Skips.{member_at}
 
 -- ---- forms
 
@@ -58,14 +57,6 @@ kind_in (form.Record l) = 6
 kind_in (form.Union l) = 7
 kind_in form.Nothing = 8
 
-abbrev pub first_in : ListForm → Option ℕ
-first_in (list.Member k l) = Some k
-first_in list.End = None
-
-abbrev pub rest_in : ListForm → Option ℕ
-rest_in (list.Member k l) = Some l
-rest_in list.End = None
-
 -- ---- numbers
 
 module _ (ks : List Key) where
@@ -106,8 +97,7 @@ module _ (ks : List Key) where
 
   -- the type at a place of a list, from 0
   abbrev pub listed : ℕ → ℕ → Option ℕ
-  listed l zero = first_in (list_form_at ks l)
-  listed l (suc i) = rest_in (list_form_at ks l) >>= λ rest. listed rest i
+  listed l i = member_at ks l i
 
   -- and at a port, from 1
   abbrev pub listed_at : Option ℕ → ℕ → Option ℕ
@@ -126,3 +116,11 @@ number_of ls ns (Some e) = number_at ls ns e.ty
 
 abbrev pub carried_at : List ℕ → List ℕ → List Edge → ℕ → ℕ
 carried_at ls ns es port = number_of ls ns (find (λ e. e.port == port) es)
+
+-- ports do not fall
+abbrev pub AreUp : List Edge → Type 0
+AreUp es = AllPairs (λ e f. e.port ≤ f.port) es
+
+-- the edge, where it leads into this port
+abbrev pub with_port : ℕ → Option Edge → Option Edge
+with_port port m = m >>= if_keyed (λ e. e.port) port

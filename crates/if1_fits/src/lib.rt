@@ -6,5 +6,5 @@ mod views;
 mod wants;
 
 pub use laws::fits_decides;
-pub use views::carried_at;
+pub use views::{are_same, carried_at, edge_at, many_of, tags_of, value_of};
 pub use wants::fits;

@@ -4,9 +4,11 @@ ghost use Rattle.std.specs.Option.{option_copied};
 ghost use Rattle.if1_types.specs.Forms.{sort_form_at};
 ghost use Rattle.std.specs.List.Sorted.{IsStrictlyIncreasing};
 ghost use Rattle.if1_fits.specs.Views as spec;
+ghost use Rattle.if1_fits.specs.Views.{AreUp};
 
+use flow_value::item_at;
 use if1_graph::Edge;
-use if1_types::{ListForm, SortForm, Sorts, TyForm};
+use if1_types::{SortForm, Sorts, TyForm};
 
 /// The type of a value.
 pub fn value_of(sorts: &Sorts, number: u32) -> Option<u32>
@@ -44,6 +46,16 @@ pub fn sequence_of(sorts: &Sorts, ty: u32) -> Option<u32>
 {
     match sorts.ty(ty) {
         TyForm::Array(element) | TyForm::Stream(element) => Some(element),
+        _ => None,
+    }
+}
+
+/// The tags of a union, as a list.
+pub fn tags_of(sorts: &Sorts, ty: u32) -> Option<u32>
+    ensures { result ≡ spec.tags_of sorts.now.shapes ty }
+{
+    match sorts.ty(ty) {
+        TyForm::Union(tags) => Some(tags),
         _ => None,
     }
 }
@@ -105,31 +117,6 @@ pub fn kind_or(sorts: &Sorts, ty: Option<u32>) -> u32
     }
 }
 
-fn first_of(form: ListForm) -> Option<u32>
-    ensures { result ≡ spec.first_in form }
-{
-    match form {
-        ListForm::Member(ty, _) => Some(ty),
-        ListForm::End => None,
-    }
-}
-
-/// The type at a place of a list, from 0.
-fn listed(sorts: &Sorts, list: u32, place: u32) -> Option<u32>
-    ensures { result ≡ spec.listed sorts.now.shapes list place }
-{
-    let mut rest = list;
-    let mut left = place;
-    while left > 0 {
-        let ListForm::Member(_, others) = sorts.list(rest) else {
-            return None;
-        };
-        rest = others;
-        left -= 1;
-    }
-    first_of(sorts.list(rest))
-}
-
 /// The type at a port of a list, from 1.
 pub fn listed_at(sorts: &Sorts, list: Option<u32>, port: u32) -> Option<u32>
     ensures { result ≡ spec.listed_at sorts.now.shapes list port }
@@ -137,7 +124,7 @@ pub fn listed_at(sorts: &Sorts, list: Option<u32>, port: u32) -> Option<u32>
     if port == 0 {
         return None;
     }
-    listed(sorts, list?, port - 1)
+    sorts.member(list?, port - 1)
 }
 
 /// Whether two numbers, where both are there, are equal.
@@ -150,11 +137,23 @@ pub fn are_same(one: Option<u32>, other: Option<u32>) -> bool
     }
 }
 
-/// The edge into a port.
-fn edge_at(edges: &[Edge], port: u32) -> Option<&Edge>
+/// The edge into a port, where ports do not fall. Takes the time of a search.
+pub fn edge_at(edges: &[Edge], port: u32) -> Option<&Edge>
+    requires { AreUp edges.now }
     ensures { option_copied result ≡ find (λ e. e.port == port) edges.now }
 {
-    edges.iter().find(|edge| edge.port == port)
+    let first = edges.partition_point(|e| e.port < port);
+    edge_with(item_at(edges, first), port)
+}
+
+// an edge into another port is no answer
+fn edge_with(edge: Option<&Edge>, port: u32) -> Option<&Edge>
+    ensures { option_copied result ≡ spec.with_port port (option_copied edge.entry) }
+{
+    match edge {
+        Some(edge) if edge.port == port => Some(edge),
+        _ => None,
+    }
 }
 
 /// The number of what an edge carries, 0 where there is no edge.
@@ -168,9 +167,11 @@ fn number_of(sorts: &Sorts, edge: Option<&Edge>) -> u32
     }
 }
 
-/// The number of what the edge into a port carries, 0 where nothing is carried.
+/// The number of what the edge into a port carries, 0 where nothing is carried. Takes the time of a
+/// search.
 pub fn carried_at(sorts: &Sorts, edges: &[Edge], port: u32) -> u32
-    requires { IsStrictlyIncreasing sorts.now.labels }
+    requires rising { IsStrictlyIncreasing sorts.now.labels }
+    requires up { AreUp edges.now }
     ensures { result ≡ spec.carried_at sorts.now.labels sorts.now.numbers edges.now port }
 {
     number_of(sorts, edge_at(edges, port))

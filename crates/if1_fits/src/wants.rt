@@ -5,7 +5,7 @@ ghost use Rattle.if1_types.specs.declared.forms.TyForm.TheVariants as TyForm;
 ghost use Rattle.if1_fits.specs.Views as views;
 ghost use Rattle.std.specs.List.Sorted.{IsStrictlyIncreasing};
 ghost use Rattle.if1_types.specs.Forms.{sort_form_at};
-ghost use Rattle.if1_fits.specs.Views.{carried_at as at_port};
+ghost use Rattle.if1_fits.specs.Views.{carried_at as at_port, AreUp};
 ghost use Rattle.if1_fits.specs.Tests as spec;
 ghost use Rattle.if1_fits.specs.Tests.{IsAlone, IsBeside};
 
@@ -38,7 +38,8 @@ fn is_reducible(named: Option<Reducer>, kind: u32) -> bool
 }
 
 fn fields_fit(sorts: &Sorts, edges: &[Edge], fields: u32) -> bool
-    requires { IsStrictlyIncreasing sorts.now.labels }
+    requires rising { IsStrictlyIncreasing sorts.now.labels }
+    requires up { AreUp edges.now }
     ensures { result ≡ spec.is_built sorts.now.shapes (at_port sorts.now.labels sorts.now.numbers edges.now) (TyForm.Record fields) }
 {
     let count = sorts.length(fields);
@@ -58,29 +59,33 @@ fn fields_fit(sorts: &Sorts, edges: &[Edge], fields: u32) -> bool
     true
 }
 
+/// Whether the tag at a port has the type of what leads into the port.
+fn tag_fits(sorts: &Sorts, edges: &[Edge], tags: u32, port: u32) -> bool
+    requires rising { IsStrictlyIncreasing sorts.now.labels }
+    requires up { AreUp edges.now }
+    ensures { result ≡ spec.tag_fits sorts.now.shapes (at_port sorts.now.labels sorts.now.numbers edges.now) tags port }
+{
+    let ty = listed_at(sorts, Some(tags), port);
+    are_same(ty, value_of(sorts, carried_at(sorts, edges, port)))
+}
+
+/// A tag into whose port no edge leads has no type there, so edges are looked at and not tags.
 fn some_tag_fits(sorts: &Sorts, edges: &[Edge], tags: u32) -> bool
-    requires { IsStrictlyIncreasing sorts.now.labels }
+    requires rising { IsStrictlyIncreasing sorts.now.labels }
+    requires up { AreUp edges.now }
     ensures { result ≡ spec.is_built sorts.now.shapes (at_port sorts.now.labels sorts.now.numbers edges.now) (TyForm.Union tags) }
 {
-    let count = sorts.length(tags);
-    let mut rest = tags;
-    let mut left = count;
-    while left > 0 {
-        let ListForm::Member(ty, others) = sorts.list(rest) else {
-            return false;
-        };
-        let carried = value_of(sorts, carried_at(sorts, edges, count - left + 1));
-        if are_same(Some(ty), carried) {
+    for edge in edges {
+        if tag_fits(sorts, edges, tags, edge.port) {
             return true;
         }
-        rest = others;
-        left -= 1;
     }
     false
 }
 
 fn is_built(sorts: &Sorts, edges: &[Edge], form: TyForm) -> bool
-    requires { IsStrictlyIncreasing sorts.now.labels }
+    requires rising { IsStrictlyIncreasing sorts.now.labels }
+    requires up { AreUp edges.now }
     ensures { result ≡ spec.is_built sorts.now.shapes (at_port sorts.now.labels sorts.now.numbers edges.now) form }
 {
     match form {
@@ -91,7 +96,8 @@ fn is_built(sorts: &Sorts, edges: &[Edge], form: TyForm) -> bool
 }
 
 fn is_built_value(sorts: &Sorts, edges: &[Edge], ty: Option<u32>) -> bool
-    requires { IsStrictlyIncreasing sorts.now.labels }
+    requires rising { IsStrictlyIncreasing sorts.now.labels }
+    requires up { AreUp edges.now }
     ensures { result ≡ spec.is_built_value sorts.now.shapes (at_port sorts.now.labels sorts.now.numbers edges.now) ty }
 {
     match ty {
@@ -155,7 +161,8 @@ fn fits_alone(sorts: &Sorts, named: Option<Reducer>, want: Want, number: u32) ->
 
 /// Whether a type is one that the table wants, by what the other ports carry.
 fn fits_beside(sorts: &Sorts, edges: &[Edge], want: Want, number: u32) -> bool
-    requires { IsStrictlyIncreasing sorts.now.labels }
+    requires rising { IsStrictlyIncreasing sorts.now.labels }
+    requires up { AreUp edges.now }
     ensures { (callee : ℕ) (named : Option reducers.Reducer) → IsBeside want → result ≡ spec.fits_at sorts.now.shapes (at_port sorts.now.labels sorts.now.numbers edges.now) callee named want number }
 {
     match want {
@@ -203,7 +210,8 @@ pub fn fits(
     want: Want,
     number: u32,
 ) -> bool
-    requires { IsStrictlyIncreasing sorts.now.labels }
+    requires rising { IsStrictlyIncreasing sorts.now.labels }
+    requires up { AreUp edges.now }
     ensures { result ≡ spec.fits_at sorts.now.shapes (at_port sorts.now.labels sorts.now.numbers edges.now) callee named want number }
 {
     match want {

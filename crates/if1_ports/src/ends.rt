@@ -60,7 +60,7 @@ fn count_in(counts: &[Option<u32>], place: usize) -> Option<Option<u32>>
 }
 
 /// The labels of nodes, in order.
-fn labels_of(alloc: Global, nodes: &[Node]) -> Result<Numbers, NoMemory>
+pub fn labels_of(alloc: Global, nodes: &[Node]) -> Result<Numbers, NoMemory>
     ensures { IfOk result (λ ls. ls ≡ map label_of nodes.now) }
 {
     let mut labels = Seq::with_room(alloc, nodes.len())?;

@@ -14,7 +14,8 @@ mod simple;
 mod units;
 
 pub use around::{Around, Bounds};
-pub use fed::Fed;
+pub use ends::labels_of;
+pub use fed::{Fed, greatest_port};
 pub use into::edges_into;
 pub use names::{Names, names_of};
 pub use outline::{Outline, arguments_in, fields_in, is_integer, is_stream, results_in, tags_in};

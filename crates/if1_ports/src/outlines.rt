@@ -6,6 +6,7 @@ ghost use Rattle.flow_value.specs.declared.ty.Ty.TheViews.{out-Ty};
 ghost use Rattle.if1_graph.specs.declared.graph.TypeEntry.{TypeEntry};
 ghost use Rattle.if1_graph.specs.Types.{Sort, sort_at};
 ghost use Rattle.if1_types.specs.Tables.{AreSorts};
+ghost use Rattle.if1_types.specs.Numbering.{IsNumbering};
 ghost use Rattle.if1_types.specs.Forms.{IsTyForm, IsSortForm, Stand};
 ghost use Rattle.if1_ports.specs.Outlines.{outline_of, ty_outline, types_in};
 
@@ -13,7 +14,7 @@ use crate::outline::Outline;
 use crate::rows::Outlines;
 use flow_value::{NoMemory, Seq};
 use if1_graph::TypeEntry;
-use if1_types::{SortForm, Sorts, TyForm, sorts_of};
+use if1_types::{SortForm, Sorts, TyForm};
 use std::alloc::Global;
 
 impl Outlines {
@@ -78,16 +79,16 @@ fn outline_by(sorts: &Sorts, label: u32) -> Outline
 }
 
 /// What ports depend on of what the labels of a type table stand for. Takes time near linear in the
-/// types, once they are numbered.
-pub fn outlines_of(alloc: Global, types: &[TypeEntry]) -> Result<Outlines, NoMemory>
-    requires { IsStrictlyIncreasing (map (λ e. e.label) types.now) }
+/// types.
+pub fn outlines_of(alloc: Global, sorts: &Sorts, types: &[TypeEntry]) -> Result<Outlines, NoMemory>
+    requires rising { IsStrictlyIncreasing (map (λ e. e.label) types.now) }
+    requires numbers { IsNumbering types.now sorts.now }
     ensures { IfOk result (λ o. (l : ℕ) → types_in o l ≡ outline_of (sort_at types.now l)) }
 {
-    let sorts = sorts_of(alloc, types)?;
     let mut labels = Seq::with_room(alloc, types.len())?;
     let mut rows = Seq::with_room(alloc, types.len())?;
     for entry in types {
-        rows.add(outline_by(&sorts, entry.label))?;
+        rows.add(outline_by(sorts, entry.label))?;
         labels.add(entry.label)?;
     }
     Ok(Outlines { labels, rows })

@@ -6,6 +6,7 @@ ghost use Rattle.if1_graph.specs.Formed.{IsFormed};
 ghost use Rattle.if1_graph.specs.Ready.{PortsHold, BreaksPorts};
 ghost use Rattle.if1_graph.specs.declared.graph.Graph.TheViews.{out-Graph};
 ghost use Rattle.if1_graph.specs.declared.graph.Node.{out-Node};
+ghost use Rattle.if1_types.specs.Numbering.{IsNumbering};
 ghost use Rattle.if1_ports.specs.Outlines.{types_in};
 ghost use Rattle.if1_ports.specs.Names.{callees_in};
 ghost use Rattle.if1_ports.specs.Inside as spec;
@@ -21,6 +22,7 @@ use crate::outlines::outlines_of;
 use crate::rows::Outlines;
 use flow_value::NoMemory;
 use if1_graph::{Graph, Node, Unit1, compound_of};
+use if1_types::Sorts;
 use std::alloc::Global;
 
 /// What the ports of the graphs in a node of a graph depend on; nothing for a simple node.
@@ -146,12 +148,17 @@ fn wrong_functions(
 /// is one (fault 6). Where alternatives, arms, or a turn and its initialization differ in the number of
 /// results, it is the boundary of one with fewer than the longest has. Near linear in the nodes, edges
 /// and types. Calls itself once for each level of compound nodes.
-pub fn wrong_ports(alloc: Global, unit: &Unit1) -> Result<Option<(u32, u32)>, NoMemory>
+pub fn wrong_ports(
+    alloc: Global,
+    sorts: &Sorts,
+    unit: &Unit1,
+) -> Result<Option<(u32, u32)>, NoMemory>
     requires formed { IsFormed unit.now }
     requires normal { IsNormal unit.now }
+    requires numbers { IsNumbering unit.now.types sorts.now }
     ensures { IfOk result (λ r. MatchOption r (PortsHold unit.now) (λ at. BreaksPorts unit.now at.0 at.1)) }
 {
-    let types = outlines_of(alloc, unit.types.as_slice())?;
+    let types = outlines_of(alloc, sorts, unit.types.as_slice())?;
     let names = names_of(alloc, &types, unit.graphs.as_slice())?;
     let found = wrong_functions(alloc, &types, &names, unit.graphs.as_slice())?;
     Ok(found)

@@ -18,12 +18,7 @@ pub struct PortUsers {
 }
 
 // the place of the list of a port, which is begun where there is none
-fn group_of(
-    alloc: Global,
-    users: &mut PortUsers,
-    node: u32,
-    port: u32,
-) -> Result<usize, NoMemory>
+fn group_of(alloc: Global, users: &mut PortUsers, node: u32, port: u32) -> Result<usize, NoMemory>
     requires { AreGrouped users.old }
     ensures { IfOk
         result
@@ -38,13 +33,7 @@ fn group_of(
     Ok(group)
 }
 
-fn note(
-    alloc: Global,
-    users: &mut PortUsers,
-    node: u32,
-    port: u32,
-    to: u32,
-) -> Result<(), NoMemory>
+fn note(alloc: Global, users: &mut PortUsers, node: u32, port: u32, to: u32) -> Result<(), NoMemory>
     requires { AreGrouped users.old }
     ensures { OnOk
         result

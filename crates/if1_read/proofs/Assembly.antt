@@ -17,6 +17,7 @@ use Rattle.if1_graph.specs.Reads.{entries_in, is_of_graph, GivesUnit, deepest, L
 use Rattle.if1_read.specs.declared.judge.Known.{Known}
 use Rattle.if1_read.specs.declared.machine.Machine.{Machine}
 use Rattle.if1_read.specs.Entries.{IsTableOf}
+use Rattle.if1_read.specs.Faults.{rows_of}
 use Rattle.if1_read.specs.Fine.{IsNodeFine}
 use Rattle.if1_read.specs.Known.{IsTableSound, Fits}
 use Rattle.if1_read.specs.Made.{AreFunctionsMade}
@@ -24,7 +25,7 @@ use Rattle.if1_read.specs.Putting.{AreSorted}
 use Rattle.if1_read.specs.Sorting.{SortsOut, has_name}
 use Rattle.if1_read.specs.Whole.{IsWhole}
 use Rattle.if1_read.specs.Stands.{IsRead, Runs}
-use Rattle.if1_read.proofs.Entered.{spelled_lines, lines_read, table_right}
+use Rattle.if1_read.proofs.Entered.{spelled_lines, rows_read, lines_read, table_right}
 use Rattle.if1_read.proofs.Going.{runs_to_functions, runs_nesting}
 use Rattle.if1_read.proofs.Likeness.{rising_once}
 use Rattle.if1_read.proofs.Naming.{named_unit, named_fits, given_named}
@@ -80,10 +81,10 @@ lines_give ls es gs k m u w spelled sorts names sound table made depth =
 
 -- sorted lines that ran without a fault are those of the unit
 pub assembled : (text : List ℕ) (os : List (Option Line)) (es : List TypeEntry) (gs : List Line) (k : Known) (m : Machine) (u : Unit1) →
-    os ≡ map line_of (lines_in text) → AreSorted os es gs → ((t : List ℕ) → list_any (λ n. bytes_eq n t) k.names ≡ has_name t gs) →
+    os ≡ rows_of text → AreSorted os es gs → ((t : List ℕ) → list_any (λ n. bytes_eq n t) k.names ≡ has_name t gs) →
     IsTableSound k.table → IsTableOf k.table es → (All IsRead gs → Runs k gs m) → IsWhole k m u → ReadsIf1 text u
 assembled text os es gs k m u are sorted names sound table ran w =
-    let read : map line_of (lines_in text) ≡ map (λ l. Some l) sorted.lines = sym are ∙ sorted.are in
+    let read : map line_of (lines_in text) ≡ map (λ l. Some l) sorted.lines = rows_read (lines_in text) sorted.lines (sym are ∙ sorted.are) sorted.labelled in
     let spelled = spelled_lines (lines_in text) sorted.lines read in
     let runs = ran (subst (All IsRead) (sym sorted.sorts.lines) (lines_read sorted.lines spelled)) in
     record {

@@ -1,5 +1,5 @@
 -- The lines that are read, and the types of them that stand in the table.
-use Rattle.std.proofs.Common.{◌≡◌, ℕ, ◌≤◌, Bool, true, false, cond, List, [], ◌∷◌, map, length, get_or, Option, Some, None, IsSome, inl, inr, refl, subst, arith}
+use Rattle.std.proofs.Common.{◌≡◌, ℕ, ◌≤◌, Bool, true, false, cond, List, [], ◌∷◌, map, length, get_or, Option, Some, None, IsSome, inl, inr, refl, sym, ap, ◌∙◌, true≢false, subst, arith}
 use Rattle.std.specs.Prelude.{◌==◌, All, filter}
 use Rattle.std.proofs.lemmas.Bool.{eqb-false}
 use Rattle.std.proofs.lemmas.Bool.Decides.{eqb_tells}
@@ -20,6 +20,7 @@ use Rattle.if1_graph.specs.Reads.{entries_in, is_of_graph}
 use Rattle.if1_read.specs.declared.table.Table.{Table}
 use Rattle.if1_read.specs.Entries.{HasTypes, HasEntryTypes, IsTableOf}
 use Rattle.if1_read.specs.Known.{IsTableSound}
+use Rattle.if1_read.specs.Faults.{closes, row_by, row_of, is_unlabelled}
 use Rattle.if1_read.specs.Stands.{IsRead}
 
 -- ---- lines
@@ -32,6 +33,33 @@ spelled_lines (x ∷ xs) (l ∷ ls) e =
     let here : line_of x ≡ Some l = cc in
     let rest : map line_of xs ≡ map (λ l. Some l) ls = cc in
     All-cons IsSpelled l ls (read_spelled x l here) (spelled_lines xs ls rest)
+
+-- rows that all have labels are lines that read
+row_read : (o : Option Line) (b : Bool) (l : Line) → row_by o b ≡ Some l → is_unlabelled l ≡ false → o ≡ Some l
+row_read (Some m) b l e h = e
+row_read None true l e h = absurd (true≢false (ap (λ (o : Option Line). elim o [ None ↦ true | Some l ↦ is_unlabelled l ]) e ∙ h))
+row_read None false l e h = absurd cc
+
+pub rows_read : (xs : List (List ℕ)) (ls : List Line) → map row_of xs ≡ map (λ l. Some l) ls → All (λ l. is_unlabelled l ≡ false) ls → map line_of xs ≡ map (λ l. Some l) ls
+rows_read [] [] e h = refl
+rows_read [] (l ∷ ls) e h = absurd cc
+rows_read (x ∷ xs) [] e h = absurd cc
+rows_read (x ∷ xs) (l ∷ ls) e h =
+    let here : row_of x ≡ Some l = cc in
+    let rest : map row_of xs ≡ map (λ l. Some l) ls = cc in
+    let one = row_read (line_of x) (closes x) l here (All-head (λ (l : Line). is_unlabelled l ≡ false) l ls h) in
+    let more = rows_read xs ls rest (All-tail (λ (l : Line). is_unlabelled l ≡ false) l ls h) in
+    ap (λ (o : Option Line). o ∷ map line_of xs) one ∙ ap (λ os. Some l ∷ os) more
+
+-- and lines that read are rows
+pub lines_are_rows : (xs : List (List ℕ)) (ls : List Line) → map line_of xs ≡ map (λ l. Some l) ls → map row_of xs ≡ map (λ l. Some l) ls
+lines_are_rows [] [] e = refl
+lines_are_rows [] (l ∷ ls) e = absurd cc
+lines_are_rows (x ∷ xs) [] e = absurd cc
+lines_are_rows (x ∷ xs) (l ∷ ls) e =
+    let here : line_of x ≡ Some l = cc in
+    let rest : map line_of xs ≡ map (λ l. Some l) ls = cc in
+    ap (λ o. row_by o (closes x) ∷ map row_of xs) here ∙ ap (λ os. Some l ∷ os) (lines_are_rows xs ls rest)
 
 read_if : (b : Bool) (l : Line) (ls : List Line) → is_of_graph l ≡ b → IsSpelled l → All IsRead ls → All IsRead (cond b (l ∷ ls) ls)
 read_if true l ls e s h = All-cons IsRead l ls (record { of_graph = e; spelled = s }) h

@@ -9,7 +9,7 @@ use Rattle.if1_graph.specs.Reads.{is_of_graph}
 use Rattle.if1_read.specs.declared.fault.Kind.{Kind}
 use Rattle.if1_read.specs.declared.fault.Kind.TheVariants.{Bad, Unknown, Real, TooMany}
 use Rattle.if1_read.specs.declared.fault.Fault.{Fault}
-use Rattle.if1_read.specs.Faults.{numbered, functions, types, layers, is_placed, rank, IsFault, misplaced, miscounted, type_again, node_again, wrong_literal, no_opcode, no_type, no_import_type, no_part, real_type, too_many_types, too_many_nodes, too_deep, FaultAt, unread, read, NamesFault, HasNoFault}
+use Rattle.if1_read.specs.Faults.{numbered, functions, types, layers, is_placed, rank, IsFault, misplaced, miscounted, type_again, node_again, wrong_literal, no_opcode, no_type, no_import_type, no_part, real_type, too_many_types, too_many_nodes, too_deep, FaultAt, unread, unclosing, read, NamesFault, HasNoFault}
 use Rattle.if1_read.specs.Least.{least}
 use Rattle.if1_read.specs.Pages.{Rules, Sheet, line_faults, sheets_next, run_faults}
 use Rattle.if1_read.specs.Rows.{row_faults, typed, table_faults, all_faults}
@@ -22,7 +22,7 @@ use Rattle.if1_read.proofs.Fitting.{IsFound}
 use Rattle.if1_read.proofs.Finding.{all_found}
 use Rattle.if1_read.proofs.Covered.{covered}
 use Rattle.if1_read.proofs.Firsts.{NotAfter, not_after, least_none, least_is}
-use Rattle.if1_read.proofs.Rowwise.{rows_sound, unread_found, row_of, many_found}
+use Rattle.if1_read.proofs.Rowwise.{rows_sound, unread_found, unclosing_found, row_of, many_found}
 use Rattle.if1_read.proofs.Tablewise.{table_sound, again_has, wrong_has}
 
 -- ---- numbers
@@ -144,6 +144,10 @@ module _ (rows : List (Option Line)) (r : Rules) (rules : AreRules (types (numbe
       in_rows (suc (length before)) Bad
       (subst (λ (rs : List (Option Line)). Contains (row_faults 1 0 rs) (record { line = suc (length before); kind = Bad })) (sym e)
       (unread_found before after 1 0 (suc (length before)) (omega arith)))
+  complete n k (unclosing before after l u e) =
+      in_rows (suc (length before)) Bad
+      (subst (λ (rs : List (Option Line)). Contains (row_faults 1 0 rs) (record { line = suc (length before); kind = Bad })) (sym e)
+      (unclosing_found before after l 1 0 (suc (length before)) u (omega arith)))
   complete n k (read before after m l j e f) = at_line before m l after j e f
 
   -- ---- the first one

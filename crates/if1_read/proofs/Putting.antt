@@ -1,13 +1,14 @@
 -- One more line is sorted out.
-use Rattle.std.proofs.Common.{◌≡◌, ◌≤◌, List, [], ◌∷◌, ◌++◌, length, map, Option, Some, arith, refl, sym, ap, ◌∙◌}
+use Rattle.std.proofs.Common.{◌≡◌, ◌≤◌, false, List, [], ◌∷◌, ◌++◌, length, map, Option, Some, arith, refl, sym, ap, ◌∙◌}
 use Rattle.std.specs.Prelude.{filter}
 use Rattle.std.proofs.lemmas.List.{map-append}
-use Rattle.std.proofs.lemmas.List.Elements.{filter-append}
+use Rattle.std.proofs.lemmas.List.Elements.{filter-append, All-append, All-cons, All-nil}
 use Rattle.if1_line.specs.declared.line.Line.{Line}
 use Rattle.if1_line.specs.declared.line.Line.TheVariants as line
 use Rattle.if1_graph.specs.declared.graph.TypeEntry.{TypeEntry}
 use Rattle.if1_graph.specs.Formed.{most}
 use Rattle.if1_graph.specs.Reads.{entries_in, is_of_graph}
+use Rattle.if1_read.specs.Faults.{is_unlabelled}
 use Rattle.if1_read.specs.Putting.{IsPut, AreSorted}
 
 pub entries_more : (ks ls : List Line) → entries_in (ks ++ ls) ≡ entries_in ks ++ entries_in ls
@@ -37,6 +38,9 @@ sorted_more os o es fs gs hs s p =
           ap (λ xs. xs ++ o ∷ []) s.are
           ∙ ap (λ x. map (λ l. Some l) ls ++ x ∷ []) p.is
           ∙ sym (map-append (λ (l : Line). Some l) ls (p.line ∷ []));
+      labelled =
+          All-append (λ (l : Line). is_unlabelled l ≡ false) ls (p.line ∷ []) s.labelled
+          (All-cons (λ (l : Line). is_unlabelled l ≡ false) p.line [] p.labelled (All-nil (λ (l : Line). is_unlabelled l ≡ false)));
       sorts = record {
         entries = e;
         few = omega (arith, ap length e, p.few before);

@@ -17,9 +17,9 @@ use Rattle.if1_read.specs.declared.fault.Kind.{Kind}
 use Rattle.if1_read.specs.declared.fault.Kind.TheVariants.{Bad, Unknown, TooMany}
 use Rattle.if1_read.specs.declared.fault.Fault.{Fault}
 use Rattle.if1_read.specs.Entries.{HasTypes}
-use Rattle.if1_read.specs.Faults.{numbered, types, with_some, FaultAt, unread, read, too_many_types}
+use Rattle.if1_read.specs.Faults.{numbered, types, with_some, is_unlabelled, FaultAt, unread, unclosing, read, too_many_types}
 use Rattle.if1_read.specs.Least.{noted}
-use Rattle.if1_read.specs.Rows.{many_types, row_faults, is_type, is_type_or_end, parts_there}
+use Rattle.if1_read.specs.Rows.{many_types, wrong_label, row_faults, is_type, is_type_or_end, parts_there}
 use Rattle.if1_read.proofs.Walking.{Lined}
 use Rattle.if1_read.proofs.Same.{contains_here, contains_later, contains_cases, contains_none}
 use Rattle.if1_read.proofs.Repeats.{noted_is, noted_has}
@@ -75,6 +75,10 @@ many_if : (b : Bool) (before : ℕ) (k : Kind) → nat_le most before ≡ b → 
 many_if true before k e h = (cc, leb-true most before e)
 many_if false before k e h = absurd cc
 
+bad_if : (b : Bool) (k : Kind) {c : Bool} → c ≡ b → (if b then Some Bad else None) ≡ Some k → (Bad ≡ k) × (c ≡ true)
+bad_if true k e h = (cc, e)
+bad_if false k e h = absurd cc
+
 types_more : (before : List (Option Line)) (row : Option Line) (n : ℕ) → suc (length before) ≡ n →
     types (numbered 1 (before ++ row ∷ [])) ≡ types (numbered 1 before) ++ types (numbered n (row ∷ []))
 types_more before row n e =
@@ -97,6 +101,15 @@ module _ (all : List (Option Line)) where
       subst (λ (m : ℕ). FaultAt all m f.kind) (sym t.1)
       (subst (FaultAt all n) s.0 (read (numbered 1 before) (numbered (suc n) rest) n x TooMany split (too_many_types (omega (arith, s.1, many)))))
 
+  unlabelled_past : (before rest : List (Option Line)) (n label op count : ℕ) (assoc lasts name : List ℕ) → all ≡ before ++ Some (line.Close label op count assoc lasts name) ∷ rest →
+      suc (length before) ≡ n → (f : Fault) → Contains (noted n (wrong_label label)) f → IsAt f
+  unlabelled_past before rest n label op count assoc lasts name is number f c =
+      let t = noted_is n (wrong_label label) f c in
+      let s = bad_if (label == 0) f.kind refl t.0 in
+      subst (λ (m : ℕ). FaultAt all m f.kind) (sym t.1)
+      (subst (FaultAt all n) s.0
+      (subst (λ (m : ℕ). FaultAt all m Bad) number (unclosing before rest (line.Close label op count assoc lasts name) s.1 is)))
+
   rows_found : (rest before : List (Option Line)) (n count : ℕ) → all ≡ before ++ rest → suc (length before) ≡ n → count ≡ length (types (numbered 1 before)) →
       (f : Fault) → Contains (row_faults n count rest) f → IsAt f
   rows_found [] before n count is number many f c = absurd (contains_none f c)
@@ -117,6 +130,15 @@ module _ (all : List (Option Line)) where
             rows_found rest front (suc n) (suc count) (is ∙ sym (append_assoc before (Some x ∷ []) rest)) (omega (arith, number, length-append before (Some x ∷ [])))
             (omega (arith, many, ap length (types_more before (Some x) n number), length-append (types (numbered 1 before)) (types (numbered n (Some x ∷ []))))) f d
       ]
+  rows_found (Some (line.Close label op graphs assoc lasts name) ∷ rest) before n count is number many f c =
+      let x = line.Close label op graphs assoc lasts name in
+      let front = before ++ Some x ∷ [] in
+      elim (Contains-append_cases (noted n (wrong_label label)) (row_faults (suc n) count rest) f c) [
+        | inl d ↦ unlabelled_past before rest n label op graphs assoc lasts name is number f d
+        | inr d ↦
+            rows_found rest front (suc n) count (is ∙ sym (append_assoc before (Some x ∷ []) rest)) (omega (arith, number, length-append before (Some x ∷ [])))
+            (omega (arith, many, ap length (types_more before (Some x) n number), length-append (types (numbered 1 before)) [])) f d
+      ]
   rows_found (Some l ∷ rest) before n count is number many f c =
       let front = before ++ Some l ∷ [] in
       rows_found rest front (suc n) count (is ∙ sym (append_assoc before (Some l ∷ []) rest)) (omega (arith, number, length-append before (Some l ∷ [])))
@@ -131,6 +153,8 @@ later_row : (n count : ℕ) (row : Option Line) (rest : List (Option Line)) (f :
 later_row n count None rest f h = contains_later (record { line = n; kind = Bad }) (row_faults (suc n) count rest) f (h count)
 later_row n count (Some (line.Entry label code first second name)) rest f h =
     Contains-append_right (noted n (many_types count)) (row_faults (suc n) (suc count) rest) f (h (suc count))
+later_row n count (Some (line.Close label op graphs assoc lasts name)) rest f h =
+    Contains-append_right (noted n (wrong_label label)) (row_faults (suc n) count rest) f (h count)
 later_row n count (Some l) rest f h = h count
 
 pub unread_found : (before after : List (Option Line)) (n count k : ℕ) → n + length before ≡ k → Contains (row_faults n count (before ++ None ∷ after)) (record { line = k; kind = Bad })
@@ -138,6 +162,19 @@ unread_found [] after n count k e =
     subst (λ (m : ℕ). Contains (row_faults n count (None ∷ after)) (record { line = m; kind = Bad })) (omega (arith, e)) (contains_here (record { line = n; kind = Bad }) (row_faults (suc n) count after))
 unread_found (row ∷ before) after n count k e =
     later_row n count row (before ++ None ∷ after) (record { line = k; kind = Bad }) (λ c. unread_found before after (suc n) c k (omega (arith, e)))
+
+unlabelled_here : (l : Line) (rest : List (Option Line)) (n count : ℕ) → is_unlabelled l ≡ true → Contains (row_faults n count (Some l ∷ rest)) (record { line = n; kind = Bad })
+unlabelled_here (line.Close label op graphs assoc lasts name) rest n count e =
+    Contains-append_left (noted n (wrong_label label)) (row_faults (suc n) count rest) (record { line = n; kind = Bad })
+    (noted_has n (wrong_label label) Bad (ap (λ (b : Bool). if b then Some Bad else None) e))
+unlabelled_here _ rest n count e = absurd (true≢false (sym e))
+
+pub unclosing_found : (before after : List (Option Line)) (l : Line) (n count k : ℕ) → is_unlabelled l ≡ true → n + length before ≡ k →
+    Contains (row_faults n count (before ++ Some l ∷ after)) (record { line = k; kind = Bad })
+unclosing_found [] after l n count k u e =
+    subst (λ (m : ℕ). Contains (row_faults n count (Some l ∷ after)) (record { line = m; kind = Bad })) (omega (arith, e)) (unlabelled_here l after n count u)
+unclosing_found (row ∷ before) after l n count k u e =
+    later_row n count row (before ++ Some l ∷ after) (record { line = k; kind = Bad }) (λ c. unclosing_found before after l (suc n) c k u (omega (arith, e)))
 
 pub many_found : (front back : List (Option Line)) (n count k label code first second : ℕ) (name : List ℕ) → n + length front ≡ k → most ≤ count + length (types (numbered n front)) →
     Contains (row_faults n count (front ++ Some (line.Entry label code first second name) ∷ back)) (record { line = k; kind = TooMany })
@@ -153,6 +190,9 @@ many_found (None ∷ front) back n count k label code first second name e h =
 many_found (Some (line.Entry label2 code2 first2 second2 name2) ∷ front) back n count k label code first second name e h =
     Contains-append_right (noted n (many_types count)) (row_faults (suc n) (suc count) (front ++ Some (line.Entry label code first second name) ∷ back)) (record { line = k; kind = TooMany })
     (many_found front back (suc n) (suc count) k label code first second name (omega (arith, e)) (omega (arith, h)))
+many_found (Some (line.Close label2 op graphs assoc lasts name2) ∷ front) back n count k label code first second name e h =
+    Contains-append_right (noted n (wrong_label label2)) (row_faults (suc n) count (front ++ Some (line.Entry label code first second name) ∷ back)) (record { line = k; kind = TooMany })
+    (many_found front back (suc n) count k label code first second name (omega (arith, e)) h)
 many_found (Some l ∷ front) back n count k label code first second name e h =
     many_found front back (suc n) count k label code first second name (omega (arith, e)) h
 

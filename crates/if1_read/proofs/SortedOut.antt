@@ -11,7 +11,7 @@ use Rattle.if1_read.specs.declared.fault.Fault.{Fault}
 use Rattle.if1_read.specs.declared.read.Sorted.{Sorted}
 use Rattle.if1_read.specs.Faults.{numbered}
 use Rattle.if1_read.specs.Least.{earlier, least, found, noted}
-use Rattle.if1_read.specs.Rows.{many_types, row_faults, typed}
+use Rattle.if1_read.specs.Rows.{many_types, wrong_label, row_faults, typed}
 use Rattle.if1_read.specs.Putting.{IsPut, AreSorted, SortsOn, AreSortedOut}
 use Rattle.if1_read.specs.Entries.{entries_of}
 use Rattle.if1_read.specs.Stands.{lines_of}
@@ -39,6 +39,22 @@ type_put n label code one second name before after entries lines first =
       entries = λ rest.
           ap (λ es. es ++ typed (numbered (suc n) rest)) entries ∙ append_assoc before.entries.items ((n, e) ∷ []) (typed (numbered (suc n) rest));
       lines = λ rest. ap (λ ls. ls ++ filter (λ l. is_of_graph l.1) (numbered (suc n) rest)) lines;
+    }
+
+pub close_put : (n label op count : ℕ) (assoc lasts name : List ℕ) (before after : Sorted) → after.entries.items ≡ before.entries.items →
+    after.lines.items ≡ before.lines.items ++ (n, line.Close label op count assoc lasts name) ∷ [] → after.first ≡ earlier before.first (found n (wrong_label label)) →
+    SortsOn n (Some (line.Close label op count assoc lasts name)) before after
+close_put n label op count assoc lasts name before after entries lines first =
+    let l = line.Close label op count assoc lasts name in
+    record {
+      first = λ rest.
+          ap (λ (o : Option Fault). earlier o (least (row_faults (suc n) (length after.entries.items) rest))) first
+          ∙ (ap (λ (es : List (ℕ × TypeEntry)). earlier (earlier before.first (found n (wrong_label label))) (least (row_faults (suc n) (length es) rest))) entries
+          ∙ noted_then before.first n (wrong_label label) (row_faults (suc n) (length before.entries.items) rest));
+      entries = λ rest. ap (λ es. es ++ typed (numbered (suc n) rest)) entries;
+      lines = λ rest.
+          ap (λ ls. ls ++ filter (λ l. is_of_graph l.1) (numbered (suc n) rest)) lines
+          ∙ append_assoc before.lines.items ((n, l) ∷ []) (filter (λ l. is_of_graph l.1) (numbered (suc n) rest));
     }
 
 -- with what is to come, these rows give all

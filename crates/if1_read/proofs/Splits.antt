@@ -1,9 +1,11 @@
 -- One line among the lines of a text.
-use Rattle.std.proofs.Common.{◌≡◌, ℕ, suc, ◌-◌, ◌<◌, ◌≤◌, max, Bool, true, false, cond, List, [], ◌∷◌, ◌++◌, map, length, Option, Some, None, IsSome, inl, inr, refl, sym, ap, subst, ◌∙◌, arith, true≢false}
-use Rattle.std.specs.Prelude.{filter, Contains}
+use Rattle.std.proofs.Common.{◌≡◌, ℕ, suc, ◌-◌, ◌<◌, ◌≤◌, max, Bool, true, false, cond, List, [], ◌∷◌, ◌++◌, map, length, Option, Some, None, IsSome, inl, inr, refl, sym, ap, subst, ◌∙◌, arith, true≢false, ne_eqb}
+use Rattle.std.specs.Prelude.{filter, Contains, All}
+use Rattle.std.proofs.lemmas.List.Elements.{All-head, All-tail}
 use Rattle.std.proofs.lemmas.List.{map-append, length-append}
 use Rattle.if1_line.specs.declared.line.Line.{Line}
 use Rattle.if1_line.specs.declared.line.Line.TheVariants as line
+use Rattle.if1_line.specs.Spelling.{IsSpelled}
 use Rattle.if1_graph.specs.declared.graph.TypeEntry.{TypeEntry}
 use Rattle.if1_graph.specs.declared.kind.TypeKind.{TypeKind}
 use Rattle.if1_graph.specs.declared.kind.TypeKind.TheVariants as kind
@@ -11,7 +13,7 @@ use Rattle.if1_graph.specs.Types.{entry_at}
 use Rattle.if1_graph.specs.Formed.{IsType, IsTypeOrEnd, AreNumbers, IsOnce, HasReal, itself, within}
 use Rattle.if1_graph.specs.Reads.{entries_in, is_of_graph, deepest}
 use Rattle.if1_read.specs.Entries.{HasTypes}
-use Rattle.if1_read.specs.Faults.{Layer, numbered, is_placed, node_on, type_on, types}
+use Rattle.if1_read.specs.Faults.{Layer, numbered, is_unlabelled, is_placed, node_on, type_on, types}
 use Rattle.if1_read.proofs.Walking.{Lined, graph_lines}
 use Rattle.if1_read.proofs.Same.{contains_here, contains_later, contains_cases, contains_none}
 use Rattle.if1_read.proofs.Accepted.{said_by, Rises, flat, rise}
@@ -30,6 +32,21 @@ no_unread [] [] after e = cc
 no_unread [] (b ∷ before) after e = cc
 no_unread (l ∷ ls) [] after e = cc
 no_unread (l ∷ ls) (b ∷ before) after e = let rest : all_read ls ≡ before ++ None ∷ after = cc in no_unread ls before after rest
+
+-- lines that are spelled have labels
+spelled_label : (l : Line) → IsSpelled l → is_unlabelled l ≡ false
+spelled_label (line.Close label op count assoc before name) s = ne_eqb label 0 (λ i. omega (arith, s.0.0, i))
+spelled_label _ s = refl
+
+pub no_unclosing : (ls : List Line) → All IsSpelled ls → (before after : List (Option Line)) (l : Line) → is_unlabelled l ≡ true → all_read ls ≡ before ++ Some l ∷ after → ⊥
+no_unclosing [] s [] after l u e = cc
+no_unclosing [] s (b ∷ before) after l u e = cc
+no_unclosing (x ∷ ls) s [] after l u e =
+    let same : Some x ≡ Some l = cc in
+    true≢false (sym u ∙ sym (ap (λ (o : Option Line). elim o [ None ↦ false | Some l ↦ is_unlabelled l ]) same) ∙ spelled_label x (All-head IsSpelled x ls s))
+no_unclosing (x ∷ ls) s (b ∷ before) after l u e =
+    let rest : all_read ls ≡ before ++ Some l ∷ after = cc in
+    no_unclosing ls (All-tail IsSpelled x ls s) before after l u rest
 
 abbrev Rising : ℕ → List Lined → Type 0
 Rising lo ls = (hi : ℕ) × Rises lo ls hi

@@ -1,11 +1,13 @@
 -- A text that gives a unit has no fault.
 use Rattle.std.proofs.Common.{◌≡◌, ℕ, ◌<◌, ◌≤◌, Bool, true, false, List, [], ◌∷◌, ◌++◌, map, length, Option, Some, None, inl, inr, refl, sym, ap, subst, ◌∙◌, arith, true≢false, if◌then◌else◌}
-use Rattle.std.specs.Prelude.{filter, Contains, ◌==◌}
+use Rattle.std.specs.Prelude.{filter, Contains, All, ◌==◌}
 use Rattle.std.proofs.lemmas.Bool.{eq-eqb}
 use Rattle.std.proofs.lemmas.List.{map-append}
 use Rattle.std.proofs.lemmas.List.Elements.{All-contains}
 use Rattle.if1_line.specs.declared.line.Line.{Line}
 use Rattle.if1_line.specs.declared.line.Line.TheVariants as line
+use Rattle.if1_line.specs.Lines.{lines_in}
+use Rattle.if1_line.specs.Spelling.{IsSpelled}
 use Rattle.if1_graph.specs.declared.graph.TypeEntry.{TypeEntry}
 use Rattle.if1_graph.specs.declared.graph.Unit1.{Unit1}
 use Rattle.if1_graph.specs.Kinds.{kind_at, basic_at}
@@ -15,8 +17,9 @@ use Rattle.if1_graph.specs.Formed.{IsType, IsOnce, IsEntry, most}
 use Rattle.if1_graph.specs.Reads.{ReadsIf1, LinesGive, is_of_graph, entries_in, deepest}
 use Rattle.if1_read.specs.declared.fault.Kind.{Kind}
 use Rattle.if1_read.specs.Entries.{HasTypes}
-use Rattle.if1_read.specs.Faults.{Layer, numbered, next, layers, unit_alone, is_placed, is_reading, home, told, is_line, own, with_some, node_on, name_on, nodes_of, functions, types, want_of, literal_fault, IsFault, HasNoFault, IsUnclosed, misplaced, miscounted, type_again, node_again, wrong_literal, no_opcode, no_type, no_import_type, no_part, real_type, too_many_types, too_many_nodes, too_deep, unread, read, rows_of}
+use Rattle.if1_read.specs.Faults.{Layer, numbered, next, layers, unit_alone, is_placed, is_reading, home, told, is_line, own, with_some, node_on, name_on, nodes_of, functions, types, want_of, literal_fault, IsFault, HasNoFault, IsUnclosed, misplaced, miscounted, type_again, node_again, wrong_literal, no_opcode, no_type, no_import_type, no_part, real_type, too_many_types, too_many_nodes, too_deep, unread, unclosing, read, rows_of}
 use Rattle.if1_read.specs.Pages.{Lit, lit_on}
+use Rattle.if1_read.proofs.Entered.{spelled_lines, lines_are_rows}
 use Rattle.if1_read.proofs.Likeness.{filter_mapped, rising_once}
 use Rattle.if1_read.proofs.Walking.{Lined, told_append, EachAt, each_at, of_graph, graph_lines, layers_kept, told_kept, kept_at}
 use Rattle.if1_read.proofs.Faultless.{IsLitRight, IsGraphRight, AreFunctions}
@@ -28,7 +31,7 @@ use Rattle.if1_read.proofs.Same.{same_find, same_length, same_once, same_contain
 use Rattle.if1_read.proofs.Good.{functions_good}
 use Rattle.if1_read.proofs.Rightly.{functions_of}
 use Rattle.if1_read.proofs.Accepted.{said_by, functions_made}
-use Rattle.if1_read.proofs.Splits.{all_read, said_numbered, no_unread, graphs_rise, deepest_kept, node_of_graph, type_of_graph, others_placed, once_middle, contains_middle, less_middle, types_append, type_moved, numbers_moved, real_moved}
+use Rattle.if1_read.proofs.Splits.{all_read, said_numbered, no_unread, no_unclosing, graphs_rise, deepest_kept, node_of_graph, type_of_graph, others_placed, once_middle, contains_middle, less_middle, types_append, type_moved, numbers_moved, real_moved}
 
 -- ---- what is told of a graph
 
@@ -234,9 +237,10 @@ module _ (ls : List Line) (u : Unit1) (give : LinesGive ls u) where
       absurd (omega (arith, many, (node_among before n l after is m e (home l (layers before)) refl).room))
   no_fault before n l after k is (too_deep deep) = absurd (omega (arith, deep, shallow before n l after is refl))
 
-  clean : HasNoFault (all_read ls)
-  clean n k (unread before after e) = no_unread ls before after e
-  clean n k (read before after m l j e f) = no_fault before m l after j e f
+  clean : All IsSpelled ls → HasNoFault (all_read ls)
+  clean spelled n k (unread before after e) = no_unread ls before after e
+  clean spelled n k (unclosing before after l x e) = no_unclosing ls spelled before after l x e
+  clean spelled n k (read before after m l j e f) = no_fault before m l after j e f
 
   closed : IsUnclosed (all_read ls) → ⊥
   closed h =
@@ -244,9 +248,10 @@ module _ (ls : List Line) (u : Unit1) (give : LinesGive ls u) where
       let one : layers all ≡ s.last ∷ [] = sym (layers_kept unit_alone all) ∙ s.ends in
       absurd (omega (arith, h.unclosed, ap length one))
 
-  pub clean_and_closed : HasNoFault (all_read ls) × (¬ IsUnclosed (all_read ls))
-  clean_and_closed = (clean, closed)
+  pub clean_and_closed : All IsSpelled ls → HasNoFault (all_read ls) × (¬ IsUnclosed (all_read ls))
+  clean_and_closed spelled = (clean spelled, closed)
 
 pub accepted : (text : List ℕ) (u : Unit1) → ReadsIf1 text u → HasNoFault (rows_of text) × (¬ IsUnclosed (rows_of text))
 accepted text u h =
-    subst (λ (rows : List (Option Line)). HasNoFault rows × (¬ IsUnclosed rows)) (sym h.read) (clean_and_closed h.lines u h.give)
+    subst (λ (rows : List (Option Line)). HasNoFault rows × (¬ IsUnclosed rows)) (sym (lines_are_rows (lines_in text) h.lines h.read))
+    (clean_and_closed h.lines u h.give (spelled_lines (lines_in text) h.lines h.read))

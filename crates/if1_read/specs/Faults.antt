@@ -5,6 +5,7 @@ use Rattle.std.specs.List.{list_any}
 use Rattle.if1_line.specs.declared.line.Line.{Line}
 use Rattle.if1_line.specs.declared.line.Line.TheVariants as line
 use Rattle.if1_line.specs.Lines.{lines_in}
+use Rattle.if1_line.specs.Parts.{is_blank}
 use Rattle.if1_line.specs.Reading.{line_of}
 use Rattle.if1_graph.specs.declared.graph.TypeEntry.{TypeEntry}
 use Rattle.if1_graph.specs.declared.fault.If1Fault.{If1Fault}
@@ -27,6 +28,32 @@ use Rattle.if1_graph.specs.Reads.{entries_in}
 use Rattle.if1_read.specs.declared.fault.Kind.{Kind}
 use Rattle.if1_read.specs.declared.fault.Kind.TheVariants.{Bad, Unknown, Real, TooMany}
 use Rattle.if1_read.specs.Entries.{HasTypes}
+
+-- ---- rows
+
+-- whether a line begins with `}`, 125, behind its blanks
+abbrev pub closes : List ℕ → Bool
+closes [] = false
+closes (c ∷ s) = if is_blank c then closes s else c == 125
+
+-- A line that begins with `}` and does not read closes its node all the same, as one without a label, so that what stands
+-- behind it stands where its author put it.
+abbrev pub row_by : Option Line → Bool → Option Line
+row_by (Some l) b = Some l
+row_by None true = Some (line.Close 0 0 0 [] [] [])
+row_by None false = None
+
+abbrev pub row_of : List ℕ → Option Line
+row_of s = row_by (line_of s) (closes s)
+
+-- what each line says
+abbrev pub rows_of : List ℕ → List (Option Line)
+rows_of text = map row_of (lines_in text)
+
+-- no line that reads has none, but for one that does not close rightly
+abbrev pub is_unlabelled : Line → Bool
+is_unlabelled (line.Close label op count assoc before name) = label == 0
+is_unlabelled _ = false
 
 -- the lines that read, with their numbers, where the first line has this one
 abbrev pub numbered : ℕ → List (Option Line) → List (ℕ × Line)
@@ -199,7 +226,11 @@ module _ (all before : List (ℕ × Line)) where
 
 -- the line of this number is at fault
 pub data FaultAt (rows : List (Option Line)) : ℕ → Kind → Type 0 where
+  -- it does not read
   unread : (before after : List (Option Line)) → rows ≡ before ++ None ∷ after → FaultAt rows (suc (length before)) Bad
+  unclosing : (before after : List (Option Line)) (l : Line) → is_unlabelled l ≡ true → rows ≡ before ++ Some l ∷ after →
+      FaultAt rows (suc (length before)) Bad
+  -- or it has a fault among the lines
   read : (before after : List (ℕ × Line)) (n : ℕ) (l : Line) (k : Kind) → numbered 1 rows ≡ before ++ (n, l) ∷ after →
       IsFault (numbered 1 rows) before l k → FaultAt rows n k
 
@@ -223,9 +254,6 @@ HasNoFault rows = (n : ℕ) (k : Kind) → ¬ FaultAt rows n k
 pub record IsUnclosed (rows : List (Option Line)) : Type 0 where
   pub clean : HasNoFault rows
   pub unclosed : 1 < length (layers (numbered 1 rows))
-
-abbrev pub rows_of : List ℕ → List (Option Line)
-rows_of text = map line_of (lines_in text)
 
 -- a refusal of a text; want of memory says nothing of it
 abbrev pub IsFaultOf : List ℕ → If1Fault → Type 0

@@ -1,11 +1,11 @@
 -- A line among those that were sorted out.
-use Rattle.std.specs.Prelude.{◌≡◌, ℕ, suc, ◌≤◌, List, [], ◌∷◌, ◌++◌, filter, length, map, Option, Some}
+use Rattle.std.specs.Prelude.{◌≡◌, false, All, ℕ, suc, ◌≤◌, List, [], ◌∷◌, ◌++◌, filter, length, map, Option, Some}
 use Rattle.if1_line.specs.declared.line.Line.{Line}
 use Rattle.if1_graph.specs.declared.graph.TypeEntry.{TypeEntry}
 use Rattle.if1_graph.specs.Formed.{most}
 use Rattle.if1_graph.specs.Reads.{entries_in, is_of_graph}
 use Rattle.if1_read.specs.declared.read.Sorted.{Sorted}
-use Rattle.if1_read.specs.Faults.{numbered}
+use Rattle.if1_read.specs.Faults.{numbered, is_unlabelled}
 use Rattle.if1_read.specs.Least.{earlier, least}
 use Rattle.if1_read.specs.Rows.{row_faults, typed}
 use Rattle.if1_read.specs.Sorting.{SortsOut}
@@ -14,6 +14,7 @@ use Rattle.if1_read.specs.Sorting.{SortsOut}
 pub record IsPut (o : Option Line) (es fs : List TypeEntry) (gs hs : List Line) : Type 0 where
   pub line : Line
   pub is : o ≡ Some line
+  pub labelled : is_unlabelled line ≡ false
   pub entries : fs ≡ es ++ entries_in (line ∷ [])
   pub few : length es ≤ most → length fs ≤ most
   pub lines : hs ≡ gs ++ filter is_of_graph (line ∷ [])
@@ -22,6 +23,7 @@ pub record IsPut (o : Option Line) (es fs : List TypeEntry) (gs hs : List Line) 
 pub record AreSorted (os : List (Option Line)) (es : List TypeEntry) (gs : List Line) : Type 0 where
   pub lines : List Line
   pub are : os ≡ map (λ l. Some l) lines
+  pub labelled : All (λ l. is_unlabelled l ≡ false) lines
   pub sorts : SortsOut lines es gs
 
 -- What was sorted out when a line is, whose number is this one: the faults, the types and the lines of graphs, each with

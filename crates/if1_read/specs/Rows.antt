@@ -22,11 +22,16 @@ use Rattle.if1_read.specs.Pages.{is_among, again, Rules, run_faults}
 abbrev pub many_types : ℕ → Option Kind
 many_types before = if nat_le most before then Some TooMany else None
 
+-- a `}` line that has no label does not read
+abbrev pub wrong_label : ℕ → Option Kind
+wrong_label label = if label == 0 then Some Bad else None
+
 -- from the line of this number on, behind so many types
 abbrev pub row_faults : ℕ → ℕ → List (Option Line) → List Fault
 row_faults n count [] = []
 row_faults n count (None ∷ rows) = record { line = n; kind = Bad } ∷ row_faults (suc n) count rows
 row_faults n count (Some (line.Entry label code first second name) ∷ rows) = noted n (many_types count) ++ row_faults (suc n) (suc count) rows
+row_faults n count (Some (line.Close label op graphs assoc before name) ∷ rows) = noted n (wrong_label label) ++ row_faults (suc n) count rows
 row_faults n count (Some _ ∷ rows) = row_faults (suc n) count rows
 
 -- ---- types

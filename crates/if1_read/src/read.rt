@@ -11,7 +11,7 @@ ghost use Rattle.if1_read.specs.Known.{IsTableSound};
 ghost use Rattle.if1_read.specs.Least.{earlier, least};
 ghost use Rattle.if1_read.specs.Pages.{sheet_faults};
 ghost use Rattle.if1_read.specs.Putting.{IsPut, AreSorted, SortsOn, AreSortedOut};
-ghost use Rattle.if1_read.specs.Rows.{many_types};
+ghost use Rattle.if1_read.specs.Rows.{many_types, wrong_label};
 ghost use Rattle.if1_read.specs.Rulings.{rules_of};
 ghost use Rattle.if1_read.specs.Sheets.{sheets_around};
 ghost use Rattle.if1_read.specs.Sorting.{with_name, has_name, spot_next};
@@ -60,6 +60,14 @@ fn too_many(before: usize) -> Option<Kind>
     }
 }
 
+/// What is wrong with a `}` line of this label: one without a label does not read.
+fn wrong_label(label: u32) -> Option<Kind>
+    ensures is { result ≡ wrong_label label }
+    ensures some { result ≡ None → label ≢ 0 }
+{
+    if label == 0 { Some(Kind::Bad) } else { None }
+}
+
 fn put(sorted: Sorted, number: u32, line: Option<Line>) -> Result<Sorted, NoMemory>
     ensures clean { IfOk result (λ s. s.first ≡ None → sorted.first ≡ None) }
     ensures puts { IfOk result (λ s. s.first ≡ None → IsPut line (entries_of sorted.entries.items) (entries_of s.entries.items) (lines_of sorted.lines.items) (lines_of s.lines.items)) }
@@ -101,6 +109,32 @@ fn put(sorted: Sorted, number: u32, line: Option<Line>) -> Result<Sorted, NoMemo
                     name,
                 },
             ))?;
+            Ok(Sorted {
+                entries,
+                lines,
+                first: after(first, number, wrong),
+            })
+        }
+        Some(
+            Line::Close {
+                label,
+                op,
+                count,
+                assoc,
+                before,
+                name,
+            },
+        ) => {
+            let wrong = wrong_label(label);
+            let line = Line::Close {
+                label,
+                op,
+                count,
+                assoc,
+                before,
+                name,
+            };
+            lines.push((number, line))?;
             Ok(Sorted {
                 entries,
                 lines,

@@ -9,3 +9,5 @@ pub mod Levels
 pub mod Sorted
 pub mod Views
 pub mod Written
+pub mod Skipping
+pub mod Labelled

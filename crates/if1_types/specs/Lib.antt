@@ -5,3 +5,6 @@ pub mod Tables
 pub mod Ways
 pub mod Lists
 pub mod Forms
+pub mod Skips
+pub mod Numbering
+pub mod Parameters

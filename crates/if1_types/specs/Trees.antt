@@ -6,6 +6,8 @@ use Rattle.if1_graph.specs.declared.kind.TypeKind.TheVariants as kind
 use Rattle.if1_graph.specs.declared.kind.Basic.{Basic}
 use Rattle.if1_graph.specs.declared.kind.Basic.TheVariants as basic
 use Rattle.if1_graph.specs.Kinds.{kind_at, basic_at}
+use Rattle.if1_types.specs.declared.kind.Kind.{Kind}
+use Rattle.if1_types.specs.declared.kind.Kind.TheVariants as shape
 use Rattle.if1_graph.specs.Types.{entry_at, is_field, is_tag, is_tuple, most_deep}
 
 pub data Tree : Type 0 where
@@ -14,6 +16,21 @@ pub data Tree : Type 0 where
 
 -- Kinds of nodes: 0 boolean, 1 character, 2 integer, 3 null, 4 array, 5 stream, 6 record, 7 union; 8 a list's end, 9 a member
 -- and the list after it; 10 a value, 11 a multiple, 12 a function.
+abbrev pub kind_number : Kind → ℕ
+kind_number shape.Boolean = 0
+kind_number shape.Character = 1
+kind_number shape.Integer = 2
+kind_number shape.Null = 3
+kind_number shape.Array = 4
+kind_number shape.Stream = 5
+kind_number shape.Record = 6
+kind_number shape.Union = 7
+kind_number shape.End = 8
+kind_number shape.Member = 9
+kind_number shape.Value = 10
+kind_number shape.Multiple = 11
+kind_number shape.Function = 12
+
 abbrev pub ending : Tree
 ending = node 8 leaf leaf
 

@@ -3,12 +3,13 @@ ghost use Rattle.std.specs.Prelude.{◌≡◌, ◌≤◌, ◌↔◌, All, IsTrue
 ghost use Rattle.std.specs.List.Sorted.{IsStrictlyIncreasing};
 ghost use Rattle.if1_graph.specs.Kinds.{kind_at};
 ghost use Rattle.if1_graph.specs.Types.{is_field, is_tag, most_deep};
-ghost use Rattle.if1_types.specs.Trees.{over, scalar_tree, tree_of};
+ghost use Rattle.if1_types.specs.Trees.{over, scalar_tree, tree_of, kind_number};
 ghost use Rattle.if1_types.specs.Shapes.{trees_in, IsLater, Stands};
 ghost use Rattle.if1_types.specs.Tables.{labels_in, part_by, AreWithin, AreTold, IsLevel};
 ghost use Rattle.if1_types.specs.Lists.{listed, AreListed};
 ghost use Rattle.if1_types.specs.Ways.{IsWay};
 
+use crate::kind::Kind;
 use crate::lines::Line;
 use crate::lists::{list_number, list_numbers};
 use crate::shapes::Shapes;
@@ -25,10 +26,10 @@ fn scalar_number(shapes: &mut Shapes, basic: Option<Basic>) -> Result<u32, NoMem
     ensures later { IsLater (trees_in shapes.old) (trees_in shapes.new) }
 {
     match basic {
-        Some(Basic::Boolean) => shapes.number(0, 0, 0),
-        Some(Basic::Character) => shapes.number(1, 0, 0),
-        Some(Basic::Integer) => shapes.number(2, 0, 0),
-        Some(Basic::Null) => shapes.number(3, 0, 0),
+        Some(Basic::Boolean) => shapes.number(Kind::Boolean, 0, 0),
+        Some(Basic::Character) => shapes.number(Kind::Character, 0, 0),
+        Some(Basic::Integer) => shapes.number(Kind::Integer, 0, 0),
+        Some(Basic::Null) => shapes.number(Kind::Null, 0, 0),
         _ => Ok(0),
     }
 }
@@ -37,12 +38,12 @@ fn list_over(
     shapes: &mut Shapes,
     labels: &[u32],
     lists: &[u32],
-    kind: u32,
+    kind: Kind,
     first: u32,
 ) -> Result<u32, NoMemory>
     requires rising { IsStrictlyIncreasing labels.now }
     requires within { All (λ n. n ≤ length (trees_in shapes.old)) lists.now }
-    ensures number { IfOk result (λ n. Stands (trees_in shapes.new) n (over kind (listed (trees_in shapes.old) labels.now lists.now first))) }
+    ensures number { IfOk result (λ n. Stands (trees_in shapes.new) n (over (kind_number kind) (listed (trees_in shapes.old) labels.now lists.now first))) }
     ensures later { IsLater (trees_in shapes.old) (trees_in shapes.new) }
 {
     let list = list_number(shapes, labels, lists, first);
@@ -55,13 +56,13 @@ pub fn part_over(
     types: &[TypeEntry],
     labels: &[u32],
     numbers: &[u32],
-    kind: u32,
+    kind: Kind,
     label: u32,
 ) -> Result<u32, NoMemory>
     requires rising { IsStrictlyIncreasing (map (λ e. e.label) types.now) }
     requires labels { labels.now ≡ labels_in types.now }
     requires within { AreWithin (trees_in shapes.old) types.now numbers.now }
-    ensures number { IfOk result (λ n. Stands (trees_in shapes.new) n (over kind (part_by (trees_in shapes.old) types.now numbers.now label))) }
+    ensures number { IfOk result (λ n. Stands (trees_in shapes.new) n (over (kind_number kind) (part_by (trees_in shapes.old) types.now numbers.now label))) }
     ensures later { IsLater (trees_in shapes.old) (trees_in shapes.new) }
 {
     let _ = types;
@@ -90,10 +91,24 @@ fn ty_number(
 {
     match kind_of(entry.code) {
         Some(TypeKind::Basic) => scalar_number(shapes, basic_of(entry.first)),
-        Some(TypeKind::Array) => part_over(shapes, types, labels, numbers, 4, entry.first),
-        Some(TypeKind::Stream) => part_over(shapes, types, labels, numbers, 5, entry.first),
-        Some(TypeKind::Record) => list_over(shapes, labels, fields, 6, entry.first),
-        Some(TypeKind::Union) => list_over(shapes, labels, tags, 7, entry.first),
+        Some(TypeKind::Array) => part_over(
+            shapes,
+            types,
+            labels,
+            numbers,
+            Kind::Array,
+            entry.first,
+        ),
+        Some(TypeKind::Stream) => part_over(
+            shapes,
+            types,
+            labels,
+            numbers,
+            Kind::Stream,
+            entry.first,
+        ),
+        Some(TypeKind::Record) => list_over(shapes, labels, fields, Kind::Record, entry.first),
+        Some(TypeKind::Union) => list_over(shapes, labels, tags, Kind::Union, entry.first),
         _ => Ok(0),
     }
 }

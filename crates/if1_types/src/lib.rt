@@ -2,18 +2,25 @@
 #![tactic(auto)]
 
 mod forms;
+mod kind;
 mod laws;
 mod level;
 mod lines;
 mod lists;
+mod numbered;
+mod parameters;
 mod params;
 mod shapes;
+mod skips;
 mod sorts;
 mod table;
 mod ways;
 
 pub use forms::{ListForm, SortForm, TyForm};
 pub use laws::a_number_stands_for_one_thing;
-pub use params::params_of;
+pub use numbered::Sorts;
+pub use parameters::Parameter;
+pub use params::{parameters_of, params_of};
 pub use shapes::Shapes;
-pub use sorts::{Sorts, sorts_of};
+pub use sorts::sorts_of;
+pub use table::number_at;

@@ -7,6 +7,7 @@ ghost use Rattle.if1_types.specs.Tables.{labels_in, part_by, is_line, AreWithin}
 ghost use Rattle.if1_types.specs.Ways.{IsWay};
 ghost use Rattle.if1_types.specs.Lists.{head_at, listed, part_at, AreBlank, AreListed};
 
+use crate::kind::Kind;
 use crate::lines::{Line, is_line};
 use crate::shapes::Shapes;
 use crate::table::{number_at, number_in};
@@ -23,7 +24,7 @@ fn no_lists(shapes: &mut Shapes, places: usize) -> Result<Numbers, NoMemory>
     for _ in 0..places {
         lists.add(0)?;
     }
-    let end = shapes.number(8, 0, 0)?;
+    let end = shapes.number(Kind::End, 0, 0)?;
     lists.add(end)?;
     Ok(lists)
 }
@@ -52,7 +53,7 @@ fn longer(
         return Ok(0);
     }
     let part = number_at(labels, numbers, entry.first);
-    let number = shapes.over_both(9, part, rest)?;
+    let number = shapes.over_both(Kind::Member, part, rest)?;
     Ok(number)
 }
 

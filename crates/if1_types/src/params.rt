@@ -1,13 +1,17 @@
-//! Types as they are written out, with the names of fields and tags.
+//! The parameters of functions: by labels and numbers, and as types that are written out, with the names
+//! of fields and tags.
 ghost use Rattle.std.specs.Prelude.{◌≡◌, IfOk, length, map, option_map};
 ghost use Rattle.std.specs.Option.{option_copied};
 ghost use Rattle.std.specs.List.Sorted.{IsStrictlyIncreasing};
 ghost use Rattle.if1_graph.specs.Kinds.{kind_at};
 ghost use Rattle.if1_graph.specs.Types.{with_names, members, scalar, ty_of, ty_within, ty_at, tuple_at, params_of, params_at};
 ghost use Rattle.if1_types.specs.Tables.{is_line, entry_on};
+ghost use Rattle.if1_types.specs.Parameters as labelled;
 
 use crate::lines::{Line, is_line};
-use flow_value::{Fields, Held, Name, NoMemory, Seq, Ty, Types};
+use crate::numbered::Sorts;
+use crate::parameters::Parameter;
+use flow_value::{Fields, Held, Name, NoMemory, Numbers, Seq, Ty, Types};
 use if1_graph::{Basic, TypeEntry, TypeKind, basic_of, entry_of, kind_of};
 use std::alloc::Global;
 
@@ -156,4 +160,78 @@ pub fn params_of(alloc: Global, types: &[TypeEntry], label: u32) -> Result<Optio
     let members = member_types(alloc, types, DEEPEST, Line::Tuple, entry.first)?;
     let params = types_of(alloc, members)?;
     Ok(params)
+}
+
+/// The labels of the types of a list's members, from a label on.
+fn member_labels(
+    alloc: Global,
+    types: &[TypeEntry],
+    line: Line,
+    first: u32,
+) -> Result<Option<Numbers>, NoMemory>
+    requires { IsStrictlyIncreasing (map (λ e. e.label) types.now) }
+    ensures { IfOk result (λ found. found ≡ labelled.member_labels (is_line line) types.now (length types.now) first) }
+{
+    let mut labels = Seq::new(alloc);
+    let mut label = first;
+    let mut left = types.len();
+    while label != 0 {
+        if left == 0 {
+            return Ok(None);
+        }
+        let Some(entry) = line_at(types, line, label) else {
+            return Ok(None);
+        };
+        left -= 1;
+        labels.add(entry.first)?;
+        label = entry.second;
+    }
+    Ok(Some(labels))
+}
+
+/// The labels of the types of a function's arguments, by the label of its own type.
+fn param_labels(alloc: Global, types: &[TypeEntry], label: u32) -> Result<Option<Numbers>, NoMemory>
+    requires { IsStrictlyIncreasing (map (λ e. e.label) types.now) }
+    ensures { IfOk result (λ found. found ≡ labelled.param_labels types.now label) }
+{
+    let Some(entry) = entry_of(types, label) else {
+        return Ok(None);
+    };
+    let Some(TypeKind::Function) = kind_of(entry.code) else {
+        return Ok(None);
+    };
+    let labels = member_labels(alloc, types, Line::Tuple, entry.first)?;
+    Ok(labels)
+}
+
+fn with_numbers(alloc: Global, sorts: &Sorts, labels: &[u32]) -> Result<Seq<Parameter>, NoMemory>
+    ensures { IfOk result (λ ps. ps ≡ map (labelled.parameter sorts.now) labels.now) }
+{
+    let mut parameters = Seq::with_room(alloc, labels.len())?;
+    for label in labels {
+        parameters.add(Parameter {
+            label: *label,
+            ty: sorts.type_of(*label),
+        })?;
+    }
+    Ok(parameters)
+}
+
+/// The parameters of a function in order, by the label of its type, each with the label and the number
+/// of its own; none where the label is that of no function's type. No type is written out. Takes time
+/// near linear in the parameters.
+pub fn parameters_of(
+    alloc: Global,
+    types: &[TypeEntry],
+    sorts: &Sorts,
+    label: u32,
+) -> Result<Option<Seq<Parameter>>, NoMemory>
+    requires { IsStrictlyIncreasing (map (λ e. e.label) types.now) }
+    ensures { IfOk result (λ found. found ≡ labelled.params_at types.now sorts.now label) }
+{
+    let Some(labels) = param_labels(alloc, types, label)? else {
+        return Ok(None);
+    };
+    let parameters = with_numbers(alloc, sorts, labels.as_slice())?;
+    Ok(Some(parameters))
 }

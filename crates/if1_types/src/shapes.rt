@@ -1,8 +1,9 @@
 //! Trees by number.
 ghost use Rattle.std.specs.Prelude.{◌≡◌, ℕ, ◌≤◌, [], length, suc, IfOk};
-ghost use Rattle.if1_types.specs.Trees.{Tree, node, over, over_both};
+ghost use Rattle.if1_types.specs.Trees.{Tree, node, over, over_both, kind_number};
 ghost use Rattle.if1_types.specs.Shapes.{trees_in, tree_at, members_in, key_at, IsKeyOf, IsOnce, IsLater, Stands};
 
+use crate::kind::{Kind, kind_number};
 use flow_value::NoMemory;
 use indexmap::IndexMap;
 use std::alloc::Global;
@@ -43,7 +44,17 @@ impl Shapes {
     }
 
     /// The number of the tree of a kind and two parts, which is a new one where it is not there yet.
-    pub fn number(&mut self, kind: u32, first: u32, second: u32) -> Result<u32, NoMemory>
+    pub fn number(&mut self, kind: Kind, first: u32, second: u32) -> Result<u32, NoMemory>
+        requires first { first ≤ length (trees_in self.old) }
+        requires second { second ≤ length (trees_in self.old) }
+        ensures number { IfOk result (λ n. Stands (trees_in self.new) n (node (kind_number kind) (tree_at (trees_in self.old) first) (tree_at (trees_in self.old) second))) }
+        ensures later { IsLater (trees_in self.old) (trees_in self.new) }
+    {
+        self.number_by(kind_number(kind), first, second)
+    }
+
+    /// The same, by the number of the kind.
+    fn number_by(&mut self, kind: u32, first: u32, second: u32) -> Result<u32, NoMemory>
         requires first { first ≤ length (trees_in self.old) }
         requires second { second ≤ length (trees_in self.old) }
         ensures number { IfOk result (λ n. Stands (trees_in self.new) n (node kind (tree_at (trees_in self.old) first) (tree_at (trees_in self.old) second))) }
@@ -61,9 +72,9 @@ impl Shapes {
     }
 
     /// The number of a tree over one part; nothing is over nothing.
-    pub fn over(&mut self, kind: u32, part: u32) -> Result<u32, NoMemory>
+    pub fn over(&mut self, kind: Kind, part: u32) -> Result<u32, NoMemory>
         requires { part ≤ length (trees_in self.old) }
-        ensures number { IfOk result (λ n. Stands (trees_in self.new) n (over kind (tree_at (trees_in self.old) part))) }
+        ensures number { IfOk result (λ n. Stands (trees_in self.new) n (over (kind_number kind) (tree_at (trees_in self.old) part))) }
         ensures later { IsLater (trees_in self.old) (trees_in self.new) }
     {
         let _ = &self.keys;
@@ -75,10 +86,10 @@ impl Shapes {
     }
 
     /// The number of a tree over two parts; nothing is over nothing.
-    pub fn over_both(&mut self, kind: u32, first: u32, second: u32) -> Result<u32, NoMemory>
+    pub fn over_both(&mut self, kind: Kind, first: u32, second: u32) -> Result<u32, NoMemory>
         requires first { first ≤ length (trees_in self.old) }
         requires second { second ≤ length (trees_in self.old) }
-        ensures number { IfOk result (λ n. Stands (trees_in self.new) n (over_both kind (tree_at (trees_in self.old) first) (tree_at (trees_in self.old) second))) }
+        ensures number { IfOk result (λ n. Stands (trees_in self.new) n (over_both (kind_number kind) (tree_at (trees_in self.old) first) (tree_at (trees_in self.old) second))) }
         ensures later { IsLater (trees_in self.old) (trees_in self.new) }
     {
         let _ = &self.keys;
@@ -114,6 +125,16 @@ impl Shapes {
         match self.keys.get_index(number as usize - 1) {
             Some((_, members)) => *members,
             None => 0,
+        }
+    }
+
+    /// Above every number but the greatest.
+    pub fn bound(&self) -> u32
+        ensures { result ≤ length self.now }
+    {
+        match u32::try_from(self.keys.len()) {
+            Ok(count) => count,
+            Err(_) => u32::MAX,
         }
     }
 

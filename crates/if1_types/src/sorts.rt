@@ -1,36 +1,32 @@
 //! What the labels of a table stand for, by number.
-ghost use Rattle.std.specs.Prelude.{◌≡◌, ◌≤◌, ℕ, All, List, Some, IfOk, map, length};
+ghost use Rattle.std.specs.Prelude.{◌≡◌, ◌≤◌, ◌<◌, ◌-◌, ℕ, All, IsSome, List, Some, IfOk, map, length};
 ghost use Rattle.std.specs.List.Sorted.{IsStrictlyIncreasing};
 ghost use Rattle.if1_graph.specs.Kinds.{kind_at};
 ghost use Rattle.flow_value.specs.declared.ty.Ty.{Ty};
-ghost use Rattle.if1_graph.specs.Types.{Sort, is_tuple};
+ghost use Rattle.if1_graph.specs.declared.graph.TypeEntry.{TypeEntry};
+ghost use Rattle.if1_graph.specs.Types.{Sort, Plain, is_tuple, sort_at};
+ghost use Rattle.if1_types.specs.Numbering.{IsNumbering};
+ghost use Rattle.if1_types.specs.Parameters.{type_at};
 ghost use Rattle.if1_types.specs.Trees.{over_both, sort_tree};
 ghost use Rattle.if1_types.specs.Shapes.{trees_in, tree_at, members_in, IsLater, Stands};
 ghost use Rattle.if1_types.specs.Tables.{labels_in, number_at, part_by, AreWithin, AreTold, AreSorts};
 ghost use Rattle.if1_types.specs.Lists.{listed, AreListed};
+ghost use Rattle.if1_types.specs.Skips.{first_in, behind, end_at, member_at, members_at, IsFurther};
 ghost use Rattle.if1_types.specs.Forms.{IsSort, IsTy, IsList, Stand, AreOnce, AreRead, sort_form_at, ty_form_at, list_form_at, IsSortForm, IsTyForm, IsListForm, sort_form, ty_form, list_form};
 
 use crate::forms::{ListForm, SortForm, TyForm};
+use crate::kind::Kind;
 use crate::level::{part_over, type_numbers};
 use crate::lines::Line;
 use crate::lists::{list_number, list_numbers};
+use crate::numbered::Sorts;
 use crate::shapes::Shapes;
+use crate::skips::{skip_at, skips_of};
 use crate::table::{labels_of, number_at};
 use crate::ways::way_of;
 use flow_value::{NoMemory, Numbers, Seq};
 use if1_graph::{TypeEntry, TypeKind, kind_of};
 use std::alloc::Global;
-
-/// What the labels of a type table stand for, by number: a value, a multiple or a function.
-#[derive(Drop)]
-pub struct Sorts {
-    /// The labels, rising.
-    pub labels: Numbers,
-    /// The number of each; 0 stands for nothing.
-    pub numbers: Numbers,
-    /// What the numbers stand for.
-    pub shapes: Shapes,
-}
 
 impl Sorts {
     /// The number of what a label stands for: 0 where it stands for nothing, since it is absent, names
@@ -40,6 +36,19 @@ impl Sorts {
         ensures { result ≡ number_at self.now.labels self.now.numbers label }
     {
         number_at(self.labels.as_slice(), self.numbers.as_slice(), label)
+    }
+
+    /// The number of the type of the values that a label stands for, 0 where it stands for no value.
+    pub fn type_of(&self, label: u32) -> u32
+        ensures is { result ≡ type_at self.now label }
+        ensures of { (ts : List TypeEntry) (t : Ty) → IsNumbering ts self.now → sort_at ts label ≡ Some (Plain t) → IsTy self.now.shapes result t }
+    {
+        match self.sort(self.number(label)) {
+            SortForm::Value(ty) => ty,
+            SortForm::Multiple(_) => 0,
+            SortForm::Function(_, _) => 0,
+            SortForm::Nothing => 0,
+        }
     }
 
     /// What the number of a label stands for.
@@ -83,12 +92,63 @@ impl Sorts {
         self.shapes.members(number)
     }
 
-    /// Each type, list and sort has one number, and its form by number is its own.
-    pub fn holds(&self)
-        ensures once { AreOnce self.now.shapes }
-        ensures read { AreRead self.now.shapes }
+    /// The type at a place of a list, from 0. Takes few steps, however long the list is.
+    pub fn member(&self, list: u32, place: u32) -> Option<u32>
+        ensures is { result ≡ member_at self.now.shapes list place }
+        ensures within { IsSome result → place < members_at self.now.shapes list }
     {
-        self.shapes.holds();
+        let members = self.length(list);
+        if place >= members {
+            return None;
+        }
+        let end = self.end_with(list, members - place);
+        first_of(self.list(end))
+    }
+
+    /// The end of a list that has so many members.
+    fn end_with(&self, list: u32, left: u32) -> u32
+        requires some { 0 < left }
+        requires within { left ≤ members_at self.now.shapes list }
+        ensures { result ≡ end_at self.now.shapes (members_at self.now.shapes list - left) list }
+    {
+        let mut end = list;
+        let mut members = self.length(list);
+        while members > left {
+            end = self.further(end, left);
+            members = self.length(end);
+        }
+        end
+    }
+
+    /// A list further on, with at least so many members.
+    fn further(&self, list: u32, left: u32) -> u32
+        requires { left < members_at self.now.shapes list }
+        ensures on { IsFurther self.now.shapes list result }
+        ensures within { left ≤ members_at self.now.shapes result }
+    {
+        let rest = rest_of(self.list(list));
+        match skip_at(self.skips.as_slice(), list) {
+            Some(skip) if self.length(skip) >= left => skip,
+            _ => rest,
+        }
+    }
+}
+
+fn first_of(form: ListForm) -> Option<u32>
+    ensures { result ≡ first_in form }
+{
+    match form {
+        ListForm::Member(ty, _) => Some(ty),
+        ListForm::End => None,
+    }
+}
+
+fn rest_of(form: ListForm) -> u32
+    ensures { result ≡ behind form }
+{
+    match form {
+        ListForm::Member(_, rest) => rest,
+        ListForm::End => 0,
     }
 }
 
@@ -145,7 +205,7 @@ fn function_number(
 {
     let first = list_number(shapes, labels, lists, arguments);
     let second = list_number(shapes, labels, lists, results);
-    let number = shapes.over_both(12, first, second)?;
+    let number = shapes.over_both(Kind::Function, first, second)?;
     Ok(number)
 }
 
@@ -167,7 +227,14 @@ fn sort_number(
     ensures later { IsLater (trees_in shapes.old) (trees_in shapes.new) }
 {
     match kind_of(entry.code) {
-        Some(TypeKind::Multiple) => part_over(shapes, types, labels, numbers, 11, entry.first),
+        Some(TypeKind::Multiple) => part_over(
+            shapes,
+            types,
+            labels,
+            numbers,
+            Kind::Multiple,
+            entry.first,
+        ),
         Some(TypeKind::Function) => function_number(
             shapes,
             labels,
@@ -175,7 +242,7 @@ fn sort_number(
             entry.first,
             entry.second,
         ),
-        _ => part_over(shapes, types, labels, numbers, 10, entry.label),
+        _ => part_over(shapes, types, labels, numbers, Kind::Value, entry.label),
     }
 }
 
@@ -224,15 +291,20 @@ pub fn sorts_of(alloc: Global, types: &[TypeEntry]) -> Result<Sorts, NoMemory>
     requires { IsStrictlyIncreasing (map (λ e. e.label) types.now) }
     ensures numbers { IfOk result (λ s. AreSorts types.now s.labels s.numbers) }
     ensures stand { IfOk result (λ s. Stand types.now s.shapes s.labels s.numbers) }
+    ensures labels { IfOk result (λ s. s.labels ≡ labels_in types.now) }
+    ensures once { IfOk result (λ s. AreOnce s.shapes) }
+    ensures read { IfOk result (λ s. AreRead s.shapes) }
 {
     let labels = labels_of(alloc, types)?;
     let mut shapes = Shapes::new(alloc);
     let numbers = type_numbers(&mut shapes, types, labels.as_slice())?;
     let sorts = sort_numbers(&mut shapes, types, labels.as_slice(), numbers.as_slice())?;
     shapes.holds();
+    let skips = skips_of(&shapes)?;
     Ok(Sorts {
         labels,
         numbers: sorts,
         shapes,
+        skips,
     })
 }

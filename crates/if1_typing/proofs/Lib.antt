@@ -1,5 +1,6 @@
 pub mod Names
 pub mod Ports
+pub mod Noted
 pub mod Numbered
 pub mod Tagged
 pub mod Sited

@@ -1,5 +1,7 @@
 -- What is right or wrong in a graph, from its ends and from the graphs in its nodes.
-use Rattle.std.proofs.Common.{◌≡◌, ℕ, ◌+◌, ◌<◌, ◌≤◌, true, false, ◌++◌, List, map, take, length, get_or, slice_get, Option, Some, None, option_map, All, Contains, inl, inr, ◌⊎◌, MatchOption, refl, sym, ap, subst, ◌∙◌, arith}
+use Rattle.std.specs.List.{list_all}
+use Rattle.std.proofs.lemmas.Bool.Decides.{eqb_tells}
+use Rattle.std.proofs.Common.{◌≢◌, eq-eqb, ◌==◌, ◌&&◌, ◌||◌, not, Bool, [], ◌∷◌, ◌≡◌, ℕ, ◌+◌, ◌<◌, ◌≤◌, true, false, ◌++◌, List, map, take, length, get_or, slice_get, Option, Some, None, option_map, All, Contains, inl, inr, ◌⊎◌, MatchOption, refl, sym, ap, subst, ◌∙◌, arith}
 use Rattle.std.proofs.lemmas.List.Elements.{All-contains, All-more, All-cons, All-append, All-map, All-weaker, Contains-get_or, Contains-append_left, Contains-append_right}
 use Rattle.std.proofs.lemmas.List.{take_all}
 use Rattle.std.proofs.lemmas.Option.{slice_get_within, slice_get-get_or}
@@ -7,20 +9,21 @@ use Rattle.if1_graph.specs.declared.graph.Graph.{Graph}
 use Rattle.if1_graph.specs.declared.graph.Graph.TheViews.{out-Graph}
 use Rattle.if1_graph.specs.declared.graph.Node.{Node, out-Node}
 use Rattle.if1_graph.specs.declared.graph.Edge.{Edge}
-use Rattle.if1_graph.specs.Units.{label_of, edges_into, ends}
+use Rattle.if1_graph.specs.Units.{label_of, node_at, edges_into, ends}
 use Rattle.if1_order.specs.Within.{IsPart, whole}
 use Rattle.if1_order.specs.Within as part
-use Rattle.if1_order.proofs.Members.{contains_here, contains_there, contains_mapped, mapped_contains}
+use Rattle.if1_order.proofs.Members.{contains_here, contains_there, contains_cases, contains_none, contains_mapped, mapped_contains, filter_contains}
 use Rattle.if1_ports.proofs.Right.{node_found, no_zero}
 use Rattle.if1_typing.specs.declared.site.Content.{Content}
 use Rattle.if1_typing.specs.declared.site.Content.TheVariants.{Any}
 use Rattle.if1_typing.specs.declared.site.Frame.{Frame}
 use Rattle.if1_typing.specs.declared.site.Site.{Site}
-use Rattle.if1_typing.specs.Tables.{Table}
+use Rattle.if1_typing.specs.Tables.{Table, number}
 use Rattle.if1_typing.specs.Fed.{AreOrdered}
 use Rattle.if1_typing.specs.Sites.{Around, around_in, frame_by, content_in, site_at}
 use Rattle.if1_typing.specs.declared.node.Doing.{Doing}
-use Rattle.if1_typing.specs.Ends.{IsLaid, FindsWrong, doing_of, is_right_as, is_right}
+use Rattle.if1_typing.specs.Ends.{IsLaid, FindsWrong, doing_of, is_wanted, is_given, is_sorted, is_typed, is_end_typed, is_right_as, is_right}
+use Rattle.if1_typing.specs.Given.{LeadsUngiven}
 use Rattle.if1_typing.specs.Agree.{AreAgreed, Disagrees}
 use Rattle.if1_typing.specs.Inside.{itself, deeper, IsLaidInside, AreLaid, AllRight, SomeWrong, part_around, PartsRight, PartsWrong, NodeRight, NodeWrong, NodesRight, NodesWrong}
 
@@ -83,15 +86,74 @@ module _ (t : Table) where
     pub wrong_boundary : is_right t a g 0 ≡ false → FindsWrong t a g (Some 0)
     wrong_boundary wrong = (contains_here 0 (map label_of (out-Graph g).nodes ++ map (λ (e : Edge). e.node) (out-Graph g).edges), inl wrong)
 
-    pub found_disagreeing : (r : Option ℕ) → IsLaid g → All (λ n. Right (label_of n)) (out-Graph g).nodes → Right 0 →
-        MatchOption r (AreAgreed t (out-Graph g).edges) (Disagrees t (out-Graph g).edges) → FindsWrong t a g r
-    found_disagreeing None laid nodes bound agreed = (all_ends nodes bound laid.leads, agreed)
-    found_disagreeing (Some l) laid nodes bound d = (
+    pub wrong_edge : (l : ℕ) → Disagrees t (out-Graph g).edges l → FindsWrong t a g (Some l)
+    wrong_edge l d = (
       contains_there 0 (map label_of (out-Graph g).nodes ++ map (λ (e : Edge). e.node) (out-Graph g).edges) l
           (Contains-append_right (map label_of (out-Graph g).nodes) (map (λ (e : Edge). e.node) (out-Graph g).edges) l
           (subst (λ l. Contains (map (λ (e : Edge). e.node) (out-Graph g).edges) l) d.leads (mapped_contains (λ (e : Edge). e.node) (out-Graph g).edges d.one d.leaves.there))),
       inr d,
     )
+
+    all_but : (p : Edge → Bool) (es : List Edge) (e : Edge) → Contains es e → p e ≡ false → list_all p es ≡ false
+    all_but p [] e h off = absurd (contains_none e h)
+    all_but p (f ∷ es) e h off =
+        elim (contains_cases f es e h) [
+          | inl same ↦ ap (λ b. b && list_all p es) (ap p same ∙ off)
+          | inr there ↦ ap (λ b. p f && b) (all_but p es e there off) ∙ and_false (p f)
+        ]
+      where
+        and_false : (b : Bool) → (b && false) ≡ false
+        and_false true = refl
+        and_false false = refl
+
+    -- an edge that its source does not give
+    pub wrong_source : (l : ℕ) → LeadsUngiven t g l → FindsWrong t a g (Some l)
+    wrong_source l u = (
+      contains_there 0 (map label_of (out-Graph g).nodes ++ map (λ (e : Edge). e.node) (out-Graph g).edges) l
+          (Contains-append_right (map label_of (out-Graph g).nodes) (map (λ (e : Edge). e.node) (out-Graph g).edges) l
+          (subst (λ l. Contains (map (λ (e : Edge). e.node) (out-Graph g).edges) l) u.leads (mapped_contains (λ (e : Edge). e.node) (out-Graph g).edges u.edge u.there))),
+      inl (subst (λ l. is_right t a g l ≡ false) u.leads wrong),
+    )
+      where
+        e : Edge
+        e = u.edge
+
+        d : Option Doing
+        d = option_map doing_of (node_at (out-Graph g).nodes u.edge.node)
+
+        into : List Edge
+        into = edges_into g u.edge.node
+
+        untyped : is_typed t a g (option_map doing_of (node_at (out-Graph g).nodes u.edge.node)) (edges_into g u.edge.node) u.edge ≡ false
+        untyped =
+            ap (λ b. b || is_sorted t a g d into e (number t e.ty)) u.ungiven.no_name
+            ∙ ap (λ from. not (number t e.ty == 0) && (is_wanted t a.site a.parts d into e.port (number t e.ty) && is_given t a g from (number t e.ty))) u.ungiven.from
+            ∙ ap (λ b. not (number t e.ty == 0) && (is_wanted t a.site a.parts d into e.port (number t e.ty) && b)) u.ungiven.ungiven
+            ∙ ap (λ b. not (number t e.ty == 0) && b) (and_no (is_wanted t a.site a.parts d into e.port (number t e.ty)))
+            ∙ and_no (not (number t e.ty == 0))
+          where
+            and_no : (b : Bool) → (b && false) ≡ false
+            and_no true = refl
+            and_no false = refl
+
+        wrong : is_right t a g u.edge.node ≡ false
+        wrong =
+            ap (λ b. is_end_typed t a.site d && b)
+            (all_but (is_typed t a g d into) into e (filter_contains (λ (f : Edge). f.node == e.node) (out-Graph g).edges e u.there (eq-eqb e.node e.node refl)) untyped)
+            ∙ no_end (is_end_typed t a.site d)
+          where
+            no_end : (b : Bool) → (b && false) ≡ false
+            no_end true = refl
+            no_end false = refl
+
+    pub wrong_either : (l m : ℕ) → Disagrees t (out-Graph g).edges l → (m ≢ l → LeadsUngiven t g m) → FindsWrong t a g (Some m)
+    wrong_either l m d u = elim (eqb_tells m l) [
+      | inl same ↦ subst (λ n. FindsWrong t a g (Some n)) (sym same.1) (wrong_edge l d)
+      | inr other ↦ wrong_source m (u other.1)
+    ]
+
+    pub none_wrong : IsLaid g → All (λ n. Right (label_of n)) (out-Graph g).nodes → Right 0 → AreAgreed t (out-Graph g).edges → FindsWrong t a g None
+    none_wrong laid nodes bound agreed = (all_ends nodes bound laid.leads, agreed)
 
   -- ---- one graph
 

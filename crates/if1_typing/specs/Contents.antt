@@ -3,7 +3,8 @@ use Rattle.std.specs.Prelude.{ℕ, ◌==◌, Bool, false, List, [], ◌∷◌, O
 use Rattle.if1_graph.specs.Tables.{◌>>=◌}
 use Rattle.if1_types.specs.Shapes.{Key}
 use Rattle.if1_types.specs.Forms.{list_form_at}
-use Rattle.if1_fits.specs.Views.{first_in, rest_in, are_same}
+use Rattle.if1_types.specs.Skips.{first_in, rest_in}
+use Rattle.if1_fits.specs.Views.{are_same}
 use Rattle.if1_typing.specs.declared.site.Content.{Content}
 use Rattle.if1_typing.specs.declared.site.Content.TheVariants.{Any, One, Never}
 

@@ -1,11 +1,11 @@
 -- What a node has by the edges that lead into it, by number.
-use Rattle.std.specs.Prelude.{ℕ, Bool, ◌≤◌, List, All, AllPairs, Option, Some, None, slice_get}
+use Rattle.std.specs.Prelude.{ℕ, Bool, List, All, AllPairs, Option, Some, None, slice_get}
 use Rattle.if1_graph.specs.declared.graph.Edge.{Edge}
 use Rattle.if1_graph.specs.declared.graph.Graph.{Graph}
 use Rattle.if1_graph.specs.declared.graph.Graph.TheViews.{out-Graph}
 use Rattle.if1_graph.specs.declared.op.Reducer.{Reducer}
 use Rattle.if1_graph.specs.declared.row.Want.{Want}
-use Rattle.if1_graph.specs.Tables.{◌>>=◌, if_keyed}
+use Rattle.if1_graph.specs.Tables.{◌>>=◌}
 use Rattle.if1_graph.specs.Ops.{reducer_at}
 use Rattle.if1_graph.specs.Normal.{Precedes}
 use Rattle.if1_graph.specs.Units.{edges_into}
@@ -17,14 +17,6 @@ use Rattle.if1_typing.specs.Tables.{Table}
 -- the edges of each graph stand in order
 abbrev pub AreOrdered : List Graph → Type 0
 AreOrdered gs = All (λ g. AllPairs Precedes (out-Graph g).edges) gs
-
--- ports do not fall
-abbrev pub AreUp : List Edge → Type 0
-AreUp es = AllPairs (λ e f. e.port ≤ f.port) es
-
--- the edge, where it leads into this port
-abbrev pub with_port : ℕ → Option Edge → Option Edge
-with_port port m = m >>= if_keyed (λ e. e.port) port
 
 -- the number of what a port carries, 0 where nothing is carried
 abbrev pub carried_in : Table → List Edge → ℕ → ℕ

@@ -39,7 +39,7 @@ table_of k = record {
   labels = k.sorts.labels;
   numbers = k.sorts.numbers;
   callees = λ text. or_zero (get_by (λ key. bytes_eq text key.items) k.callees);
-  is_function = λ l. number_at k.labels k.codes l == 3;
+  is_function = λ l. number_at k.sorts.labels k.codes l == 3;
 }
 
 -- the number of a function's type

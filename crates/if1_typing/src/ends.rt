@@ -1,30 +1,31 @@
 //! The types of what leads into the nodes and the boundary of one graph.
-ghost use Rattle.std.specs.Prelude.{◌≡◌, true, false, All, AllPairs, Contains, MatchOption, IfOk, map, is_some};
+ghost use Rattle.std.specs.Prelude.{◌≡◌, ◌≢◌, true, false, ℕ, Some, All, AllPairs, Contains, MatchOption, IfOk, map, option_map, is_some};
 ghost use Rattle.if1_graph.specs.Normal.{Precedes};
-ghost use Rattle.if1_graph.specs.Typing.{giving_part};
 ghost use Rattle.if1_graph.specs.Units.{label_of, node_at};
 ghost use Rattle.if1_types.specs.Forms.{sort_form_at};
 ghost use Rattle.if1_fits.specs.Views.{arguments_in};
 ghost use Rattle.if1_graph.specs.declared.graph.Graph.TheViews.{out-Graph};
 ghost use Rattle.if1_graph.specs.declared.graph.Node.{out-Node};
 ghost use Rattle.if1_typing.specs.Tables.{table_of};
-ghost use Rattle.if1_typing.specs.Fed.{AreOrdered, AreUp};
+ghost use Rattle.if1_fits.specs.Views.{AreUp};
+ghost use Rattle.if1_typing.specs.Fed.{AreOrdered, callee_in};
+ghost use Rattle.if1_typing.specs.Given.{AreNoted, IsUngiven, LeadsUngiven};
 ghost use Rattle.if1_typing.specs.Ends as spec;
 ghost use Rattle.if1_typing.specs.Ends.{IsLaid};
 
 use crate::agree::disagreeing;
-use crate::answers::{both, either};
-use crate::fed::{fits_in, result_number, value_of};
+use crate::fed::{callee_in, edges_of, fits_in};
+use crate::given::{Given, given_of, gives, noted};
 use crate::known::Known;
 use crate::node::Doing;
 use crate::site::Site;
 use crate::sites::{input_fits, result_fits, tags_at};
 use flow_value::NoMemory;
+use if1_fits::value_of;
 use if1_graph::{
     Compound, Edge, Graph, Node, Origin, Part, Simple, Use, Want, compound_of, node_of, operand_of,
-    output_of, simple_of,
+    simple_of,
 };
-use if1_ports::edges_into;
 use if1_types::SortForm;
 use std::alloc::Global;
 
@@ -37,11 +38,19 @@ fn doing_of(node: &Node) -> Doing
     }
 }
 
-fn operand_fits(known: &Known, edges: &[Edge], operand: Option<(Use, Want)>, number: u32) -> bool
+fn operand_fits(
+    known: &Known,
+    edges: &[Edge],
+    callee: u32,
+    operand: Option<(Use, Want)>,
+    number: u32,
+) -> bool
+    requires up { AreUp edges.now }
+    requires callee { callee ≡ callee_in (table_of known.now) edges.now }
     ensures { result ≡ spec.operand_fits (table_of known.now) edges.now operand number }
 {
     match operand {
-        Some((_, want)) => fits_in(known, edges, want, number),
+        Some((_, want)) => fits_in(known, edges, callee, want, number),
         None => false,
     }
 }
@@ -51,32 +60,44 @@ fn compound_fits(known: &Known, compound: Compound, port: u32, number: u32) -> b
 {
     match compound {
         Compound::TagCase if port == 1 => tags_at(known, number).is_some(),
-        _ => value_of(known, number).is_some(),
+        _ => value_of(&known.sorts, number).is_some(),
     }
 }
 
 fn simple_fits(
     known: &Known,
     edges: &[Edge],
+    callee: u32,
     simple: Option<Simple>,
     port: u32,
     number: u32,
 ) -> bool
+    requires up { AreUp edges.now }
+    requires callee { callee ≡ callee_in (table_of known.now) edges.now }
     ensures { result ≡ spec.node_fits (table_of known.now) edges.now None simple port number }
 {
     match simple {
-        Some(op) => operand_fits(known, edges, operand_of(op, port), number),
+        Some(op) => operand_fits(known, edges, callee, operand_of(op, port), number),
         None => false,
     }
 }
 
 /// Whether the type of a number is one that a port of a node wants.
-fn node_fits(known: &Known, edges: &[Edge], doing: Doing, port: u32, number: u32) -> bool
+fn node_fits(
+    known: &Known,
+    edges: &[Edge],
+    callee: u32,
+    doing: Doing,
+    port: u32,
+    number: u32,
+) -> bool
+    requires up { AreUp edges.now }
+    requires callee { callee ≡ callee_in (table_of known.now) edges.now }
     ensures { result ≡ spec.node_fits (table_of known.now) edges.now doing.compound doing.simple port number }
 {
     match doing.compound {
         Some(compound) => compound_fits(known, compound, port, number),
-        None => simple_fits(known, edges, doing.simple, port, number),
+        None => simple_fits(known, edges, callee, doing.simple, port, number),
     }
 }
 
@@ -87,78 +108,18 @@ fn is_wanted(
     graphs: &[Graph],
     doing: Option<Doing>,
     edges: &[Edge],
+    callee: u32,
     port: u32,
     number: u32,
 ) -> bool
-    requires { AreOrdered graphs.now }
+    requires order { AreOrdered graphs.now }
+    requires up { AreUp edges.now }
+    requires callee { callee ≡ callee_in (table_of known.now) edges.now }
     ensures { result ≡ spec.is_wanted (table_of known.now) site graphs.now doing edges.now port number }
 {
     match doing {
-        Some(doing) => node_fits(known, edges, doing, port, number),
+        Some(doing) => node_fits(known, edges, callee, doing, port, number),
         None => result_fits(known, site, graphs, port, number),
-    }
-}
-
-/// The graph in a compound node whose results are the node's outputs.
-fn giving_part(compound: Compound) -> usize
-    ensures { result ≡ giving_part compound }
-{
-    match compound {
-        Compound::TagCase => 0,
-        Compound::Select => 1,
-        Compound::ForAll => 2,
-        Compound::LoopA | Compound::LoopB => 3,
-    }
-}
-
-fn output_as(known: &Known, edges: &[Edge], want: Option<Want>, number: u32) -> bool
-    ensures { result ≡ spec.output_as (table_of known.now) edges.now want number }
-{
-    match want {
-        Some(want) => fits_in(known, edges, want, number),
-        None => false,
-    }
-}
-
-fn simple_output_fits(
-    known: &Known,
-    graph: &Graph,
-    node: &Node,
-    simple: Option<Simple>,
-    port: u32,
-    number: u32,
-) -> bool
-    requires { AllPairs Precedes (out-Graph graph.now).edges }
-    ensures { result ≡ spec.output_fits (table_of known.now) graph.now node.now None simple port number }
-{
-    let edges = edges_into(graph.edges.as_slice(), node.label);
-    match simple {
-        Some(op) => output_as(known, edges, output_of(op, port), number),
-        None => false,
-    }
-}
-
-/// Whether the type of a number is that of an output of a node.
-fn output_fits(known: &Known, graph: &Graph, node: &Node, port: u32, number: u32) -> bool
-    requires order { AllPairs Precedes (out-Graph graph.now).edges }
-    requires inside { AreOrdered (out-Node node.now).subs }
-    ensures { result ≡ spec.node_gives (table_of known.now) graph.now (Some node.now) port number }
-{
-    match compound_of(node.op) {
-        Some(compound) => {
-            result_number(known, node.subs.as_slice(), giving_part(compound), port) == number
-        }
-        None => simple_output_fits(known, graph, node, simple_of(node.op), port, number),
-    }
-}
-
-fn node_gives(known: &Known, graph: &Graph, label: u32, port: u32, number: u32) -> bool
-    requires { IsLaid graph.now }
-    ensures { result ≡ spec.node_gives (table_of known.now) graph.now (node_at (out-Graph graph.now).nodes label) port number }
-{
-    match node_of(graph.nodes.as_slice(), label) {
-        Some(node) => output_fits(known, graph, node, port, number),
-        None => false,
     }
 }
 
@@ -168,6 +129,7 @@ fn port_gives(
     site: Site,
     inputs: &[Edge],
     parts: &[Graph],
+    given: &Given,
     node: u32,
     port: u32,
     number: u32,
@@ -175,12 +137,13 @@ fn port_gives(
     requires laid { IsLaid graph.now }
     requires up { AreUp inputs.now }
     requires order { AreOrdered parts.now }
+    requires noted { AreNoted (table_of known.now) graph.now given.now }
     ensures { result ≡ spec.is_given (table_of known.now) (record { site = site; inputs = inputs.now; parts = parts.now }) graph.now (Origin.Port node port) number }
 {
     if node == 0 {
         input_fits(known, site, inputs, parts, port, number)
     } else {
-        node_gives(known, graph, node, port, number)
+        gives(known, graph, given, node, port, number)
     }
 }
 
@@ -191,18 +154,22 @@ fn is_given(
     site: Site,
     inputs: &[Edge],
     parts: &[Graph],
+    given: &Given,
     from: &Origin,
     number: u32,
 ) -> bool
     requires laid { IsLaid graph.now }
     requires up { AreUp inputs.now }
     requires order { AreOrdered parts.now }
+    requires noted { AreNoted (table_of known.now) graph.now given.now }
     ensures { result ≡ spec.is_given (table_of known.now) (record { site = site; inputs = inputs.now; parts = parts.now }) graph.now from.now number }
 {
     match from {
         Origin::Lit(_) => true,
         Origin::Port(node, port) => {
-            port_gives(known, graph, site, inputs, parts, *node, *port, number)
+            port_gives(
+                known, graph, site, inputs, parts, given, *node, *port, number,
+            )
         }
     }
 }
@@ -233,28 +200,66 @@ fn is_function_name(known: &Known, doing: Option<Doing>, edge: &Edge) -> bool
     }
 }
 
-/// Whether an edge has a type that its port wants and its source gives. These edges lead into its node.
+/// Whether the type of a number is one that the port of an edge wants and its source gives.
+fn is_sorted(
+    known: &Known,
+    graph: &Graph,
+    site: Site,
+    inputs: &[Edge],
+    parts: &[Graph],
+    given: &Given,
+    doing: Option<Doing>,
+    edges: &[Edge],
+    callee: u32,
+    edge: &Edge,
+    number: u32,
+) -> bool
+    requires laid { IsLaid graph.now }
+    requires up { AreUp inputs.now }
+    requires order { AreOrdered parts.now }
+    requires noted { AreNoted (table_of known.now) graph.now given.now }
+    requires ports { AreUp edges.now }
+    requires callee { callee ≡ callee_in (table_of known.now) edges.now }
+    ensures { result ≡ spec.is_sorted (table_of known.now) (record { site = site; inputs = inputs.now; parts = parts.now }) graph.now doing edges.now edge.now number }
+{
+    if number == 0 {
+        return false;
+    }
+    if !is_wanted(known, site, parts, doing, edges, callee, edge.port, number) {
+        return false;
+    }
+    is_given(known, graph, site, inputs, parts, given, &edge.from, number)
+}
+
+/// Whether an edge has a type that its port wants and its source gives. These edges lead into its node,
+/// whose literal names a function of the type `callee`.
 fn is_typed(
     known: &Known,
     graph: &Graph,
     site: Site,
     inputs: &[Edge],
     parts: &[Graph],
+    given: &Given,
     doing: Option<Doing>,
     edges: &[Edge],
+    callee: u32,
     edge: &Edge,
 ) -> bool
     requires laid { IsLaid graph.now }
     requires up { AreUp inputs.now }
     requires order { AreOrdered parts.now }
+    requires noted { AreNoted (table_of known.now) graph.now given.now }
+    requires ports { AreUp edges.now }
+    requires callee { callee ≡ callee_in (table_of known.now) edges.now }
     ensures { result ≡ spec.is_typed (table_of known.now) (record { site = site; inputs = inputs.now; parts = parts.now }) graph.now doing edges.now edge.now }
 {
+    if is_function_name(known, doing, edge) {
+        return true;
+    }
     let number = known.number(edge.ty);
-    let wanted = is_wanted(known, site, parts, doing, edges, edge.port, number);
-    let given = is_given(known, graph, site, inputs, parts, &edge.from, number);
-    let fits = both(wanted, given);
-    let sorted = both(number != 0, fits);
-    either(is_function_name(known, doing, edge), sorted)
+    is_sorted(
+        known, graph, site, inputs, parts, given, doing, edges, callee, edge, number,
+    )
 }
 
 /// Whether all edges into a node, or into the boundary, have types that their ports want and their
@@ -265,16 +270,22 @@ fn are_typed(
     site: Site,
     inputs: &[Edge],
     parts: &[Graph],
+    given: &Given,
     doing: Option<Doing>,
     edges: &[Edge],
 ) -> bool
     requires laid { IsLaid graph.now }
     requires up { AreUp inputs.now }
     requires order { AreOrdered parts.now }
+    requires noted { AreNoted (table_of known.now) graph.now given.now }
+    requires ports { AreUp edges.now }
     ensures { result ≡ spec.are_typed (table_of known.now) (record { site = site; inputs = inputs.now; parts = parts.now }) graph.now doing edges.now edges.now }
 {
+    let callee = callee_in(known, edges);
     for edge in edges {
-        if !is_typed(known, graph, site, inputs, parts, doing, edges, edge) {
+        if !is_typed(
+            known, graph, site, inputs, parts, given, doing, edges, callee, edge,
+        ) {
             return false;
         }
     }
@@ -345,18 +356,21 @@ fn is_right(
     site: Site,
     inputs: &[Edge],
     parts: &[Graph],
+    given: &Given,
     label: u32,
     doing: Option<Doing>,
 ) -> bool
     requires laid { IsLaid graph.now }
     requires up { AreUp inputs.now }
     requires order { AreOrdered parts.now }
+    requires noted { AreNoted (table_of known.now) graph.now given.now }
     ensures { result ≡ spec.is_right_as (table_of known.now) (record { site = site; inputs = inputs.now; parts = parts.now }) graph.now label doing }
 {
-    let edges = edges_into(graph.edges.as_slice(), label);
-    let place = is_end_typed(known, site, doing);
-    let typed = are_typed(known, graph, site, inputs, parts, doing, edges);
-    both(place, typed)
+    if !is_end_typed(known, site, doing) {
+        return false;
+    }
+    let edges = edges_of(graph, label);
+    are_typed(known, graph, site, inputs, parts, given, doing, edges)
 }
 
 /// The label of a node into which something leads with a wrong type.
@@ -366,10 +380,12 @@ fn wrong_node(
     site: Site,
     inputs: &[Edge],
     parts: &[Graph],
+    given: &Given,
 ) -> Option<u32>
     requires laid { IsLaid graph.now }
     requires up { AreUp inputs.now }
     requires order { AreOrdered parts.now }
+    requires noted { AreNoted (table_of known.now) graph.now given.now }
     ensures { MatchOption
         result
         (All (λ n. spec.is_right (table_of known.now) (record { site = site; inputs = inputs.now; parts = parts.now }) graph.now (label_of n) ≡ true) (out-Graph graph.now).nodes)
@@ -382,6 +398,7 @@ fn wrong_node(
             site,
             inputs,
             parts,
+            given,
             node.label,
             Some(doing_of(node)),
         ) {
@@ -391,9 +408,73 @@ fn wrong_node(
     None
 }
 
+fn doing_at(graph: &Graph, label: u32) -> Option<Doing>
+    requires { IsLaid graph.now }
+    ensures { result ≡ option_map spec.doing_of (node_at (out-Graph graph.now).nodes label) }
+{
+    match node_of(graph.nodes.as_slice(), label) {
+        Some(node) => Some(doing_of(node)),
+        None => None,
+    }
+}
+
+/// Whether it is noted that the port from which an edge comes does not give its type.
+fn is_ungiven(known: &Known, graph: &Graph, given: &Given, edge: &Edge) -> bool
+    requires laid { IsLaid graph.now }
+    requires noted { AreNoted (table_of known.now) graph.now given.now }
+    ensures { result ≡ true → IsUngiven (table_of known.now) graph.now edge.now }
+{
+    if is_function_name(known, doing_at(graph, edge.node), edge) {
+        return false;
+    }
+    match &edge.from {
+        Origin::Port(node, port) if *node != 0 => {
+            is_refuted(noted(given, *node, *port, known.number(edge.ty)))
+        }
+        _ => false,
+    }
+}
+
+fn is_refuted(answer: Option<bool>) -> bool
+    ensures { result ≡ true → answer ≡ Some false }
+{
+    match answer {
+        Some(gives) => !gives,
+        None => false,
+    }
+}
+
+/// The label of a node into which an edge leads whose type its source does not give, as it is noted.
+fn ungiven(known: &Known, graph: &Graph, given: &Given) -> Option<u32>
+    requires laid { IsLaid graph.now }
+    requires noted { AreNoted (table_of known.now) graph.now given.now }
+    ensures { (l : ℕ) → result ≡ Some l → LeadsUngiven (table_of known.now) graph.now l }
+{
+    for edge in graph.edges.as_slice() {
+        if is_ungiven(known, graph, given, edge) {
+            return Some(edge.node);
+        }
+    }
+    None
+}
+
+/// The label of a node into which an edge leads whose type its source does not give, or else this one.
+fn or_ungiven(known: &Known, graph: &Graph, given: &Given, label: u32) -> u32
+    requires laid { IsLaid graph.now }
+    requires noted { AreNoted (table_of known.now) graph.now given.now }
+    ensures { result ≢ label → LeadsUngiven (table_of known.now) graph.now result }
+{
+    match ungiven(known, graph, given) {
+        Some(first) => first,
+        None => label,
+    }
+}
+
 /// A node of a graph into which something leads with a wrong type, or from whose source other edges
 /// lead with other types, or 0 for the boundary, if there is one. A function whose own type is wrong is
-/// named first, since what its inputs carry is not known then. Near linear in the nodes and edges.
+/// named first, since what its inputs carry is not known then. Where edges from one port differ in type,
+/// one that the port does not give is named then, or else the later one, so that each port is looked at
+/// once. Near linear in the nodes and edges.
 pub fn wrong_end(
     alloc: Global,
     known: &Known,
@@ -410,12 +491,15 @@ pub fn wrong_end(
     if !is_end_typed(known, site, None) {
         return Ok(Some(0));
     }
-    if let Some(label) = wrong_node(known, graph, site, inputs, parts) {
+    let given = given_of(alloc, known, graph)?;
+    if let Some(label) = disagreeing(alloc, known, graph.edges.as_slice())? {
+        return Ok(Some(or_ungiven(known, graph, &given, label)));
+    }
+    if let Some(label) = wrong_node(known, graph, site, inputs, parts, &given) {
         return Ok(Some(label));
     }
-    if !is_right(known, graph, site, inputs, parts, 0, None) {
+    if !is_right(known, graph, site, inputs, parts, &given, 0, None) {
         return Ok(Some(0));
     }
-    let found = disagreeing(alloc, known, graph.edges.as_slice())?;
-    Ok(found)
+    Ok(None)
 }

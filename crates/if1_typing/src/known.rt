@@ -12,10 +12,7 @@ pub struct Known {
     pub sorts: Sorts,
     /// The numbers of the types of functions by their names, of each name the first function's.
     pub callees: IndexMap<Vec<u8>, u32>,
-    /// The labels, rising.
-    pub labels: Numbers,
-    /// The code of each one's kind of type.
+    /// The code of each label's kind of type.
     pub codes: Numbers,
     ghost sorted: { IsStrictlyIncreasing sorts.labels },
-    ghost rising: { IsStrictlyIncreasing labels },
 }

@@ -2,10 +2,10 @@
 #![tactic(auto)]
 
 mod agree;
-mod answers;
 mod contents;
 mod ends;
 mod fed;
+mod given;
 mod known;
 mod node;
 mod site;
@@ -13,4 +13,6 @@ mod sites;
 mod tables;
 mod units;
 
+pub use known::Known;
+pub use tables::known_of;
 pub use units::wrong_type;

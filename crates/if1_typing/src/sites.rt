@@ -2,18 +2,17 @@
 ghost use Rattle.std.specs.Prelude.{◌≡◌, ℕ};
 ghost use Rattle.if1_graph.specs.declared.graph.Node.{out-Node};
 ghost use Rattle.if1_typing.specs.Tables.{table_of};
-ghost use Rattle.if1_typing.specs.Fed.{AreOrdered, AreUp};
+ghost use Rattle.if1_fits.specs.Views.{AreUp};
+ghost use Rattle.if1_typing.specs.Fed.{AreOrdered};
 ghost use Rattle.if1_typing.specs.Contents as contents;
 ghost use Rattle.if1_typing.specs.Sites as spec;
 
-use crate::answers::both;
-use crate::fed::{
-    are_same, carried_in, fits_in, many_of, result_number, results_at, tags_of, value_of, width_of,
-};
+use crate::fed::{carried_in, result_number, results_at};
 use crate::known::Known;
 use crate::site::{Content, Frame, Inner, Site};
-use if1_fits::fits;
+use if1_fits::{are_same, fits, many_of, tags_of, value_of};
 use if1_graph::{Compound, Edge, Graph, Node, Part, Want, compound_of, part_at};
+use if1_ports::greatest_port;
 
 /// An input of returns after those of the node, counted from 1.
 fn returned_fits(
@@ -29,13 +28,13 @@ fn returned_fits(
 {
     match compound {
         Compound::ForAll if port > first => are_same(
-            value_of(known, result_number(known, graphs, 1, port - first)),
-            many_of(known, number),
+            value_of(&known.sorts, result_number(known, graphs, 1, port - first)),
+            many_of(&known.sorts, number),
         ),
         Compound::ForAll => result_number(known, graphs, 0, port) == number,
         _ => are_same(
-            value_of(known, result_number(known, graphs, 0, port)),
-            many_of(known, number),
+            value_of(&known.sorts, result_number(known, graphs, 0, port)),
+            many_of(&known.sorts, number),
         ),
     }
 }
@@ -52,7 +51,10 @@ fn body_input_fits(
 {
     let carried = result_number(known, graphs, 0, port);
     match compound {
-        Compound::ForAll => are_same(many_of(known, carried), value_of(known, number)),
+        Compound::ForAll => are_same(
+            many_of(&known.sorts, carried),
+            value_of(&known.sorts, number),
+        ),
         _ => carried == number,
     }
 }
@@ -93,7 +95,7 @@ fn node_input_fits(
     ensures { result ≡ spec.node_input_fits (table_of known.now) part content inputs.now port number }
 {
     match part {
-        Part::Arm if port == 1 => content_fits(content, value_of(known, number)),
+        Part::Arm if port == 1 => content_fits(content, value_of(&known.sorts, number)),
         _ => carried_in(known, inputs, port) == number,
     }
 }
@@ -141,9 +143,7 @@ fn is_same_result(known: &Known, graphs: &[Graph], place: usize, port: u32, numb
     requires { AreOrdered graphs.now }
     ensures { result ≡ spec.is_same_result (table_of known.now) graphs.now place port number }
 {
-    let is_value = value_of(known, number).is_some();
-    let same = result_number(known, graphs, place, port) == number;
-    both(is_value, same)
+    value_of(&known.sorts, number).is_some() && result_number(known, graphs, place, port) == number
 }
 
 fn body_result_fits(
@@ -157,7 +157,7 @@ fn body_result_fits(
     ensures { result ≡ spec.part_result_fits (table_of known.now) compound Part.Body graphs.now port number }
 {
     match compound {
-        Compound::ForAll => value_of(known, number).is_some(),
+        Compound::ForAll => value_of(&known.sorts, number).is_some(),
         _ => is_same_result(known, graphs, 0, port, number),
     }
 }
@@ -167,13 +167,13 @@ fn part_result_fits(known: &Known, inner: Inner, graphs: &[Graph], port: u32, nu
     ensures { result ≡ spec.part_result_fits (table_of known.now) inner.compound inner.part graphs.now port number }
 {
     match inner.part {
-        Part::Selector => fits_in(known, &[], Want::Integer, number),
-        Part::Test => fits_in(known, &[], Want::Boolean, number),
-        Part::Generator => many_of(known, number).is_some(),
+        Part::Selector => fits(&known.sorts, &[], 0, None, Want::Integer, number),
+        Part::Test => fits(&known.sorts, &[], 0, None, Want::Boolean, number),
+        Part::Generator => many_of(&known.sorts, number).is_some(),
         Part::Alternative => is_same_result(known, graphs, 1, port, number),
         Part::Arm => is_same_result(known, graphs, 0, port, number),
         Part::Body => body_result_fits(known, inner.compound, graphs, port, number),
-        Part::Initialization | Part::Returns => value_of(known, number).is_some(),
+        Part::Initialization | Part::Returns => value_of(&known.sorts, number).is_some(),
     }
 }
 
@@ -193,7 +193,7 @@ pub fn result_fits(known: &Known, site: Site, graphs: &[Graph], port: u32, numbe
 pub fn tags_at(known: &Known, number: u32) -> Option<u32>
     ensures { result ≡ spec.tags_at (table_of known.now) number }
 {
-    tags_of(known, value_of(known, number)?)
+    tags_of(&known.sorts, value_of(&known.sorts, number)?)
 }
 
 fn frame_as(known: &Known, inputs: &[Edge], node: &Node, compound: Compound) -> Frame
@@ -203,7 +203,7 @@ fn frame_as(known: &Known, inputs: &[Edge], node: &Node, compound: Compound) -> 
 {
     Frame {
         compound,
-        width: width_of(inputs),
+        width: greatest_port(inputs),
         first: results_at(node.subs.as_slice(), 0),
         tags: tags_at(known, carried_in(known, inputs, 1)),
     }

@@ -1,10 +1,10 @@
 //! The types of a unit by number, and those of its functions by name.
-ghost use Rattle.std.specs.Prelude.{◌≡◌, ◌==◌, IfOk, OnOk, ℕ, List, bytes_eq, map, get_or, Some, None, if◌then◌else◌};
+ghost use Rattle.std.specs.Prelude.{◌≡◌, ◌==◌, IfOk, OnOk, ℕ, List, bytes_eq, map, Some, None, if◌then◌else◌};
 ghost use Rattle.std.specs.List.Sorted.{IsStrictlyIncreasing};
 ghost use Rattle.indexmap.specs.IndexMap.{get_by};
 ghost use Rattle.if1_graph.specs.Formed.{function_named};
 ghost use Rattle.if1_graph.specs.Tables.{or_else};
-ghost use Rattle.if1_types.specs.Tables.{labels_in};
+ghost use Rattle.if1_types.specs.Numbering.{IsNumbering};
 ghost use Rattle.if1_types.specs.Tables as numbers_of;
 ghost use Rattle.if1_typing.specs.Tables as spec;
 ghost use Rattle.if1_typing.specs.Tables.{table_of};
@@ -12,7 +12,7 @@ ghost use Rattle.if1_typing.specs.Tables.{table_of};
 use crate::known::Known;
 use flow_value::{NoMemory, Numbers, Seq};
 use if1_graph::{Graph, TypeEntry};
-use if1_types::{Sorts, sorts_of};
+use if1_types::{Sorts, number_at};
 use indexmap::IndexMap;
 use std::alloc::Global;
 
@@ -28,7 +28,7 @@ impl Known {
     pub fn is_function(&self, label: u32) -> bool
         ensures { result ≡ (table_of self.now).is_function label }
     {
-        code_at(self.labels.as_slice(), self.codes.as_slice(), label) == 3
+        number_at(self.sorts.labels.as_slice(), self.codes.as_slice(), label) == 3
     }
 
     /// The number of the type of a named function, 0 where there is none.
@@ -40,36 +40,6 @@ impl Known {
             None => 0,
         }
     }
-}
-
-/// The code beside a label, 0 where there is none.
-fn code_at(labels: &[u32], codes: &[u32], label: u32) -> u32
-    requires { IsStrictlyIncreasing labels.now }
-    ensures { result ≡ numbers_of.number_at labels.now codes.now label }
-{
-    match labels.binary_search(&label) {
-        Ok(place) => code_in(codes, place),
-        Err(_) => 0,
-    }
-}
-
-fn code_in(codes: &[u32], place: usize) -> u32
-    ensures { result ≡ get_or codes.now place 0 }
-{
-    match codes.get(place) {
-        Some(code) => *code,
-        None => 0,
-    }
-}
-
-fn labels_of(alloc: Global, types: &[TypeEntry]) -> Result<Numbers, NoMemory>
-    ensures { IfOk result (λ ls. ls ≡ labels_in types.now) }
-{
-    let mut labels = Seq::with_room(alloc, types.len())?;
-    for entry in types {
-        labels.add(entry.label)?;
-    }
-    Ok(labels)
 }
 
 fn codes_of(alloc: Global, types: &[TypeEntry]) -> Result<Numbers, NoMemory>
@@ -119,20 +89,23 @@ fn callees_of(
 }
 
 /// What the labels of types stand for, and what the types of the functions are. Takes time near linear
-/// in the types and functions, once the types are numbered.
-pub fn known_of(alloc: Global, types: &[TypeEntry], graphs: &[Graph]) -> Result<Known, NoMemory>
-    requires { IsStrictlyIncreasing (map (λ e. e.label) types.now) }
-    ensures { IfOk result (λ k. spec.Tells types.now graphs.now (table_of k)) }
+/// in the types and functions.
+pub fn known_of(
+    alloc: Global,
+    sorts: Sorts,
+    types: &[TypeEntry],
+    graphs: &[Graph],
+) -> Result<Known, NoMemory>
+    requires rising { IsStrictlyIncreasing (map (λ e. e.label) types.now) }
+    requires numbers { IsNumbering types.now sorts }
+    ensures sorts { IfOk result (λ k. k.sorts ≡ sorts) }
+    ensures tells { IfOk result (λ k. spec.Tells types.now graphs.now (table_of k)) }
 {
-    let sorts = sorts_of(alloc, types)?;
-    sorts.holds();
     let callees = callees_of(alloc, &sorts, graphs)?;
-    let labels = labels_of(alloc, types)?;
     let codes = codes_of(alloc, types)?;
     Ok(Known {
         sorts,
         callees,
-        labels,
         codes,
     })
 }

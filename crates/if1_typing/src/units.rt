@@ -4,8 +4,9 @@ ghost use Rattle.if1_graph.specs.Normal.{IsNormal};
 ghost use Rattle.if1_graph.specs.Formed.{IsFormed};
 ghost use Rattle.if1_graph.specs.Ready.{PortsHold, TypesHold, BreaksTypes};
 ghost use Rattle.if1_graph.specs.declared.graph.Graph.TheViews.{out-Graph};
-ghost use Rattle.if1_typing.specs.Tables.{table_of};
-ghost use Rattle.if1_typing.specs.Fed.{AreUp, AreOrdered};
+ghost use Rattle.if1_typing.specs.Tables.{table_of, Tells};
+ghost use Rattle.if1_fits.specs.Views.{AreUp};
+ghost use Rattle.if1_typing.specs.Fed.{AreOrdered};
 ghost use Rattle.if1_typing.specs.Inside.{IsLaidInside, AreLaid, AllRight, SomeWrong, PartsRight, PartsWrong, NodeRight, NodeWrong, NodesRight, NodesWrong, FunctionsRight, FunctionsWrong};
 
 use crate::contents::{content_at, contents_of};
@@ -13,7 +14,6 @@ use crate::ends::wrong_end;
 use crate::known::Known;
 use crate::site::{Content, Frame, Site};
 use crate::sites::{frame_by, site_at};
-use crate::tables::known_of;
 use flow_value::NoMemory;
 use if1_graph::{Edge, Graph, Node, Unit1};
 use if1_ports::edges_into;
@@ -120,15 +120,18 @@ fn wrong_functions(
 /// type that is not the table's, 0 for the boundary of the graph or the type of a function, if there is
 /// one (IF1 manual M-170, simple and compound nodes; fault 7). Where alternatives, arms, or a turn and
 /// its initialization differ in types, it is the boundary of one that differs from the first. Near
-/// linear in the nodes, edges and types, but for the lists of arguments, results and fields, which are
-/// walked once for each edge that has one of them. Calls itself once for each level of compound nodes.
-pub fn wrong_type(alloc: Global, unit: &Unit1) -> Result<Option<(u32, u32)>, NoMemory>
+/// linear in the nodes, edges and types. Calls itself once for each level of compound nodes.
+pub fn wrong_type(
+    alloc: Global,
+    known: &Known,
+    unit: &Unit1,
+) -> Result<Option<(u32, u32)>, NoMemory>
     requires formed { IsFormed unit.now }
     requires normal { IsNormal unit.now }
     requires ports { PortsHold unit.now }
+    requires known { Tells unit.now.types unit.now.graphs (table_of known.now) }
     ensures { IfOk result (λ r. MatchOption r (TypesHold unit.now) (λ at. BreaksTypes unit.now at.0 at.1)) }
 {
-    let known = known_of(alloc, unit.types.as_slice(), unit.graphs.as_slice())?;
-    let found = wrong_functions(alloc, &known, unit.graphs.as_slice())?;
+    let found = wrong_functions(alloc, known, unit.graphs.as_slice())?;
     Ok(found)
 }

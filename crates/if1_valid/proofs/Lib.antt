@@ -1,3 +1,4 @@
 pub mod Named
 pub mod Headers
 pub mod Finding
+pub mod Refusals

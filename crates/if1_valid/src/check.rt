@@ -9,7 +9,8 @@ use crate::ready::Ready;
 use if1_graph::{If1Fault, Unit1};
 use if1_order::{ports_link, wrong_order};
 use if1_ports::wrong_ports;
-use if1_typing::wrong_type;
+use if1_types::sorts_of;
+use if1_typing::{known_of, wrong_type};
 use std::alloc::Global;
 
 /// The unit, if it is valid. Else a node or the boundary of a graph whose ports are not filled as the
@@ -22,15 +23,17 @@ pub fn valid(alloc: Global, unit: Unit1) -> Result<Ready, If1Fault>
     ensures valid { IfOk result (λ r. (r ≡ unit) × IsReady unit) }
     ensures refused { IfErr result (IsRefused unit) }
 {
-    if let Some((graph, node)) = wrong_ports(alloc, &unit)? {
+    let sorts = sorts_of(alloc, unit.types.as_slice())?;
+    if let Some((graph, node)) = wrong_ports(alloc, &sorts, &unit)? {
         return Err(If1Fault::Ports { graph, node });
     }
-    if let Some((graph, node)) = wrong_type(alloc, &unit)? {
+    let known = known_of(alloc, sorts, unit.types.as_slice(), unit.graphs.as_slice())?;
+    if let Some((graph, node)) = wrong_type(alloc, &known, &unit)? {
         return Err(If1Fault::TypeOf { graph, node });
     }
     ports_link();
     if let Some((graph, node)) = wrong_order(alloc, &unit)? {
         return Err(If1Fault::Cycle { graph, node });
     }
-    Ok(Ready::of(unit))
+    Ok(Ready::of(unit, known.sorts))
 }

@@ -104,10 +104,10 @@ module _ (forms : List Form) (functions : ℕ) where
       b_node : (n q : ℕ) (act : Action) (ins : List Wire) (port : ℕ) (ts : List Carried)
           → Fills act ins → 1 ≤ port → AreTypes ts → Built n q (a_node act ins port ts n q)
       b_whole : (n q : ℕ) (c : Compound) (ms : List Lowered) (arms : List ℕ) (given : ℕ) (ts : List ℕ)
-          → AllBuilt q ms → AreParts c (counts ms) given (length ts) → All (λ k. k < length ms) arms → AreTypes (map One ts)
+          → AllBuilt q ms → AreParts c (counts ms) given (length ts) → All (λ k. k ≤ length ms) arms → AreTypes (map One ts)
           → Built n q (whole c ms arms given ts n q)
       b_tag : (n q : ℕ) (u : Wire) (ms : List Lowered) (arms ts : List ℕ)
-          → IsGood u → AllBuilt q ms → AreParts compound.TagCase (counts ms) 0 (length ts) → All (λ k. k < length ms) arms → AreTypes (map One ts)
+          → IsGood u → AllBuilt q ms → AreParts compound.TagCase (counts ms) 0 (length ts) → All (λ k. k ≤ length ms) arms → AreTypes (map One ts)
           → Built n q (tag_case_on u ms arms ts n q)
 
     pub data AllBuilt : ℕ → List Lowered → Type 0 where

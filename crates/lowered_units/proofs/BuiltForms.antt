@@ -228,18 +228,18 @@ module _ (forms : List Form) (functions : ℕ) (basics : HasBasics forms) where
   length-graphs q (f ∷ fs) = ap suc (length-graphs (q + size (new_graph f q)) fs)
 
   pub tag-case-to : (u : Wire) (f : Lowering) (fs : List Lowering) (arms ts : List ℕ) → IsGood forms functions u → EachGives (length ts) (f ∷ fs)
-      → All (λ k. k < length (f ∷ fs)) arms → AreTypes forms functions (map One ts) → Gives forms functions (length ts) (tag_case u (f ∷ fs) arms ts)
+      → All (λ k. k ≤ length (f ∷ fs)) arms → AreTypes forms functions (map One ts) → Gives forms functions (length ts) (tag_case u (f ∷ fs) arms ts)
   tag-case-to u _ _ arms ts g (gives_more f fs h r) l k n q =
       let ms = new_graphs (q + size (new_graph f q)) fs in (
         b_tag n q u (new_graph f q ∷ ms) arms ts g (graphs-built (length ts) (f ∷ fs) q (gives_more f fs h r)) ((h 0 (suc q)).1, graphs-count (length ts) fs (q + size (new_graph f q)) r)
-            (subst (λ z. All (λ k. k < z) arms) (ap suc (sym (length-graphs (q + size (new_graph f q)) fs))) l) k,
+            (subst (λ z. All (λ k. k ≤ z) arms) (ap suc (sym (length-graphs (q + size (new_graph f q)) fs))) l) k,
         built.length-ports forms functions (suc n) 1 (map One ts) ∙ length-map ts One,
       )
 
   -- ---- choices
 
-  pub numbers-below : (k n : ℕ) → k < n → (ks : List ℕ) → All (λ k. k < n) ks → All (λ k. k < n) (k ∷ ks)
-  numbers-below k n h ks a = All-cons (λ k. k < n) k ks h a
+  pub numbers-within : (k n : ℕ) → k ≤ n → (ks : List ℕ) → All (λ k. k ≤ n) ks → All (λ k. k ≤ n) (k ∷ ks)
+  numbers-within k n h ks a = All-cons (λ k. k ≤ n) k ks h a
 
   pub selector-to : (ts : List Lowers) (k : ℕ) → AllTo forms functions ts k → To forms functions 1 (selector_lowered ts)
   selector-to ts k h env a =
@@ -259,7 +259,7 @@ module _ (forms : List Form) (functions : ℕ) (basics : HasBasics forms) where
         b_whole n q compound.Select (s ∷ x ∷ y ∷ []) (0 ∷ 1 ∷ 2 ∷ []) 0 ts
             (a_graph q s (x ∷ y ∷ []) sh.0 (a_graph (q + size s) x (y ∷ []) xh.0 (a_graph (q + size s + size x) y [] yh.0 (no_graph (q + size s + size x + size y)))))
             (xh.1, yh.1)
-            (numbers-below 0 3 (omega arith) (1 ∷ 2 ∷ []) (numbers-below 1 3 (omega arith) (2 ∷ []) (numbers-below 2 3 (omega arith) [] (All-nil (λ k. k < 3)))))
+            (numbers-within 0 3 (omega arith) (1 ∷ 2 ∷ []) (numbers-within 1 3 (omega arith) (2 ∷ []) (numbers-within 2 3 (omega arith) [] (All-nil (λ k. k ≤ 3)))))
             k,
         built.length-ports forms functions (suc n) 1 (map One ts) ∙ length-map ts One,
       )
@@ -286,20 +286,20 @@ module _ (forms : List Form) (functions : ℕ) (basics : HasBasics forms) where
   length-arms c type arm (g ∷ gs) env = ap suc (length-arms c type (suc arm) gs env)
 
   pub case-to : (c : Case) (arms : List (List Lowers)) (ts : List ℕ) (ws : List Wire) → AreGood forms functions ws → EachTo (length ts) (map all_lowered arms) → 1 ≤ length arms
-      → All (λ k. k < length arms) (arms_of c (tag_count forms (type_of (wire_at ws 0).ty))) → AreTypes forms functions (map One ts) → To forms functions (length ts) (case_lowered forms c arms ts ws)
+      → All (λ k. k ≤ length arms) (arms_of c (tag_count forms (type_of (wire_at ws 0).ty))) → AreTypes forms functions (map One ts) → To forms functions (length ts) (case_lowered forms c arms ts ws)
   case-to c [] ts ws g e one l k env a = absurd (omega (arith, one))
   case-to c (x ∷ arms) ts ws g e one l k env a =
       let type = type_of (wire_at ws 0).ty in
       let rest = arms_from forms c type 1 (map all_lowered arms) env in
       tag-case-to (wire_at ws 0) (all_lowered x (arm_names forms c type 0 env)) rest (arms_of c (tag_count forms type)) ts (wire-good ws 0 g)
       (arms-give c type (length ts) 0 (map all_lowered (x ∷ arms)) e env a)
-      (subst (λ z. All (λ k. k < z) (arms_of c (tag_count forms type))) (ap suc (sym (length-arms c type 1 (map all_lowered arms) env ∙ length-map arms all_lowered))) l) k
+      (subst (λ z. All (λ k. k ≤ z) (arms_of c (tag_count forms type))) (ap suc (sym (length-arms c type 1 (map all_lowered arms) env ∙ length-map arms all_lowered))) l) k
 
-  two-below : (tag at count : ℕ) → All (λ k. k < 2) (two_arms forms tag at count)
-  two-below tag at zero = All-nil (λ k. k < 2)
-  two-below tag at (suc count) = numbers-below (if nat_eq at tag then 0 else 1) 2 (by (nat_eq at tag)) (two_arms forms tag (suc at) count) (two-below tag (suc at) count)
+  two-within : (tag at count : ℕ) → All (λ k. k ≤ 2) (two_arms forms tag at count)
+  two-within tag at zero = All-nil (λ k. k ≤ 2)
+  two-within tag at (suc count) = numbers-within (if nat_eq at tag then 0 else 1) 2 (by (nat_eq at tag)) (two_arms forms tag (suc at) count) (two-within tag (suc at) count)
     where
-      by : (b : Bool) → (if b then 0 else 1) < 2
+      by : (b : Bool) → (if b then 0 else 1) ≤ 2
       by true = omega arith
       by false = omega arith
 
@@ -307,7 +307,7 @@ module _ (forms : List Form) (functions : ℕ) (basics : HasBasics forms) where
   is-tag-to tag ws t g k =
       tag-case-to (wire_at ws 0) (truth forms constant.True) (truth forms constant.False ∷ []) (two_arms forms tag 0 (tag_count forms (type_of (wire_at ws 0).ty))) (t ∷ []) (wire-good ws 0 g)
       (gives_more (truth forms constant.True) (truth forms constant.False ∷ []) (literal constant.True tt) (gives_more (truth forms constant.False) [] (literal constant.False tt) gives_none))
-      (two-below tag 0 (tag_count forms (type_of (wire_at ws 0).ty))) k
+      (two-within tag 0 (tag_count forms (type_of (wire_at ws 0).ty))) k
     where
       literal : (c : Constant) → IsConstantOf c (Some form.Boolean) → Gives forms functions 1 (truth forms c)
       literal c h = built.only-gives forms functions (wire (Literal c) (One boolean) ∷ []) ((boolean-in, subst (IsConstantOf c) (sym basics.booleans) h), tt)

@@ -199,7 +199,7 @@ module _ (forms : List Form) (functions : ℕ) (basics : HasBasics forms) where
         b_whole n q compound.ForAll (g ∷ b ∷ r ∷ []) (0 ∷ 1 ∷ 2 ∷ []) (length b.values) ts
             (a_graph q g (b ∷ r ∷ []) gh (a_graph (q + size g) b (r ∷ []) bh (a_graph (q + size g + size b) r [] rh.0 (no_graph (q + size g + size b + size r)))))
             (refl, rh.1)
-            (forms_are.numbers-below forms functions basics 0 3 (omega arith) (1 ∷ 2 ∷ []) (forms_are.numbers-below forms functions basics 1 3 (omega arith) (2 ∷ []) (forms_are.numbers-below forms functions basics 2 3 (omega arith) [] (All-nil (λ k. k < 3)))))
+            (forms_are.numbers-within forms functions basics 0 3 (omega arith) (1 ∷ 2 ∷ []) (forms_are.numbers-within forms functions basics 1 3 (omega arith) (2 ∷ []) (forms_are.numbers-within forms functions basics 2 3 (omega arith) [] (All-nil (λ k. k ≤ 3)))))
             k,
         built.length-ports forms functions (suc n) 1 (map One ts) ∙ length-map ts One,
       )
@@ -235,7 +235,7 @@ module _ (forms : List Form) (functions : ℕ) (basics : HasBasics forms) where
         b_whole n q c (i ∷ x ∷ b ∷ r ∷ []) (0 ∷ 1 ∷ 2 ∷ 3 ∷ []) 0 ts
             (a_graph q i (x ∷ b ∷ r ∷ []) ih (a_graph (q + size i) x (b ∷ r ∷ []) xh (a_graph (q + size i + size x) b (r ∷ []) bh (a_graph (q + size i + size x + size b) r [] rh.0 (no_graph (q + size i + size x + size b + size r))))))
             (parts (length i.values) (length x.values) (length b.values) (length r.values) rh.1)
-            (forms_are.numbers-below forms functions basics 0 4 (omega arith) (1 ∷ 2 ∷ 3 ∷ []) (forms_are.numbers-below forms functions basics 1 4 (omega arith) (2 ∷ 3 ∷ []) (forms_are.numbers-below forms functions basics 2 4 (omega arith) (3 ∷ []) (forms_are.numbers-below forms functions basics 3 4 (omega arith) [] (All-nil (λ k. k < 4))))))
+            (forms_are.numbers-within forms functions basics 0 4 (omega arith) (1 ∷ 2 ∷ 3 ∷ []) (forms_are.numbers-within forms functions basics 1 4 (omega arith) (2 ∷ 3 ∷ []) (forms_are.numbers-within forms functions basics 2 4 (omega arith) (3 ∷ []) (forms_are.numbers-within forms functions basics 3 4 (omega arith) [] (All-nil (λ k. k ≤ 4))))))
             k,
         built.length-ports forms functions (suc n) 1 (map One ts) ∙ length-map ts One,
       )

@@ -1,8 +1,8 @@
 -- What a fitting expression becomes, as it is made: a case a form.
 use Rattle.std.proofs.Common.{◌≡◌, ℕ, zero, suc, ◌+◌, ◌<◌, ◌≤◌, Bool, true, false, List, [], ◌∷◌, ◌++◌, map, length, slice_get, Option, Some, None, refl, sym, ap, subst, ◌∙◌, arith, rules}
-use Rattle.std.specs.Prelude.{All}
+use Rattle.std.specs.Prelude.{All, nat_eq, if◌then◌else◌}
 use Rattle.std.proofs.lemmas.List.{length-map, length-append}
-use Rattle.std.proofs.lemmas.List.Elements.{All-nil, All-cons}
+use Rattle.std.proofs.lemmas.List.Elements.{All-nil, All-cons, All-head, All-tail}
 use Rattle.std.proofs.lemmas.Option.{slice_get_within}
 use Rattle.flow_value.specs.declared.ty.Ty.{Ty}
 use Rattle.flow_value.specs.declared.ty.Ty.TheVariants as ty
@@ -22,6 +22,8 @@ use Rattle.typed_tree.specs.declared.expr.TypedKind.TheViews.{roll-TypedKind}
 use Rattle.typed_tree.specs.declared.expr.TypedKind.TheOpen.{TypedKind-F, TypedExpr-F}
 use Rattle.typed_tree.specs.declared.expr.TypedKind.TheFolds.{map-TypedKind, fold-roll-TypedKind, fold-roll-TypedExpr}
 use Rattle.typed_tree.specs.declared.expr.Case.{Case}
+use Rattle.typed_tree.specs.declared.expr.Choice.{Choice}
+use Rattle.meaning.specs.Meaning.{arm_place}
 use Rattle.typed_tree.specs.declared.expr.Product.{Product}
 use Rattle.typed_tree.specs.declared.expr.Turns.{Turns}
 use Rattle.typed_tree.specs.declared.expr.ClauseForm.{ClauseForm}
@@ -33,7 +35,7 @@ use Rattle.fitting_trees.specs.Fitting as is
 use Rattle.lowering.specs.Feeds.{Literal, One, Wire, wire}
 use Rattle.lowering.specs.Graphs.{Call, Lowering, only, andthen, a_node}
 use Rattle.lowering.specs.Operations.{Lowers, all_lowered, wire_at, constant_lowered, operation_lowered}
-use Rattle.lowering.specs.Choices.{applied, case_lowered}
+use Rattle.lowering.specs.Choices.{applied, case_lowered, arms_from_tag, arms_of, tag_count, type_of}
 use Rattle.lowering.specs.Loops.{Phrase, product_lowered}
 use Rattle.lowering.specs.Phrases.{Kind, each, expr_lowered, kind_lowered, phrase, phrase_kind, lowers}
 use Rattle.lowered_units.proofs.Built.{IsConstantOf, AreTypes, AreGood, fills_call, Gives, To, AllTo, to_none, to_more}
@@ -126,11 +128,17 @@ made-length _ _ _ is.no_clause = refl
 made-length _ _ _ (is.unmasked {cs = cs} {tys = tys} {made = made} e m h) = ap suc (made-length cs tys made h)
 made-length _ _ _ (is.masked {cs = cs} {tys = tys} {made = made} e m h) = ap suc (made-length cs tys made h)
 
-tags-below : (arms : ℕ) (contents : List Ty) (ms : List Member) (ks : List ℕ) → TagsFit arms contents ms ks → All (λ k. k < arms) ks
-tags-below arms contents [] [] h = All-nil (λ k. k < arms)
-tags-below arms contents [] (k ∷ ks) h = absurd h
-tags-below arms contents (m ∷ ms) [] h = absurd h
-tags-below arms contents (m ∷ ms) (k ∷ ks) h = All-cons (λ k. k < arms) k ks h.0 (tags-below arms contents ms ks h.2)
+arm-within : (arms others : ℕ) (choices : List Choice) → All (λ x. x.arm < arms) choices → others ≤ arms → (tag : ℕ) → arm_place choices others tag ≤ arms
+arm-within arms others [] all rest tag = rest
+arm-within arms others (x ∷ xs) all rest tag = by (nat_eq x.tag tag) (arm-within arms others xs (All-tail (λ x. x.arm < arms) x xs all) rest tag)
+  where
+    by : (b : Bool) → arm_place xs others tag ≤ arms → (if b then x.arm else arm_place xs others tag) ≤ arms
+    by true later = let h = All-head (λ x. x.arm < arms) x xs all in omega (arith, h)
+    by false later = later
+
+tags-within : (arms : ℕ) (c : Case) → All (λ x. x.arm < arms) c.choices → c.others ≤ arms → (tag count : ℕ) → All (λ k. k ≤ arms) (arms_from_tag c tag count)
+tags-within arms c all rest tag zero = All-nil (λ k. k ≤ arms)
+tags-within arms c all rest tag (suc count) = All-cons (λ k. k ≤ arms) _ _ (arm-within arms c.others c.choices all rest tag) (tags-within arms c all rest (suc tag) count)
 
 -- ---- a phrase by its form
 
@@ -224,14 +232,14 @@ module _ (forms : List Form) (names : List (List ℕ)) (hs : List Header) (basic
         seen (length tys) (TypedKind-F.If ts us vs) (typed.If ts us vs) l ns (sym (typed.rolls-If ts us vs))
         (subst (λ i. Does i ((kind_lowered forms (TypedKind-F.If (map (phrase forms) ts) (map (phrase forms) us) (map (phrase forms) vs))).lowers ns)) same
         (forms_are.if-to forms functions basics (several ts) (several us) (several vs) 1 ns (all-fit γ ts (ty.Bool ∷ []) t) (subst (AllTo forms functions (several us)) (sym same) (all-fit γ us tys h)) (subst (AllTo forms functions (several vs)) (sym same) (all-fit γ vs tys k)) (numbers-types forms names functions ns tys num)))
-    tree-to γ _ tys (is.tag_case ms contents {l = l} {ns = ns} {c = c} {ts = ts} {arms = arms} h a t r one num) =
+    tree-to γ _ tys (is.tag_case ms contents {l = l} {ns = ns} {c = c} {ts = ts} {arms = arms} h a t r named others one num) =
         let same = numbers-length forms names ns tys num in
         let lists = several_lists arms in
         let count = length-map (map (map (phrase forms)) arms) each ∙ length-map arms (map (phrase forms)) in
         seen (length tys) (TypedKind-F.Case c ts arms) (typed.Case c ts arms) l ns (sym (typed.rolls-Case c ts arms))
         (λ env g. built.then-gives forms functions 1 (length tys) (all_lowered (several ts) env) (λ ws. case_lowered forms c lists ns ws env) (forms_are.all-to forms functions basics (several ts) 1 (all-fit γ ts (ty.Uni ms ∷ []) h) env g)
         (λ ws gw lw. forms_are.gives-as forms functions basics (length ns) (length tys) (case_lowered forms c lists ns ws env) same
-        (forms_are.case-to forms functions basics c lists ns ws gw (subst (λ i. EachTo forms functions basics i (map all_lowered lists)) (sym same) (arms-fit γ c.named arms contents tys a)) (omega (arith, one, count)) (subst (λ i. All (λ k. k < i) c.choices) (sym count) (tags-below (length arms) contents ms c.choices t)) (numbers-types forms names functions ns tys num) env g)))
+        (forms_are.case-to forms functions basics c lists ns ws gw (subst (λ i. EachTo forms functions basics i (map all_lowered lists)) (sym same) (arms-fit γ c.named arms contents tys a)) (omega (arith, one, count)) (subst (λ i. All (λ k. k ≤ i) (arms_of c (tag_count forms (type_of (wire_at ws 0).ty)))) (sym count) (tags-within (length arms) c named others 0 (tag_count forms (type_of (wire_at ws 0).ty)))) (numbers-types forms names functions ns tys num) env g)))
     tree-to γ _ made (is.product {tys = tys} {names = xs} {δ = δ} {row = row} {l = l} {ns = ns} {p = q} {bounds = bounds} {us = us} {ts = ts} b g d h m num) =
         let same = numbers-length forms names ns made num in
         seen (length made) (TypedKind-F.Product q bounds us ts) (typed.Product q bounds us ts) l ns (sym (typed.rolls-Product q bounds us ts))

@@ -103,11 +103,11 @@ abbrev pub at_label : Table → ℕ → Option Entry
 at_label ts zero = None
 at_label ts (suc l) = slice_get ts l
 
-abbrev HasCode : ℕ → Option Entry → Type 0
+abbrev pub HasCode : ℕ → Option Entry → Type 0
 HasCode code None = ⊥
 HasCode code (Some e) = e.code ≡ code
 
-found-code : (n : ℕ) (e : Entry) (ts : Table) (l : ℕ) → label_from n e ts ≡ Some l → (i : ℕ) × (l ≡ suc (n + i)) × HasCode e.code (slice_get ts i)
+pub found-code : (n : ℕ) (e : Entry) (ts : Table) (l : ℕ) → label_from n e ts ≡ Some l → (i : ℕ) × (l ≡ suc (n + i)) × HasCode e.code (slice_get ts i)
 found-code n e [] l h = absurd cc
 found-code n e (f ∷ fs) l h = by (is_entry f e) refl h (λ k. found-code (suc n) e fs l k)
   where
@@ -137,31 +137,31 @@ stays (t ∷ ts) rest zero f h = h
 stays (t ∷ ts) rest (suc i) f h = stays ts rest i f h
 
 module _ (p : Program) where
-  abbrev as_type : ℕ → Entry → TypeEntry
+  abbrev pub as_type : ℕ → Entry → TypeEntry
   as_type l e = record { label = l; code = e.code; first = e.first; second = e.second; name = e.name }
 
   entry-from : (label : ℕ) (ts : Table) (i : ℕ) (o : Option Entry) → slice_get ts i ≡ o → entry_at (entries_from p label ts) (label + i) ≡ option_map (as_type (label + i)) o
   entry-from label [] i o h = ap (option_map (as_type (label + i))) h
   entry-from label (t ∷ ts) zero o h =
       elim (eqb_tells label (label + 0)) [
-        inl s ↦ ap (λ b. cond b (Some (as_type label t)) (entry_at (entries_from p (suc label) ts) (label + 0))) s.0 ∙ (ap (λ l. Some (as_type l t)) s.1 ∙ ap (option_map (as_type (label + 0))) h)
-      | inr f ↦ absurd (f.1 (omega arith))
+        | inl s ↦ ap (λ b. cond b (Some (as_type label t)) (entry_at (entries_from p (suc label) ts) (label + 0))) s.0 ∙ (ap (λ l. Some (as_type l t)) s.1 ∙ ap (option_map (as_type (label + 0))) h)
+        | inr f ↦ absurd (f.1 (omega arith))
       ]
   entry-from label (t ∷ ts) (suc i) o h =
       elim (eqb_tells label (label + suc i)) [
-        inl s ↦ absurd (omega (arith, s.1))
-      | inr f ↦ ap (λ b. cond b (Some (as_type label t)) (entry_at (entries_from p (suc label) ts) (label + suc i))) f.0 ∙ (ap (entry_at (entries_from p (suc label) ts)) (omega arith) ∙ (entry-from (suc label) ts i o h ∙ ap (λ l. option_map (as_type l) o) (omega arith)))
+        | inl s ↦ absurd (omega (arith, s.1))
+        | inr f ↦ ap (λ b. cond b (Some (as_type label t)) (entry_at (entries_from p (suc label) ts) (label + suc i))) f.0 ∙ (ap (entry_at (entries_from p (suc label) ts)) (omega arith) ∙ (entry-from (suc label) ts i o h ∙ ap (λ l. option_map (as_type l) o) (omega arith)))
       ]
 
   pub entry-is : (ts : Table) (l : ℕ) → entry_at (entries_from p 1 ts) (suc l) ≡ option_map (as_type (suc l)) (slice_get ts l)
   entry-is ts l = ap (entry_at (entries_from p 1 ts)) (omega arith) ∙ (entry-from 1 ts l (slice_get ts l) refl ∙ ap (λ k. option_map (as_type k) (slice_get ts l)) (omega arith))
 
-  no-zero : (label : ℕ) (ts : Table) → 1 ≤ label → entry_at (entries_from p label ts) 0 ≡ None
+  pub no-zero : (label : ℕ) (ts : Table) → 1 ≤ label → entry_at (entries_from p label ts) 0 ≡ None
   no-zero label [] h = refl
   no-zero label (t ∷ ts) h =
       elim (eqb_tells label 0) [
-        inl s ↦ absurd (omega (arith, s.1, h))
-      | inr f ↦ ap (λ b. cond b (Some (as_type label t)) (entry_at (entries_from p (suc label) ts) 0)) f.0 ∙ no-zero (suc label) ts (omega arith)
+        | inl s ↦ absurd (omega (arith, s.1, h))
+        | inr f ↦ ap (λ b. cond b (Some (as_type label t)) (entry_at (entries_from p (suc label) ts) 0)) f.0 ∙ no-zero (suc label) ts (omega arith)
       ]
 
   -- a label whose entry, where it has one, is of a code

@@ -48,7 +48,7 @@ module _ (p : Program) where
       ∙ (ap (λ l. inner_graphs p (suc q) m.graphs ++ l) (stripped (suc place) (q + size m) fs ms (omega (arith, e)) ∙ ap (λ i. inner_graphs p i (closed_graphs [] 0 0 ms)) (omega arith))
       ∙ sym (inner-both (suc q) m.graphs (closed_graphs [] 0 0 ms)))))
 
-  length-new : (q : ℕ) (fs : List Lowering) → length (new_graphs q fs) ≡ length fs
+  pub length-new : (q : ℕ) (fs : List Lowering) → length (new_graphs q fs) ≡ length fs
   length-new q [] = refl
   length-new q (f ∷ fs) = ap suc (length-new (q + size (new_graph f q)) fs)
 

@@ -10,7 +10,7 @@ use Rattle.if1_graph.specs.declared.graph.Graph.TheFolds.{fold-Graph, fold-Node,
 use Rattle.if1_graph.specs.declared.graph.Node.{Node, out-Node}
 use Rattle.if1_graph.specs.Units.{greatest, level_below, levels, Home, Function, Inside, Place, number_of, each_from, places_of}
 use Rattle.lowered_units.specs.Listed.{ListedNode, ListedGraph, Listing, NodeListing, first_number, all_of, listing, node_listing}
-use Rattle.lowered_units.proofs.OneUnit.{listing-at, node-listing-at}
+use Rattle.lowered_units.proofs.OneUnit.{listing-at, node-listing-at, nodes_in, inside_in, head_of}
 
 -- ---- members of lists
 
@@ -28,15 +28,6 @@ in-right x [] ys h = h
 in-right x (z ∷ xs) ys h = inr (in-right x xs ys h)
 
 -- ---- a graph as it is listed, without those inside
-
-abbrev pub nodes_in : List Node → List ListedNode
-nodes_in ns = map (λ (i : NodeListing). i.node) (map node_listing ns)
-
-abbrev pub inside_in : List Node → Listing
-inside_in ns = flat_map (λ (i : NodeListing). i.inside) (map node_listing ns)
-
-abbrev pub head_of : Graph → ListedGraph
-head_of g = record { number = (out-Graph g).number; exported = (out-Graph g).exported; name = (out-Graph g).name; fun = (out-Graph g).fun; nodes = nodes_in (out-Graph g).nodes; edges = (out-Graph g).edges }
 
 pub listing-is : (g : Graph) → listing g ≡ head_of g ∷ inside_in (out-Graph g).nodes
 listing-is g = listing-at g

@@ -16,3 +16,12 @@ pub mod Programs
 pub mod Running
 pub mod Ordered
 pub mod Canonical
+pub mod Normality
+pub mod Depths
+pub mod Lines
+pub mod Tabled
+pub mod Typed
+pub mod Example
+pub mod Stable
+pub mod Lined
+pub mod Whole

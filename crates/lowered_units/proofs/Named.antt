@@ -13,33 +13,10 @@ use Rattle.typed_tree.specs.declared.program.Program.{Program}
 use Rattle.lowering.specs.Graphs.{Action, Row, Call, Whole, LoweredNode, Lowered, size, numbers, closed}
 use Rattle.lowered_units.specs.Listed.{ListedNode, ListedGraph, Listing, NodeListing, listing, node_listing}
 use Rattle.lowered_units.specs.Units.{listed_node, listed_nodes, inner_graphs, name_of, function_graph, function_listings}
-use Rattle.lowered_units.proofs.OneUnit.{node-listing-at}
-use Rattle.lowered_units.proofs.Heads.{In, nodes_in, head_of, inside_in, listing-is}
+use Rattle.lowered_units.proofs.OneUnit.{node-listing-at, nodes_in, head_of, inside_in, nil-is-no-cons, heads, tails}
+use Rattle.lowered_units.proofs.Heads.{In, listing-is}
 
 -- ---- lists
-
-nil-no-cons : {A B : Type 0} (x : A) (xs : List A) → [] ≡ x ∷ xs → B
-nil-no-cons x xs e = absurd (subst is_nil e tt)
-  where
-    is_nil : {A : Type 0} → List A → Type 0
-    is_nil [] = Unit {0}
-    is_nil (y ∷ ys) = ⊥
-
-first_or : {A : Type 0} → A → List A → A
-first_or d [] = d
-first_or d (x ∷ xs) = x
-
-behind_first : {A : Type 0} → List A → List A
-behind_first [] = []
-behind_first (x ∷ xs) = xs
-
-heads-same : {A : Type 0} (x y : A) (xs ys : List A) → x ∷ xs ≡ y ∷ ys → x ≡ y
-unfolding first_or
-heads-same x y xs ys e = ap (first_or x) e
-
-tails-same : {A : Type 0} (x y : A) (xs ys : List A) → x ∷ xs ≡ y ∷ ys → xs ≡ ys
-unfolding behind_first
-tails-same x y xs ys e = ap behind_first e
 
 same-some : {A : Type 0} (x y : A) → Some x ≡ Some y → x ≡ y
 same-some x y e = cc
@@ -68,10 +45,10 @@ Match label _ _ = ⊥
 
 pub match : (label : ℕ) (ns : List Node) (vs : List LoweredNode) → nodes_in ns ≡ listed_nodes label vs → Match label ns vs
 match label [] [] e = tt
-match label [] (v ∷ vs) e = nil-no-cons (listed_node label v.action) (listed_nodes (suc label) vs) e
-match label (n ∷ ns) [] e = nil-no-cons (row_of n) (nodes_in ns) (sym e)
+match label [] (v ∷ vs) e = nil-is-no-cons (listed_node label v.action) (listed_nodes (suc label) vs) e
+match label (n ∷ ns) [] e = nil-is-no-cons (row_of n) (nodes_in ns) (sym e)
 match label (n ∷ ns) (v ∷ vs) e =
-    (heads-same (row_of n) (listed_node label v.action) (nodes_in ns) (listed_nodes (suc label) vs) e, match (suc label) ns vs (tails-same (row_of n) (listed_node label v.action) (nodes_in ns) (listed_nodes (suc label) vs) e))
+    (heads (row_of n) (listed_node label v.action) (nodes_in ns) (listed_nodes (suc label) vs) e, match (suc label) ns vs (tails (row_of n) (listed_node label v.action) (nodes_in ns) (listed_nodes (suc label) vs) e))
 
 -- the node of a label, the lowered node beside it, and that it is one of them
 pub record Standing (ns : List Node) (label : ℕ) (n : Node) (v : LoweredNode) : Type 0 where
@@ -118,9 +95,6 @@ standing label (x ∷ ns) (y ∷ vs) m (suc i) n v e k =
 
 -- ---- functions
 
-Names : Program → ℕ → List Function → Function → Type 0
-Names p i fs f = (j : ℕ) (h : Function) → slice_get fs j ≡ Some h → name_of p h ≡ name_of p f → j ≡ i
-
 -- the first graph of a name is that of the function of the name
 pub record Called (p : Program) (gs : List Graph) (f : Function) (q : ℕ) : Type 0 where
   pub graph : Graph
@@ -132,11 +106,11 @@ pub called : (p : Program) (place q : ℕ) (fs : List Function) (ms : List Lower
 called p place q [] ms gs l e i f s d = absurd cc
 called p place q (x ∷ fs) [] gs l e i f s d = absurd (omega (arith, l))
 called p place q (x ∷ fs) (m ∷ ms) [] l e i f s d =
-    nil-no-cons (function_graph p place x q (closed [] 0 0 m) ∷ inner_graphs p (suc q) m.graphs) (function_listings p (suc place) (q + size m) fs ms) e
+    nil-is-no-cons (function_graph p place x q (closed [] 0 0 m) ∷ inner_graphs p (suc q) m.graphs) (function_listings p (suc place) (q + size m) fs ms) e
 called p place q (x ∷ fs) (m ∷ ms) (g ∷ gs) l e i f s d =
-    let here = sym (listing-is g) ∙ heads-same (listing g) (function_graph p place x q (closed [] 0 0 m) ∷ inner_graphs p (suc q) m.graphs) (map listing gs) (function_listings p (suc place) (q + size m) fs ms) e in
-    let head = heads-same (head_of g) (function_graph p place x q (closed [] 0 0 m)) (inside_in (out-Graph g).nodes) (inner_graphs p (suc q) m.graphs) here in
-    let rest = tails-same (listing g) (function_graph p place x q (closed [] 0 0 m) ∷ inner_graphs p (suc q) m.graphs) (map listing gs) (function_listings p (suc place) (q + size m) fs ms) e in
+    let here = sym (listing-is g) ∙ heads (listing g) (function_graph p place x q (closed [] 0 0 m) ∷ inner_graphs p (suc q) m.graphs) (map listing gs) (function_listings p (suc place) (q + size m) fs ms) e in
+    let head = heads (head_of g) (function_graph p place x q (closed [] 0 0 m)) (inside_in (out-Graph g).nodes) (inner_graphs p (suc q) m.graphs) here in
+    let rest = tails (listing g) (function_graph p place x q (closed [] 0 0 m) ∷ inner_graphs p (suc q) m.graphs) (map listing gs) (function_listings p (suc place) (q + size m) fs ms) e in
     by i s d (ap (λ (y : ListedGraph). y.name) head) (ap (λ (y : ListedGraph). y.number) head)
     (λ k t n. called p (suc place) (q + size m) fs ms gs (omega (arith, l)) rest k f t n)
   where

@@ -40,8 +40,8 @@ use Rattle.lowered_units.proofs.Built.{AreParts, AreGood, AreFilled, Fills, fill
 use Rattle.lowered_units.proofs.Built as built
 use Rattle.lowered_units.proofs.Literals.{IsValueWant}
 use Rattle.lowered_units.proofs.Rights.{count, IsRightNode, AreRight, IsRightGraph}
-use Rattle.lowered_units.proofs.OneUnit.{node-listing-at}
-use Rattle.lowered_units.proofs.Heads.{In, nodes_in, listing-is}
+use Rattle.lowered_units.proofs.OneUnit.{node-listing-at, nodes_in}
+use Rattle.lowered_units.proofs.Heads.{In, listing-is}
 use Rattle.lowered_units.proofs.Blocks.{to_node, to_port, find-filtered, edges-at, results-at, port_of, over-ports, source_for, block-sources, behind-sources, block-width, behind-width}
 use Rattle.lowered_units.proofs.Codes.{simple-is, no-compound, compound-is, no-simple, wanted, plain-want, call-want, reduce-want, number_in, form-is}
 use Rattle.lowered_units.proofs.Named.{row_of, Match, match, none-before, Standing, standing, Called}

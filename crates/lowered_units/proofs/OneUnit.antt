@@ -19,11 +19,11 @@ is_nil : {A : Type 0} → List A → Type 0
 is_nil [] = Unit {0}
 is_nil (x ∷ xs) = ⊥
 
-nil-is-no-cons : {A B : Type 0} (x : A) (xs : List A) → [] ≡ x ∷ xs → B
+pub nil-is-no-cons : {A B : Type 0} (x : A) (xs : List A) → [] ≡ x ∷ xs → B
 unfolding is_nil
 nil-is-no-cons x xs e = absurd (subst is_nil e tt)
 
-cons-is-no-nil : {A B : Type 0} (x : A) (xs : List A) → x ∷ xs ≡ [] → B
+pub cons-is-no-nil : {A B : Type 0} (x : A) (xs : List A) → x ∷ xs ≡ [] → B
 cons-is-no-nil x xs e = nil-is-no-cons x xs (sym e)
 
 first_or : {A : Type 0} → A → List A → A
@@ -34,11 +34,11 @@ behind_first : {A : Type 0} → List A → List A
 behind_first [] = []
 behind_first (x ∷ xs) = xs
 
-heads : {A : Type 0} (x y : A) (xs ys : List A) → x ∷ xs ≡ y ∷ ys → x ≡ y
+pub heads : {A : Type 0} (x y : A) (xs ys : List A) → x ∷ xs ≡ y ∷ ys → x ≡ y
 unfolding first_or
 heads x y xs ys e = ap (first_or x) e
 
-tails : {A : Type 0} (x y : A) (xs ys : List A) → x ∷ xs ≡ y ∷ ys → xs ≡ ys
+pub tails : {A : Type 0} (x y : A) (xs ys : List A) → x ∷ xs ≡ y ∷ ys → xs ≡ ys
 unfolding behind_first
 tails x y xs ys e = ap behind_first e
 
@@ -60,10 +60,10 @@ Once g = (h : Graph) (xs ys : Listing) → listing g ++ xs ≡ listing h ++ ys �
 abbrev NodeOnce : Node → Type 0
 NodeOnce n = (m : Node) (xs ys : Listing) → (node_listing n).node ≡ (node_listing m).node → (node_listing n).inside ++ xs ≡ (node_listing m).inside ++ ys → (n ≡ m) × (xs ≡ ys)
 
-abbrev nodes_in : List Node → List ListedNode
+abbrev pub nodes_in : List Node → List ListedNode
 nodes_in ns = map (λ (i : NodeListing). i.node) (map node_listing ns)
 
-abbrev inside_in : List Node → Listing
+abbrev pub inside_in : List Node → Listing
 inside_in ns = flat_map (λ (i : NodeListing). i.inside) (map node_listing ns)
 
 nodes-once : (ns : List ((n : Node) × NodeOnce n)) (ms : List Node) (xs ys : Listing)
@@ -93,7 +93,7 @@ graphs-once (g ∷ gs) (h ∷ hs) xs ys es e =
 
 -- ---- a graph of these nodes
 
-abbrev head_of : Graph → ListedGraph
+abbrev pub head_of : Graph → ListedGraph
 head_of g = record { number = (out-Graph g).number; exported = (out-Graph g).exported; name = (out-Graph g).name; fun = (out-Graph g).fun; nodes = nodes_in (out-Graph g).nodes; edges = (out-Graph g).edges }
 
 same-graph : (g h : Graph) → head_of g ≡ head_of h → (out-Graph g).nodes ≡ (out-Graph h).nodes → g ≡ h

@@ -49,6 +49,7 @@ pairs-both R (x ∷ xs) ys a b c =
   where
     first : (R : Edge → Edge → Type 0) (x : Edge) (xs : List Edge) → AllPairs R (x ∷ xs) → All (R x) xs
     first R x xs a = λ k d h. a 0 (suc k) d (omega arith) (omega (arith, h))
+
     rest : (R : Edge → Edge → Type 0) (x : Edge) (xs : List Edge) → AllPairs R (x ∷ xs) → AllPairs R xs
     rest R x xs a = λ i j d h k. a (suc i) (suc j) d (omega (arith, h)) (omega (arith, k))
 
@@ -89,6 +90,7 @@ module _ (p : Program) where
       one : (o : Option Origin) → AllPairs Precedes (edge_if node port (type_label_of p w.ty) o)
       one None = pairs-none Precedes
       one (Some o) = pairs-one Precedes (edge node port (type_label_of p w.ty) o)
+
       before : (o : Option Origin) → All (λ x. All (Precedes x) (edges_into p node (suc port) ws)) (edge_if node port (type_label_of p w.ty) o)
       before None = All-nil (λ x. All (Precedes x) (edges_into p node (suc port) ws))
       before (Some o) =

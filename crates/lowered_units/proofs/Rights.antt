@@ -116,7 +116,7 @@ module _ (forms : List Form) (functions : ℕ) where
   closed-feed ks first own (Port zero (suc n) p) t h = h
   closed-feed ks first own (Port (suc up) n p) t h = (omega arith, h.1)
 
-  closed-gap : (ks : List Wire) (first own : ℕ) (f : Feed) → IsGap f → IsGap (resolved ks first own f)
+  pub closed-gap : (ks : List Wire) (first own : ℕ) (f : Feed) → IsGap f → IsGap (resolved ks first own f)
   closed-gap ks first own Absent h = h
   closed-gap ks first own (Literal c) h = absurd h
   closed-gap ks first own (Named s) h = absurd h

@@ -25,16 +25,13 @@ use Rattle.lowered_units.specs.Networks.{net_of, shape_in, shapes}
 use Rattle.lowered_units.specs.Units.{called_name, listed_nodes, edges_into, edges_of, function_listings, name_of, IsTranslated}
 use Rattle.lowered_units.proofs.Built as built
 use Rattle.lowered_units.proofs.Blocks.{port_of, to_node, results-at, block-width}
-use Rattle.lowered_units.proofs.Entries.{whole_listing, IsEntry, entry, numbered}
-use Rattle.lowered_units.proofs.Heads.{In, nodes_in, head_of, listing-is, Within, Lie, unit-heads, unit-lies, all-within, part-within, Found, find-place}
+use Rattle.lowered_units.proofs.Entries.{length-new, whole_listing, IsEntry, entry, numbered}
+use Rattle.lowered_units.proofs.Heads.{In, listing-is, Within, Lie, unit-heads, unit-lies, all-within, part-within, Found, find-place}
+use Rattle.lowered_units.proofs.OneUnit.{nodes_in, head_of}
 use Rattle.lowered_units.proofs.Named.{Called, called}
 use Rattle.lowered_units.proofs.Nets.{Agrees, AreCalled, net-is}
 use Rattle.lowered_units.proofs.Programs.{functions, function-count, right-of}
 use Rattle.lowered_units.proofs.Rights.{results_in, count}
-
-length-new : (q : ℕ) (fs : List Lowering) → length (new_graphs q fs) ≡ length fs
-length-new q [] = refl
-length-new q (f ∷ fs) = ap suc (length-new (q + size (new_graph f q)) fs)
 
 module _ (p : Program) (u : Unit1) (fit : IsFitting p) (t : IsTranslated p u) (nests : IsNested u) where
   -- ---- the functions by their names
@@ -67,7 +64,7 @@ module _ (p : Program) (u : Unit1) (fit : IsFitting p) (t : IsTranslated p u) (n
   calls : AreCalled p u t.types (functions p fit)
   calls f i =
       let h = function-at f (omega (arith, i, function-count p fit)) in
-      let c = called p 0 1 p.functions (functions_lowered p) u.graphs (sym (length-new 1 (map (function_lowered p.types) p.functions) ∙ length-map p.functions (function_lowered p.types))) t.graphs f h.0 h.1
+      let c = called p 0 1 p.functions (functions_lowered p) u.graphs (sym (length-new p 1 (map (function_lowered p.types) p.functions) ∙ length-map p.functions (function_lowered p.types))) t.graphs f h.0 h.1
       (λ j x e s. fit.once j f (name_of p x) (has-name j x e) (subst (HasName p f) (sym s) (has-name f h.0 h.1))) in
       ap (λ o. number_or_zero (function_named u.graphs (called_name p o))) h.1 ∙ (ap number_or_zero c.found ∙ c.number)
 

@@ -31,7 +31,7 @@ new-grows None e ts = record { rest = e ∷ []; is = refl }
 pub enter-grows : (e : Entry) (ts : Table) → Grows ts (enter e ts).table
 enter-grows e ts = new-grows (label_from 0 e ts) e ts
 
-members-grow : (type : ℕ → Table → Labelled) → ((t : ℕ) (ts : Table) → Grows ts (type t ts).table) → (code : ℕ) (ms : List Part) (ts : Table) → Grows ts (members type code ms ts).table
+pub members-grow : (type : ℕ → Table → Labelled) → ((t : ℕ) (ts : Table) → Grows ts (type t ts).table) → (code : ℕ) (ms : List Part) (ts : Table) → Grows ts (members type code ms ts).table
 members-grow type g code [] ts = grows-none ts
 members-grow type g code (m ∷ ms) ts =
     let rest = members type code ms ts in
@@ -54,7 +54,7 @@ module _ (forms : List Form) (names : List (List ℕ)) where
   form-grows type g (Some (Union ms)) ts = over-grows 9 (members type 7 (named forms names ms) ts) ts (members-grow type g 7 (named forms names ms) ts)
   form-grows type g None ts = grows-none ts
 
-  within-grows : (depth t : ℕ) (ts : Table) → Grows ts (label_within forms names depth t ts).table
+  pub within-grows : (depth t : ℕ) (ts : Table) → Grows ts (label_within forms names depth t ts).table
   within-grows zero t ts = grows-none ts
   within-grows (suc depth) t ts = form-grows (label_within forms names depth) (within-grows depth) (slice_get forms t) ts
 

@@ -1,11 +1,14 @@
 -- What the laws on translated units say.
-use Rattle.std.specs.Prelude.{◌≡◌, ◌≤◌, ℕ, Some, All}
+use Rattle.std.specs.Prelude.{◌≡◌, ◌≤◌, ℕ, Some, None, All}
 use Rattle.typed_tree.specs.declared.program.Program.{Program}
 use Rattle.if1_graph.specs.declared.graph.Unit1.{Unit1}
+use Rattle.if1_graph.specs.Formed.{IsTable}
+use Rattle.if1_graph.specs.Normal.{IsNormal}
 use Rattle.if1_graph.specs.Units.{levels, most_levels}
 use Rattle.graph_meaning.specs.Networks.{network}
 use Rattle.lowering.specs.Graphs.{LoweredGraph}
 use Rattle.lowering.specs.Programs.{graph_at, number_of}
+use Rattle.lowering.specs.TooMany.{too_many}
 use Rattle.lowered_units.specs.Fitting.{IsFitting}
 use Rattle.lowered_units.specs.Networks.{net_of, shapes}
 use Rattle.lowered_units.specs.Units.{IsTranslated}
@@ -22,3 +25,11 @@ IsNested u = All (λ g. levels g ≤ most_levels) u.graphs
 abbrev pub AreLowered : Type 0
 AreLowered = (p : Program) (u : Unit1) → IsFitting p → IsTranslated p u → IsNested u
     → (q : ℕ) (d : LoweredGraph) → graph_at p q ≡ Some d → network u q ≡ net_of (shapes u q) (number_of p) d
+
+-- nodes and edges stand in the order of the text, and literals are spelled canonically
+abbrev pub AreNormal : Type 0
+AreNormal = (p : Program) (u : Unit1) → IsFitting p → IsTranslated p u → IsNormal u
+
+-- each type of the unit is formed, and there are no more than a unit may have
+abbrev pub AreTablesFormed : Type 0
+AreTablesFormed = (p : Program) (u : Unit1) → IsFitting p → too_many p ≡ None → IsTranslated p u → IsTable u.types

@@ -1,9 +1,21 @@
 //! The laws of translated units.
-ghost use Rattle.lowered_units.specs.Laws.{AreLowered, IsOneUnit};
+ghost use Rattle.lowered_units.specs.Laws.{AreLowered, AreNormal, AreTablesFormed, IsOneUnit};
 
 /// A program has at most one unit.
 pub fn a_program_is_one_unit()
     ensures { IsOneUnit }
+{}
+
+/// The types of a translated unit within the limits are formed: each has a label of its own, its parts
+/// are types of the unit, and there are at most 65,535.
+pub fn tables_of_translated_units_are_formed()
+    ensures { AreTablesFormed }
+{}
+
+/// A translated unit is normal: its nodes and edges stand in the order of the canonical text, and its
+/// literals are spelled canonically.
+pub fn translated_units_are_normal()
+    ensures { AreNormal }
 {}
 
 /// Each graph of a translated unit runs as the lowered graph of its number: its nodes are the lowered

@@ -4,4 +4,7 @@
 
 mod laws;
 
-pub use laws::{a_program_is_one_unit, translated_units_run_as_lowered};
+pub use laws::{
+    a_program_is_one_unit, tables_of_translated_units_are_formed, translated_units_are_normal,
+    translated_units_run_as_lowered,
+};

@@ -11,7 +11,7 @@ use Rattle.typed_tree.specs.declared.expr.TypedKind.TheOpen.{TypedKind-F}
 use Rattle.lowering.specs.Feeds.{Literal, One, Callee}
 use Rattle.lowering.specs.Graphs.{Call, Whole, node}
 use Rattle.lowering.specs.Loops.{Phrase}
-use Rattle.lowering.proofs.Words.{arms, own, out, value, int, truth, number, row, graph, at, num, name, var, apply, call, graphs_of, lines_of}
+use Rattle.lowering.proofs.Words.{arms, by, own, out, value, int, truth, number, row, graph, at, num, name, var, apply, call, graphs_of, lines_of}
 
 -- a call of a function with two results, on the results of its operands:
 --     f(a + b), b
@@ -73,7 +73,7 @@ tag_test = refl
 --     end tagcase
 abbrev the_arms_text : List Phrase
 the_arms_text =
-    at (TypedKind-F.Case (arms 2 (0 ∷ 1 ∷ 2 ∷ 0 ∷ [])) (name 2 8 ∷ []) ((apply (operation.Binary two.Plus) (var 3 ∷ var 0 ∷ []) 2 ∷ []) ∷ (at (TypedKind-F.If (name 3 0 ∷ []) (var 1 ∷ []) (at (TypedKind-F.Case (arms 0 (1 ∷ 1 ∷ 0 ∷ 1 ∷ [])) (name 2 8 ∷ []) ((var 0 ∷ []) ∷ (var 1 ∷ []) ∷ [])) (2 ∷ []) ∷ [])) (2 ∷ []) ∷ []) ∷ (at (TypedKind-F.If (apply (operation.IsTag 2) (name 2 8 ∷ []) 0 ∷ []) (var 0 ∷ []) (num 1 ∷ [])) (2 ∷ []) ∷ []) ∷ [])) (2 ∷ [])
+    at (TypedKind-F.Case (arms 2 (by 0 0 ∷ by 3 0 ∷ by 1 1 ∷ []) 2) (name 2 8 ∷ []) ((apply (operation.Binary two.Plus) (var 3 ∷ var 0 ∷ []) 2 ∷ []) ∷ (at (TypedKind-F.If (name 3 0 ∷ []) (var 1 ∷ []) (at (TypedKind-F.Case (arms 0 (by 2 0 ∷ []) 1) (name 2 8 ∷ []) ((var 0 ∷ []) ∷ (var 1 ∷ []) ∷ [])) (2 ∷ []) ∷ [])) (2 ∷ []) ∷ []) ∷ (at (TypedKind-F.If (apply (operation.IsTag 2) (name 2 8 ∷ []) 0 ∷ []) (var 0 ∷ []) (num 1 ∷ [])) (2 ∷ []) ∷ []) ∷ [])) (2 ∷ [])
     ∷ []
 
 the_arms : graphs_of (2 ∷ 2 ∷ 8 ∷ []) the_arms_text ≡
@@ -102,7 +102,7 @@ the_arms_lines = refl
 --     if t then tagcase u tag p: a otherwise: 0 end tagcase else 1 end if
 abbrev union_of_a_graph_around_text : List Phrase
 union_of_a_graph_around_text =
-    at (TypedKind-F.If (name 1 0 ∷ []) (at (TypedKind-F.Case (arms 0 (0 ∷ 1 ∷ 1 ∷ 1 ∷ [])) (name 2 8 ∷ []) ((var 0 ∷ []) ∷ (num 0 ∷ []) ∷ [])) (2 ∷ []) ∷ []) (num 1 ∷ [])) (2 ∷ [])
+    at (TypedKind-F.If (name 1 0 ∷ []) (at (TypedKind-F.Case (arms 0 (by 0 0 ∷ []) 1) (name 2 8 ∷ []) ((var 0 ∷ []) ∷ (num 0 ∷ []) ∷ [])) (2 ∷ []) ∷ []) (num 1 ∷ [])) (2 ∷ [])
     ∷ []
 
 union_of_a_graph_around : graphs_of (2 ∷ 0 ∷ 8 ∷ []) union_of_a_graph_around_text ≡

@@ -13,7 +13,7 @@ use Rattle.lowering.specs.Loops.{Phrase}
 use Rattle.lowering.specs.Programs.{graphs, number_of}
 use Rattle.lowering.specs.Types.{Entry, entry, basics, function_label, with_types, table, label_of, header_label}
 use Rattle.lowering.specs.TooMany.{too_many}
-use Rattle.lowering.proofs.Words.{arms, forms, out, value, int, truth, row, graph, clause, at, num, name, var, apply, lines_of}
+use Rattle.lowering.proofs.Words.{arms, by, forms, out, value, int, truth, row, graph, clause, at, num, name, var, apply, lines_of}
 
 -- ---- the table of types, for the lines of a function of (n: integer; u: U returns R, A):
 --     record [x: n; y: 1; t: for i in 1, n returns array of tagcase u tag p: i otherwise: 0 end tagcase end for], array A []
@@ -21,7 +21,7 @@ abbrev typed_text : List Phrase
 typed_text =
     apply operation.Record (var 0 ∷ num 1 ∷ at (TypedKind-F.Product (record { sources = (source.Range ∷ []); clauses = (clause folding.Array ∷ []) })
     (num 1 ∷ var 0 ∷ []) []
-    (at (TypedKind-F.Case (arms 0 (0 ∷ 1 ∷ 1 ∷ 1 ∷ [])) (name 1 8 ∷ []) ((var 2 ∷ []) ∷ (num 0 ∷ []) ∷ [])) (2 ∷ []) ∷ [])) (5 ∷ []) ∷ []) 9
+    (at (TypedKind-F.Case (arms 0 (by 0 0 ∷ []) 1) (name 1 8 ∷ []) ((var 2 ∷ []) ∷ (num 0 ∷ []) ∷ [])) (2 ∷ []) ∷ [])) (5 ∷ []) ∷ []) 9
     ∷ apply operation.EmptyArray [] 5
     ∷ []
 

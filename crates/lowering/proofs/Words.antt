@@ -13,6 +13,7 @@ use Rattle.type_table.specs.declared.form.Form.{Form}
 use Rattle.type_table.specs.declared.form.Form.TheVariants.{Boolean, Character, Integer, Null, Array, Stream, Record, Union}
 use Rattle.type_table.specs.declared.form.Member.{Member}
 use Rattle.typed_tree.specs.declared.expr.Case.{Case}
+use Rattle.typed_tree.specs.declared.expr.Choice.{Choice}
 use Rattle.typed_tree.specs.declared.expr.ClauseForm.{ClauseForm}
 use Rattle.typed_tree.specs.declared.expr.TypedKind.TheOpen.{TypedKind-F}
 use Rattle.lowering.specs.Feeds.{Feed, Literal, Port, Carried, One, Many, Wire, wire}
@@ -73,8 +74,12 @@ abbrev pub masked : Folding → Direction → Masking → ClauseForm
 masked f d m = record { folding = f; direction = d; masking = m }
 
 -- arms, of which the first so many see the content, with the arm of each tag
-abbrev pub arms : ℕ → List ℕ → Case
-arms named choices = record { named = named; choices = choices }
+abbrev pub arms : ℕ → List Choice → ℕ → Case
+arms named choices others = record { named = named; choices = choices; others = others }
+
+-- an arm names a tag
+abbrev pub by : ℕ → ℕ → Choice
+by tag arm = record { tag = tag; arm = arm }
 
 -- The types of the examples: 5 to 7 are arrays and a stream, 8 is union[p: integer; q: boolean; w; z: integer], 9 is
 -- record[x, y: integer; t: array[integer]].

@@ -11,6 +11,8 @@ use Rattle.type_table.specs.declared.form.Form.TheVariants as form
 use Rattle.type_table.specs.declared.form.Member.{Member}
 use Rattle.type_table.specs.Tables.{members_at}
 use Rattle.typed_tree.specs.declared.expr.Case.{Case}
+use Rattle.typed_tree.specs.declared.expr.Choice.{Choice}
+use Rattle.meaning.specs.Meaning.{arm_place}
 use Rattle.value_ops.specs.declared.operation.Operation.{Operation}
 use Rattle.value_ops.specs.declared.operation.Operation.TheVariants as operation
 use Rattle.lowering.specs.Feeds.{Literal, Port, Carried, One, Many, Callee, Wire, wire, into}
@@ -70,18 +72,23 @@ if_lowered test one_arm other ts env n q =
 abbrev pub tag_case : Wire → List Lowering → List ℕ → List ℕ → Lowering
 tag_case u fs arms ts n q = tag_case_on u (new_graphs q fs) arms ts n q
 
+-- the arm of each of so many tags from one on
+abbrev pub arms_from_tag : Case → ℕ → ℕ → List ℕ
+arms_from_tag c tag zero = []
+arms_from_tag c tag (suc count) = arm_place c.choices c.others tag ∷ arms_from_tag c (suc tag) count
+
 -- the arm of each of the tags of the union, which has so many
 abbrev pub arms_of : Case → ℕ → List ℕ
-arms_of c tags = c.choices
+arms_of c tags = arms_from_tag c 0 tags
 
--- the place of the first of these that is this arm, from a place on
-abbrev pub first_place : ℕ → ℕ → List ℕ → ℕ
-first_place arm tag [] = tag
-first_place arm tag (a ∷ rest) = if nat_eq a arm then tag else first_place arm (suc tag) rest
+-- the first tag that these choices name for an arm
+abbrev pub tag_named : ℕ → List Choice → ℕ
+tag_named arm [] = 0
+tag_named arm (x ∷ xs) = if nat_eq x.arm arm then x.tag else tag_named arm xs
 
 -- the first tag of an arm
 abbrev pub first_tag : Case → ℕ → ℕ
-first_tag c arm = first_place arm 0 c.choices
+first_tag c arm = tag_named arm c.choices
 
 module _ (forms : List Form) where
   -- the names in an arm: the content of the union is in force in the first so many

@@ -1,5 +1,5 @@
 -- Operands that are made of what is carried stand for it.
-use Rattle.std.proofs.Common.{◌≡◌, ℕ, pos, List, [], ◌∷◌, map, Option, Some, None, refl, sym, ap, ◌∙◌, rules}
+use Rattle.std.proofs.Common.{◌≡◌, ℕ, pos, List, [], ◌∷◌, map, Option, Some, refl, ap, ◌∙◌, rules}
 use Rattle.std.specs.Option.{option_map}
 use Rattle.flow_value.specs.Bounds.{bounded}
 use Rattle.flow_value.specs.declared.cause.Cause.{Cause}
@@ -8,12 +8,11 @@ use Rattle.flow_value.specs.declared.value.Val.TheOpen.{Val-F}
 use Rattle.flow_value.specs.declared.value.Val.TheVariants as val
 use Rattle.flow_value.specs.declared.value.Val.TheViews as values
 use Rattle.if1_graph.specs.Rows.{Operand, row_of}
-use Rattle.if1_graph.specs.declared.op.Simple.{Simple}
 use Rattle.if1_graph.specs.declared.row.Rest.{Rest}
 use Rattle.if1_graph.specs.declared.row.Rest.TheVariants as rest
 use Rattle.graph_meaning.specs.Carried.{Carried, Value, Many, Spoiled, Name, Unfilled}
-use Rattle.graph_meaning.specs.Strict.{Taken, AnyValue, AnInteger, AMultiple, AName, AReduction, taken_of, Takes, AllTake, MayHaveValues, FitsRest, Fits, IsFit}
-use Rattle.node_ops.specs.Operands.{text_of, named, name_in, multiple_in, multiple, name, plain, stands_for, stands_behind, carried, carried_by, operand_for}
+use Rattle.graph_meaning.specs.Strict.{Taken, AnyValue, AnInteger, AMultiple, AName, AReduction, taken_of, Takes, AllTake, MayHaveValues, FitsRest, Fits}
+use Rattle.node_ops.specs.Operands.{text_of, named, name_in, multiple_in, multiple, name, plain, stands_for, stands_behind, carried, operand_for}
 use Rattle.node_ops.specs.Laws.{DoOperandsStand}
 
 text-of : (text : List ℕ) → text_of (map val.Char text) ≡ Some text

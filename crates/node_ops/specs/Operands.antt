@@ -2,7 +2,7 @@
 -- nodes).
 --
 -- A multiple stands as the stream of its elements or as its error, and a name as the array of its characters.
-use Rattle.std.specs.Prelude.{◌≡◌, ℕ, pos, List, [], ◌∷◌, map, Option, Some, None}
+use Rattle.std.specs.Prelude.{ℕ, pos, List, [], ◌∷◌, map, Option, Some, None}
 use Rattle.std.specs.Option.{option_map}
 use Rattle.flow_value.specs.Bounds.{bounded}
 use Rattle.flow_value.specs.declared.operands.Shape.{Shape}

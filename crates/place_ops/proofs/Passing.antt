@@ -1,11 +1,10 @@
 -- The rows of nodes whose first operand is taken, by the values of the operands.
-use Rattle.std.proofs.Common.{◌≡◌, List, [], ◌∷◌, map, Option, Some, refl}
+use Rattle.std.proofs.Common.{◌≡◌, List, [], ◌∷◌, map, Option, Some}
 use Rattle.flow_value.specs.declared.operands.Shape.TheVariants as shape
 use Rattle.flow_value.specs.declared.value.Val.{Val}
 use Rattle.value_ops.specs.Given.{values_in}
 use Rattle.value_ops.specs.Operations.{op_value}
 use Rattle.value_ops.specs.declared.operation.Operation.TheVariants as operation
-use Rattle.if1_graph.specs.declared.op.Simple.{Simple}
 use Rattle.if1_graph.specs.declared.op.Simple.TheVariants as simple
 use Rattle.graph_meaning.specs.Carried.{filled_from}
 use Rattle.node_ops.proofs.Resolving.{node_row}

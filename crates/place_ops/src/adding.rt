@@ -1,11 +1,23 @@
 //! One more element of an array or a stream that is owned.
-ghost use Rattle.std.specs.Prelude.{◌≡◌, ◌∷◌, ◌++◌, [], IfOk};
+ghost use Rattle.std.specs.Prelude.{◌≡◌, ◌∷◌, ◌++◌, [], IfOk, OnOk};
 ghost use Rattle.flow_value.specs.Aggregates.{stream_val};
 ghost use Rattle.value_ops.specs.Aggregates.{with_last, with_first};
 ghost use Rattle.value_ops.specs.Operations.{op_value};
 ghost use Rattle.value_ops.specs.declared.operation.Operation.TheVariants as operation;
 
 use flow_value::{Array, Cause, Items, MOST_ELEMENTS, NoMemory, Val, array_of, stream_of};
+use std::mem;
+
+/// Makes of `owned`, the array or stream of an AAddH, the one with a value after its last element,
+/// or the error that the node gives. On want of memory what stands in `owned` is no longer the
+/// operand.
+pub fn add_high_taken(owned: &mut Val, v: Val) -> Result<(), NoMemory>
+    ensures { OnOk result (owned.new ≡ op_value operation.AddHigh (owned.old ∷ v ∷ [])) }
+{
+    let value = mem::replace(owned, Val::Null);
+    *owned = high_added(value, v)?;
+    Ok(())
+}
 
 /// The array or stream with a value after its last element: node 100.
 pub fn high_added(a: Val, v: Val) -> Result<Val, NoMemory>

@@ -12,35 +12,68 @@ ghost use Rattle.value_ops.specs.declared.operation.Operation.TheVariants as ope
 
 use crate::operands::{one, two};
 use flow_value::{Array, Cause, Items, Val, array_of};
+use std::mem;
 
 /// The array with another element at a place: node 113.
-pub fn update(owned: Val, ins: &mut [Option<Val>]) -> Val
-    ensures { result ≡ op_value operation.Update (owned ∷ values_in ins.old) }
+pub fn update(owned: &mut Val, ins: &mut [Option<Val>])
+    ensures { owned.new ≡ op_value operation.Update (owned.old ∷ values_in ins.old) }
 {
-    match two(ins) {
-        Some((i, v)) => match array_and_integer(owned, &i) {
-            Ok((a, place)) => update_at(a, place, v),
-            Err(refused) => refused,
-        },
-        None => Val::Err(Cause::Explicit),
+    match ins {
+        [i, v] => update_pair(owned, i, v.take()),
+        _ => update_by(owned, ins),
     }
 }
 
-fn update_at(a: Array, place: i64, v: Val) -> Val
-    ensures { result ≡ updated v a place }
+fn update_pair(owned: &mut Val, i: &Option<Val>, v: Option<Val>)
+    ensures { owned.new ≡ op_value operation.Update (owned.old ∷ values_in (i.now ∷ v ∷ [])) }
 {
-    match place_in(&a, place) {
-        Some(n) => {
-            let mut changed = a;
-            changed.set(n, v);
-            Val::Arr(changed)
-        }
-        None => Val::Err(Cause::Bounds),
+    match (i, v) {
+        (Some(i), Some(v)) => update_taken(owned, i, v),
+        _ => *owned = Val::Err(Cause::Explicit),
+    }
+}
+
+/// The same, of another number of ports.
+fn update_by(owned: &mut Val, ins: &mut [Option<Val>])
+    ensures { owned.new ≡ op_value operation.Update (owned.old ∷ values_in ins.old) }
+{
+    match two(ins) {
+        Some((i, v)) => update_taken(owned, &i, v),
+        None => *owned = Val::Err(Cause::Explicit),
+    }
+}
+
+/// Makes of `owned`, the array of an AReplace, the array with `v` at a place, and else the error
+/// that the node gives. It asks for no memory.
+pub fn update_taken(owned: &mut Val, i: &Val, v: Val)
+    ensures { owned.new ≡ op_value operation.Update (owned.old ∷ i.now ∷ v ∷ []) }
+{
+    match owned {
+        Val::Arr(a) => match i {
+            Val::Int(place) => match place_in(a, *place) {
+                Some(n) => a.set(n, v),
+                None => *owned = Val::Err(Cause::Bounds),
+            },
+            Val::Err(cause) => *owned = Val::Err(*cause),
+            _ => *owned = Val::Err(Cause::Explicit),
+        },
+        Val::Err(_) => {}
+        _ => match i {
+            Val::Err(cause) => *owned = Val::Err(*cause),
+            _ => *owned = Val::Err(Cause::Explicit),
+        },
     }
 }
 
 /// The elements of the array from another bound: node 115.
-pub fn set_low(owned: Val, ins: &mut [Option<Val>]) -> Val
+pub fn set_low(owned: &mut Val, ins: &mut [Option<Val>])
+    ensures { owned.new ≡ op_value operation.SetLow (owned.old ∷ values_in ins.old) }
+{
+    let value = mem::replace(owned, Val::Null);
+    *owned = low_set(value, ins);
+}
+
+fn low_set(owned: Val, ins: &mut [Option<Val>]) -> Val
     ensures { result ≡ op_value operation.SetLow (owned ∷ values_in ins.old) }
 {
     match one(ins) {
@@ -60,7 +93,14 @@ fn from_low(a: Array, lo: i64) -> Val
 }
 
 /// Some places of the array: node 102.
-pub fn adjust(owned: Val, ins: &mut [Option<Val>]) -> Val
+pub fn adjust(owned: &mut Val, ins: &mut [Option<Val>])
+    ensures { owned.new ≡ op_value operation.Adjust (owned.old ∷ values_in ins.old) }
+{
+    let value = mem::replace(owned, Val::Null);
+    *owned = adjusted_to(value, ins);
+}
+
+fn adjusted_to(owned: Val, ins: &mut [Option<Val>]) -> Val
     ensures { result ≡ op_value operation.Adjust (owned ∷ values_in ins.old) }
 {
     match two(ins) {

@@ -1,5 +1,5 @@
 //! Nodes that add elements to their first operand in place.
-ghost use Rattle.std.specs.Prelude.{◌≡◌, ◌∷◌, [], map, IfOk};
+ghost use Rattle.std.specs.Prelude.{◌≡◌, ◌∷◌, [], map, IfOk, OnOk};
 ghost use Rattle.flow_value.specs.Lent.{operand_value};
 ghost use Rattle.value_ops.specs.Given.{values_in};
 ghost use Rattle.value_ops.specs.Operations.{op_value};
@@ -13,15 +13,25 @@ use std::alloc::Global;
 use std::mem;
 use value_ops::{Operation, apply};
 
-/// The output of an AAddH, AAddL or ACatenate, whose first operand is `first` and grows in place;
-/// `ins` has the further operands by their ports from 2 on, and is used up.
-#[tactic(auto, using(crate::proofs::Passing::add_high_taken, crate::proofs::Passing::add_low_taken, crate::proofs::Passing::catenate_taken))]
+/// Makes of `owned`, the first operand of an AAddH, AAddL or ACatenate, the output of the node;
+/// `ins` has the further operands by their ports from 2 on, and is used up. On want of memory what
+/// stands in `owned` is no longer the operand.
 pub fn extend_taken(
     alloc: Global,
     op: Simple,
-    first: Val,
+    owned: &mut Val,
     ins: &mut [Operand<'_>],
-) -> Result<Val, NoMemory>
+) -> Result<(), NoMemory>
+    requires { AddsElements op }
+    ensures { OnOk result (values_taken op owned.old (map operand_value ins.old) ≡ owned.new ∷ []) }
+{
+    let value = mem::replace(owned, Val::Null);
+    *owned = extended(alloc, op, value, ins)?;
+    Ok(())
+}
+
+#[tactic(auto, using(crate::proofs::Passing::add_high_taken, crate::proofs::Passing::add_low_taken, crate::proofs::Passing::catenate_taken))]
+fn extended(alloc: Global, op: Simple, first: Val, ins: &mut [Operand<'_>]) -> Result<Val, NoMemory>
     requires { AddsElements op }
     ensures { IfOk result (λ v. values_taken op first (map operand_value ins.old) ≡ v ∷ []) }
 {

@@ -9,9 +9,17 @@ ghost use Rattle.graph_meaning.specs.Carried.{filled_from};
 ghost use Rattle.node_ops.specs.Operands.{plain};
 
 use flow_value::{Cause, Items, Val};
+use std::mem;
 
 /// The record with the fields changed of the ports that have an operand: node 145.
-pub fn change(owned: Val, ins: &mut [Option<Val>]) -> Val
+pub fn change(owned: &mut Val, ins: &mut [Option<Val>])
+    ensures { owned.new ≡ op_value (operation.Change (filled_from 0 (map plain ins.old))) (owned.old ∷ values_in ins.old) }
+{
+    let value = mem::replace(owned, Val::Null);
+    *owned = change_in(value, ins);
+}
+
+fn change_in(owned: Val, ins: &mut [Option<Val>]) -> Val
     ensures { result ≡ op_value (operation.Change (filled_from 0 (map plain ins.old))) (owned ∷ values_in ins.old) }
 {
     match owned {

@@ -7,9 +7,17 @@ ghost use Rattle.value_ops.specs.declared.operation.Operation.TheVariants as ope
 
 use crate::operands::none;
 use flow_value::{Array, Cause, Items, Val, array_of};
+use std::mem;
 
 /// The array without its last element: node 111.
-pub fn remove_high(owned: Val, ins: &mut [Option<Val>]) -> Val
+pub fn remove_high(owned: &mut Val, ins: &mut [Option<Val>])
+    ensures { owned.new ≡ op_value operation.RemoveHigh (owned.old ∷ values_in ins.old) }
+{
+    let value = mem::replace(owned, Val::Null);
+    *owned = high_off(value, ins);
+}
+
+fn high_off(owned: Val, ins: &mut [Option<Val>]) -> Val
     ensures { result ≡ op_value operation.RemoveHigh (owned ∷ values_in ins.old) }
 {
     if none(ins) {
@@ -42,7 +50,14 @@ fn cut_high(a: Array) -> Val
 }
 
 /// The array from one place higher without its first element: node 112.
-pub fn remove_low(owned: Val, ins: &mut [Option<Val>]) -> Val
+pub fn remove_low(owned: &mut Val, ins: &mut [Option<Val>])
+    ensures { owned.new ≡ op_value operation.RemoveLow (owned.old ∷ values_in ins.old) }
+{
+    let value = mem::replace(owned, Val::Null);
+    *owned = low_off(value, ins);
+}
+
+fn low_off(owned: Val, ins: &mut [Option<Val>]) -> Val
     ensures { result ≡ op_value operation.RemoveLow (owned ∷ values_in ins.old) }
 {
     if none(ins) {
@@ -76,7 +91,14 @@ fn cut_low(a: Array) -> Val
 }
 
 /// The stream without its first element: node 150.
-pub fn rest(owned: Val, ins: &mut [Option<Val>]) -> Val
+pub fn rest(owned: &mut Val, ins: &mut [Option<Val>])
+    ensures { owned.new ≡ op_value operation.Rest (owned.old ∷ values_in ins.old) }
+{
+    let value = mem::replace(owned, Val::Null);
+    *owned = first_off(value, ins);
+}
+
+fn first_off(owned: Val, ins: &mut [Option<Val>]) -> Val
     ensures { result ≡ op_value operation.Rest (owned ∷ values_in ins.old) }
 {
     if none(ins) {

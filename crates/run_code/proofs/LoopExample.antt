@@ -1,28 +1,20 @@
 -- The code of a loop with two values whose first turn comes before its first test. Its returns wants the last of the first values, and
 -- gathers them where the second ones say so: neither multiple is there.
-use Rattle.std.proofs.Common.{◌≡◌, ℕ, zero, suc, ◌+◌, ◌-◌, ◌≤◌, if◌then◌else◌, ltb, List, [], ◌∷◌, get_or, pos, Some, inl, inr, refl, sym, ap, subst, arith, Bool, true, false}
-use Rattle.std.proofs.lemmas.Bool.{lt-ltb, ltb-true}
-use Rattle.flow_value.specs.declared.value.Val.TheVariants as val
+use Rattle.std.proofs.Common.{◌≡◌, ℕ, zero, suc, ◌+◌, ◌-◌, if◌then◌else◌, ltb, List, [], ◌∷◌, get_or, Some, inl, inr, refl, sym, ap, subst, arith, true, false}
 use Rattle.if1_graph.specs.declared.op.Simple.TheVariants as simple
-use Rattle.graph_meaning.specs.Carried.{Carried, Value, Unfilled}
+use Rattle.graph_meaning.specs.Carried.{Unfilled}
 use Rattle.graph_meaning.specs.NodeValues as shape
 use Rattle.graph_meaning.specs.Forms as form
 use Rattle.graph_meaning.specs.Demand.{Source, Port, Fixed, Kind, Plain, Whole, Vertex, Net, Network}
-use Rattle.graph_meaning.specs.Storage.{Weights}
+use Rattle.run_code.proofs.Layouts.{one, truth, net_at, nothing_weighs, positive, places_by, puts, function-inputs, function-wants, no-nodes}
 use Rattle.run_code.proofs.Collecting.{lasts, nodes-same}
 use Rattle.run_code.proofs.Refolding.{sum-none}
 use Rattle.run_code.specs.Cells.{At, Lit, Operand}
-use Rattle.run_code.specs.Coded.{AreCoded, FunctionIs, GraphIs, Layout, LoopIs, PartIs, Places, Puts, a_loop, a_node, a_part, no_node, scalar, the_loop}
+use Rattle.run_code.specs.Coded.{AreCoded, FunctionIs, Layout, LoopIs, PartIs, Places, a_loop, a_node, a_part, no_node, scalar, the_loop}
 use Rattle.run_code.specs.Collections.{Collect, Final, Sifts}
 use Rattle.run_code.specs.Known.{Knows}
 use Rattle.run_code.specs.Refolds.{Refolds, a_fold, none_refolded, one_refolded}
 use Rattle.run_code.specs.Steps.{Count, Fire, Keep, Move, Return, Step, Test}
-
-abbrev pub one : Carried
-one = Value (val.Int (pos 1))
-
-abbrev pub truth : Bool → Carried
-truth b = Value (val.Bool b)
 
 abbrev pub turns : Vertex
 turns = record { label = 1; kind = Whole (form.LoopA 1 2 3 4 2); ins = Port 0 1 ∷ []; before = [] }
@@ -40,11 +32,6 @@ abbrev pub gather' : Vertex
 gather' = record { label = 2; kind = Plain simple.AGather shape.Plain; ins = Fixed one ∷ Port 0 3 ∷ []; before = [] }
 
 -- the function, and the loop's init, test, body and returns
-abbrev pub net_at : List Net → ℕ → Net
-net_at [] g = record { nodes = []; results = [] }
-net_at (n ∷ ns) zero = n
-net_at (n ∷ ns) (suc g) = net_at ns g
-
 abbrev pub nets : List Net
 nets =
     record { nodes = turns ∷ []; results = Port 1 1 ∷ Port 1 2 ∷ [] }
@@ -75,9 +62,6 @@ width_of (Whole form) = 2
 abbrev pub width : Vertex → ℕ
 width v = width_of v.kind
 
-abbrev pub nothing_weighs : Weights
-nothing_weighs = record { of_node = λ g v ks rs. 0; of_results = λ g rs. 0 }
-
 abbrev pub cs : List Collect
 cs = Final 0 ∷ Sifts 0 (Some 1) ∷ []
 
@@ -101,28 +85,8 @@ made =
       params = λ f. 1;
     }
 
--- the inputs of a graph, and nodes with one output each from a cell on
-abbrev pub places_by : List Operand → ℕ → Places
-places_by args out zero p = get_or args (p - 1) (Lit Unfilled)
-places_by args out (suc l) p = At (out + l)
-
-puts : (args : List Operand) (out l : ℕ) → Puts (places_by args out) (suc l) (out + l) 1
-puts args out l i lt = let z : out + l ≡ (out + l) + i = omega (arith, lt) in ap At z
-
-beginning : GraphIs made 9 (At 0 ∷ []) 1 2 2 3 (Lit one ∷ Lit (truth true) ∷ [])
-beginning = a_part (At 0 ∷ []) 1 (order 1) (net 1).results 2 2 3 (places_by (At 0 ∷ []) 3) (λ p. refl) (tt, tt) (no_node 1 (places_by (At 0 ∷ []) 3) 2 3) (Lit one ∷ Lit (truth true) ∷ []) refl
-
-testing : GraphIs made 9 (At 0 ∷ At 3 ∷ At 4 ∷ []) 2 5 5 7 (At 4 ∷ [])
-testing = a_part (At 0 ∷ At 3 ∷ At 4 ∷ []) 2 (order 2) (net 2).results 5 5 7 (places_by (At 0 ∷ At 3 ∷ At 4 ∷ []) 7) (λ p. refl) (tt, tt) (no_node 2 (places_by (At 0 ∷ At 3 ∷ At 4 ∷ []) 7) 5 7) (At 4 ∷ []) refl
-
-turning : GraphIs made 9 (At 0 ∷ At 3 ∷ At 4 ∷ []) 3 4 4 7 (At 0 ∷ Lit (truth false) ∷ [])
-turning = a_part (At 0 ∷ At 3 ∷ At 4 ∷ []) 3 (order 3) (net 3).results 4 4 7 (places_by (At 0 ∷ At 3 ∷ At 4 ∷ []) 7) (λ p. refl) (tt, tt) (no_node 3 (places_by (At 0 ∷ At 3 ∷ At 4 ∷ []) 7) 4 7) (At 0 ∷ Lit (truth false) ∷ []) refl
-
 abbrev lent : List Operand
 lent = At 0 ∷ At 3 ∷ At 6 ∷ []
-
-positive : (n : ℕ) → suc n ≡ 0 → ⊥
-positive n e = absurd (omega (arith, e))
 
 not-one : (p : ℕ) → Knows ((1, 1) ∷ []) 2 p → ⊥
 not-one p (inl k) = let e = k.0 in absurd (omega (arith, e))
@@ -153,9 +117,9 @@ refolded =
 loops : LoopIs made 9 true (At 0 ∷ []) 1 2 3 4 (λ ks rs. 0) 2 0 9 1
 loops =
     the_loop true (At 0 ∷ []) 1 2 3 4 (λ ks rs. 0) 2 0 9 1 [] 3 2 2 2 3 4 4 5 5 6 8 5 others wanted cs (λ row. 0 + (0 + 0)) (At 4) (Lit one ∷ Lit (truth true) ∷ []) (At 0 ∷ Lit (truth false) ∷ []) (At 7 ∷ At 8 ∷ []) (At 0 ∷ []) (At 0 ∷ []) (At 0 ∷ []) (At 3 ∷ At 6 ∷ [])
-    (record { counts = refl; copies = refl; weighs = λ ks rs. refl; fits = omega arith }) beginning refl (λ ks. refl) refl refl (refl, refl)
-    (inl refl, tt) testing (λ ks. refl) refl
-    (inl refl, tt) turning refl (λ ks. refl) refl
+    (record { counts = refl; copies = refl; weighs = λ ks rs. refl; fits = omega arith }) (no-nodes made 9 (At 0 ∷ []) 1 2 3 (Lit one ∷ Lit (truth true) ∷ []) refl tt refl) refl (λ ks. refl) refl refl (refl, refl)
+    (inl refl, tt) (no-nodes made 9 (At 0 ∷ At 3 ∷ At 4 ∷ []) 2 5 7 (At 4 ∷ []) refl tt refl) (λ ks. refl) refl
+    (inl refl, tt) (no-nodes made 9 (At 0 ∷ At 3 ∷ At 4 ∷ []) 3 4 7 (At 0 ∷ Lit (truth false) ∷ []) refl tt refl) refl (λ ks. refl) refl
     (omega arith, ((omega arith, omega arith), tt)) refolded (λ row. refl)
     (inl refl, tt) (inr refl, (refl, tt)) returning (record { moves = refl; weighs = λ ks. refl })
 
@@ -163,17 +127,13 @@ abbrev outer : Places
 outer zero p = if ltb (p - 1) 1 then At (p - 1) else Lit Unfilled
 outer (suc l) p = At p
 
-not-less : (a b : ℕ) → b ≤ a → (x : Bool) → ltb a b ≡ x → (if x then At a else Lit Unfilled) ≡ Lit Unfilled
-not-less a b le true e = absurd (let lt = ltb-true a b e in omega (arith, le, lt))
-not-less a b le false e = refl
-
 pub coded : AreCoded made
 coded f (inl e) = subst (FunctionIs made) (sym e) (record {
   places = outer;
   end = 9;
   ordered = ((positive 0, (λ p k. k), tt, tt), (inl (refl, 0, omega arith, refl), (inl (refl, 1, omega arith, refl), tt)));
-  inputs = λ p lt. ap (λ b. if b then At (p - 1) else Lit Unfilled) (lt-ltb (p - 1) 1 lt);
-  wanting = λ p le. not-less (p - 1) 1 le (ltb (p - 1) 1) refl;
+  inputs = function-inputs 1;
+  wanting = function-wants 1;
   nodes = a_node 0 outer turns [] 0 9 9 1 3 (λ i lt. let z : suc i ≡ 1 + i = omega arith in ap At z) (omega arith) (a_loop true (At 0 ∷ []) 1 2 3 4 (λ ks rs. 0) 2 0 9 1 loops) (no_node 0 outer 9 3);
   leaves = refl;
   weighs = λ ks. refl;

@@ -5,4 +5,5 @@ pub mod Machine
 pub mod Known
 pub mod Refolds
 pub mod Coded
+pub mod Made
 pub mod Collecting

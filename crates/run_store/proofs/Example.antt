@@ -1,21 +1,21 @@
 -- Code whose cells own their values: a ForAll over the arrays of an array, which adds 1 behind each and gathers them. The elements and
 -- their multiple are read where the argument stands and have no cells of their own. Each element is copied where it is changed, and
 -- what is collected is moved.
-use Rattle.std.proofs.Common.{◌≡◌, ℕ, zero, suc, ◌+◌, ◌-◌, ◌<◌, ◌≤◌, ◌⊎◌, ◌&&◌, ◌||◌, not, if◌then◌else◌, eqb, leb, ltb, List, [], ◌∷◌, None, get_or, pos, inl, inr, refl, sym, ap, ◌∙◌, subst, arith, Bool, true, false}
-use Rattle.std.proofs.lemmas.Bool.{lt-ltb, ltb-true, leb-true, eqb-true, eq-eqb}
-use Rattle.flow_value.specs.declared.value.Val.TheVariants as val
+use Rattle.std.proofs.Common.{Some, ◌≡◌, ℕ, zero, suc, ◌+◌, ◌<◌, ◌≤◌, ◌⊎◌, ◌&&◌, ◌||◌, not, if◌then◌else◌, eqb, leb, ltb, List, [], ◌∷◌, None, get_or, inl, inr, refl, sym, ap, ◌∙◌, subst, arith, Bool, true, false}
+use Rattle.std.proofs.lemmas.Bool.{ltb-true, leb-true, eqb-true, eq-eqb}
 use Rattle.if1_graph.specs.declared.op.Simple.TheVariants as simple
-use Rattle.graph_meaning.specs.Carried.{Carried, Value, Unfilled}
+use Rattle.graph_meaning.specs.Carried.{Carried, Unfilled}
 use Rattle.graph_meaning.specs.Entered.{IsIn}
 use Rattle.graph_meaning.specs.Forms.{columns}
 use Rattle.graph_meaning.specs.Forms as form
 use Rattle.graph_meaning.specs.NodeValues as shape
-use Rattle.graph_meaning.specs.Demand.{Port, Fixed, Plain, Whole, Vertex, Network}
+use Rattle.graph_meaning.specs.Demand.{through, waits_of, straight, IsOrderly, WaitsFor, AreOrderly, waits, Port, Fixed, Plain, Whole, Vertex, Network}
 use Rattle.graph_meaning.specs.Storage.{Storage, copying, leaves_at, leaves_of}
+use Rattle.run_code.proofs.Layouts.{one, positive, places_by, puts, function_places, function-puts, function-inputs, function-wants}
 use Rattle.run_code.proofs.Collecting.{nodes-same}
 use Rattle.run_code.proofs.Refolding.{sum-none}
 use Rattle.run_code.specs.Cells.{Operand, At, Lit}
-use Rattle.run_code.specs.Coded.{AreCoded, ForAllIs, FunctionIs, GraphIs, Layout, PartIs, Places, Puts, a_for_all, a_node, a_part, no_node, scalar, the_for_all}
+use Rattle.run_code.specs.Coded.{AreCoded, ForAllIs, FunctionIs, GraphIs, Layout, PartIs, a_for_all, a_node, a_part, no_node, scalar, the_for_all}
 use Rattle.run_code.specs.Collections.{Collect, Sifts}
 use Rattle.run_code.specs.Known.{AreReadable}
 use Rattle.run_code.specs.Refolds.{Refolds, a_fold, none_refolded, one_refolded}
@@ -26,12 +26,13 @@ use Rattle.run_store.specs.Effects.{reads_of, IsOneOf}
 use Rattle.run_store.specs.Lively.{Live, Follows, IsLively}
 use Rattle.run_store.specs.Refines.{IsTaken, IsHandled}
 use Rattle.run_store.specs.Stored.{Mode, Looks, Copies, Takes, LooksAt, CopiesOf, tail, Handling, copied}
-use Rattle.run_store.specs.Whole.{IsStoredCode}
+use Rattle.graph_meaning.specs.Plain.{Costs}
+use Rattle.ordered_meaning.specs.Orders.{IsInOrder, AreInOrder}
+use Rattle.run_laws.specs.Inside.{Stays, IsInside}
+use Rattle.run_store.proofs.Whole.{store-decided, runs-begin}
+use Rattle.run_store.specs.Whole.{IsStoredCode, EndsStored, StopsStored, IsCopied, Begins, entered_stored, first_cells}
 
 -- ---- the graphs
-
-abbrev pub one : Carried
-one = Value (val.Int (pos 1))
 
 abbrev pub over : Vertex
 over = record { label = 1; kind = Whole (form.ForAll 1 2 3 1 1); ins = Port 0 1 ∷ []; before = [] }
@@ -105,16 +106,6 @@ and-false : (b : Bool) → b && false ≡ false
 and-false true = refl
 and-false false = refl
 
-abbrev places_by : List Operand → ℕ → Places
-places_by args out zero p = get_or args (p - 1) (Lit Unfilled)
-places_by args out (suc l) p = At out
-
-puts : (args : List Operand) (out : ℕ) → Puts (places_by args out) 1 out 1
-puts args out i lt = let z : out ≡ out + i = omega (arith, lt) in ap At z
-
-positive : (n : ℕ) → suc n ≡ 0 → ⊥
-positive n e = absurd (omega (arith, e))
-
 in-order : (g : ℕ) → AreReadable (λ v. 1) (node_of g ∷ []) (net g).results
 in-order zero = ((positive 0, (λ p k. k), tt, tt), (inl (refl, 0, omega arith, refl), tt))
 in-order (suc zero) = ((positive 0, (λ p k. k), tt, tt), (inl (refl, 0, omega arith, refl), tt))
@@ -124,21 +115,21 @@ in-order (suc (suc (suc g))) = ((positive 0, (λ p k. k), tt, tt), (inl (refl, 0
 generating : GraphIs laid 7 (At 0 ∷ []) 1 2 3 2 (At 2 ∷ [])
 generating =
     a_part (At 0 ∷ []) 1 (scatter ∷ []) (net 1).results 2 3 2 (places_by (At 0 ∷ []) 2) (λ p. refl) (in-order 1)
-    (a_node 1 (places_by (At 0 ∷ []) 2) scatter [] 2 3 3 2 3 (puts (At 0 ∷ []) 2) (omega arith)
+    (a_node 1 (places_by (At 0 ∷ []) 2) scatter [] 2 3 3 2 3 (puts (At 0 ∷ []) 2 0) (omega arith)
     (scalar (At 0 ∷ []) simple.AScatter shape.Plain ((copying storage).of_node 1 scatter) 1 2 2 refl (λ ks rs. sym (none-left _ (λ p. and-false _) 1 ks))) (no_node 1 (places_by (At 0 ∷ []) 2) 3 3))
     (At 2 ∷ []) refl
 
 turning : GraphIs laid 7 (At 0 ∷ At 5 ∷ []) 2 4 5 6 (At 6 ∷ [])
 turning =
     a_part (At 0 ∷ At 5 ∷ []) 2 (longer ∷ []) (net 2).results 4 5 6 (places_by (At 0 ∷ At 5 ∷ []) 6) (λ p. refl) (in-order 2)
-    (a_node 2 (places_by (At 0 ∷ At 5 ∷ []) 6) longer [] 4 5 5 6 7 (puts (At 0 ∷ At 5 ∷ []) 6) (omega arith)
+    (a_node 2 (places_by (At 0 ∷ At 5 ∷ []) 6) longer [] 4 5 5 6 7 (puts (At 0 ∷ At 5 ∷ []) 6 0) (omega arith)
     (scalar (At 5 ∷ Lit one ∷ []) simple.AAddH shape.Plain ((copying storage).of_node 2 longer) 1 4 6 refl (λ ks rs. refl)) (no_node 2 (places_by (At 0 ∷ At 5 ∷ []) 6) 5 7))
     (At 6 ∷ []) refl
 
 returning : PartIs laid 7 (At 0 ∷ At 2 ∷ At 3 ∷ []) 9 (gather ∷ []) (Port 1 1 ∷ []) 7 8 4 (At 4 ∷ [])
 returning =
     a_part (At 0 ∷ At 2 ∷ At 3 ∷ []) 9 (gather ∷ []) (Port 1 1 ∷ []) 7 8 4 (places_by (At 0 ∷ At 2 ∷ At 3 ∷ []) 4) (λ p. refl) (in-order 3)
-    (a_node 9 (places_by (At 0 ∷ At 2 ∷ At 3 ∷ []) 4) gather [] 7 8 8 4 5 (puts (At 0 ∷ At 2 ∷ At 3 ∷ []) 4) (omega arith)
+    (a_node 9 (places_by (At 0 ∷ At 2 ∷ At 3 ∷ []) 4) gather [] 7 8 8 4 5 (puts (At 0 ∷ At 2 ∷ At 3 ∷ []) 4 0) (omega arith)
     (scalar (Lit one ∷ At 3 ∷ []) simple.AGather shape.Plain ((copying storage).of_node 9 gather) 1 7 4 refl (λ ks rs. refl)) (no_node 9 (places_by (At 0 ∷ At 2 ∷ At 3 ∷ []) 4) 8 5))
     (At 4 ∷ []) refl
 
@@ -163,22 +154,14 @@ the_over =
     (omega arith, tt) refolded
     (inl refl, tt) returning (record { moves = refl; weighs = λ ks. sym (none-left _ (λ p. refl) 1 ks) })
 
-abbrev outer : Places
-outer zero p = if ltb (p - 1) 1 then At (p - 1) else Lit Unfilled
-outer (suc l) p = At 1
-
-not-less : (a b : ℕ) → b ≤ a → (x : Bool) → ltb a b ≡ x → (if x then At a else Lit Unfilled) ≡ Lit Unfilled
-not-less a b le true e = absurd (let lt = ltb-true a b e in omega (arith, le, lt))
-not-less a b le false e = refl
-
 coded : AreCoded laid
 coded f (inl e) = subst (FunctionIs laid) (sym e) (record {
-  places = outer;
+  places = function_places 1;
   end = 9;
   ordered = in-order 0;
-  inputs = λ p lt. ap (λ b. if b then At (p - 1) else Lit Unfilled) (lt-ltb (p - 1) 1 lt);
-  wanting = λ p le. not-less (p - 1) 1 le (ltb (p - 1) 1) refl;
-  nodes = a_node 0 outer over [] 0 9 9 1 2 (λ i lt. let z : 1 ≡ 1 + i = omega (arith, lt) in ap At z) (omega arith) (a_for_all (At 0 ∷ []) 1 2 3 1 ((copying storage).of_node 0 over) 1 0 9 1 the_over) (no_node 0 outer 9 2);
+  inputs = function-inputs 1;
+  wanting = function-wants 1;
+  nodes = a_node 0 (function_places 1) over [] 0 9 9 1 2 (function-puts 1 0) (omega arith) (a_for_all (At 0 ∷ []) 1 2 3 1 ((copying storage).of_node 0 over) 1 0 9 1 the_over) (no_node 0 (function_places 1) 9 2);
   leaves = refl;
   weighs = λ ks. sym (none-left _ (λ p. refl) 1 ks);
 })
@@ -441,3 +424,74 @@ alike g = (((λ ks rs. refl), tt), (λ rs e. refl))
 
 pub stored-code : IsStoredCode storage laid handling facts live own
 stored-code = record { coded = coded; weighs = alike; handled = handled; preserves = preserves; lively = lively }
+
+-- ---- a run of it is decided, on every argument and with every limit
+
+inside : IsInside laid (λ f. 10) 10
+inside = record { stays = λ f pc in_f from to. at pc (omega (arith, to)); begins = λ f in_f. omega arith; ends = λ f in_f. omega arith; inputs = λ f in_f. omega arith }
+  where
+    at : (pc : ℕ) → pc < 10 → Stays laid 7 0 10 pc (laid.code pc)
+    at zero lt = omega arith
+    at (suc zero) lt = (tt, omega arith, (omega arith, omega arith))
+    at (suc (suc zero)) lt = ((omega arith, tt), omega arith, omega arith)
+    at (suc (suc (suc zero))) lt = ((omega arith, tt), omega arith, (omega arith, omega arith), omega arith, (omega arith, omega arith))
+    at (suc (suc (suc (suc zero)))) lt = ((omega arith, (tt, tt)), omega arith, omega arith)
+    at (suc (suc (suc (suc (suc zero))))) lt = ((omega arith, tt), omega arith, (omega arith, omega arith))
+    at (suc (suc (suc (suc (suc (suc zero)))))) lt = (omega arith, omega arith, omega arith, omega arith, (omega arith, omega arith))
+    at (suc (suc (suc (suc (suc (suc (suc zero))))))) lt = ((tt, (omega arith, tt)), omega arith, omega arith)
+    at (suc (suc (suc (suc (suc (suc (suc (suc zero)))))))) lt = ((omega arith, tt), omega arith, (omega arith, omega arith))
+    at (suc (suc (suc (suc (suc (suc (suc (suc (suc zero))))))))) lt = (omega arith, tt)
+    at (suc (suc (suc (suc (suc (suc (suc (suc (suc (suc pc)))))))))) lt = absurd (omega (arith, lt))
+
+waits-none : (v : Vertex) → waits v ≡ [] → {l m : ℕ} → WaitsFor (v ∷ []) l m → ⊥
+waits-none v e (straight {l = l} {m = m} i) = go (eqb v.label l) i
+  where
+    go : (b : Bool) → IsIn m (waits_of (if b then Some v else None)) → ⊥
+    go true i = subst (IsIn m) e i
+    go false i = i
+waits-none v e (through a b) = waits-none v e a
+
+one-orderly : (v : Vertex) → v.label ≡ 1 → waits v ≡ [] → IsOrderly (record { nodes = v ∷ []; results = Port 1 1 ∷ [] })
+one-orderly v label e =
+    record {
+      once = ((λ i. i), tt);
+      named = ((λ n i. absurd (subst (IsIn n) e i)), tt);
+      results_named = λ n. elim [ inl z ↦ inl (z ∙ sym label) | inr i ↦ absurd i ];
+      acyclic = λ l w. waits-none v e w;
+    }
+
+orderly : AreOrderly net
+orderly zero = one-orderly over refl refl
+orderly (suc zero) = one-orderly scatter refl refl
+orderly (suc (suc zero)) = one-orderly longer refl refl
+orderly (suc (suc (suc g))) = one-orderly gather refl refl
+
+one-in-order : (v : Vertex) → v.label ≡ 1 → waits v ≡ [] → IsInOrder (record { nodes = v ∷ []; results = Port 1 1 ∷ [] }) (v ∷ [])
+one-in-order v label e =
+    record {
+      nodes = (((λ z. let y = label in omega (arith, y, z)), ap (λ b. if b then Some v else None) (eq-eqb v.label v.label refl)), tt);
+      all = λ n i. i;
+      along = ((λ n i. absurd (subst (IsIn n) e i)), (λ i. i), tt);
+    }
+
+along : AreInOrder net (λ g. node_of g ∷ [])
+along zero = one-in-order over refl refl
+along (suc zero) = one-in-order scatter refl refl
+along (suc (suc zero)) = one-in-order longer refl refl
+along (suc (suc (suc g))) = one-in-order gather refl refl
+
+begins : (k : Carried) → Begins laid facts live own 0 (k ∷ []) (first_cells (k ∷ [])) (λ i. get_or (k ∷ []) i Unfilled)
+begins k = runs-begin laid facts live own 0 (k ∷ []) refl (λ i l. first i (has-in (0 ∷ []) i l)) (λ i l. absurd (never l))
+  where
+    first : (i : ℕ) → IsIn i (0 ∷ []) → i < 1
+    first i (inl e) = omega (arith, e)
+    first i (inr h) = absurd h
+
+    never : false ≡ true → ⊥
+    never e = absurd cc
+
+pub decided-run : (k : Carried) (limit : ℕ)
+    → ((rs : List Carried) × (c : ℕ) × (copies : ℕ) × EndsStored laid handling limit (entered_stored laid 0 (first_cells (k ∷ []))) rs c copies × IsCopied storage laid 0 (k ∷ []) rs c copies × (c ≤ limit))
+    ⊎ (StopsStored laid handling limit (entered_stored laid 0 (first_cells (k ∷ []))) × ((d c : ℕ) → Costs net d 0 (k ∷ []) c → limit < c))
+decided-run k limit =
+    store-decided storage laid handling facts live own (λ f. 10) 10 limit stored-code inside orderly along 0 (k ∷ []) (first_cells (k ∷ [])) (λ i. get_or (k ∷ []) i Unfilled) (inl refl) refl (begins k)

@@ -1,15 +1,15 @@
 -- In an order in which each taker is the last user of its port, no node reads a cell that was taken.
-use Rattle.std.proofs.Common.{◌≡◌, ℕ, zero, suc, ◌+◌, ◌-◌, ◌<◌, ◌≤◌, ◌⊎◌, inl, inr, Bool, true, false, not, ◌&&◌, if◌then◌else◌, List, [], ◌∷◌, length, map, refl, sym, ap, ◌∙◌, subst, arith}
+use Rattle.std.proofs.Common.{◌≡◌, ℕ, zero, suc, ◌+◌, ◌<◌, ◌≤◌, ◌⊎◌, inl, inr, Bool, true, false, not, ◌&&◌, if◌then◌else◌, List, [], ◌∷◌, length, map, refl, sym, ap, ◌∙◌, subst, arith}
 use Rattle.graph_meaning.specs.Carried.{Carried}
 use Rattle.graph_meaning.specs.Storage.{leaves_at, leaves_of}
-use Rattle.graph_meaning.specs.Demand.{Source, Port, Fixed, Kind, Vertex, EachNode}
+use Rattle.graph_meaning.specs.Demand.{Source, Port, Fixed, Vertex, EachNode}
 use Rattle.ordered_meaning.specs.Taking.{Marks, first_port, Fills, Taken, IsTaken as WasTaken, taken_by, NoneIsTaken, AreTakersLast}
 use Rattle.run_code.specs.Cells.{Operand, At, Lit, picked}
 use Rattle.run_code.specs.Coded.{Places, operand, Puts}
 use Rattle.run_code.specs.Known.{Known, Knows, KnowsAll, IsReadable}
-use Rattle.run_store.specs.Ports.{mode_of, modes_of, KnowsPort, IsAlive, AllIn, StaysAlive, AreStacked, AreNodesLively, AreInputsPlaced, AreNodesLivelyInOrder}
+use Rattle.run_store.specs.Ports.{mode_of, modes_of, picks_of, copies_of, DoModesCopy, KnowsPort, IsAlive, AllIn, StaysAlive, AreStacked, AreNodesLively, AreInputsPlaced, AreNodesLivelyInOrder}
 use Rattle.run_store.specs.Refines.{IsTaken}
-use Rattle.run_store.specs.Stored.{Mode, Looks, Copies, Takes, copied_as, copied}
+use Rattle.run_store.specs.Stored.{Looks, Copies, Takes, copied_as, copied}
 
 -- what a node takes stands in a cell of its own
 record IsOwnCell (keep : ℕ → Bool) (places : Places) (known : Known) (l p : ℕ) : Type 0 where
@@ -43,19 +43,8 @@ modes-copied takes consumes test is first (o ∷ os) (k ∷ ks) many =
     ap (λ n. n + copied (modes_of takes consumes (suc first) os) ks) (mode-copied (takes first) (consumes first) k ∙ ap (λ b. if b then leaves_of k else 0) (sym (is first)))
     ∙ ap (λ n. (if test first then leaves_of k else 0) + n) (modes-copied takes consumes test is (suc first) os ks (omega (arith, many)))
 
--- what a compound node is given and does not take is copied for its parts
-abbrev picks_of : (ℕ → Bool) → ℕ → List Source → List Bool
-picks_of test i [] = []
-picks_of test i (o ∷ os) = test i ∷ picks_of test (suc i) os
-
-abbrev copies_of : List Bool → List Mode
-copies_of [] = []
-copies_of (true ∷ bs) = Copies ∷ copies_of bs
-copies_of (false ∷ bs) = copies_of bs
-
 pub picks-copied : (test : ℕ → Bool) (first : ℕ) (os : List Source) (ks : List Carried) → length os ≡ length ks
     → copied (copies_of (picks_of test first os)) (picked (picks_of test first os) ks) ≡ leaves_at test first ks
-
 picks-copied test first [] [] many = refl
 picks-copied test first [] (k ∷ ks) many = absurd (omega (arith, many))
 picks-copied test first (o ∷ os) [] many = absurd (omega (arith, many))
@@ -65,6 +54,9 @@ picks-copied test first (o ∷ os) (k ∷ ks) many = go (test first) (picks-copi
         → copied (copies_of (b ∷ picks_of test (suc first) os)) (picked (b ∷ picks_of test (suc first) os) (k ∷ ks)) ≡ (if b then leaves_of k else 0) + leaves_at test (suc first) ks
     go true rest = ap (λ n. leaves_of k + n) rest
     go false rest = rest ∙ omega arith
+
+pub modes-copy : DoModesCopy
+modes-copy = (modes-copied, picks-copied)
 
 -- a cell that is taken is that of a port that is
 taken-port : (places : Places) (takes consumes : ℕ → Bool) (first : ℕ) (os : List Source) (i : ℕ) → IsTaken (modes_of takes consumes first os) (map (operand places) os) i
@@ -139,13 +131,14 @@ node-lively keep places known gone takes consumes v lo w puts knows alive own lo
 
     before : (i l p : ℕ) → KnowsPort known l p → (WasTaken (taken_by takes (first_port v.kind) v.ins gone) l p → ⊥) → places l p ≡ At i
         → IsAlive keep places known gone i × (IsTaken (modes_of takes consumes (first_port v.kind) v.ins) (map (operand places) v.ins) i → ⊥) × (i < lo)
-    before i l p k live at =
-        (inr (l, p, k, (λ d. live (gone-before takes (first_port v.kind) v.ins gone l p d)), at),
-         (λ t. let x = taken-port places takes consumes (first_port v.kind) v.ins i t in
-            let e = (own x.0 x.1 x.2 x.3 x.4).alone i l p x.5 k at in
-            live (subst (λ z. WasTaken (taken_by takes (first_port v.kind) v.ins gone) z p) (sym e.0)
-                (subst (λ z. WasTaken (taken_by takes (first_port v.kind) v.ins gone) x.1 z) (sym e.1) (gone-after takes (first_port v.kind) v.ins gone x.0 x.1 x.2 x.3 x.4)))),
-         low.1 l p i k at)
+    before i l p k live at = (
+      inr (l, p, k, (λ d. live (gone-before takes (first_port v.kind) v.ins gone l p d)), at),
+      (λ t. let x = taken-port places takes consumes (first_port v.kind) v.ins i t in
+          let e = (own x.0 x.1 x.2 x.3 x.4).alone i l p x.5 k at in
+          live (subst (λ z. WasTaken (taken_by takes (first_port v.kind) v.ins gone) z p) (sym e.0)
+          (subst (λ z. WasTaken (taken_by takes (first_port v.kind) v.ins gone) x.1 z) (sym e.1) (gone-after takes (first_port v.kind) v.ins gone x.0 x.1 x.2 x.3 x.4)))),
+      low.1 l p i k at,
+    )
 
     after : (i : ℕ) → IsAlive keep places ((v.label, w) ∷ known) (taken_by takes (first_port v.kind) v.ins gone) i
         → ((lo ≤ i) × (i < lo + w)) ⊎ (IsAlive keep places known gone i × (IsTaken (modes_of takes consumes (first_port v.kind) v.ins) (map (operand places) v.ins) i → ⊥) × (i < lo))

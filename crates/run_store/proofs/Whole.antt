@@ -2,8 +2,10 @@
 use Rattle.std.proofs.Common.{◌≡◌, ℕ, suc, ◌+◌, ◌<◌, ◌≤◌, ◌⊎◌, inl, inr, Bool, true, false, if◌then◌else◌, ltb, get_or, List, length, refl, sym, ap, ◌∙◌, subst, arith}
 use Rattle.std.proofs.lemmas.Bool.{lt-ltb}
 use Rattle.graph_meaning.specs.Carried.{Carried, Unfilled}
-use Rattle.graph_meaning.specs.Plain.{Costs}
-use Rattle.graph_meaning.specs.Storage.{Storage, copying}
+use Rattle.graph_meaning.specs.Demand.{AreOrderly}
+use Rattle.graph_meaning.specs.Plain.{Means, Costs}
+use Rattle.graph_meaning.specs.Storage.{capped, Copies, Storage, copying}
+use Rattle.ordered_meaning.specs.Orders.{AreInOrder}
 use Rattle.run_code.specs.Cells.{Cells}
 use Rattle.run_code.specs.Coded.{Layout}
 use Rattle.run_code.specs.Machine.{State, at, Outcome, Goes, Ends, Over, step, EndsIn, Weigh, added, Reaches, stays, goes_on}
@@ -15,12 +17,16 @@ use Rattle.run_laws.proofs.Weighing.{same-totals}
 use Rattle.run_laws.specs.Facts.{Fact, AllOf, IsTrue, IsKnown, IsFine, Preserves}
 use Rattle.run_laws.specs.Laws.{EndsAdding, entered, IsRecorded}
 use Rattle.run_laws.specs.Stopping.{ComesToLimit}
+use Rattle.if1_marks.proofs.Taken.{sound-in-order}
+use Rattle.graph_meaning.proofs.Units.{units-orderly}
+use Rattle.graph_meaning.specs.Networks.{network}
+use Rattle.graph_meaning.specs.StorageUnits.{storage_of}
 use Rattle.run_store.proofs.Refining.{refines}
 use Rattle.run_store.proofs.Supply.{never-stuck}
 use Rattle.run_store.specs.Lively.{Live, IsLively, IsSupplied, IsSafe}
 use Rattle.run_store.specs.Refines.{Fits, AreBelow, IsHandled, Matches}
 use Rattle.run_store.specs.Stored.{View, Empty, Owns, Refers, Heap, owned_in, IsOwner, is_full, is_owner, Handling, Stored, StoredOutcome, Onward, Finished, AtLimit, Stuck, step_stored}
-use Rattle.run_store.specs.Whole.{ReachesStored, rests, walks, EndsStored, StopsStored, IsStoredCode, entered_stored, Begins, first_cells, DoRunsBegin, IsCopied, IsStoreExact, AreStoreEndsRecorded, AreStoreRunsDecided}
+use Rattle.run_store.specs.Whole.{ReachesStored, rests, walks, EndsStored, StopsStored, IsStoredCode, entered_stored, Begins, first_cells, DoRunsBegin, IsCopied, IsStoreExact, AreStoreEndsRecorded, AreStoreRunsDecided, IsOfUnit, AreUnitRunsDecided}
 
 module _ (weigh : Weigh) (limit : ℕ) (code : Code) (handling : ℕ → Handling) (facts : ℕ → List Fact) (live own : Live)
     (handled : (pc : ℕ) → IsHandled weigh facts pc (code pc) (handling pc)) (preserves : (pc : ℕ) → Preserves facts pc (code pc)) (lively : (pc : ℕ) → IsLively live own (handling pc) pc (code pc)) where
@@ -225,6 +231,29 @@ store-decided s X handling facts live own end many limit is inside orderly inord
         let r = ends-recorded X limit is.coded orderly inorder x.0 f ins x.1 x.2 cells in_f as_many begins.hold x.4 in
         inl (x.1, x.2, r.0, ends-stored s X handling facts live own limit is f ins h cells begins x.1 x.2 r.0 r.1, copies-of s X handling facts live own limit is f ins h cells begins x.1 x.2 r.0 r.2, r.3)
     go (inr x) = inr (limit-stored s X handling facts live own limit is f ins h cells begins x.0, x.1)
+
+-- ---- units
+
+pub unit-decided : AreUnitRunsDecided
+unit-decided u X handling facts live own end many limit ready sound same inorder is inside f ins h cells in_f as_many begins =
+    go (store-decided (storage_of u) X handling facts live own end many limit is inside
+    (subst AreOrderly (sym same) (units-orderly u ready (sound-in-order u sound))) (subst (λ z. AreInOrder z X.order) (sym same) inorder) f ins h cells in_f as_many begins)
+  where
+    go : ((rs : List Carried) × (c : ℕ) × (copies : ℕ) × EndsStored X handling limit (entered_stored X f h) rs c copies × IsCopied (storage_of u) X f ins rs c copies × (c ≤ limit))
+        ⊎ (StopsStored X handling limit (entered_stored X f h) × ((d c : ℕ) → Costs X.network d f ins c → limit < c))
+        → ((rs : List Carried) × (c : ℕ) × (copies : ℕ) × EndsStored X handling limit (entered_stored X f h) rs c copies × IsOfUnit u f ins rs c copies × (c ≤ limit))
+        ⊎ (StopsStored X handling limit (entered_stored X f h) × ((d c : ℕ) → Costs (network u) d f ins c → limit < c))
+    go (inl x) =
+        let r = x.4 in
+        inl (
+          x.0,
+          x.1,
+          x.2,
+          x.3,
+          ((r.0, subst (λ z. Means z r.0 f ins x.0) same r.1, subst (λ z. Costs z r.0 f ins x.1) same r.2), (r.0, subst (λ z. Copies (storage_of u) z r.0 f ins (capped x.2)) same r.3)),
+          x.5,
+        )
+    go (inr x) = inr (x.0, λ d c costs. x.1 d c (subst (λ z. Costs z d f ins c) (sym same) costs))
 
 -- ---- how a run begins
 

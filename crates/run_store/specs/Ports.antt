@@ -1,13 +1,15 @@
 -- Which cells are live where the nodes of a graph fire one after another: those of ports that are known and were not taken, and those
 -- that are kept for other graphs.
-use Rattle.std.specs.Prelude.{◌≡◌, ℕ, zero, suc, ◌+◌, ◌<◌, ◌≤◌, ◌⊎◌, Bool, true, if◌then◌else◌, List, [], ◌∷◌, map}
-use Rattle.graph_meaning.specs.Demand.{Source, Port, Fixed, Kind, Vertex, EachNode}
+use Rattle.std.specs.Prelude.{◌≡◌, ℕ, suc, ◌+◌, ◌<◌, ◌≤◌, ◌⊎◌, ◌&&◌, not, Bool, true, false, if◌then◌else◌, List, [], ◌∷◌, map, length}
+use Rattle.graph_meaning.specs.Carried.{Carried}
+use Rattle.graph_meaning.specs.Storage.{leaves_at}
+use Rattle.graph_meaning.specs.Demand.{Source, Vertex, EachNode}
 use Rattle.ordered_meaning.specs.Taking.{Marks, first_port, Fills, Taken, IsTaken as WasTaken, taken_by, AreTakersLast}
-use Rattle.run_code.specs.Cells.{Operand, At, Lit}
+use Rattle.run_code.specs.Cells.{Operand, At, Lit, picked}
 use Rattle.run_code.specs.Coded.{Places, operand, Puts}
 use Rattle.run_code.specs.Known.{Known, Knows, IsReadable}
 use Rattle.run_store.specs.Refines.{IsTaken}
-use Rattle.run_store.specs.Stored.{Mode, Looks, Copies, Takes}
+use Rattle.run_store.specs.Stored.{Mode, Looks, Copies, Takes, copied}
 
 -- ---- modes by marks
 
@@ -18,6 +20,24 @@ mode_of takes consumes = if takes then Takes else (if consumes then Copies else 
 abbrev pub modes_of : (takes consumes : (port : ℕ) → Bool) → (first : ℕ) → List Source → List Mode
 modes_of takes consumes i [] = []
 modes_of takes consumes i (o ∷ os) = mode_of (takes i) (consumes i) ∷ modes_of takes consumes (suc i) os
+
+-- what a compound node is given and does not take is copied for its parts: these ports, and what is brought for them
+abbrev pub picks_of : (test : (port : ℕ) → Bool) → (first : ℕ) → List Source → List Bool
+picks_of test i [] = []
+picks_of test i (o ∷ os) = test i ∷ picks_of test (suc i) os
+
+abbrev pub copies_of : List Bool → List Mode
+copies_of [] = []
+copies_of (true ∷ bs) = Copies ∷ copies_of bs
+copies_of (false ∷ bs) = copies_of bs
+
+-- what these modes copy are the leaves of the ports that are consumed and do not take, and what picks copy those that are picked
+abbrev pub DoModesCopy : Type 0
+DoModesCopy =
+    ((takes consumes test : ℕ → Bool) → ((p : ℕ) → test p ≡ consumes p && not (takes p)) → (first : ℕ) (os : List Source) (ks : List Carried) → length os ≡ length ks
+    → copied (modes_of takes consumes first os) ks ≡ leaves_at test first ks)
+    × ((test : ℕ → Bool) (first : ℕ) (os : List Source) (ks : List Carried) → length os ≡ length ks
+    → copied (copies_of (picks_of test first os)) (picked (picks_of test first os) ks) ≡ leaves_at test first ks)
 
 -- ---- live cells
 

@@ -2,8 +2,8 @@
 ghost use Rattle.run_store.specs.Effects.{AreEffects, DoLead};
 ghost use Rattle.run_store.specs.Refines.{Refines};
 ghost use Rattle.run_store.specs.Lively.{IsNeverStuck};
-ghost use Rattle.run_store.specs.Ports.{AreNodesLivelyInOrder};
-ghost use Rattle.run_store.specs.Whole.{DoRunsBegin, IsStoreExact, AreStoreEndsRecorded, AreStoreRunsDecided};
+ghost use Rattle.run_store.specs.Ports.{DoModesCopy, AreNodesLivelyInOrder};
+ghost use Rattle.run_store.specs.Whole.{DoRunsBegin, IsStoreExact, AreStoreEndsRecorded, AreStoreRunsDecided, AreUnitRunsDecided};
 
 /// Each step of the machine on values is its effect on what it reads.
 pub fn steps_are_effects()
@@ -51,4 +51,14 @@ pub fn runs_that_own_begin()
 /// what is live behind a node was live before it or is one of its outputs.
 pub fn nodes_are_lively_where_takers_are_last()
     ensures { AreNodesLivelyInOrder }
+{}
+
+/// Modes by marks copy exactly what is consumed and not taken, and so do the copies of given inputs.
+pub fn modes_copy_what_is_consumed_and_left()
+    ensures { DoModesCopy }
+{}
+
+/// So a run of code of a ready unit with sound marks is decided.
+pub fn runs_of_units_are_decided()
+    ensures { AreUnitRunsDecided }
 {}

@@ -57,7 +57,7 @@ abbrev pub defined_of : Defined → by.Defined
 defined_of d = record { exprs = d.exprs; targets = d.targets; types = d.types }
 
 abbrev pub arms_of : Arms → by.Arms
-arms_of a = record { name = a.name; union = a.choices.union; chosen = a.choices.arms; results = a.results; types = a.types; is_even = a.is_even }
+arms_of a = record { name = a.name; union = a.choices.union; chosen = a.choices.arms.entries; results = a.results; types = a.types; is_even = a.is_even }
 
 abbrev pub group_of : Group → by.Group
 group_of g = record { sources = g.sources; bounds = g.bounds; names = g.names; types = g.types }

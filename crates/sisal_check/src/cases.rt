@@ -15,7 +15,9 @@ use crate::lists::{all, only};
 use crate::state::{Given, Parts, Walk, number_of};
 use flow_value::{Numbers, Seq};
 use sisal_tree::{Arm, Expr, Named, TagCase};
+use std::alloc::Global;
 use type_rules::{Choices, TypeFault};
+use type_table::Types;
 use typed_tree::{Case, TypedExpr, TypedKind};
 
 /// The arms so far.
@@ -62,10 +64,10 @@ pub(crate) fn tag_case(
     walk.types.holds();
     match otherwise {
         Some(es) => last(es.as_slice(), &mut done, given, walk)?,
-        None => name_all(line, &done)?,
+        None => name_all(line, &walk.types, &done)?,
     }
     walk.types.holds();
-    case(line, count, subject, done)
+    case(given.alloc, line, count, subject, done)
 }
 
 /// No arms of the union that is the subject.
@@ -82,7 +84,7 @@ fn begin(
     let [union] = subject.types.as_slice() else {
         return Err(TypeFault::NoMemory);
     };
-    match Choices::new(given.alloc, &walk.types, *union)? {
+    match Choices::new(given.alloc, &walk.types, *union) {
         Some(choices) => Ok(Arms {
             name,
             choices,
@@ -192,11 +194,11 @@ fn suit(types: Numbers, done: &mut Arms)
 }
 
 /// Tests that each tag has an arm.
-fn name_all(line: u32, done: &Arms) -> Result<(), TypeFault>
-    ensures named { OnOk result (are_all_named done.now.choices.arms ≡ true) }
-    ensures breaks { IfErr result (IsRule (λ rule at_line. (rule ≡ 18) × (at_line ≡ line) × (are_all_named done.now.choices.arms ≡ false))) }
+fn name_all(line: u32, types: &Types, done: &Arms) -> Result<(), TypeFault>
+    ensures named { OnOk result (are_all_named types.now done.now.choices.union done.now.choices.arms.entries ≡ true) }
+    ensures breaks { IfErr result (IsRule (λ rule at_line. (rule ≡ 18) × (at_line ≡ line) × (are_all_named types.now done.now.choices.union done.now.choices.arms.entries ≡ false))) }
 {
-    if done.choices.are_all_named() {
+    if done.choices.are_all_named(types) {
         Ok(())
     } else {
         Err(TypeFault::Rule { rule: 18, line })
@@ -204,7 +206,13 @@ fn name_all(line: u32, done: &Arms) -> Result<(), TypeFault>
 }
 
 /// The typed tree of so many arms and `otherwise`.
-fn case(line: u32, count: u32, subject: Parts, done: Arms) -> Result<TypedExpr, TypeFault>
+fn case(
+    alloc: Global,
+    line: u32,
+    count: u32,
+    subject: Parts,
+    done: Arms,
+) -> Result<TypedExpr, TypeFault>
     ensures is { IfOk result (λ t. IsCase line count (parts_of subject) (arms_of done) t) }
     ensures breaks { IfErr result (IsRule (λ rule at_line. (rule ≡ 18) × (at_line ≡ line) × (done.is_even ≡ false))) }
 {
@@ -223,7 +231,8 @@ fn case(line: u32, count: u32, subject: Parts, done: Arms) -> Result<TypedExpr, 
     };
     let case = Case {
         named: named_arms(name, count),
-        choices: choices.into_numbers(count)?,
+        choices: choices.into_choices(alloc)?,
+        others: count,
     };
     Ok(TypedExpr {
         line,

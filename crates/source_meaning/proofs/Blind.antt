@@ -22,7 +22,7 @@ use Rattle.meaning.specs.declared.sources.Places.TheVariants as places
 use Rattle.meaning.specs.Timed.{Timed, given, plus, andthen}
 use Rattle.meaning.specs.Words.{value_at, test_of, goes_on}
 use Rattle.meaning.specs.Sources.{places_of, lower_of, names_at}
-use Rattle.meaning.specs.Meaning.{Gives, all_of, defined, body_of, chosen, with_content, arm_in, arm_at, arm_of, each, environments, at_place, folded, over, Members, member, renew, turned, turn, turns, members, unless_failed, looped, kind_gives, expr_gives, calls, meaning, kind_meaning, meanings, definitions}
+use Rattle.meaning.specs.Meaning.{Gives, all_of, defined, body_of, chosen, with_content, arm_in, arm_place, arm_of, each, environments, at_place, folded, over, Members, member, renew, turned, turn, turns, members, unless_failed, looped, kind_gives, expr_gives, calls, meaning, kind_meaning, meanings, definitions}
 use Rattle.source_meaning.specs.Pending.{Program}
 use Rattle.source_meaning.specs.Reads.{some, some_in, form_reads, expr_reads, reads, kind_reads, list_reads, defs_read}
 use Rattle.source_meaning.proofs.Laws.{given_then, then_same, then_then}
@@ -122,12 +122,8 @@ module _ (xs : List Val) where
   arm_in_blind c n (g ∷ gs) h zero place v a b ys = content_blind g h.0 (nat_lt place c.named) v a b ys
   arm_in_blind c n (g ∷ gs) h (suc at) place v a b ys = arm_in_blind c n gs h.1 at place v a b ys
 
-  arm_at_blind : (c : Case) (n : ℕ) (gs : List Gives) → BlindAll gs → (o : Option ℕ) (v : Val) → Blind (arm_at c n gs o v)
-  arm_at_blind c n gs h None v a b ys = refl
-  arm_at_blind c n gs h (Some place) v a b ys = arm_in_blind c n gs h place place v a b ys
-
   arm_blind : (c : Case) (n : ℕ) (gs : List Gives) → BlindAll gs → (v : Val-F Val) → Blind (arm_of c n gs v)
-  arm_blind c n gs h (Val-F.Uni tag v) a b ys = arm_at_blind c n gs h (slice_get c.choices tag) v a b ys
+  arm_blind c n gs h (Val-F.Uni tag v) a b ys = arm_in_blind c n gs h (arm_place c.choices c.others tag) (arm_place c.choices c.others tag) v a b ys
   arm_blind c n gs h (Val-F.Err x) a b ys = refl
   arm_blind c n gs h (Val-F.Int x) a b ys = refl
   arm_blind c n gs h (Val-F.Bool x) a b ys = refl

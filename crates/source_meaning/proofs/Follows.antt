@@ -46,7 +46,7 @@ arm_get n p arms place o h =
 -- the arm at a place
 pub arm_is : (n : ℕ) (p : Program) (c : Case) (results : ℕ) (arms : List (List TypedExpr)) (place : ℕ) (v : Val) (env : List Val) (k : Rest) (m : ℕ) (arm : List TypedExpr) → slice_get arms place ≡ Some arm → m ≡ length env
     → andthen (meanings n p arm (with_content c.named place v env)) (finish n p (after.Unbind m) k (with_content c.named place v env))
-    ≡ andthen (arm_at c results (map all_of (map (map (meaning n p)) arms)) (Some place) v env) (k env)
+    ≡ andthen (arm_at c results (map all_of (map (map (meaning n p)) arms)) place v env) (k env)
 arm_is n p c results arms place v env k m arm e h =
     ap (λ x. andthen (meanings n p arm (with_content c.named place v env)) (k x)) (content_cut c.named place v env m h)
     ∙ sym (ap (λ o. andthen (arm_in c results o place v env) (k env)) (arm_get n p arms place (Some arm) e))

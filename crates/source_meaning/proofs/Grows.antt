@@ -19,7 +19,7 @@ use Rattle.meaning.specs.declared.sources.Places.TheVariants as places
 use Rattle.meaning.specs.Timed.{Timed, given, plus, andthen, Below}
 use Rattle.meaning.specs.Words.{value_at, test_of, goes_on}
 use Rattle.meaning.specs.Sources.{places_of, lower_of}
-use Rattle.meaning.specs.Meaning.{Gives, all_of, defined, body_of, chosen, with_content, arm_in, arm_at, arm_of, each, environments, at_place, folded, over, Members, member, renew, turned, turn, turns, members, unless_failed, looped, kind_gives, expr_gives, results_of, function_gives, calls, meaning, kind_meaning, meanings, definitions}
+use Rattle.meaning.specs.Meaning.{Gives, all_of, defined, body_of, chosen, with_content, arm_in, arm_place, arm_of, each, environments, at_place, folded, over, Members, member, renew, turned, turn, turns, members, unless_failed, looped, kind_gives, expr_gives, results_of, function_gives, calls, meaning, kind_meaning, meanings, definitions}
 use Rattle.source_meaning.specs.Pending.{Program}
 use Rattle.source_meaning.proofs.Laws.{below_refl, below_none, below_plus, below_then, below_trans, below_same}
 
@@ -83,12 +83,8 @@ arm_in_below c n (g ∷ gs) (h ∷ hs) l (suc at) place v env = arm_in_below c n
 arm_in_below c n [] (h ∷ hs) l at place v env = absurd l
 arm_in_below c n (g ∷ gs) [] l at place v env = absurd l
 
-arm_at_below : (c : Case) (n : ℕ) (gs hs : List Gives) → LessAll gs hs → (o : Option ℕ) (v : Val) (env : List Val) → Below (arm_at c n gs o v env) (arm_at c n hs o v env)
-arm_at_below c n gs hs l None v env = below_refl _
-arm_at_below c n gs hs l (Some place) v env = arm_in_below c n gs hs l place place v env
-
 pub arm_of_below : (c : Case) (n : ℕ) (gs hs : List Gives) → LessAll gs hs → (v : Val-F Val) → Less (arm_of c n gs v) (arm_of c n hs v)
-arm_of_below c n gs hs l (Val-F.Uni tag v) env = arm_at_below c n gs hs l (slice_get c.choices tag) v env
+arm_of_below c n gs hs l (Val-F.Uni tag v) env = arm_in_below c n gs hs l (arm_place c.choices c.others tag) (arm_place c.choices c.others tag) v env
 arm_of_below c n gs hs l (Val-F.Err x) env = below_refl _
 arm_of_below c n gs hs l (Val-F.Int x) env = below_refl _
 arm_of_below c n gs hs l (Val-F.Bool x) env = below_refl _

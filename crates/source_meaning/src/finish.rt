@@ -2,7 +2,7 @@
 ghost use Rattle.std.specs.Prelude.{◌≡◌, ℕ, ◌+◌, ◌<◌, ◌≤◌, List, OnOk, IfOk, map, length};
 ghost use Rattle.meaning.specs.Timed.{given, plus, andthen, Moves, Passes};
 ghost use Rattle.meaning.specs.Words.{failed, value_at};
-ghost use Rattle.meaning.specs.Meaning.{meaning, definitions, results_of, with_content, arm_at, all_of};
+ghost use Rattle.meaning.specs.Meaning.{meaning, definitions, results_of, with_content, arm_at, arm_place, all_of};
 ghost use Rattle.source_meaning.specs.Pending.{Program, rest, load, weight, whole, before, fuel, StartsFull};
 ghost use Rattle.source_meaning.specs.Slots.{given_values};
 
@@ -14,7 +14,7 @@ use flow_value::{Cause, Items, NoMemory, Seq, Val, item_at};
 use meaning::Test;
 use std::alloc::Global;
 use std::mem;
-use typed_tree::{Case, Function, TypedExpr};
+use typed_tree::{Case, Choice, Function, TypedExpr};
 
 /// Gives the same error for each of so many results.
 pub fn give_failed(
@@ -175,6 +175,18 @@ fn first_value(values: Items) -> Val
     }
 }
 
+/// The place of the arm of a tag.
+fn arm_place(choices: &[Choice], others: u32, tag: u32) -> u32
+    ensures { result ≡ arm_place choices.now others tag }
+{
+    for choice in choices {
+        if choice.tag == tag {
+            return choice.arm;
+        }
+    }
+    others
+}
+
 /// Takes the arm of a union's tag, or its error.
 fn pick<'a>(
     alloc: Global,
@@ -190,7 +202,7 @@ fn pick<'a>(
 {
     match first_value(values) {
         Val::Uni(tag, content) => {
-            let place = item_at(case.choices.as_slice(), tag as usize).copied();
+            let place = arm_place(case.choices.as_slice(), case.others, tag);
             enter_arm(
                 alloc,
                 state,
@@ -213,7 +225,7 @@ fn enter_arm<'a>(
     case: &'a Case,
     arms: &'a Seq<Seq<TypedExpr>>,
     results: usize,
-    place: Option<u32>,
+    place: u32,
     content: Val,
 ) -> Result<(), NoMemory>
     ensures means { OnOk result ((n : ℕ) (p : Program) → rest n p state.new.frames.items state.new.names (given_values state.new.given)
@@ -221,9 +233,6 @@ fn enter_arm<'a>(
     ensures steps { state.new.steps ≡ state.old.steps }
     ensures load { OnOk result (load state.new.frames.items ≤ load state.old.frames.items + 1) }
 {
-    let Some(place) = place else {
-        return give_failed(alloc, state, results, Cause::Tag);
-    };
     let Some(arm) = item_at(arms.as_slice(), place as usize) else {
         return give_failed(alloc, state, results, Cause::Tag);
     };

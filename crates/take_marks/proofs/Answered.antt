@@ -1,8 +1,7 @@
 -- What is answered for an edge that may take.
-use Rattle.std.proofs.Common.{◌≡◌, ◌≢◌, ◌∙◌, ℕ, ◌+◌, ◌<◌, ◌≤◌, zero, suc, Bool, true, false, not, ◌&&◌, ◌||◌, cond, if◌then◌else◌, List, [], ◌∷◌, length, get_or, slice_index, map, filter, All, Contains, MatchBool, ◌⊎◌, inl, inr, arith, refl, sym, ap, subst, ◌==◌}
+use Rattle.std.proofs.Common.{◌≡◌, ◌≢◌, ◌∙◌, ℕ, ◌<◌, ◌≤◌, zero, suc, Bool, true, false, not, ◌&&◌, ◌||◌, cond, if◌then◌else◌, List, [], ◌∷◌, length, slice_index, map, filter, All, Contains, MatchBool, inl, inr, arith, refl, sym, ap, subst, ◌==◌}
 use Rattle.std.specs.Prelude.{nat_lt}
 use Rattle.std.specs.List.{list_any}
-use Rattle.std.specs.List.Sorted.{IsStrictlyIncreasing}
 use Rattle.std.proofs.lemmas.Bool.{or_cases, or_left, and_parts, and_from, eq-eqb, ne_eqb, not_from_false, not-true}
 use Rattle.std.proofs.lemmas.List.Elements.{Contains-get_or, All-contains, All-weaker, All-contains_itself}
 use Rattle.if1_graph.specs.declared.graph.Edge.{Edge}
@@ -10,27 +9,23 @@ use Rattle.if1_graph.specs.declared.graph.Graph.{Graph}
 use Rattle.if1_graph.specs.declared.graph.Graph.TheViews.{out-Graph}
 use Rattle.if1_graph.specs.declared.graph.Origin.{Origin}
 use Rattle.if1_graph.specs.declared.graph.Origin.TheVariants.{Port, Lit}
-use Rattle.if1_graph.specs.Units.{label_of, ends}
+use Rattle.if1_graph.specs.Units.{ends}
 use Rattle.if1_order.specs.Orders.{node_labels}
 use Rattle.if1_order.specs.Walks.{Lists}
 use Rattle.if1_marks.specs.Owned.{leaving}
-use Rattle.if1_marks.specs.Sound.{edges_to_its_node}
-use Rattle.if1_marks.proofs.Lists.{here, there, here-or-there, in-none}
+use Rattle.if1_marks.proofs.Lists.{here, there}
 use Rattle.if1_marks.proofs.Tests.{same-number, any-found, any-there, no-both}
 use Rattle.marks_made.specs.Ways.{Leads}
 use Rattle.marks_made.specs.Made.{Orders, Answer, Kept, Taken, Twice, Blocked, is_taken, links, precedes, is_edge, is_order, others, is_twice, is_before, is_blocked, ordered, answer, after}
-use Rattle.marks_made.specs.Laws.{IsMarkable}
 use Rattle.marks_made.proofs.Ways.{by-sound, by-complete}
 use Rattle.marks_made.proofs.Lists.{passed}
 use Rattle.marks_made.proofs.Steps.{Inv, ends-there, none-ordered}
-use Rattle.if1_reach.specs.Nets.{AreLinked}
 use Rattle.if1_reach.specs.Paths.{IsPath}
 use Rattle.if1_reach.specs.Users.{users_in}
 use Rattle.take_marks.specs.declared.why.Why.{Why}
 use Rattle.take_marks.specs.declared.why.Why.TheVariants as why
-use Rattle.take_marks.specs.Whys.{answer_of, HasWay, IsWayTo}
 use Rattle.take_marks.specs.Standing.{Stands, AreRising, top}
-use Rattle.take_marks.specs.Judged.{IsRow, AreOrdersSound, IsLookedAt, IsAnswered, AreThere, AreOthers, IsTriedAs}
+use Rattle.take_marks.specs.Judged.{IsRow, IsLookedAt, IsAnswered, AreThere, AreOthers, IsTriedAs}
 use Rattle.take_marks.proofs.Tried.{path-leads}
 
 leaving-users : (g : Graph) (o : Origin) → map (λ (e : Edge). e.node) (leaving g o) ≡ users_in (out-Graph g).edges o

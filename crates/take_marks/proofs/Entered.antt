@@ -1,22 +1,21 @@
 -- Ordering edges, entered user by user.
-use Rattle.std.proofs.Common.{◌≡◌, ◌≢◌, ◌∙◌, ℕ, ◌+◌, ◌<◌, ◌≤◌, zero, suc, Bool, true, false, not, ◌||◌, ◌&&◌, cond, if◌then◌else◌, List, [], ◌∷◌, ◌++◌, length, take, drop, set, get_or, slice_index, slice_index_or, Contains, ◌⊎◌, inl, inr, arith, refl, sym, ap, subst, ◌==◌, drop-cons}
+use Rattle.std.proofs.Common.{◌≡◌, ◌≢◌, ◌∙◌, ℕ, ◌+◌, ◌<◌, ◌≤◌, zero, suc, Bool, true, false, not, ◌||◌, ◌&&◌, if◌then◌else◌, List, [], ◌∷◌, ◌++◌, length, drop, set, slice_index, slice_index_or, Contains, ◌⊎◌, inl, inr, arith, refl, sym, ap, subst, ◌==◌, drop-cons}
 use Rattle.std.specs.Prelude.{nat_lt}
 use Rattle.std.specs.List.{list_any}
 use Rattle.std.specs.List.Sorted.{IsStrictlyIncreasing}
-use Rattle.std.proofs.lemmas.Bool.{or_cases, or_left, or_right, and_parts, and_from, eq-eqb, ne_eqb, cases_eq, cases_lt}
-use Rattle.std.proofs.lemmas.List.{length-set, get_or-set_same, get_or-set_other, get_or_default}
-use Rattle.std.proofs.lemmas.List.Elements.{Contains-get_or, Contains-push, Contains-push_cases, Contains-append_left}
+use Rattle.std.proofs.lemmas.Bool.{or_cases, or_left, or_right, and_parts, and_from, eq-eqb, ne_eqb, cases_eq}
+use Rattle.std.proofs.lemmas.List.{length-set, get_or-set_same, get_or-set_other}
+use Rattle.std.proofs.lemmas.List.Elements.{Contains-push, Contains-push_cases, Contains-append_left}
 use Rattle.if1_graph.specs.declared.graph.Graph.{Graph}
 use Rattle.if1_graph.specs.declared.graph.Graph.TheViews.{out-Graph}
 use Rattle.if1_order.specs.Orders.{node_labels}
 use Rattle.if1_order.specs.Walks.{Lists, feeders_of}
 use Rattle.if1_order.specs.Feeders.{IsPlace}
-use Rattle.if1_order.proofs.Orders.{same_place, place_contained, entry_cases}
+use Rattle.if1_order.proofs.Orders.{same_place, entry_cases}
 use Rattle.if1_marks.proofs.Tests.{same-number, any-found, any-there, no-both}
-use Rattle.if1_marks.proofs.Lists.{here, there, here-or-there, in-none}
+use Rattle.if1_marks.proofs.Lists.{here, here-or-there, in-none}
 use Rattle.marks_made.specs.Made.{Orders, links, is_edge, is_order}
-use Rattle.marks_made.specs.Ways.{Links}
-use Rattle.if1_reach.specs.Nets.{IsNet, with_link}
+use Rattle.if1_reach.specs.Nets.{with_link}
 use Rattle.if1_reach.proofs.Links.{entered, net-same}
 use Rattle.take_marks.specs.Told.{is_in, told, place_in, is_light}
 use Rattle.take_marks.specs.Standing.{Stands, ArePlaces, AreRising, past, HasEntered}

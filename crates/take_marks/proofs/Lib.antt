@@ -6,3 +6,8 @@ pub mod Weighed
 pub mod Stretches
 pub mod Tried
 pub mod Answered
+pub mod Arranged
+pub mod Runs
+pub mod Once
+pub mod Listed
+pub mod Marking

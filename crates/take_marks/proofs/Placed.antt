@@ -1,16 +1,13 @@
 -- Users and their places.
-use Rattle.std.proofs.Common.{◌≡◌, ◌≢◌, ◌∙◌, ℕ, ◌+◌, ◌<◌, ◌≤◌, zero, suc, Bool, true, false, not, cond, List, [], ◌∷◌, ◌++◌, length, take, get_or, filter, slice_index, slice_index_or, Contains, All, ◌⊎◌, inl, inr, arith, refl, sym, ap, subst, ◌==◌}
-use Rattle.std.specs.List.Sorted.{IsStrictlyIncreasing}
+use Rattle.std.proofs.Common.{◌≡◌, ◌∙◌, ℕ, ◌+◌, ◌<◌, ◌≤◌, Bool, true, false, cond, List, [], ◌∷◌, ◌++◌, length, take, filter, slice_index, inl, inr, arith, refl, sym, ap, subst}
 use Rattle.std.proofs.lemmas.Bool.{cases_lt}
-use Rattle.std.proofs.lemmas.List.{length_push, get_or_append_left, get_or_push, length-take-le, take_more, take_all}
-use Rattle.std.proofs.lemmas.List.Elements.{Contains-get_or, All-contains}
+use Rattle.std.proofs.lemmas.List.{length_push, get_or_append_left, get_or_push, take_more, take_all}
 use Rattle.if1_order.specs.Walks.{Lists, Leads}
 use Rattle.if1_order.specs.Feeders.{IsPlace}
 use Rattle.if1_reach.specs.declared.ranks.Ranks.{Ranks}
 use Rattle.if1_reach.specs.Ranks.{IsRanked}
-use Rattle.if1_reach.specs.Searches.{IsWay}
 use Rattle.if1_reach.proofs.Ranking.{leads-up}
-use Rattle.take_marks.specs.Standing.{ArePlaces, IsBlockedBy, IsFree}
+use Rattle.take_marks.specs.Standing.{ArePlaces, IsFree}
 
 pub filter-more : (p : ℕ → Bool) (xs : List ℕ) (n : ℕ) → n < length xs → filter p (take (n + 1) xs) ≡ (filter p (take n xs) ++ cond (p (slice_index xs n)) (slice_index xs n ∷ []) [])
 filter-more p xs n h = ap (filter p) (take_more xs n 0 h) ∙ push (take n xs) (slice_index xs n)

@@ -1,26 +1,21 @@
 -- The stretch of ranks from the first user to the taker.
-use Rattle.std.proofs.Common.{◌≡◌, ◌≢◌, ◌∙◌, ℕ, ◌+◌, ◌<◌, ◌≤◌, zero, suc, Bool, List, [], ◌∷◌, length, drop, set, get_or, slice_index, slice_index_or, All, Contains, ◌⊎◌, inl, inr, arith, refl, sym, ap, subst}
+use Rattle.std.proofs.Common.{◌≡◌, ◌≢◌, ◌∙◌, ℕ, ◌+◌, ◌<◌, ◌≤◌, Bool, List, length, drop, set, slice_index, ◌⊎◌, inl, inr, arith, sym, ap, subst}
 use Rattle.std.proofs.Math.Seq.{drop-length}
 use Rattle.std.proofs.lemmas.Bool.{cases_eq}
 use Rattle.std.proofs.lemmas.List.{length-set, get_or-set_same, get_or-set_other}
-use Rattle.std.proofs.lemmas.List.Elements.{Contains-get_or, All-get_or}
-use Rattle.if1_graph.specs.declared.graph.Edge.{Edge}
-use Rattle.if1_graph.specs.declared.graph.Graph.{Graph}
+use Rattle.std.proofs.lemmas.List.Elements.{Contains-get_or}
 use Rattle.if1_order.specs.Orders.{node_labels}
-use Rattle.if1_order.specs.Walks.{Lists, feeders_of, AreInside, Leads}
+use Rattle.if1_order.specs.Walks.{Lists, AreInside, Leads}
 use Rattle.if1_reach.proofs.Ranking.{leads-up}
-use Rattle.if1_order.specs.Feeders.{IsPlace}
-use Rattle.if1_marks.proofs.Lists.{in-none}
-use Rattle.marks_made.specs.Made.{Orders, links, ordered}
-use Rattle.marks_made.specs.Laws.{IsMarkable, IsReadyToOrder}
+use Rattle.marks_made.specs.Made.{Orders}
 use Rattle.if1_reach.specs.declared.ranks.Ranks.{Ranks}
 use Rattle.if1_reach.specs.Ranks.{IsRanked}
 use Rattle.if1_reach.specs.Least.{IsInStretch, AreLeast}
 use Rattle.take_marks.specs.Told.{told, is_light}
-use Rattle.take_marks.specs.Standing.{Stands, ArePlaces, AreRising, AreWeights, AreCleared, AreWeighed, AreRankedBefore, HasEntered, past, top}
-use Rattle.take_marks.specs.Ordered.{AreUsers, AreOrdered}
+use Rattle.take_marks.specs.Standing.{Stands, AreWeights, AreCleared, AreWeighed, HasEntered, past, top}
+use Rattle.take_marks.specs.Ordered.{AreOrdered}
 use Rattle.take_marks.proofs.Wanted.{ordered-told}
-use Rattle.take_marks.proofs.Weighed.{all-told, rising-sorted, nth}
+use Rattle.take_marks.proofs.Weighed.{all-told, rising-sorted}
 
 -- ---- weights
 

@@ -1,6 +1,5 @@
 -- A taker whose other users are nodes.
-use Rattle.std.proofs.Common.{◌≡◌, ◌≢◌, ◌∙◌, ℕ, ◌+◌, ◌-◌, ◌<◌, ◌≤◌, zero, suc, Bool, true, List, [], ◌∷◌, length, get_or, slice_index, slice_index_or, map, All, Contains, MatchOption, arith, refl, sym, ap, subst}
-use Rattle.std.specs.List.Sorted.{IsStrictlyIncreasing}
+use Rattle.std.proofs.Common.{◌≡◌, ◌≢◌, ◌∙◌, ℕ, ◌+◌, ◌-◌, ◌<◌, zero, suc, Bool, List, length, get_or, slice_index, slice_index_or, map, All, Contains, arith, sym, ap, subst}
 use Rattle.std.proofs.lemmas.List.Elements.{Contains-get_or, All-get_or, All-contains}
 use Rattle.if1_graph.specs.declared.graph.Edge.{Edge}
 use Rattle.if1_graph.specs.declared.graph.Graph.{Graph}
@@ -16,8 +15,8 @@ use Rattle.if1_reach.specs.Paths.{IsPath}
 use Rattle.if1_reach.specs.Searches.{IsWay}
 use Rattle.if1_reach.proofs.Labelled.{path-of, same-default, all-inside}
 use Rattle.if1_reach.proofs.Links.{to-places}
-use Rattle.take_marks.specs.Standing.{Stands, ArePlaces, AreRising, IsFree, IsBlockedBy, top}
-use Rattle.take_marks.specs.Ordered.{AreUsers, AreOrdered}
+use Rattle.take_marks.specs.Standing.{Stands, ArePlaces, IsFree, IsBlockedBy}
+use Rattle.take_marks.specs.Ordered.{AreOrdered}
 use Rattle.take_marks.specs.Judged.{AreOthers}
 use Rattle.take_marks.proofs.Weighed.{nth}
 

@@ -1,5 +1,5 @@
 -- Who gets an ordering edge is told by what each user leads to.
-use Rattle.std.proofs.Common.{◌≡◌, ◌≢◌, ℕ, ◌<◌, ◌≤◌, Bool, true, false, ◌||◌, List, [], ◌∷◌, Contains, ◌⊎◌, inl, inr, refl, sym, ap, subst, ◌∙◌, arith, ◌==◌, if◌then◌else◌}
+use Rattle.std.proofs.Common.{◌≡◌, ◌≢◌, ℕ, ◌<◌, ◌≤◌, Bool, true, ◌||◌, List, [], ◌∷◌, Contains, ◌⊎◌, inl, inr, refl, ap, subst, ◌∙◌, arith, ◌==◌, if◌then◌else◌}
 use Rattle.std.specs.List.{list_any}
 use Rattle.std.proofs.lemmas.Bool.{or_cases, or_left, or_right, eq-eqb, ne_eqb}
 use Rattle.if1_graph.specs.declared.graph.Edge.{Edge}
@@ -7,7 +7,7 @@ use Rattle.if1_graph.specs.declared.graph.Graph.{Graph}
 use Rattle.if1_graph.specs.Units.{ends as all_ends}
 use Rattle.if1_marks.proofs.Lists.{here, there, here-or-there, in-none}
 use Rattle.if1_marks.proofs.Tests.{same-number, any-found, any-there}
-use Rattle.marks_made.specs.Ways.{Leads, on}
+use Rattle.marks_made.specs.Ways.{Leads}
 use Rattle.marks_made.specs.Made.{Orders, links, precedes, ordered, wanted}
 use Rattle.marks_made.specs.Laws.{IsMarkable, IsReadyToOrder}
 use Rattle.marks_made.proofs.Ways.{by-complete}

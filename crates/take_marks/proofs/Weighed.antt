@@ -1,6 +1,5 @@
 -- What least weights tell of the users of a taker.
-use Rattle.std.proofs.Common.{◌≡◌, ◌≢◌, ◌∙◌, ℕ, ◌+◌, ◌<◌, ◌≤◌, zero, suc, Bool, true, false, List, [], ◌∷◌, length, get_or, slice_index, slice_index_or, Contains, ◌⊎◌, inl, inr, arith, refl, sym, ap, subst}
-use Rattle.std.specs.Prelude.{nat_lt}
+use Rattle.std.proofs.Common.{◌≡◌, ◌≢◌, ◌∙◌, ℕ, ◌<◌, ◌≤◌, suc, true, List, [], ◌∷◌, length, slice_index, Contains, ◌⊎◌, inl, inr, arith, refl, sym, ap, subst}
 use Rattle.std.specs.List.Sorted.{IsStrictlyIncreasing}
 use Rattle.std.proofs.lemmas.Bool.{lt-ltb, ltb-true}
 use Rattle.std.proofs.lemmas.List.{get_or_default}
@@ -10,7 +9,6 @@ use Rattle.if1_order.specs.Orders.{node_labels}
 use Rattle.if1_order.specs.Walks.{Lists}
 use Rattle.if1_order.specs.Walks as walks
 use Rattle.if1_order.specs.Feeders.{IsPlace}
-use Rattle.if1_marks.proofs.Lists.{here, there, here-or-there, in-none}
 use Rattle.marks_made.specs.Ways.{Leads}
 use Rattle.marks_made.specs.Made.{Orders, links}
 use Rattle.if1_reach.specs.Nets.{IsNet, AreLinked}

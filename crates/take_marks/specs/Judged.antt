@@ -1,5 +1,5 @@
 -- What is noted of one edge, and what stands then.
-use Rattle.std.specs.Prelude.{◌≡◌, ◌≢◌, ℕ, ◌<◌, ◌≤◌, length, slice_index, Bool, true, List, [], ◌∷◌, map, All, Contains}
+use Rattle.std.specs.Prelude.{◌≡◌, ◌≢◌, ℕ, ◌<◌, ◌≤◌, length, slice_index, Bool, true, List, [], ◌∷◌, All, Contains}
 use Rattle.std.specs.List.{list_any}
 use Rattle.std.specs.List.Sorted.{IsStrictlyIncreasing}
 use Rattle.if1_graph.specs.declared.graph.Edge.{Edge}

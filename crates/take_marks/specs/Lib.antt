@@ -5,3 +5,4 @@ pub mod Ordered
 pub mod Judged
 pub mod Made
 pub mod Noted
+pub mod Applied

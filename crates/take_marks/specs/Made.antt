@@ -1,5 +1,5 @@
 -- The notes on the edges of a graph and the labels before its nodes, and that they are those of the marks made.
-use Rattle.std.specs.Prelude.{◌≡◌, ◌≢◌, ℕ, ◌+◌, ◌<◌, Bool, true, ◌↔◌, List, [], ◌∷◌, map, drop, take, length, slice_index, slice_index_or, slice_get, Some, Contains, AllPairs, ◌++◌}
+use Rattle.std.specs.Prelude.{◌≡◌, ◌≢◌, ℕ, ◌<◌, Bool, true, ◌↔◌, List, [], map, length, slice_index, slice_index_or, slice_get, Some, Contains, AllPairs}
 use Rattle.std.specs.List.{list_any}
 use Rattle.std.specs.List.Sorted.{IsStrictlyIncreasing}
 use Rattle.if1_graph.specs.declared.graph.Edge.{Edge}
@@ -9,7 +9,6 @@ use Rattle.if1_graph.specs.Cycles.{Reaches}
 use Rattle.if1_graph.specs.Normal.{Precedes}
 use Rattle.if1_order.specs.Orders.{node_labels}
 use Rattle.marks_made.specs.Made.{Answer, Orders, is_edge, is_order, made, made_orders}
-use Rattle.marks_made.specs.Laws.{IsMarkable}
 use Rattle.take_marks.specs.declared.why.Why.{Why}
 use Rattle.take_marks.specs.Whys.{answer_of, HasWay}
 

@@ -1,5 +1,5 @@
 -- What lists of places and of labels say of the ordering edges so far.
-use Rattle.std.specs.Prelude.{◌≡◌, ℕ, zero, suc, drop, ◌∷◌, ◌+◌, ◌<◌, ◌≤◌, ◌^◌, true, ◌↔◌, ◌⊎◌, List, [], length, slice_index, slice_index_or, All, Contains}
+use Rattle.std.specs.Prelude.{◌≡◌, ℕ, zero, suc, drop, ◌∷◌, ◌<◌, ◌≤◌, true, ◌↔◌, ◌⊎◌, List, [], length, slice_index, slice_index_or, All, Contains}
 use Rattle.std.specs.List.{list_any}
 use Rattle.std.specs.List.Sorted.{IsStrictlyIncreasing}
 use Rattle.if1_graph.specs.declared.graph.Graph.{Graph}

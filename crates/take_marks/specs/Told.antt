@@ -1,5 +1,5 @@
 -- Who gets an ordering edge to a taker, told user by user.
-use Rattle.std.specs.Prelude.{ℕ, suc, zero, Bool, ◌||◌, List, [], ◌∷◌, ◌==◌, nat_lt, slice_index, if◌then◌else◌}
+use Rattle.std.specs.Prelude.{ℕ, suc, Bool, ◌||◌, List, [], ◌∷◌, ◌==◌, nat_lt, slice_index, if◌then◌else◌}
 use Rattle.std.specs.List.{list_any}
 use Rattle.marks_made.specs.Made.{Orders}
 

@@ -1,5 +1,5 @@
 //! The marks that are made in one graph.
-ghost use Rattle.std.specs.Prelude.{◌≡◌, ◌≢◌, ◌<◌, ℕ, [], length, replicate, Contains, IfOk, OnOk};
+ghost use Rattle.std.specs.Prelude.{◌≡◌, ◌≢◌, ◌<◌, ℕ, [], length, map, replicate, Bool, Contains, IfOk, OnOk};
 ghost use Rattle.std.specs.List.Sorted.{IsStrictlyIncreasing};
 ghost use Rattle.if1_graph.specs.declared.graph.Edge.{Edge};
 ghost use Rattle.if1_graph.specs.declared.graph.Graph.{Graph};
@@ -11,10 +11,12 @@ ghost use Rattle.if1_reach.specs.Users.{HasUsers};
 ghost use Rattle.marks_made.specs.Made.{Orders};
 ghost use Rattle.marks_made.specs.Laws.{IsMarkable};
 ghost use Rattle.take_marks.specs.Made.{IsInShape, AreMade};
-ghost use Rattle.take_marks.specs.Noted.{IsNoted};
+ghost use Rattle.take_marks.specs.Noted.{IsNoted, HasRun};
 
+use crate::check::checked;
 use crate::judging::judge;
 use crate::why::Why;
+use crate::wish::wished;
 use flow_value::{NoMemory, Numbers, Seq};
 use if1_graph::{Edge, Graph};
 use if1_order::{Places, feeders_by, labels_of};
@@ -86,17 +88,115 @@ fn note(
         return Ok(Why::Kept);
     }
     let port = users_of(users, &edge.from);
-    judge(alloc, labels, port, edge.node, lists, ranks, weights, befores)
+    judge(
+        alloc, labels, port, edge.node, lists, ranks, weights, befores,
+    )
 }
 
-// a graph in which no node reaches itself
-fn first_ranks(alloc: Global, lists: &[Places]) -> Result<Ranks, NoMemory>
+// an order in which users come before presumed takers, or else any
+fn first_ranks(
+    alloc: Global,
+    labels: &[u32],
+    users: &PortUsers,
+    edges: &[Edge],
+    flags: &[bool],
+    lists: &[Places],
+) -> Result<Ranks, NoMemory>
+    requires rising { IsStrictlyIncreasing labels.now }
     requires inside { AreInside lists.now }
     requires acyclic { (s : ℕ) → ¬ Leads lists.now s s }
     ensures { IfOk result (IsRanked lists.now) }
 {
+    let order = wished(alloc, labels, users, edges, flags, lists)?;
+    if let Some(ranks) = checked(alloc, lists, order)? {
+        return Ok(ranks);
+    }
     match ranked(alloc, lists)? {
         Some(ranks) => Ok(ranks),
         None => unreachable!(),
     }
+}
+
+fn run(
+    alloc: Global,
+    graph: &Graph,
+    labels: &[u32],
+    users: &PortUsers,
+    flags: &[bool],
+    lists: &mut Vec<Places>,
+    ranks: &mut Ranks,
+    weights: &mut Numbers,
+    befores: &mut Vec<Numbers>,
+) -> Result<Seq<Why>, NoMemory>
+    requires labels { labels.now ≡ node_labels graph.now }
+    requires shape { IsInShape graph.now }
+    requires flags { length flags.now ≡ length (out-Graph graph.now).edges }
+    requires users { HasUsers (out-Graph graph.now).edges users.now }
+    requires inside { AreInside lists.old.items }
+    requires fit { length lists.old.items ≡ length labels.now }
+    requires ranked { IsRanked lists.old.items ranks.old }
+    requires weights { length weights.old ≡ length lists.old.items }
+    requires befores { length befores.old.items ≡ length lists.old.items }
+    ensures whys { IfOk result (λ whys. length whys ≡ length (out-Graph graph.now).edges) }
+    ensures befores { OnOk result (length befores.new.items ≡ length labels.now) }
+    ensures run { IfOk
+        result
+        (λ whys. HasRun graph.now flags.now (length (out-Graph graph.now).edges) lists.old.items befores.old.items lists.new.items befores.new.items whys) }
+{
+    let mut whys = Seq::new(alloc);
+    for (index, edge) in graph.edges.as_slice().iter().enumerate() {
+        let why = note(
+            alloc,
+            graph,
+            labels,
+            users,
+            edge,
+            flags[index],
+            lists,
+            ranks,
+            weights,
+            befores,
+        )?;
+        whys.add(why)?;
+    }
+    Ok(whys)
+}
+
+/// The marks that are made in a graph, whose edges may take where the flags say so. Takes time linear in
+/// the graph, but for a search among the nodes for each edge and user, and for each edge that may take
+/// that of its port's users and of the ranks between them.
+pub fn marks_in(alloc: Global, graph: &Graph, flags: &[bool]) -> Result<GraphMarks, NoMemory>
+    requires shape { IsInShape graph.now }
+    requires flags { length flags.now ≡ length (out-Graph graph.now).edges }
+    ensures whys { IfOk result (λ r. length r.whys ≡ length (out-Graph graph.now).edges) }
+    ensures befores { IfOk result (λ r. length r.befores.items ≡ length (out-Graph graph.now).nodes) }
+    ensures made { IfOk
+        result
+        (λ r. (may : Edge → Bool) → IsMarkable graph.now may → flags.now ≡ map may (out-Graph graph.now).edges → AreMade graph.now may r.whys r.befores.items) }
+{
+    let labels = labels_of(alloc, graph.nodes.as_slice())?;
+    let mut lists = feeders_by(alloc, labels.as_slice(), graph.edges.as_slice())?;
+    let users = port_users(alloc, graph.edges.as_slice())?;
+    let mut ranks = first_ranks(
+        alloc,
+        labels.as_slice(),
+        &users,
+        graph.edges.as_slice(),
+        flags,
+        lists.as_slice(),
+    )?;
+    let mut weights = no_weights(alloc, labels.len())?;
+    let mut befores = no_lists(alloc, labels.len())?;
+    let whys = run(
+        alloc,
+        graph,
+        labels.as_slice(),
+        &users,
+        flags,
+        &mut lists,
+        &mut ranks,
+        &mut weights,
+        &mut befores,
+    )?;
+    Ok(GraphMarks { whys, befores })
 }

@@ -94,7 +94,15 @@ fn try_node(
         return Ok(Why::Blocked(path));
     }
     put_before(alloc, lists, ranks, places.as_slice(), taker)?;
-    order_users(others, places.as_slice(), taker, ranks, weights, lists, befores)?;
+    order_users(
+        others,
+        places.as_slice(),
+        taker,
+        ranks,
+        weights,
+        lists,
+        befores,
+    )?;
     Ok(Why::Taken)
 }
 
@@ -138,5 +146,14 @@ pub fn judge(
         let path = to_boundary(alloc, node)?;
         return Ok(Why::Blocked(path));
     }
-    try_node(alloc, labels, others.as_slice(), node, lists, ranks, weights, befores)
+    try_node(
+        alloc,
+        labels,
+        others.as_slice(),
+        node,
+        lists,
+        ranks,
+        weights,
+        befores,
+    )
 }

@@ -1,11 +1,13 @@
 //! Calls the program on each line of standard input, which is a name, the words and a text,
 //! with tabs between them; the words have `^` between them, and `@` stands for a line feed of the
-//! text. Prints the name, what the call printed and the status. A first word `!read` has the second
+//! text. Behind the text there may stand pairs of a number and a piece, which the text goes on with so
+//! often. Prints the name, what the call printed and the status. A first word `!read` has the second
 //! read of the text fail, `!write` the second write of results, `!report` the first write of a
 //! refusal; then few bytes move at once. The stored run evaluates the programs of `examples/` and
 //! small ones for each cause of a refusal, has rows for words, tokens, syntax, scalars, folds,
 //! arrays, records, streams and value texts, and checks IF1 texts: units that are right, one for
-//! each fault, and one cut after each byte. What it must print comes from a separate implementation.
+//! each fault, one cut after each byte, and deep ones. What it must print comes from a separate
+//! implementation.
 #![tactic(auto)]
 
 use flow_io::{MemSink, MemSource};
@@ -91,10 +93,31 @@ fn words_of(alloc: Global, words: &str) -> Result<Vec<String>, NoMemory> {
     Ok(all)
 }
 
-/// The call on a text.
-fn call(alloc: Global, plan: Planned<'_>, text: &str) -> Result<Ended, NoMemory> {
+/// The text of a row.
+fn text_of(alloc: Global, row: &str) -> Result<Vec<u8>, NoMemory> {
+    let mut text = Vec::new(alloc);
+    let mut times = 1;
+    let mut is_number = false;
+    for part in row.split('\t') {
+        if is_number {
+            times = part.parse::<u32>().unwrap_or(0);
+        } else {
+            for _ in 0..times {
+                if text.extend_from_slice(part.as_bytes()).is_err() {
+                    return Err(NoMemory);
+                }
+            }
+        }
+        is_number = !is_number;
+    }
+    Ok(text)
+}
+
+/// The call on the text of a row.
+fn call(alloc: Global, plan: Planned<'_>, row: &str) -> Result<Ended, NoMemory> {
     let words = words_of(alloc, plan.words)?;
-    let bytes = Seq::from_slice(alloc, text.as_bytes())?;
+    let text = text_of(alloc, row)?;
+    let bytes = Seq::from_slice(alloc, text.as_slice())?;
     let mut from = MemSource::new(bytes, plan.most, Seq::from_slice(alloc, plan.reads)?);
     let mut out = MemSink::new(alloc, plan.most, Seq::from_slice(alloc, plan.writes)?);
     let mut err = MemSink::new(alloc, MANY, Seq::from_slice(alloc, plan.reports)?);

@@ -61,24 +61,25 @@ fn owned_from(alloc: Global, values: &[Option<Val>]) -> Result<Vec<Operand<'stat
     Ok(ins)
 }
 
-/// Whether the node, fired in place, gives the outputs of the line, or is none that is fired so.
+/// Whether the node, fired in place, gives the output of the line, or is none that is fired so.
 fn is_same_taken(alloc: Global, line: &Line) -> Result<bool, NoMemory> {
     let Some((Some(first), rest)) = line.operands.split_first() else {
         return Ok(true);
     };
-    match taken(alloc, line.op, copy(alloc, first)?, rest)? {
-        Some(value) => Ok(same_all(line.outputs.as_slice(), &[value])),
-        None => Ok(true),
+    let mut owned = copy(alloc, first)?;
+    if !take(alloc, line.op, &mut owned, rest)? && !extend(alloc, line.op, &mut owned, rest)? {
+        return Ok(true);
     }
+    Ok(same_all(line.outputs.as_slice(), &[owned]))
 }
 
-/// The output of a node that is fired in place.
-fn taken(
+/// Fires a node in place, if it is one that needs no memory.
+fn take(
     alloc: Global,
     op: Simple,
-    first: Val,
+    owned: &mut Val,
     rest: &[Option<Val>],
-) -> Result<Option<Val>, NoMemory> {
+) -> Result<bool, NoMemory> {
     let mut values = Vec::new(alloc);
     for one in rest {
         match one {
@@ -88,30 +89,32 @@ fn taken(
     }
     let ins = values.as_mut_slice();
     match op {
-        Simple::AReplace => Ok(Some(fire_taken(Simple::AReplace, first, ins))),
-        Simple::RReplace => Ok(Some(fire_taken(Simple::RReplace, first, ins))),
-        Simple::ARemH => Ok(Some(fire_taken(Simple::ARemH, first, ins))),
-        Simple::ARemL => Ok(Some(fire_taken(Simple::ARemL, first, ins))),
-        Simple::ASetL => Ok(Some(fire_taken(Simple::ASetL, first, ins))),
-        Simple::AAdjust => Ok(Some(fire_taken(Simple::AAdjust, first, ins))),
-        Simple::RestValues => Ok(Some(fire_taken(Simple::RestValues, first, ins))),
-        _ => extended(alloc, op, first, rest),
+        Simple::AReplace => fire_taken(Simple::AReplace, owned, ins),
+        Simple::RReplace => fire_taken(Simple::RReplace, owned, ins),
+        Simple::ARemH => fire_taken(Simple::ARemH, owned, ins),
+        Simple::ARemL => fire_taken(Simple::ARemL, owned, ins),
+        Simple::ASetL => fire_taken(Simple::ASetL, owned, ins),
+        Simple::AAdjust => fire_taken(Simple::AAdjust, owned, ins),
+        Simple::RestValues => fire_taken(Simple::RestValues, owned, ins),
+        _ => return Ok(false),
     }
+    Ok(true)
 }
 
-/// The output of a node that adds to its first operand.
-fn extended(
+/// Fires a node in place, if it is one that adds elements.
+fn extend(
     alloc: Global,
     op: Simple,
-    first: Val,
+    owned: &mut Val,
     rest: &[Option<Val>],
-) -> Result<Option<Val>, NoMemory> {
-    let mut owned = owned_from(alloc, rest)?;
-    let ins = owned.as_mut_slice();
+) -> Result<bool, NoMemory> {
+    let mut operands = owned_from(alloc, rest)?;
+    let ins = operands.as_mut_slice();
     match op {
-        Simple::AAddH => Ok(Some(extend_taken(alloc, Simple::AAddH, first, ins)?)),
-        Simple::AAddL => Ok(Some(extend_taken(alloc, Simple::AAddL, first, ins)?)),
-        Simple::ACatenate => Ok(Some(extend_taken(alloc, Simple::ACatenate, first, ins)?)),
-        _ => Ok(None),
+        Simple::AAddH => extend_taken(alloc, Simple::AAddH, owned, ins)?,
+        Simple::AAddL => extend_taken(alloc, Simple::AAddL, owned, ins)?,
+        Simple::ACatenate => extend_taken(alloc, Simple::ACatenate, owned, ins)?,
+        _ => return Ok(false),
     }
+    Ok(true)
 }

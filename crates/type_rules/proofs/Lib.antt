@@ -11,3 +11,4 @@ pub mod Fielded
 pub mod Forming
 pub mod Clauses
 pub mod Deep
+pub mod Chosen

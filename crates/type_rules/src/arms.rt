@@ -1,15 +1,17 @@
 //! Which arm each tag of a union has in a `tagcase`.
-ghost use Rattle.std.specs.Prelude.{◌≡◌, ◌≤◌, ◌<◌, ◌++◌, ℕ, List, IfOk, IfErr, OnOk, OnErr, IfSome, IsNone, ◌↔◌, length, replicate, map, Some, None, Ok, Err, slice_get, slice_set};
+ghost use Rattle.std.specs.Prelude.{◌≡◌, ◌++◌, ◌∷◌, [], ℕ, Bool, true, false, List, IfOk, IfErr, IfSome, Some, None, Ok, Err, if◌then◌else◌};
 ghost use Rattle.std.specs.Option.{option_map};
-ghost use Rattle.type_rules.specs.Parts.{tags_at};
-ghost use Rattle.type_rules.specs.Arms.{no_arms, are_all_named, numbered, number_or, is_free, chosen, agrees, gives_arm, IsArm, IsNoArm, IsFaultOf};
+ghost use Rattle.type_rules.specs.Parts.{tag_at, tags_at};
+ghost use Rattle.type_rules.specs.Arms.{is_free, has_arm, have_arms, are_all_named, choices_of, chosen, agrees, gives_arm, IsArm, IsNoArm, IsFaultOf};
 
 use crate::fault::TypeFault;
 use crate::lookups::{member_in_union, tags_of};
-use flow_value::{NoMemory, Numbers, Seq, item_at};
+use flow_value::{NoMemory, Seq};
+use indexmap::IndexMap;
 use sisal_tree::Named;
 use std::alloc::Global;
-use type_table::Types;
+use type_table::{Member, Types};
+use typed_tree::Choice;
 
 // The rule of `tagcase`.
 const TAGCASE: u8 = 18;
@@ -19,22 +21,22 @@ const TAGCASE: u8 = 18;
 pub struct Choices {
     /// The type of the union.
     pub union: u32,
-    /// For each tag the place of its arm, where it has one.
-    pub arms: Seq<Option<u32>>,
+    /// For each tag that has an arm its place in the union, and that of the arm.
+    pub arms: IndexMap<u32, u32>,
 }
 
 impl Choices {
-    /// No tag has an arm; none where the type is no union.
-    pub fn new(alloc: Global, types: &Types, union: u32) -> Result<Option<Choices>, NoMemory>
-        ensures arms { IfOk result (λ o. option_map (λ c. c.arms) o ≡ option_map no_arms (tags_at types.now union)) }
-        ensures union { IfOk result (λ o. IfSome o (λ c. c.union ≡ union)) }
+    /// No tag has an arm; none where the type is no union. Takes no memory.
+    pub fn new(alloc: Global, types: &Types, union: u32) -> Option<Choices>
+        ensures arms { option_map (λ c. c.arms.entries) result ≡ option_map (λ ms. []) (tags_at types.now union) }
+        ensures union { IfSome result (λ c. c.union ≡ union) }
     {
         match tags_of(types, union) {
-            Some(tags) => {
-                let arms = no_arms(alloc, tags.len())?;
-                Ok(Some(Choices { union, arms }))
+            Some(_) => {
+                let arms = IndexMap::new(alloc);
+                Some(Choices { union, arms })
             }
-            None => Ok(None),
+            None => None,
         }
     }
 
@@ -49,7 +51,7 @@ impl Choices {
         arm: u32,
         line: u32,
     ) -> Result<u32, TypeFault>
-        ensures content { IfOk result (λ ty. IsArm types.now self.old arm line tags.now ty self.new.arms) }
+        ensures content { IfOk result (λ ty. IsArm types.now self.old arm line tags.now ty self.new.arms.entries) }
         ensures refused { IfErr result (λ e. IsNoArm types.now self.old arm line tags.now e) }
         ensures union { self.new.union ≡ self.old.union }
     {
@@ -57,81 +59,89 @@ impl Choices {
     }
 
     /// Whether each tag has an arm.
-    pub fn are_all_named(&self) -> bool
-        ensures { result ≡ are_all_named self.now.arms }
+    pub fn are_all_named(&self, types: &Types) -> bool
+        ensures { result ≡ are_all_named types.now self.now.union self.now.arms.entries }
     {
-        for arm in self.arms.as_slice() {
-            if arm.is_none() {
-                return false;
-            }
+        match tags_of(types, self.union) {
+            Some(tags) => have_arms(&self.arms, types, self.union, tags),
+            None => true,
         }
-        true
     }
 
-    /// For each tag the place of its arm; `arms`, the number of arms, where no arm names it.
-    pub fn into_numbers(self, arms: u32) -> Result<Numbers, NoMemory>
-        ensures { IfOk result (λ places. places ≡ numbered arms self.arms) }
+    /// The tags that have an arm, in the order in which they got it.
+    pub fn into_choices(self, alloc: Global) -> Result<Seq<Choice>, NoMemory>
+        ensures { IfOk result (λ choices. choices ≡ choices_of self.arms.entries) }
     {
-        let Choices {
-            union: _,
-            arms: chosen,
-        } = self;
-        let chosen = chosen.into_vec();
-        numbers(*chosen.allocator(), chosen.as_slice(), arms)
+        let Choices { union: _, arms } = self;
+        let mut choices = Seq::with_room(alloc, arms.len())?;
+        for (tag, arm) in arms.iter() {
+            choices.add(Choice {
+                tag: *tag,
+                arm: *arm,
+            })?;
+        }
+        Ok(choices)
     }
 }
 
-/// So many tags without an arm.
-fn no_arms(alloc: Global, tags: usize) -> Result<Seq<Option<u32>>, NoMemory>
-    ensures { IfOk result (λ arms. arms ≡ replicate tags None) }
+/// Whether a tag has no arm.
+fn is_free(arms: &IndexMap<u32, u32>, tag: u32) -> bool
+    ensures { result ≡ is_free arms.now.entries tag }
 {
-    let mut arms = Seq::new(alloc);
-    for _ in 0..tags {
-        arms.add(None)?;
-    }
-    Ok(arms)
+    !arms.contains_key(&tag)
 }
 
-/// The places of arms, each none as a number.
-fn numbers(alloc: Global, chosen: &[Option<u32>], none: u32) -> Result<Numbers, NoMemory>
-    ensures { IfOk result (λ places. places ≡ numbered none chosen.now) }
+/// Whether the first tag of a name has an arm.
+fn has_arm(arms: &IndexMap<u32, u32>, types: &Types, union: u32, name: u32) -> bool
+    ensures { result ≡ has_arm arms.now.entries (tag_at types.now union name) }
 {
-    let mut places = Seq::new(alloc);
-    for arm in chosen {
-        places.add(number_or(*arm, none))?;
-    }
-    Ok(places)
-}
-
-fn number_or(arm: Option<u32>, arms: u32) -> u32
-    ensures { result ≡ number_or arms arm }
-{
-    match arm {
-        Some(place) => place,
-        None => arms,
-    }
-}
-
-/// Whether there is a tag at a place, and it has no arm yet.
-fn is_free(arms: &[Option<u32>], place: u32) -> bool
-    ensures { result ≡ is_free (slice_get arms.now place) }
-{
-    match item_at(arms, place as usize) {
-        Some(arm) => arm.is_none(),
+    match member_in_union(types, union, name) {
+        Some((place, _)) => !is_free(arms, place),
         None => false,
     }
 }
 
-/// Gives a tag its arm: the type of its content, where the union has the tag and it has no arm yet.
-fn choose(union: u32, arms: &mut Seq<Option<u32>>, types: &Types, tag: u32, arm: u32) -> Option<u32>
-    ensures { option_map (λ ty. (ty, arms.new)) result ≡ chosen types.now union arms.old arm tag }
+/// Whether these tags of a union have arms.
+fn have_arms(arms: &IndexMap<u32, u32>, types: &Types, union: u32, tags: &[Member]) -> bool
+    ensures { result ≡ have_arms types.now union arms.now.entries tags.now }
 {
-    let (place, content) = member_in_union(types, union, tag)?;
-    if !is_free(arms.as_slice(), place) {
-        return None;
+    for tag in tags {
+        if !has_arm(arms, types, union, tag.name) {
+            return false;
+        }
     }
-    arms.set(place as usize, Some(arm));
-    Some(content)
+    true
+}
+
+/// Gives a tag without an arm this one.
+fn give(arms: &mut IndexMap<u32, u32>, tag: u32, arm: u32) -> Result<bool, NoMemory>
+    ensures free { IfOk result (λ b. b ≡ is_free arms.old.entries tag) }
+    ensures arms { IfOk result (λ b. arms.new.entries ≡ (if b then arms.old.entries ++ (tag, arm) ∷ [] else arms.old.entries)) }
+{
+    if !is_free(arms, tag) {
+        return Ok(false);
+    }
+    arms.insert(tag, arm)?;
+    Ok(true)
+}
+
+/// Gives a tag its arm: the type of its content, where the union has the tag and it has no arm yet.
+fn choose(
+    union: u32,
+    arms: &mut IndexMap<u32, u32>,
+    types: &Types,
+    tag: u32,
+    arm: u32,
+) -> Result<Option<u32>, NoMemory>
+    ensures { IfOk result (λ o. option_map (λ ty. (ty, arms.new.entries)) o ≡ chosen types.now union arms.old.entries arm tag) }
+{
+    match member_in_union(types, union, tag) {
+        Some((place, content)) => {
+            let is_given = give(arms, place, arm)?;
+            Ok(if is_given { Some(content) } else { None })
+        }
+        None => Ok(None),
+    }
 }
 
 /// Whether a content is of the type of those before it, where there is one.
@@ -147,18 +157,18 @@ fn agrees(before: Option<u32>, ty: u32) -> bool
 /// Gives tags their arm: the type of their contents.
 fn content_of(
     union: u32,
-    arms: &mut Seq<Option<u32>>,
+    arms: &mut IndexMap<u32, u32>,
     types: &Types,
     tags: &[Named],
     arm: u32,
     line: u32,
 ) -> Result<u32, TypeFault>
-    ensures content { IfOk result (λ ty. gives_arm types.now union arm line None arms.old tags.now ≡ Ok (Some ty, arms.new)) }
-    ensures refused { IfErr result (λ e. IsFaultOf e (gives_arm types.now union arm line None arms.old tags.now)) }
+    ensures content { IfOk result (λ ty. gives_arm types.now union arm line None arms.old.entries tags.now ≡ Ok (Some ty, arms.new.entries)) }
+    ensures refused { IfErr result (λ e. IsFaultOf e (gives_arm types.now union arm line None arms.old.entries tags.now)) }
 {
     let mut content = None;
     for tag in tags {
-        let Some(ty) = choose(union, arms, types, tag.name, arm) else {
+        let Some(ty) = choose(union, arms, types, tag.name, arm)? else {
             return Err(TypeFault::Rule {
                 rule: TAGCASE,
                 line: tag.line,

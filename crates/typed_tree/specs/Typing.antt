@@ -1,6 +1,6 @@
 -- The typing rules of SISAL (SISAL Language Reference Manual 1.2): which expressions have values of which types, a rule for
 -- each production, and the typed tree of each.
-use Rattle.std.specs.Prelude.{◌≡◌, ◌⊎◌, ℕ, List, [], ◌∷◌, ◌++◌, map, flat_map, length, Bool, Option, Some, None, slice_get, Contains, All}
+use Rattle.std.specs.Prelude.{◌≡◌, ℕ, suc, List, [], ◌∷◌, ◌++◌, map, flat_map, length, Bool, Option, Some, None, slice_get, Contains, All}
 use Rattle.name_scope.specs.Newest.{newest}
 use Rattle.sisal_lex.specs.Words.{beside}
 use Rattle.flow_value.specs.declared.ty.Ty.{Ty}
@@ -33,6 +33,7 @@ use Rattle.typed_tree.specs.declared.built_in.BuiltIn.{BuiltIn}
 use Rattle.typed_tree.specs.declared.expr.TypedExpr.{TypedExpr}
 use Rattle.typed_tree.specs.declared.expr.TypedKind.{TypedKind}
 use Rattle.typed_tree.specs.declared.expr.TypedKind.TheVariants as typed
+use Rattle.typed_tree.specs.declared.expr.Choice.{Choice}
 use Rattle.typed_tree.specs.declared.expr.Source.{Source}
 use Rattle.typed_tree.specs.declared.expr.Source.TheVariants as source
 use Rattle.typed_tree.specs.declared.expr.ClauseForm.{ClauseForm}
@@ -104,21 +105,20 @@ names_of ns = map (λ n. n.name) ns
 
 -- ---- unions
 
--- the arm of a tag, by its place; for a tag that no arm names it is the number of arms
-abbrev pub IsChoice : List (List ℕ) → ℕ → ℕ → Type 0
-IsChoice arms tag place =
-    ((arm : List ℕ) × (slice_get arms place ≡ Some arm) × Contains arm tag)
-    ⊎ ((place ≡ length arms) × All (λ arm. Contains arm tag → ⊥) arms)
+-- the tags of arms, the first of which has this place, each with the place of its arm
+abbrev pub tags_from : ℕ → List (List ℕ) → List (ℕ × ℕ)
+tags_from i [] = []
+tags_from i (names ∷ arms) = map (λ x. (x, i)) names ++ tags_from (suc i) arms
 
-abbrev pub AreChoices : Known → List (List ℕ) → List Member → List ℕ → Type 0
-AreChoices k arms [] [] = Unit {0}
-AreChoices k arms (m ∷ ms) (place ∷ places) =
-    ((x : ℕ) × IsSpelled k x m.0 × IsChoice arms x place) × AreChoices k arms ms places
-AreChoices k arms _ _ = ⊥
+-- each tag by its place in the union, with the place of its arm
+abbrev pub AreChoices : Known → List Member → List (ℕ × ℕ) → List Choice → Type 0
+AreChoices k ms [] [] = Unit {0}
+AreChoices k ms (x ∷ xs) (c ∷ cs) = (((content : Ty) × Has k ms x.0 c.tag content) × (c.arm ≡ x.1)) × AreChoices k ms xs cs
+AreChoices k ms _ _ = ⊥
 
--- for each tag of the union the place of its arm
-pub record Chooses (k : Known) (arms : List (List ℕ)) (ms : List Member) (places : List ℕ) : Type 0 where
-  pub each : AreChoices k arms ms places
+-- the tags that arms name, in the order of the text
+pub record Chooses (k : Known) (arms : List (List ℕ)) (ms : List Member) (choices : List Choice) : Type 0 where
+  pub each : AreChoices k ms (tags_from 0 arms) choices
 
 -- every tag is named by an arm, unless there is an `otherwise`
 abbrev pub AreAllNamed : Known → List (List ℕ) → List Member → Option (List Expr) → Type 0
@@ -244,11 +244,11 @@ module _ (k : Known) (denotes : Written → Ty → Type 0) where
           → Types s c t (ty.Bool ∷ []) → AreTyped s es ts tys → AreTyped s fs us tys → Number k ns tys
           → Types s (at l (tree.If c es fs)) (with l ns (typed.If (t ∷ []) ts us)) tys
       tag_case : {s : Scope} {l : ℕ} {ms : List Member} {x : Option ℕ} {e : Expr} {t : TypedExpr}
-          {arms : List Arm} {typed_arms last : List (List TypedExpr)} {tags : List (List ℕ)} {choices ns : List ℕ} {tys : List Ty} {other : Option (List Expr)}
+          {arms : List Arm} {typed_arms last : List (List TypedExpr)} {tags : List (List ℕ)} {choices : List Choice} {ns : List ℕ} {tys : List Ty} {other : Option (List Expr)}
           → Types s e t (ty.Uni ms ∷ []) → AreArms s x ms tys arms typed_arms tags → AreDistinct (flat_map (λ names. names) tags)
           → AreAllNamed k tags ms other → IsOtherwise s tys other last → Chooses k tags ms choices → Number k ns tys
           → Types s (at l (tree.TagCase (roll-TagCase (record { name = x; subject = e; arms = arms; otherwise = other }))))
-          (with l ns (typed.Case (record { named = named_arms x arms; choices = choices }) (t ∷ []) (typed_arms ++ last))) tys
+          (with l ns (typed.Case (record { named = named_arms x arms; choices = choices; others = length arms }) (t ∷ []) (typed_arms ++ last))) tys
       for_product : {s : Scope} {l : ℕ} {tys : List Ty} {gs : List (List Generator)} {ds : List Def} {cs : List Clause} {t : TypedExpr}
           → Crosses s l gs ds cs t tys → Types s (at l (tree.For (loop.Product gs ds cs))) t tys
       for_initial : {s started turned : Scope} {l : ℕ} {first later tys : List Ty} {ns : List ℕ} (is_first is_until : Bool) {test : Expr} {t : TypedExpr}

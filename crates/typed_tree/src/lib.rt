@@ -8,6 +8,6 @@ mod operation;
 mod program;
 
 pub use built_in::{BuiltIn, built_in_named};
-pub use expr::{Case, ClauseForm, Product, Source, Turns, TypedExpr, TypedKind};
+pub use expr::{Case, Choice, ClauseForm, Product, Source, Turns, TypedExpr, TypedKind};
 pub use operation::{binary_operation, convert_operation, prefix_operation};
 pub use program::{Function, Program};

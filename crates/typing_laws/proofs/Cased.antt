@@ -1,14 +1,15 @@
 -- The arms of a `tagcase`, and the whole of it.
-use Rattle.std.proofs.Common.{◌≡◌, inl, inr, ℕ, suc, ◌+◌, true, List, [], ◌∷◌, ◌++◌, map, flat_map, length, All, Option, Some, None, Ok, slice_get, get_or, refl, sym, ap, subst, ◌∙◌, arith, rules}
+use Rattle.std.proofs.Common.{◌≡◌, ℕ, suc, ◌+◌, Bool, true, false, not, if◌then◌else◌, List, [], ◌∷◌, ◌++◌, map, flat_map, length, All, Option, Some, None, Ok, slice_get, refl, sym, ap, subst, ◌∙◌, arith, rules}
 use Rattle.std.specs.Prelude.{Contains}
 use Rattle.std.proofs.lemmas.List.{append_assoc, append-nil, length-append}
-use Rattle.std.proofs.lemmas.List.Elements.{All-nil, All-cons, All-get_or}
-use Rattle.std.proofs.lemmas.Option.{same_Some, slice_get_within, slice_get-get_or}
+use Rattle.std.proofs.lemmas.List.Elements.{All-nil, All-cons}
+use Rattle.std.proofs.lemmas.Option.{same_Some}
 use Rattle.flow_value.specs.declared.ty.Ty.{Ty}
 use Rattle.flow_value.specs.declared.ty.Ty.TheVariants as ty
 use Rattle.type_table.specs.declared.form.Form.{Form}
 use Rattle.type_table.specs.declared.form.Form.TheVariants as form
 use Rattle.type_table.specs.declared.form.Member.{Member as NumberedMember}
+use Rattle.type_table.specs.Forms.{first_member}
 use Rattle.type_table.proofs.Members.{is_member}
 use Rattle.sisal_tree.specs.declared.unit.Named.{Named}
 use Rattle.sisal_tree.specs.declared.unit.Written.{Written}
@@ -23,26 +24,23 @@ use Rattle.typed_tree.specs.Scopes as scopes
 use Rattle.typed_tree.specs.Scopes.{AreDistinct}
 use Rattle.typed_tree.specs.Types.{Member, IsNumber, AreMembers, no_member, a_member}
 use Rattle.typed_tree.specs.Typing as rule
-use Rattle.typed_tree.specs.Typing.{Known, Number, Types, AreTyped, AreArms, IsTag, IsChoice, AreChoices, Chooses, AreAllNamed, with_content, named_arms, names_of, at, with}
+use Rattle.typed_tree.specs.Typing.{Known, Number, Types, AreTyped, AreArms, IsTag, AreChoices, Chooses, AreAllNamed, with_content, named_arms, names_of, tags_from, at, with}
 use Rattle.std.proofs.Common.{Result}
 use Rattle.type_rules.specs.Applies.{Grows}
-use Rattle.type_rules.specs.Arms.{are_all_named, number_or, numbered, gives_arm}
+use Rattle.type_rules.specs.Arms.{is_free, has_arm, have_arms, have_arms_if, are_all_named, choices_of, gives_arm}
 use Rattle.type_rules.specs.Parts.{part_if, tag_part, tags_part, tag_at}
-use Rattle.type_rules.specs.Records.{are_distinct}
 use Rattle.type_rules.proofs.Standing.{HasFields, standing_at, at_union, one_type}
-use Rattle.type_rules.proofs.Membership.{one_place}
 use Rattle.typing_laws.proofs.Tagged.{found}
-use Rattle.unit_types.specs.Rests.{HasEachOnce, AreStanding}
 use Rattle.value_names.specs.Names.{Names}
 use Rattle.typing_laws.specs.Given.{Given, Parts, Arms}
 use Rattle.typing_laws.specs.Judged.{Agrees, Stands, denotes_in, IsTypedAs, Typed, AllTyped, AllOnes}
-use Rattle.typing_laws.specs.Casing.{tags_in, HasTag, IsChosen, Begins, AreResults, ArmsTypedAs, ArmsTyped, AddsArms, first_types, AreSame, named_content, EntersArm, Keeps, named_by, IsCase, Ends}
+use Rattle.typing_laws.specs.Casing.{tags_in, AreFound, IsChosen, Begins, AreResults, ArmsTypedAs, ArmsTyped, AddsArms, first_types, AreSame, named_content, EntersArm, Keeps, named_by, IsCase, Ends}
 use Rattle.typing_laws.proofs.Later.{agrees_before}
 use Rattle.typing_laws.proofs.Unique.{same_types}
 use Rattle.typing_laws.proofs.Entering.{stands_with}
 use Rattle.typing_laws.proofs.Called.{one_of}
 use Rattle.typing_laws.proofs.Sound.{part_later}
-use Rattle.typing_laws.proofs.Choosing.{none_chosen, arm_begins, arm_chosen, union_at, flat_tag, AreContents, no_tag, a_content, all_contents}
+use Rattle.typing_laws.proofs.Choosing.{none_chosen, arm_begins, arm_chosen, union_at, tags_flat, named_taken, taken_named, AreContents, no_tag, a_content, all_contents}
 
 -- ---- unions
 
@@ -122,12 +120,12 @@ arms_begin g f names x subject done b = record {
     none_some : (ns : List ℕ) → None ≡ Some ns → ⊥
     none_some ns e = cc
 
-abbrev content_in : Result (Option ℕ × List (Option ℕ)) ℕ → Option ℕ
+abbrev content_in : Result (Option ℕ × List (ℕ × ℕ)) ℕ → Option ℕ
 content_in (Ok r) = r.0
 content_in _ = None
 
 -- an arm whose content is known has a tag
-some_tag : (f0 : List Form) (union arm line : ℕ) (chosen : List (Option ℕ)) (tags : List Named) (content : ℕ) (after : List (Option ℕ)) → gives_arm f0 union arm line None chosen tags ≡ Ok (Some content, after)
+some_tag : (f0 : List Form) (union arm line : ℕ) (chosen : List (ℕ × ℕ)) (tags : List Named) (content : ℕ) (after : List (ℕ × ℕ)) → gives_arm f0 union arm line None chosen tags ≡ Ok (Some content, after)
     → tags ≡ [] → ⊥
 some_tag f0 union arm line chosen [] content after e none = let same : None ≡ Some content = ap content_in e in cc
 some_tag f0 union arm line chosen (t ∷ tags) content after e none = cc
@@ -196,73 +194,62 @@ an_arm_added g f0 f1 names inner a ts ns old mid new grows enters results keeps 
 
 -- ---- the arms of all tags
 
-module _ (k : Known) (nms : List NumberedMember) (chosen : List (Option ℕ)) (tags : List (List ℕ)) (once : are_distinct (map (λ m. m.name) nms) ≡ true) (p : IsChosen nms chosen tags) where
-  -- the tag at a place
-  named_at : (j i : ℕ) (m : NumberedMember) → slice_get nms j ≡ Some m → slice_get chosen j ≡ Some (Some i) → HasTag tags i m.name
-  named_at j i m here e =
-      let r = p.back j i e in
-      let q = is_member r.0 0 nms (j, r.1) r.2 in
-      let place : q.i ≡ j = (let h = q.place in omega (arith, h)) in
-      let same : q.member ≡ m = same_Some q.member m (sym q.is ∙ ap (slice_get nms) place ∙ here) in
-      subst (λ x. HasTag tags i x) (sym q.named ∙ ap (λ m. m.name) same) r.3
+-- two names of members at one place
+pub one_name : (nms : List NumberedMember) (x y : ℕ) (m : ℕ × ℕ) (content : ℕ) → first_member x 0 nms ≡ Some m → first_member y 0 nms ≡ Some (m.0, content) → y ≡ x
+one_name nms x y m content e f =
+    let a = is_member x 0 nms m e in
+    let b = is_member y 0 nms (m.0, content) f in
+    let place : b.i ≡ a.i = (let u = a.place in let v = b.place in omega (arith, u, v)) in
+    let same : b.member ≡ a.member = same_Some b.member a.member (sym b.is ∙ ap (slice_get nms) place ∙ a.is) in
+    sym b.named ∙ ap (λ q. q.name) same ∙ a.named
 
-  pub not_named : (j : ℕ) (m : NumberedMember) → slice_get nms j ≡ Some m → slice_get chosen j ≡ Some None → (i : ℕ) → HasTag tags i m.name → ⊥
-  not_named j m here free i t =
-      let r = p.named i m.name t in
-      let q = is_member m.name 0 nms r.0 r.1 in
-      let same : q.i ≡ j = one_place nms once q.i j q.member m q.is here q.named in
-      let place : r.0.0 ≡ j = (let h = q.place in omega (arith, h, same)) in
-      clash i (sym r.2 ∙ ap (slice_get chosen) place ∙ free)
+module _ (k : Known) (nms : List NumberedMember) (chosen : List (ℕ × ℕ)) (tags : List (List ℕ)) (p : IsChosen nms chosen tags) where
+  choices_from : (fs : List Member) → AreMembers k.forms k.spellings nms fs → (xs cs : List (ℕ × ℕ)) → AreFound nms xs cs → AreChoices k fs xs (choices_of cs)
+  choices_from fs members [] [] q = tt
+  choices_from fs members [] (c ∷ cs) q = absurd q
+  choices_from fs members (x ∷ xs) [] q = absurd q
+  choices_from fs members (x ∷ xs) (c ∷ cs) q =
+      let f = found k.forms k.spellings nms fs members x.0 (c.0, q.0.0.0) q.0.0.1 in
+      (((f.0, record { spelling = f.1.spelling; spelled = f.1.spelled; member = f.1.member }), q.0.1), choices_from fs members xs cs q.1)
+
+  pub chooses : (fs : List Member) → AreMembers k.forms k.spellings nms fs → Chooses k tags fs (choices_of chosen)
+  chooses fs members = record { each = choices_from fs members (tags_from 0 tags) chosen p.each }
+
+  -- a tag that has an arm is named
+  pub arm_named : (x : ℕ) (m : ℕ × ℕ) → first_member x 0 nms ≡ Some m → is_free chosen m.0 ≡ false → Contains (flat_map (λ names. names) tags) x
+  arm_named x m e h =
+      let t = taken_named nms (tags_from 0 tags) chosen p.each m.0 h in
+      subst (λ y. Contains (flat_map (λ names. names) tags) y) (one_name nms x t.0 m t.1 e t.2) (subst (λ l. Contains l t.0) (tags_flat 0 tags) t.3)
+
+  -- a tag that is named has an arm
+  pub named_arm : (x : ℕ) (m : ℕ × ℕ) → first_member x 0 nms ≡ Some m → Contains (flat_map (λ names. names) tags) x → is_free chosen m.0 ≡ false
+  named_arm x m e c = named_taken nms (tags_from 0 tags) chosen p.each x (subst (λ l. Contains l x) (sym (tags_flat 0 tags)) c) m e
+
+  arm_there : (x : ℕ) (o : Option (ℕ × ℕ)) → first_member x 0 nms ≡ o → has_arm chosen o ≡ true → Contains (flat_map (λ names. names) tags) x
+  arm_there x None e h = absurd cc
+  arm_there x (Some m) e h = arm_named x m e (taken (is_free chosen m.0) h)
     where
-      clash : (i : ℕ) → Some (Some i) ≡ Some None → ⊥
-      clash i e = cc
+      taken : (b : Bool) → not b ≡ true → b ≡ false
+      taken true h = absurd cc
+      taken false h = refl
 
-  choice_of : (j : ℕ) (m : NumberedMember) → slice_get nms j ≡ Some m → (o : Option ℕ) → slice_get chosen j ≡ Some o → IsChoice tags m.name (number_or (length tags) o)
-  choice_of j m here (Some i) e = let t = named_at j i m here e in inl (t.names, t.there, t.contains)
-  choice_of j m here None e = inr (refl, no_tags tags (λ i names there c. not_named j m here e i (record { names = names; there = there; contains = c })))
-    where
-      no_tags : (tags : List (List ℕ)) → ((i : ℕ) (names : List ℕ) → slice_get tags i ≡ Some names → Contains names m.name → ⊥) → All (λ names. Contains names m.name → ⊥) tags
-      no_tags [] never = All-nil (λ names. Contains names m.name → ⊥)
-      no_tags (t ∷ tags) never = All-cons (λ names. Contains names m.name → ⊥) t tags (never 0 t refl) (no_tags tags (λ i names there c. never (suc i) names there c))
-
-  -- places from one on
-  choices_from : (j : ℕ) (rest : List NumberedMember) (fs : List Member) (os : List (Option ℕ)) → length os ≡ length rest → AreMembers k.forms k.spellings rest fs
-      → ((i : ℕ) (m : NumberedMember) → slice_get rest i ≡ Some m → slice_get nms (j + i) ≡ Some m) → ((i : ℕ) (o : Option ℕ) → slice_get os i ≡ Some o → slice_get chosen (j + i) ≡ Some o)
-      → AreChoices k tags fs (numbered (length tags) os)
-  choices_from j _ _ [] e no_member here there = tt
-  choices_from j _ _ (o ∷ os) e no_member here there = absurd cc
-  choices_from j _ _ [] e (a_member s q r) here there = absurd cc
-  choices_from j _ _ (o ∷ os) e (a_member {x = x} {n = n} {ms = rest} {fs = fs} s q r) here there = (
-    (x, s, (let at : j + 0 ≡ j = omega arith in choice_of j (record { name = x; ty = n }) (ap (slice_get nms) (sym at) ∙ here 0 (record { name = x; ty = n }) refl) o (ap (slice_get chosen) (sym at) ∙ there 0 o refl))),
-    choices_from (j + 1) rest fs os (omega (arith, e)) r
-        (λ i m h. (let next : (j + 1) + i ≡ j + suc i = omega arith in ap (slice_get nms) next ∙ here (suc i) m h))
-        (λ i o h. (let next : (j + 1) + i ≡ j + suc i = omega arith in ap (slice_get chosen) next ∙ there (suc i) o h)),
-  )
+  both_true : (b c : Bool) → (if b then c else false) ≡ true → (b ≡ true) × (c ≡ true)
+  both_true true c h = (refl, h)
+  both_true false c h = absurd cc
 
   -- each tag is named
-  named_from : (j : ℕ) (rest : List NumberedMember) (fs : List Member) (os : List (Option ℕ)) → length os ≡ length rest → are_all_named os ≡ true → AreMembers k.forms k.spellings rest fs
-      → ((i : ℕ) (m : NumberedMember) → slice_get rest i ≡ Some m → slice_get nms (j + i) ≡ Some m) → ((i : ℕ) (o : Option ℕ) → slice_get os i ≡ Some o → slice_get chosen (j + i) ≡ Some o)
-      → All (λ m. (x : ℕ) × (slice_get k.spellings x ≡ Some m.0) × Contains (flat_map (λ names. names) tags) x) fs
-  named_from j _ _ [] e all no_member here there = All-nil (λ m. (x : ℕ) × (slice_get k.spellings x ≡ Some m.0) × Contains (flat_map (λ names. names) tags) x)
-  named_from j _ _ (o ∷ os) e all no_member here there = absurd cc
-  named_from j _ _ [] e all (a_member s q r) here there = absurd cc
-  named_from j _ _ (None ∷ os) e all (a_member s q r) here there = absurd cc
-  named_from j _ _ (Some i ∷ os) e all (a_member {x = x} {n = n} {name = name} {t = t} {ms = rest} {fs = fs} s q r) here there =
-      let at : j + 0 ≡ j = omega arith in
-      let tag = named_at j i (record { name = x; ty = n }) (ap (slice_get nms) (sym at) ∙ here 0 (record { name = x; ty = n }) refl) (ap (slice_get chosen) (sym at) ∙ there 0 (Some i) refl) in
-      All-cons (λ m. (x : ℕ) × (slice_get k.spellings x ≡ Some m.0) × Contains (flat_map (λ names. names) tags) x) (name, t) fs (x, s, flat_tag tags i x tag)
-      (named_from (j + 1) rest fs os (omega (arith, e)) all r
-      (λ i m h. (let next : (j + 1) + i ≡ j + suc i = omega arith in ap (slice_get nms) next ∙ here (suc i) m h))
-      (λ i o h. (let next : (j + 1) + i ≡ j + suc i = omega arith in ap (slice_get chosen) next ∙ there (suc i) o h)))
+  named_from : (forms : List Form) (union : ℕ) → slice_get forms union ≡ Some (form.Union nms) → (rest : List NumberedMember) (fs : List Member) → have_arms forms union chosen rest ≡ true
+      → AreMembers k.forms k.spellings rest fs → All (λ m. (x : ℕ) × (slice_get k.spellings x ≡ Some m.0) × Contains (flat_map (λ names. names) tags) x) fs
+  named_from forms union is _ _ all no_member = All-nil (λ m. (x : ℕ) × (slice_get k.spellings x ≡ Some m.0) × Contains (flat_map (λ names. names) tags) x)
+  named_from forms union is _ _ all (a_member {x = x} {n = n} {name = name} {t = t} {ms = rest} {fs = fs} s q r) =
+      let here : tag_at forms union x ≡ first_member x 0 nms = ap (part_if (tag_part x)) is in
+      let two = both_true (has_arm chosen (tag_at forms union x)) (have_arms forms union chosen rest) all in
+      All-cons (λ m. (x : ℕ) × (slice_get k.spellings x ≡ Some m.0) × Contains (flat_map (λ names. names) tags) x) (name, t) fs
+      (x, s, arm_there x (first_member x 0 nms) refl (sym (ap (has_arm chosen) here) ∙ two.0)) (named_from forms union is rest fs two.1 r)
 
-  from_none : {A : Type 0} (xs : List A) (i : ℕ) (y : A) → slice_get xs i ≡ Some y → slice_get xs (0 + i) ≡ Some y
-  from_none xs i y h = let at : 0 + i ≡ i = omega arith in ap (slice_get xs) at ∙ h
-
-  pub chooses : (fs : List Member) → AreMembers k.forms k.spellings nms fs → Chooses k tags fs (numbered (length tags) chosen)
-  chooses fs members = record { each = choices_from 0 nms fs chosen p.size members (from_none nms) (from_none chosen) }
-
-  pub all_named : (fs : List Member) → AreMembers k.forms k.spellings nms fs → are_all_named chosen ≡ true → AreAllNamed k tags fs None
-  all_named fs members all = named_from 0 nms fs chosen p.size all members (from_none nms) (from_none chosen)
+  pub all_named : (forms : List Form) (union : ℕ) → slice_get forms union ≡ Some (form.Union nms) → (fs : List Member) → AreMembers k.forms k.spellings nms fs → are_all_named forms union chosen ≡ true
+      → AreAllNamed k tags fs None
+  all_named forms union is fs members all = named_from forms union is nms fs (sym (ap (λ o. have_arms_if forms union chosen (part_if tags_part o)) is) ∙ all) members
 
 -- ---- the whole
 
@@ -273,12 +260,6 @@ rolled_case c = search (rules, kinds.the_lemmas)
 pub union_type : (k : Known) (n : ℕ) (a : Ty) (nms : List NumberedMember) → IsNumber k.forms k.spellings n a → slice_get k.forms n ≡ Some (form.Union nms) → (fs : List Member) × (a ≡ ty.Uni fs) × AreMembers k.forms k.spellings nms fs
 union_type k n a nms p e =
     let s : HasFields k.forms k.spellings ty.Uni nms a = standing_at k.forms k.spellings n (Some (form.Union nms)) e a p in (s.fields, s.is, s.stand)
-
--- no tag stands twice in it
-pub once_at : (k : Known) → AreStanding k.spellings k.forms → (n : ℕ) (nms : List NumberedMember) → slice_get k.forms n ≡ Some (form.Union nms) → are_distinct (map (λ m. m.name) nms) ≡ true
-once_at k standing n nms e =
-    let within = slice_get_within k.forms n (form.Union nms) e in
-    subst HasEachOnce (same_Some (get_or k.forms n (form.Union nms)) (form.Union nms) (sym (slice_get-get_or k.forms n (form.Union nms) within) ∙ e)) (All-get_or HasEachOnce k.forms n (form.Union nms) within standing.once)
 
 same_named : (x : Option ℕ) (arms : List Arm) → named_by x (length arms) ≡ named_arms x arms
 same_named None arms = refl
@@ -331,9 +312,9 @@ chosen_at_end g f names None done final e = (ap (λ d. d.chosen) e.1, ap (λ d. 
 chosen_at_end g f names (Some es) done final e = (e.keeps.chosen, e.keeps.name)
 
 named_at_end : (g : Given) (f : List Form) (names : Names) (other : Option (List Expr)) (done final : Arms) (k : Known) (nms : List NumberedMember) (fs : List Member) (tags : List (List ℕ))
-    → are_distinct (map (λ m. m.name) nms) ≡ true → IsChosen nms done.chosen tags → AreMembers k.forms k.spellings nms fs → Ends g f names other done final → AreAllNamed k tags fs other
-named_at_end g f names None done final k nms fs tags once p members e = all_named k nms done.chosen tags once p fs members e.0
-named_at_end g f names (Some es) done final k nms fs tags once p members e = tt
+    → slice_get f done.union ≡ Some (form.Union nms) → IsChosen nms done.chosen tags → AreMembers k.forms k.spellings nms fs → Ends g f names other done final → AreAllNamed k tags fs other
+named_at_end g f names None done final k nms fs tags is p members e = all_named k nms done.chosen tags p f done.union is fs members e.0
+named_at_end g f names (Some es) done final k nms fs tags is p members e = tt
 
 pub case_typed : (g : Given) (f0 f1 f2 : List Form) (names : Names) (line count : ℕ) (c : TagCase) (subject : Parts) (begun done final : Arms) (t : TypedExpr) → Grows f0 f1 → Grows f1 f2
     → AllOnes g f0 names ((out-TagCase c).subject ∷ []) subject.exprs subject.types → Begins f0 (out-TagCase c).name subject begun → AddsArms g f0 f1 names (out-TagCase c).arms begun done
@@ -353,30 +334,29 @@ case_typed g f0 f1 f2 names line count c subject begun done final t first second
       let here : slice_get k.forms begins.union ≡ Some (form.Union p.members) =
       union_at k.forms begins.union p.members (part_later f1 k.forms one.grows tags_part begins.union p.members p.is_union) in
       let m = union_type k begins.union e.1 p.members number.each.0 here in
-      let once = once_at k agrees.standing begins.union p.members here in
+      let last : slice_get f2 done.union ≡ Some (form.Union p.members) =
+      ap (slice_get f2) p.chosen_union ∙ union_at f2 begins.union p.members (part_later f1 f2 second tags_part begins.union p.members p.is_union) in
       let fs : List Member = m.0 in
       let is_union : IsNumber k.forms k.spellings begins.union (ty.Uni fs) = subst (λ a. IsNumber k.forms k.spellings begins.union a) m.1 number.each.0 in
       let w = results_of g f2 names k s fs arms done final other is.types agrees stands (λ even. p.holds even k s fs one stands is_union) ends is.even is.is_types in
       let named : done.name ≡ x = adds.name ∙ begins.name in
       let tags : List (List ℕ) = tags_in arms in
       let end = chosen_at_end g f2 names other done final ends in
-      let many : length tags ≡ count = many_tags arms ∙ sym counted in
-      let choices : Chooses k tags fs (numbered count final.chosen) =
-      subst (λ n. Chooses k tags fs (numbered n final.chosen)) many
-      (subst (λ l. Chooses k tags fs (numbered (length tags) l)) (sym end.0) (chooses k p.members done.chosen tags once p.chosen fs m.2)) in
+      let choices : Chooses k tags fs (choices_of final.chosen) = subst (λ l. Chooses k tags fs (choices_of l)) (sym end.0) (chooses k p.members done.chosen tags p.chosen fs m.2) in
       let arms_typed : AreArms k denotes s x fs w.tys arms done.results tags = subst (λ n. AreArms k denotes s n fs w.tys arms done.results tags) named w.arms_typed in
       let whole = rule.tag_case {l = line} (subst (λ a. Types k denotes s (out-TagCase c).subject e.0 (a ∷ [])) m.1 e.4) arms_typed p.chosen.distinct
-      (named_at_end g f2 names other done final k p.members fs tags once p.chosen m.2 ends) w.otherwise choices w.number in
+      (named_at_end g f2 names other done final k p.members fs tags last p.chosen m.2 ends) w.otherwise choices w.number in
       let named_count : named_by final.name count ≡ named_arms x arms = ap (λ n. named_by n count) (end.1 ∙ named) ∙ ap (named_by x) counted ∙ same_named x arms in
-      let tree_is : t ≡ with line is.types (typed.Case (record { named = named_arms x arms; choices = numbered count final.chosen }) (e.0 ∷ []) (done.results ++ w.last)) =
+      let tree_is : t ≡ with line is.types (typed.Case (record { named = named_arms x arms; choices = choices_of final.chosen; others = length arms }) (e.0 ∷ []) (done.results ++ w.last)) =
       is.is
-      ∙ ap (λ n. with line is.types (typed.Case (record { named = n; choices = numbered count final.chosen }) subject.exprs final.results)) named_count
-      ∙ ap (λ l. with line is.types (typed.Case (record { named = named_arms x arms; choices = numbered count final.chosen }) l final.results)) e.2
-      ∙ ap (λ l. with line is.types (typed.Case (record { named = named_arms x arms; choices = numbered count final.chosen }) (e.0 ∷ []) l)) w.results in
+      ∙ ap (λ n. with line is.types (typed.Case (record { named = n; choices = choices_of final.chosen; others = count }) subject.exprs final.results)) named_count
+      ∙ ap (λ n. with line is.types (typed.Case (record { named = named_arms x arms; choices = choices_of final.chosen; others = n }) subject.exprs final.results)) counted
+      ∙ ap (λ l. with line is.types (typed.Case (record { named = named_arms x arms; choices = choices_of final.chosen; others = length arms }) l final.results)) e.2
+      ∙ ap (λ l. with line is.types (typed.Case (record { named = named_arms x arms; choices = choices_of final.chosen; others = length arms }) (e.0 ∷ []) l)) w.results in
       subst (λ r. IsTypedAs k g s (at line (tree.TagCase c)) r) (sym tree_is) (record {
         tys = w.tys;
         number = w.number;
-        typed = subst (λ d. Types k denotes s (at line (tree.TagCase d)) (with line is.types (typed.Case (record { named = named_arms x arms; choices = numbered count final.chosen }) (e.0 ∷ []) (done.results ++ w.last))) w.tys)
+        typed = subst (λ d. Types k denotes s (at line (tree.TagCase d)) (with line is.types (typed.Case (record { named = named_arms x arms; choices = choices_of final.chosen; others = length arms }) (e.0 ∷ []) (done.results ++ w.last))) w.tys)
             (rolled_case c) whole;
       });
 }

@@ -1,5 +1,5 @@
 -- The arms of a `tagcase`.
-use Rattle.std.specs.Prelude.{◌≡◌, ℕ, List, [], ◌∷◌, ◌++◌, map, flat_map, length, true, Option, Some, None, Ok, slice_get, Contains}
+use Rattle.std.specs.Prelude.{◌≡◌, ℕ, List, [], ◌∷◌, ◌++◌, map, flat_map, length, true, Option, Some, None, Ok}
 use Rattle.flow_value.specs.declared.ty.Ty.{Ty}
 use Rattle.flow_value.specs.declared.ty.Ty.TheVariants as ty
 use Rattle.type_table.specs.declared.form.Form.{Form}
@@ -13,8 +13,8 @@ use Rattle.type_table.specs.Forms.{first_member}
 use Rattle.typed_tree.specs.Scopes as tree
 use Rattle.typed_tree.specs.Scopes.{AreDistinct}
 use Rattle.typed_tree.specs.Types.{Member, IsNumber}
-use Rattle.typed_tree.specs.Typing.{Known, Number, AreArms, names_of, with}
-use Rattle.type_rules.specs.Arms.{no_arms, are_all_named, gives_arm, numbered}
+use Rattle.typed_tree.specs.Typing.{Known, Number, AreArms, names_of, tags_from, with}
+use Rattle.type_rules.specs.Arms.{are_all_named, gives_arm, choices_of}
 use Rattle.type_rules.specs.Parts.{tags_at}
 use Rattle.value_names.specs.Names.{Names}
 use Rattle.value_names.specs.Scopes.{define}
@@ -35,22 +35,23 @@ pub record Begins (forms : List Form) (x : Option ℕ) (subject : Parts) (done :
   pub is_union : tags_at forms union ≡ Some members
   pub name : done.name ≡ x
   pub chosen_union : done.union ≡ union
-  pub chosen_arms : done.chosen ≡ no_arms members
+  pub chosen_arms : done.chosen ≡ []
   pub results : done.results ≡ []
   pub types : done.types ≡ None
   pub even : done.is_even ≡ true
 
--- the arm at a place has a tag
-pub record HasTag (tags : List (List ℕ)) (i x : ℕ) : Type 0 where
-  pub names : List ℕ
-  pub there : slice_get tags i ≡ Some names
-  pub contains : Contains names x
+-- tags with the places of their arms, each by its place in the union
+abbrev pub IsFound : List NumberedMember → ℕ × ℕ → ℕ × ℕ → Type 0
+IsFound ms x c = ((content : ℕ) × (first_member x.0 0 ms ≡ Some (c.0, content))) × (c.1 ≡ x.1)
+
+abbrev pub AreFound : List NumberedMember → List (ℕ × ℕ) → List (ℕ × ℕ) → Type 0
+AreFound ms [] [] = Unit {0}
+AreFound ms (x ∷ xs) (c ∷ cs) = IsFound ms x c × AreFound ms xs cs
+AreFound ms _ _ = ⊥
 
 -- Which arm each tag of a union has, where the arms so far have these tags.
-pub record IsChosen (ms : List NumberedMember) (chosen : List (Option ℕ)) (tags : List (List ℕ)) : Type 0 where
-  pub size : length chosen ≡ length ms
-  pub named : (i x : ℕ) → HasTag tags i x → (m : ℕ × ℕ) × (first_member x 0 ms ≡ Some m) × (slice_get chosen m.0 ≡ Some (Some i))
-  pub back : (j i : ℕ) → slice_get chosen j ≡ Some (Some i) → (x : ℕ) × (content : ℕ) × (first_member x 0 ms ≡ Some (j, content)) × HasTag tags i x
+pub record IsChosen (ms : List NumberedMember) (chosen : List (ℕ × ℕ)) (tags : List (List ℕ)) : Type 0 where
+  pub each : AreFound ms (tags_from 0 tags) chosen
   pub distinct : AreDistinct (flat_map (λ names. names) tags)
 
 -- the types of results, where there are any
@@ -137,9 +138,9 @@ pub record IsCase (line count : ℕ) (subject : Parts) (done : Arms) (t : TypedE
   pub types : List ℕ
   pub even : done.is_even ≡ true
   pub is_types : done.types ≡ Some types
-  pub is : t ≡ with line types (typed.Case (record { named = named_by done.name count; choices = numbered count done.chosen }) subject.exprs done.results)
+  pub is : t ≡ with line types (typed.Case (record { named = named_by done.name count; choices = choices_of done.chosen; others = count }) subject.exprs done.results)
 
 -- how a `tagcase` ends: with `otherwise`, or with all tags named
 abbrev pub Ends : Given → List Form → Names → Option (List Expr) → Arms → Arms → Type 0
-Ends g f names None done final = (are_all_named done.chosen ≡ true) × (final ≡ done)
+Ends g f names None done final = (are_all_named f done.union done.chosen ≡ true) × (final ≡ done)
 Ends g f names (Some es) done final = AddsLast g f names es done final

@@ -42,7 +42,7 @@ pub record Defined : Type 0 where
 pub record Arms : Type 0 where
   pub name : Option ℕ
   pub union : ℕ
-  pub chosen : List (Option ℕ)
+  pub chosen : List (ℕ × ℕ)
   pub results : List (List TypedExpr)
   pub types : Option (List ℕ)
   pub is_even : Bool

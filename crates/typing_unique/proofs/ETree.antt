@@ -1,5 +1,5 @@
 -- An expression has one typed tree, where each type has one number.
-use Rattle.std.proofs.Common.{◌≡◌, inl, inr, ℕ, List, [], ◌∷◌, ◌++◌, flat_map, Option, Some, None, refl, sym, ap, subst, ◌∙◌}
+use Rattle.std.proofs.Common.{◌≡◌, inl, inr, ℕ, List, [], ◌∷◌, ◌++◌, length, Option, Some, None, refl, sym, ap, subst, ◌∙◌}
 use Rattle.std.proofs.lemmas.Option.{same_Some}
 use Rattle.name_scope.specs.Newest.{newest}
 use Rattle.flow_value.specs.declared.ty.Ty.{Ty}
@@ -20,12 +20,13 @@ use Rattle.typed_tree.specs.declared.expr.TypedExpr.{TypedExpr}
 use Rattle.typed_tree.specs.declared.expr.TypedKind.TheVariants as node
 use Rattle.typed_tree.specs.declared.expr.Source.{Source}
 use Rattle.typed_tree.specs.declared.expr.Source.TheVariants as source
+use Rattle.typed_tree.specs.declared.expr.Choice.{Choice}
 use Rattle.typed_tree.specs.declared.expr.ClauseForm.{ClauseForm}
-use Rattle.typed_tree.specs.Scopes.{Meaning, At, Scope, AreDistinct, define_all, targets, in_turn, renewals}
+use Rattle.typed_tree.specs.Scopes.{Meaning, At, Scope, define_all, targets, in_turn, renewals}
 use Rattle.typed_tree.specs.Types.{Member, constant_type, scalar_type, prefix_type, binary_type}
 use Rattle.typed_tree.specs.Operations.{prefix_operation, binary_operation, convert_operation, built_in_operation, clause_form}
 use Rattle.typed_tree.specs.Typing as rule
-use Rattle.typed_tree.specs.Typing.{Signature, Known, Has, IsTag, Chooses, names_in, names_of, loop_of, named_arms, with_content, Types, AreTyped, Replaces, HasFields, Defines, Crosses, Generates, AreClauses, IsMask, AreArms, IsOtherwise}
+use Rattle.typed_tree.specs.Typing.{Signature, Known, Has, IsTag, tags_from, Chooses, names_in, names_of, loop_of, named_arms, with_content, Types, AreTyped, Replaces, HasFields, Defines, Crosses, Generates, AreClauses, IsMask, AreArms, IsOtherwise}
 use Rattle.typing_unique.specs.Fair.{AreOnce, AreProper, IsFair}
 use Rattle.typing_unique.specs.Inverted.{IsProperScope}
 use Rattle.typing_unique.specs.InvertedTree.{AreNumbered, HasTree, IsNameTree, IsGroupTree, IsCallTree, IsConvertTree, IsIsErrorTree, IsIsTagTree, IsPrefixTree, IsBinaryTree, IsSelectTree, IsUpdateTree, IsFieldTree, IsReplaceTree, IsArrayTree, IsStreamTree, IsRecordTree, IsUnionTree, IsLetTree, IsIfTree, IsTagCaseTree, IsInitialTree, IsFirstTree, IsNewFieldTree, IsChangedTree, IsDefinitionTree, IsBodyTree, IsInnerLoopTree, IsCrossedTree, IsRangeTree, IsElementsTree, IsClauseTree, IsArmTree, IsTestedTree}
@@ -64,9 +65,9 @@ module _ (k : Known) (denotes : Written → Ty → Type 0) (misnames : Written �
   place_of ms ns x i j a b once e p q = (one_place k ms x i j a b once p (subst (λ m. Has k m x j b) (sym e) q)).0
 
   -- places of arms, at one name of the tags and of the union's members
-  choices_one : (tags others : List (List ℕ)) (ms ns : List Member) (is js : List ℕ) → tags ≡ others → ms ≡ ns → AreDistinct (flat_map (λ names. names) tags) → Chooses k tags ms is → Chooses k others ns js → is ≡ js
-  choices_one tags others ms ns is js e f d p q =
-      one_choices k fair.spelled tags ms is js d p.each (subst (λ m. Chooses k tags m js) (sym f) (subst (λ z. Chooses k z ns js) (sym e) q)).each
+  choices_one : (tags others : List (List ℕ)) (ms ns : List Member) (is js : List Choice) → tags ≡ others → ms ≡ ns → AreOnce ms → Chooses k tags ms is → Chooses k others ns js → is ≡ js
+  choices_one tags others ms ns is js e f once p q =
+      one_choices k ms once (tags_from 0 tags) is js p.each (subst (λ m. Chooses k tags m js) (sym f) (subst (λ z. Chooses k z ns js) (sym e) q)).each
 
   mutual
     pub one_tree : (s : Scope) (e : Expr) (t : TypedExpr) (tys : List Ty) → Types k denotes s e t tys → IsProperScope s
@@ -208,13 +209,13 @@ module _ (k : Known) (denotes : Written → Ty → Type 0) (misnames : Written �
         let again : AreArms k denotes s x ms tys arms v.typed_arms v.tags =
         subst (λ m. AreArms k denotes s x m tys arms v.typed_arms v.tags) (sym members) (subst (λ z. AreArms k denotes s x v.members z arms v.typed_arms v.tags) (sym same) v.are_arms) in
         let tagged : tags ≡ v.tags = tags_are k k.forms denotes s x ms tys arms us tags r ∙ sym (tags_are k k.forms denotes s x ms tys arms v.typed_arms v.tags again) in
-        let chosen : choices ≡ v.choices = choices_one tags v.tags ms v.members choices v.choices tagged members d c v.chooses in
-        same_tree k denotes numbered l ns (node.Case (record { named = named_arms x arms; choices = choices }) (t ∷ []) (us ++ last))
-        (node.Case (record { named = named_arms x arms; choices = v.choices }) (v.part ∷ []) (v.typed_arms ++ v.last)) u tys others n same v.tree
-        (ap (λ i. node.Case (record { named = named_arms x arms; choices = i }) (t ∷ []) (us ++ last)) chosen
-        ∙ ap (λ z. node.Case (record { named = named_arms x arms; choices = v.choices }) (z ∷ []) (us ++ last)) (one_tree s e t (ty.Uni ms ∷ []) p sc v.part (ty.Uni v.members ∷ []) type v.typed)
-        ∙ ap (λ z. node.Case (record { named = named_arms x arms; choices = v.choices }) (v.part ∷ []) (z ++ last)) (arms_trees s x ms tys arms us tags r fit.1 fit.2 sc v.typed_arms v.tags again)
-        ∙ ap (λ z. node.Case (record { named = named_arms x arms; choices = v.choices }) (v.part ∷ []) (v.typed_arms ++ z)) (otherwise_trees s tys other last o sc others v.last v.otherwise))
+        let chosen : choices ≡ v.choices = choices_one tags v.tags ms v.members choices v.choices tagged members fit.1 c v.chooses in
+        same_tree k denotes numbered l ns (node.Case (record { named = named_arms x arms; choices = choices; others = length arms }) (t ∷ []) (us ++ last))
+        (node.Case (record { named = named_arms x arms; choices = v.choices; others = length arms }) (v.part ∷ []) (v.typed_arms ++ v.last)) u tys others n same v.tree
+        (ap (λ i. node.Case (record { named = named_arms x arms; choices = i; others = length arms }) (t ∷ []) (us ++ last)) chosen
+        ∙ ap (λ z. node.Case (record { named = named_arms x arms; choices = v.choices; others = length arms }) (z ∷ []) (us ++ last)) (one_tree s e t (ty.Uni ms ∷ []) p sc v.part (ty.Uni v.members ∷ []) type v.typed)
+        ∙ ap (λ z. node.Case (record { named = named_arms x arms; choices = v.choices; others = length arms }) (v.part ∷ []) (z ++ last)) (arms_trees s x ms tys arms us tags r fit.1 fit.2 sc v.typed_arms v.tags again)
+        ∙ ap (λ z. node.Case (record { named = named_arms x arms; choices = v.choices; others = length arms }) (v.part ∷ []) (v.typed_arms ++ z)) (otherwise_trees s tys other last o sc others v.last v.otherwise))
     one_tree s _ t tys (rule.for_product {l = l} {gs = gs} {ds = ds} {cs = cs} p) sc u others same q =
         crossed_trees s l gs ds cs t tys p sc u others same (view_product k denotes s l gs ds cs u others q)
     one_tree s _ _ _ (rule.for_initial {started = started} {turned = after} {l = l} {first = first} {later = later} {tys = tys} {ns = ns} is_first is_until {test = test} {t = t} {ds = ds} {es = es} {us = us} {vs = vs} {cs = cs} {forms = clauses} {ts = ts} p d r w e keeps c n) sc u others same q =

@@ -1,22 +1,20 @@
 -- What the parts of a typed tree are, where each type has one number.
-use Rattle.std.proofs.Common.{◌≡◌, ◌⊎◌, inl, inr, ℕ, zero, suc, List, [], ◌∷◌, ◌++◌, flat_map, Some, None, Contains, slice_get, refl, sym, ap, subst, ◌∙◌}
-use Rattle.std.proofs.lemmas.Option.{same_Some, none-some}
-use Rattle.std.proofs.lemmas.List.Elements.{All-contains, Contains-append_left, Contains-append_right}
+use Rattle.std.proofs.Common.{◌≡◌, ℕ, List, [], ◌∷◌, None, refl, sym, ap, subst, ◌∙◌}
 use Rattle.flow_value.specs.declared.ty.Ty.{Ty}
 use Rattle.sisal_tree.specs.declared.unit.Written.{Written}
 use Rattle.sisal_tree.specs.declared.expr.Clause.{Clause, out-Clause, roll-Clause}
 use Rattle.typed_tree.specs.declared.expr.TypedExpr.{TypedExpr}
 use Rattle.typed_tree.specs.declared.expr.TypedKind.{TypedKind}
+use Rattle.typed_tree.specs.declared.expr.Choice.{Choice}
 use Rattle.typed_tree.specs.declared.expr.ClauseForm.{ClauseForm}
-use Rattle.typed_tree.specs.Scopes.{AreDistinct}
 use Rattle.typed_tree.specs.Types.{Member, AreNumbers}
 use Rattle.typed_tree.specs.Operations.{clause_form}
 use Rattle.typed_tree.specs.Typing as rule
-use Rattle.typed_tree.specs.Typing.{Known, IsSpelled, Number, IsChoice, AreChoices, with, Folds}
+use Rattle.typed_tree.specs.Typing.{Known, Number, AreChoices, with, Folds}
+use Rattle.typing_unique.specs.Fair.{AreOnce}
 use Rattle.typing_unique.specs.InvertedTree.{AreNumbered, HasTree}
 use Rattle.typing_unique.proofs.EViews.{out_clause}
-use Rattle.typing_unique.proofs.EParts.{contains_cases, contains_none, distinct_after}
-use Rattle.typing_unique.proofs.UDeclared.{got_there}
+use Rattle.typing_unique.proofs.ETypes.{one_place}
 
 -- ---- numbers
 
@@ -56,42 +54,13 @@ one_forms cs inner outer clauses others tys us e p q = folds_forms cs inner clau
 
 -- ---- arms of tags
 
-apart : (xs ys : List ℕ) (x : ℕ) → AreDistinct (xs ++ ys) → Contains xs x → Contains ys x → ⊥
-apart [] ys x d p q = contains_none x p
-apart (y ∷ xs) ys x d p q = by (contains_cases y xs x p) (apart xs ys x d.1)
-  where
-    by : (y ≡ x) ⊎ Contains xs x → (Contains xs x → Contains ys x → ⊥) → ⊥
-    by (inl e) rest = d.0 (Contains-append_right xs ys y (subst (Contains ys) (sym e) q))
-    by (inr c) rest = rest c q
-
-in_flat : (arms : List (List ℕ)) (i x : ℕ) (arm : List ℕ) → slice_get arms i ≡ Some arm → Contains arm x → Contains (flat_map (λ names. names) arms) x
-in_flat [] i x arm e c = absurd (none-some arm e)
-in_flat (a ∷ arms) zero x arm e c = Contains-append_left a (flat_map (λ names. names) arms) x (subst (λ l. Contains l x) (sym (same_Some a arm e)) c)
-in_flat (a ∷ arms) (suc i) x arm e c = Contains-append_right a (flat_map (λ names. names) arms) x (in_flat arms i x arm e c)
-
-arm_place : (arms : List (List ℕ)) (x i j : ℕ) (a b : List ℕ) → AreDistinct (flat_map (λ names. names) arms) → slice_get arms i ≡ Some a → Contains a x → slice_get arms j ≡ Some b → Contains b x → i ≡ j
-arm_place [] x i j a b d p c q e = absurd (none-some a p)
-arm_place (y ∷ arms) x zero zero a b d p c q e = refl
-arm_place (y ∷ arms) x zero (suc j) a b d p c q e =
-    absurd (apart y (flat_map (λ names. names) arms) x d (subst (λ l. Contains l x) (sym (same_Some y a p)) c) (in_flat arms j x b q e))
-arm_place (y ∷ arms) x (suc i) zero a b d p c q e =
-    absurd (apart y (flat_map (λ names. names) arms) x d (subst (λ l. Contains l x) (sym (same_Some y b q)) e) (in_flat arms i x a p c))
-arm_place (y ∷ arms) x (suc i) (suc j) a b d p c q e = ap suc (arm_place arms x i j a b (distinct_after y (flat_map (λ names. names) arms) d) p c q e)
-
-one_choice : (arms : List (List ℕ)) (x i j : ℕ) → AreDistinct (flat_map (λ names. names) arms) → IsChoice arms x i → IsChoice arms x j → i ≡ j
-one_choice arms x i j d (inl p) (inl q) = arm_place arms x i j p.0 q.0 d p.1 p.2 q.1 q.2
-one_choice arms x i j d (inl p) (inr q) = absurd (All-contains (λ arm. Contains arm x → ⊥) arms p.0 q.1 (got_there p.0 arms i p.1) p.2)
-one_choice arms x i j d (inr p) (inl q) = absurd (All-contains (λ arm. Contains arm x → ⊥) arms q.0 p.1 (got_there q.0 arms j q.1) q.2)
-one_choice arms x i j d (inr p) (inr q) = p.0 ∙ sym q.0
-
--- for each tag of a union there is one arm
-pub one_choices : (k : Known) → ((x y : ℕ) (spelling : List ℕ) → IsSpelled k x spelling → IsSpelled k y spelling → x ≡ y)
-    → (arms : List (List ℕ)) (ms : List Member) (is js : List ℕ) → AreDistinct (flat_map (λ names. names) arms) → AreChoices k arms ms is → AreChoices k arms ms js → is ≡ js
-one_choices k once arms [] [] [] d p q = refl
-one_choices k once arms [] [] (j ∷ js) d p q = absurd q
-one_choices k once arms [] (i ∷ is) js d p q = absurd p
-one_choices k once arms (m ∷ ms) [] js d p q = absurd p
-one_choices k once arms (m ∷ ms) (i ∷ is) [] d p q = absurd q
-one_choices k once arms (m ∷ ms) (i ∷ is) (j ∷ js) d p q =
-    let name : q.0.0 ≡ p.0.0 = once q.0.0 p.0.0 m.0 q.0.1 p.0.1 in
-    ap (λ n. n ∷ is) (one_choice arms p.0.0 i j d p.0.2 (subst (λ x. IsChoice arms x j) name q.0.2)) ∙ ap (λ l. j ∷ l) (one_choices k once arms ms is js d p.1 q.1)
+-- for each tag that is named there is one place
+pub one_choices : (k : Known) (ms : List Member) → AreOnce ms → (xs : List (ℕ × ℕ)) (is js : List Choice) → AreChoices k ms xs is → AreChoices k ms xs js → is ≡ js
+one_choices k ms once [] [] [] p q = refl
+one_choices k ms once [] [] (j ∷ js) p q = absurd q
+one_choices k ms once [] (i ∷ is) js p q = absurd p
+one_choices k ms once (x ∷ xs) [] js p q = absurd p
+one_choices k ms once (x ∷ xs) (i ∷ is) [] p q = absurd q
+one_choices k ms once (x ∷ xs) (i ∷ is) (j ∷ js) p q =
+    let place : i.tag ≡ j.tag = (one_place k ms x.0 i.tag j.tag p.0.0.0 q.0.0.0 once p.0.0.1 q.0.0.1).0 in
+    ap (λ n. record { tag = n; arm = i.arm } ∷ is) place ∙ ap (λ n. record { tag = j.tag; arm = n } ∷ is) (p.0.1 ∙ sym q.0.1) ∙ ap (λ l. j ∷ l) (one_choices k ms once xs is js p.1 q.1)

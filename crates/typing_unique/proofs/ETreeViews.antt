@@ -1,5 +1,5 @@
 -- The typed tree of an expression consists of what its form says.
-use Rattle.std.proofs.Common.{◌≡◌, inl, inr, ℕ, List, [], ◌∷◌, ◌++◌, Bool, Option, Some, None, refl, sym, subst}
+use Rattle.std.proofs.Common.{◌≡◌, inl, inr, ℕ, List, [], ◌∷◌, ◌++◌, length, Bool, Option, Some, None, refl, sym, subst}
 use Rattle.flow_value.specs.declared.ty.Ty.{Ty}
 use Rattle.flow_value.specs.declared.ty.Ty.TheVariants as ty
 use Rattle.sisal_tree.specs.declared.unit.Named.{Named}
@@ -125,7 +125,7 @@ module _ (k : Known) (denotes : Written → Ty → Type 0) where
   inverted_tree s _ t _ (rule.tag_case {l = l} {ms = ms} {x = x} {e = e} {t = i} {arms = arms} {typed_arms = typed_arms} {last = last} {tags = tags} {choices = choices} {ns = ns} {tys = tys} {other = other} p q d all o c n) =
       let case = roll-TagCase (record { name = x; subject = e; arms = arms; otherwise = other }) in
       turned s l (tree.TagCase case) (ExprKind-F.TagCase case) t tys (out_tag_case case)
-      (subst (λ r. IsTagCaseTree k denotes s l r.name r.subject r.arms r.otherwise (with l ns (node.Case (record { named = named_arms x arms; choices = choices }) (i ∷ []) (typed_arms ++ last))) tys) (sym (out_case x e arms other))
+      (subst (λ r. IsTagCaseTree k denotes s l r.name r.subject r.arms r.otherwise (with l ns (node.Case (record { named = named_arms x arms; choices = choices; others = length arms }) (i ∷ []) (typed_arms ++ last))) tys) (sym (out_case x e arms other))
       (record {
         members = ms;
         part = i;
@@ -137,7 +137,7 @@ module _ (k : Known) (denotes : Written → Ty → Type 0) where
         are_arms = q;
         otherwise = o;
         chooses = c;
-        tree = built l (node.Case (record { named = named_arms x arms; choices = choices }) (i ∷ []) (typed_arms ++ last)) ns tys n;
+        tree = built l (node.Case (record { named = named_arms x arms; choices = choices; others = length arms }) (i ∷ []) (typed_arms ++ last)) ns tys n;
       }))
   inverted_tree s _ t _ (rule.for_product {l = l} {tys = tys} {gs = gs} {ds = ds} {cs = cs} p) =
       loop_turned s l (loop.Product gs ds cs) (Loop-F.Product gs ds cs) t tys (out_product gs ds cs) p

@@ -1,6 +1,6 @@
 -- What the typed tree of an expression must consist of, by the form of the expression: the typing rules (typed_tree/specs/Typing)
 -- read from the conclusion to the premises, at one table of types.
-use Rattle.std.specs.Prelude.{◌≡◌, ◌⊎◌, ℕ, List, [], ◌∷◌, ◌++◌, Bool, Option, Some, None, All}
+use Rattle.std.specs.Prelude.{◌≡◌, ◌⊎◌, ℕ, List, [], ◌∷◌, ◌++◌, length, Bool, Option, Some, None, All}
 use Rattle.name_scope.specs.Newest.{newest}
 use Rattle.flow_value.specs.declared.ty.Ty.{Ty}
 use Rattle.flow_value.specs.declared.ty.Ty.TheVariants as ty
@@ -33,6 +33,7 @@ use Rattle.typed_tree.specs.declared.expr.TypedKind.{TypedKind}
 use Rattle.typed_tree.specs.declared.expr.TypedKind.TheVariants as node
 use Rattle.typed_tree.specs.declared.expr.Source.{Source}
 use Rattle.typed_tree.specs.declared.expr.Source.TheVariants as source
+use Rattle.typed_tree.specs.declared.expr.Choice.{Choice}
 use Rattle.typed_tree.specs.declared.expr.ClauseForm.{ClauseForm}
 use Rattle.typed_tree.specs.Scopes.{Meaning, At, Scope, define_all, targets, in_turn, renewals}
 use Rattle.typed_tree.specs.Types.{Member, IsNumber, prefix_type}
@@ -211,12 +212,12 @@ module _ (k : Known) (denotes : Written → Ty → Type 0) where
     pub typed_arms : List (List TypedExpr)
     pub last : List (List TypedExpr)
     pub tags : List (List ℕ)
-    pub choices : List ℕ
+    pub choices : List Choice
     pub typed : Types k denotes s e part (ty.Uni members ∷ [])
     pub are_arms : AreArms k denotes s x members tys arms typed_arms tags
     pub otherwise : IsOtherwise k denotes s tys other last
     pub chooses : Chooses k tags members choices
-    pub tree : HasTree l (node.Case (record { named = named_arms x arms; choices = choices }) (part ∷ []) (typed_arms ++ last)) t tys
+    pub tree : HasTree l (node.Case (record { named = named_arms x arms; choices = choices; others = length arms }) (part ∷ []) (typed_arms ++ last)) t tys
 
   pub record IsInitialTree (s : Scope) (l : ℕ) (ds : List Def) (is_first is_until : Bool) (test : Expr) (es : List Def) (cs : List Clause) (t : TypedExpr) (tys : List Ty) : Type 0 where
     pub started : Scope

@@ -1,5 +1,5 @@
 -- The graphs of a unit run as before with other marks, but for their ordering lists.
-use Rattle.std.proofs.Common.{◌≡◌, ℕ, zero, suc, ◌-◌, Bool, true, false, List, [], ◌∷◌, map, drop, find, length, option_map, Option, Some, None, refl, sym, ap, subst, ◌∙◌, ◌==◌}
+use Rattle.std.proofs.Common.{◌≡◌, ℕ, List, [], ◌∷◌, map, drop, find, option_map, Option, Some, None, refl, sym, ap, subst, ◌∙◌, ◌==◌}
 use Rattle.std.specs.Prelude.{slice_get}
 use Rattle.if1_graph.specs.declared.graph.Edge.{Edge}
 use Rattle.if1_graph.specs.declared.graph.Graph.{Graph}
@@ -16,21 +16,17 @@ use Rattle.if1_graph.specs.declared.row.Want.{Want}
 use Rattle.if1_graph.specs.declared.row.Want.TheVariants as want
 use Rattle.if1_graph.specs.Formed.{function_named, want_at}
 use Rattle.if1_graph.specs.Ops.{simple_at, compound_at}
-use Rattle.if1_graph.specs.Ports.{count_from, carried, literal_at, tags_of, fields_of, edges_from, results_at, compound_outputs}
+use Rattle.if1_graph.specs.Ports.{count_from, literal_at, tags_of, fields_of, edges_from}
 use Rattle.if1_graph.specs.Tables.{◌>>=◌}
-use Rattle.if1_graph.specs.Types.{Sort}
 use Rattle.if1_graph.specs.Units.{label_of, edge_into, width, results, Place, places, number_of}
 use Rattle.if1_marks.specs.Unmarked.{untaken, unmarked, unmarked_node, unmarked_unit, unmarked_place}
 use Rattle.if1_marks.proofs.AlikeLists.{slice-mapped, drop-mapped, over-mapped}
 use Rattle.if1_marks.proofs.AlikeGraphs.{Alike, op-same, assoc-same, number-same, nodes-are, want-same, literal-same, carried-same, named-same, results-same, results-at-same, compound-outputs-same}
 use Rattle.if1_marks.proofs.Unmarked.{label-same, edge-into-same, edges-from-same, width-same, subs-same, places-same, found-mapped}
-use Rattle.graph_meaning.specs.Carried.{Carried}
-use Rattle.graph_meaning.specs.NodeValues as shape
-use Rattle.graph_meaning.specs.NodeValues.{Shape}
 use Rattle.graph_meaning.specs.Forms.{Form}
 use Rattle.graph_meaning.specs.Forms as form
-use Rattle.graph_meaning.specs.Demand.{Source, Port, Fixed, Kind, Plain, Whole, Vertex, Net}
-use Rattle.graph_meaning.specs.Networks.{fixed, source_from, source_by, source_at, sources, first_type, output_type, stream_shape, union_shape, fields_shape, shape_of, number_or_zero, part, callee_number, form_of, simple_kind, kind_as, kind_of, ins_of, vertex_of, net_of, nothing, net_at, network}
+use Rattle.graph_meaning.specs.Demand.{Fixed, Kind, Plain, Whole, Vertex, Net}
+use Rattle.graph_meaning.specs.Networks.{fixed, source_from, source_by, source_at, sources, first_type, output_type, stream_shape, union_shape, fields_shape, number_or_zero, part, callee_number, form_of, simple_kind, kind_as, kind_of, ins_of, vertex_of, net_of, net_at, network}
 
 -- a node without its ordering list
 abbrev pub unlisted : Vertex → Vertex

@@ -11,3 +11,15 @@ pub mod TypedEdges
 pub mod TypedNodes
 pub mod TypedTables
 pub mod TypedOutputs
+pub mod TypedPlans
+pub mod TypedColumns
+pub mod TypedParts
+pub mod TypedChoices
+pub mod TypedLoops
+pub mod TypedCalls
+pub mod TypedNodePlans
+pub mod TypedRuns
+pub mod TypedFits
+pub mod TypedStrict
+pub mod Grown
+pub mod TypedEntered

@@ -1,12 +1,12 @@
 -- Types by their outermost form.
-use Rattle.std.proofs.Common.{◌≡◌, ℕ, List, Option, Some, refl, ap, sym, ◌∙◌, inl, inr, ◌⊎◌, subst, rules}
+use Rattle.std.proofs.Common.{◌≡◌, List, Option, Some, ap, sym, ◌∙◌, inl, inr, subst, rules}
 use Rattle.flow_value.specs.declared.ty.Ty.{Ty}
 use Rattle.flow_value.specs.declared.ty.Ty.TheOpen.{Ty-F}
 use Rattle.flow_value.specs.declared.ty.Ty.TheViews as views
 use Rattle.flow_value.specs.declared.ty.Ty.TheViews.{out-Ty}
 use Rattle.flow_value.specs.declared.ty.Ty.TheVariants as ty
 use Rattle.if1_graph.specs.Types.{Member, Sort, Plain, Many}
-use Rattle.if1_graph.specs.Typing.{Known, IsSequence, HasElements, IsCarried}
+use Rattle.if1_graph.specs.Typing.{HasElements, IsCarried}
 
 pub out_int : out-Ty ty.Int ≡ Ty-F.Int
 out_int = search (rules, views.the_lemmas)

@@ -1,19 +1,17 @@
 -- What is known of each edge of a ready unit: what fills its port belongs to its type if its source gives such.
-use Rattle.std.proofs.Common.{◌≡◌, ◌≢◌, ℕ, zero, suc, ◌+◌, ◌≤◌, Bool, true, false, ◌&&◌, List, [], ◌∷◌, ◌++◌, map, find, length, get_or, option_map, Option, Some, None, IsSome, Contains, All, ◌⊎◌, inl, inr, refl, sym, ap, subst, ◌∙◌, cond, if◌then◌else◌, arith, ◌==◌}
+use Rattle.std.proofs.Common.{◌≡◌, ℕ, ◌&&◌, List, map, Option, Some, None, IsSome, Contains, All, ◌⊎◌, inl, inr, refl, sym, ap, subst, ◌∙◌, ◌==◌}
 use Rattle.std.proofs.lemmas.Bool.{eq-eqb, and_parts}
 use Rattle.std.proofs.lemmas.List.Elements.{All-contains, Contains-append_right, Contains-append_left}
 use Rattle.flow_value.specs.declared.ty.Ty.{Ty}
-use Rattle.flow_value.specs.declared.value.Val.{Val}
 use Rattle.if1_graph.specs.declared.graph.Edge.{Edge}
 use Rattle.if1_graph.specs.declared.graph.Graph.{Graph}
 use Rattle.if1_graph.specs.declared.graph.Graph.TheViews.{out-Graph}
-use Rattle.if1_graph.specs.declared.graph.Node.{Node, out-Node}
+use Rattle.if1_graph.specs.declared.graph.Node.{Node}
 use Rattle.if1_graph.specs.declared.graph.Origin.{Origin}
 use Rattle.if1_graph.specs.declared.graph.Origin.TheVariants as origin
 use Rattle.if1_graph.specs.declared.graph.TypeEntry.{TypeEntry}
 use Rattle.if1_graph.specs.declared.graph.Unit1.{Unit1}
 use Rattle.if1_graph.specs.declared.kind.Basic.{Basic}
-use Rattle.if1_graph.specs.declared.kind.Basic.TheVariants as basic
 use Rattle.if1_graph.specs.declared.kind.TypeKind.{TypeKind}
 use Rattle.if1_graph.specs.declared.kind.TypeKind.TheVariants as kind
 use Rattle.if1_graph.specs.declared.row.Want.{Want}
@@ -29,13 +27,13 @@ use Rattle.if1_graph.specs.Typing.{IsWanted, IsGiven, IsFunctionName, IsTyped, A
 use Rattle.if1_graph.specs.Units.{label_of, node_at, edge_into, edges_into, ends, Place, places}
 use Rattle.if1_marks.proofs.Lists.{there, in-mapped, found-in, in-filter}
 use Rattle.if1_marks.proofs.Tests.{same-number}
-use Rattle.graph_meaning.specs.Carried.{Carried, Value, Unfilled}
+use Rattle.graph_meaning.specs.Carried.{Carried, Value}
 use Rattle.graph_meaning.specs.Demand.{Source, Port, Fixed}
 use Rattle.graph_meaning.specs.Networks.{of_basic, or_explicit, fixed, source_from, source_by, source_at}
 use Rattle.typed_rows.specs.Rows.{Of}
 use Rattle.unit_laws.specs.Typed.{Belongs, valued, typed_at}
 use Rattle.unit_laws.proofs.TypeLists.{some-same}
-use Rattle.unit_laws.proofs.TypedLiterals.{IsLiteralOf, literal-of}
+use Rattle.unit_laws.proofs.TypedLiterals.{literal-of}
 
 -- ---- options
 

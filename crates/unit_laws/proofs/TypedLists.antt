@@ -1,22 +1,18 @@
 -- The rows of simple nodes with any number of operands, and those of multiples.
-use Rattle.std.proofs.Common.{◌≡◌, ℕ, zero, suc, ◌+◌, ◌-◌, ◌<◌, ◌≤◌, ℤ, pos, Bool, true, false, List, [], ◌∷◌, map, length, get_or, Option, Some, None, ◌⊎◌, inl, inr, refl, sym, ap, subst, ◌∙◌, arith}
+use Rattle.std.proofs.Common.{◌≡◌, ℕ, zero, suc, ◌+◌, ◌<◌, pos, List, [], ◌∷◌, map, length, get_or, Option, Some, None, inl, inr, refl, sym, ap, subst, ◌∙◌, arith}
 use Rattle.std.specs.Prelude.{slice_get}
 use Rattle.flow_value.specs.Scalar.{unless_error}
 use Rattle.flow_value.specs.declared.ty.Ty.{Ty}
 use Rattle.flow_value.specs.declared.ty.Ty.TheVariants as ty
-use Rattle.flow_value.specs.declared.ty.Ty.TheOpen.{Ty-F}
-use Rattle.flow_value.specs.declared.ty.Ty.TheViews.{out-Ty}
 use Rattle.flow_value.specs.declared.value.Val.{Val}
-use Rattle.if1_graph.specs.Ports.{count_from, is_stream, fields_of, record_fields}
+use Rattle.if1_graph.specs.Ports.{count_from, fields_of}
 use Rattle.if1_graph.specs.Tables.{◌>>=◌, at_port}
 use Rattle.if1_graph.specs.Types.{Member, Sort, Plain, Many}
-use Rattle.if1_graph.specs.Typing.{Known, IsSequence, HasElements, IsCarried, IfCarried, IsMember, IsReducible, Fits}
+use Rattle.if1_graph.specs.Typing.{Known, IsSequence, HasElements, IsReducible, Fits}
 use Rattle.if1_graph.specs.declared.op.Reducer.{Reducer}
 use Rattle.if1_graph.specs.declared.op.Reducer.TheVariants as reducer
-use Rattle.if1_graph.specs.declared.op.Simple.TheVariants as simple
 use Rattle.if1_graph.specs.declared.row.Want.{Want}
 use Rattle.if1_graph.specs.declared.row.Want.TheVariants as want
-use Rattle.loop_folds.specs.declared.folding.Folding.{Folding}
 use Rattle.loop_folds.specs.declared.folding.Folding.TheVariants as folding
 use Rattle.value_ops.specs.Arity.{of_one}
 use Rattle.value_ops.specs.Operations.{op_value}
@@ -31,7 +27,7 @@ use Rattle.typed_rows.specs.Rows as row
 use Rattle.typed_rows.proofs.Rows.{row_well}
 use Rattle.typed_rows.proofs.ValueKinds.{IntKind, an_int, no_int, as_int, as_arr, as_stream, of_error}
 use Rattle.unit_laws.specs.Typed.{Belongs}
-use Rattle.unit_laws.proofs.TypeLists.{some-same, plain-is, many-is, elements-of-array, elements-of-stream, elements-of-many, carried-is, out_arr, out_stream, out_rec}
+use Rattle.unit_laws.proofs.TypeLists.{elements-of-array, elements-of-stream, elements-of-many, carried-is, out_arr, out_stream, out_rec}
 use Rattle.unit_laws.proofs.TypedRows.{Operand, at-type, again, AllPlain, plain-vals, plain-at, by-row, by-row-1}
 use Rattle.unit_laws.proofs.TypedMultiples.{AreScattered, range-of-well, array-scattered, stream-scattered, fold-well, gather-well}
 

@@ -1,5 +1,5 @@
 -- The value of a literal belongs to its basic type.
-use Rattle.std.proofs.Common.{◌≡◌, ℕ, ◌+◌, ◌*◌, ◌<◌, ℤ, Bool, true, false, ◌&&◌, not, List, [], ◌∷◌, option_map, Option, Some, None, IsSome, refl, sym, ap, subst, ◌∙◌, cond, leb, if◌then◌else◌, arith, ◌==◌}
+use Rattle.std.proofs.Common.{◌≡◌, ℕ, ◌+◌, ◌*◌, ◌<◌, ℤ, Bool, true, false, ◌&&◌, not, List, [], ◌∷◌, option_map, Option, Some, None, IsSome, refl, sym, ap, subst, cond, leb, if◌then◌else◌, arith, ◌==◌}
 use Rattle.std.specs.Prelude.{nat_lt, nat_le}
 use Rattle.std.proofs.lemmas.Bool.{and_parts, leb-true, ltb-true, lt-ltb}
 use Rattle.flow_value.specs.Scalar.{fits_64}
@@ -8,8 +8,8 @@ use Rattle.flow_value.specs.declared.value.Val.{Val}
 use Rattle.flow_value.specs.declared.value.Val.TheVariants as val
 use Rattle.if1_graph.specs.declared.kind.Basic.{Basic}
 use Rattle.if1_graph.specs.declared.kind.Basic.TheVariants as basic
-use Rattle.if1_graph.specs.Literals.{signed, integer, boolean, escapes, hex_digit, code, item, before_quote, character, nulls, literal}
-use Rattle.if1_graph.specs.Tables.{◌>>=◌, beside, named}
+use Rattle.if1_graph.specs.Literals.{signed, integer, boolean, escapes, hex_digit, code, item, before_quote, character, literal}
+use Rattle.if1_graph.specs.Tables.{◌>>=◌, beside}
 use Rattle.if1_graph.specs.Types.{scalar}
 use Rattle.typed_rows.specs.Rows.{Of}
 use Rattle.typed_rows.proofs.ValueKinds.{of_int, of_bool, of_char, of_null}

@@ -1,32 +1,25 @@
 -- Multiples that generators make and folds take are of the types that their rows want.
-use Rattle.std.proofs.Common.{◌≡◌, ℕ, zero, suc, ◌+◌, ◌-◌, ◌<◌, ◌≤◌, ℤ, pos, negsuc, Bool, true, false, ◌&&◌, List, [], ◌∷◌, map, length, Option, Some, None, ◌⊎◌, inl, inr, refl, sym, ap, subst, ◌∙◌, arith, if◌then◌else◌}
-use Rattle.std.specs.Prelude.{◌+ℤ◌, ◌-ℤ◌, int_le, nat_lt}
+use Rattle.std.proofs.Common.{◌≡◌, ℕ, zero, suc, ◌+◌, ◌<◌, ◌≤◌, ℤ, pos, negsuc, Bool, true, false, List, [], ◌∷◌, map, length, refl, ap, subst, arith, if◌then◌else◌}
+use Rattle.std.specs.Prelude.{◌+ℤ◌, ◌-ℤ◌, int_le}
 use Rattle.std.specs.List.{list_all}
 use Rattle.std.proofs.lemmas.Int.{ints}
 use Rattle.std.proofs.lemmas.Bool.{lt-ltb, ltb-true, leb-true}
-use Rattle.flow_value.specs.Bounds.{Bounded, is_few, is_in_range}
-use Rattle.flow_value.specs.Scalar.{fits_64, unless_error}
+use Rattle.flow_value.specs.Bounds.{is_few, is_in_range}
+use Rattle.flow_value.specs.Scalar.{fits_64}
 use Rattle.flow_value.specs.declared.ty.Ty.{Ty}
 use Rattle.flow_value.specs.declared.ty.Ty.TheVariants as ty
 use Rattle.flow_value.specs.declared.cause.Cause.TheVariants as cause
 use Rattle.flow_value.specs.declared.value.Val.{Val}
-use Rattle.flow_value.specs.declared.value.Val.TheVariants as val
-use Rattle.flow_value.specs.declared.value.Val.TheOpen.{Val-F}
-use Rattle.flow_value.specs.declared.value.Val.TheViews.{out-Val}
 use Rattle.flow_value.specs.Well.{is_well}
 use Rattle.value_ops.specs.Aggregates.{places, natural}
-use Rattle.value_ops.specs.Arity.{explicit}
-use Rattle.loop_folds.specs.Clauses.{Cell, fold_value}
-use Rattle.loop_folds.specs.Masks.{keep_of}
 use Rattle.loop_folds.specs.declared.folding.Folding.{Folding}
-use Rattle.loop_folds.specs.declared.masking.Masking.TheVariants as masking
 use Rattle.loop_folds.specs.declared.masking.Keep.TheVariants.{Kept}
-use Rattle.if1_graph.specs.Types.{Sort, Plain, Many}
+use Rattle.if1_graph.specs.Types.{Many}
 use Rattle.graph_meaning.specs.Carried.{Carried, Value, Spoiled, Name, Unfilled, vals, val_of}
 use Rattle.graph_meaning.specs.Carried as carried
-use Rattle.graph_meaning.specs.NodeValues.{rising, range, range_of, range_between, unless_spoiled, scatter_in, scatter_of, spoiled_twice, masked, cells_of, folded, fold_of, gather_from}
+use Rattle.graph_meaning.specs.NodeValues.{rising, range, range_of, scatter_in, scatter_of, masked, cells_of, folded, fold_of, gather_from}
 use Rattle.typed_rows.specs.Rows.{Of, Makes, CellsOf}
-use Rattle.typed_rows.proofs.ValueKinds.{IntKind, an_int, no_int, ArrKind, an_arr, no_arr, StreamKind, a_stream, no_stream, as_int, as_arr, as_stream, of_int, of_error, out_err, out_arr, out_stream}
+use Rattle.typed_rows.proofs.ValueKinds.{IntKind, an_int, no_int, ArrKind, an_arr, no_arr, StreamKind, a_stream, no_stream, of_int, of_error, out_err, out_arr, out_stream}
 use Rattle.typed_rows.proofs.Rows.{and_two, parts_of}
 use Rattle.typed_rows.proofs.Folds.{folds_well}
 use Rattle.unit_laws.specs.Typed.{Belongs}

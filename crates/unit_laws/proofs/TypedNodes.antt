@@ -1,33 +1,25 @@
 -- Simple nodes of a ready unit: what is carried into their ports fits, and so do their outputs.
-use Rattle.std.proofs.Common.{◌≡◌, ◌≢◌, ℕ, zero, suc, ◌+◌, ◌-◌, ◌<◌, ◌≤◌, max, Bool, true, false, ◌&&◌, List, [], ◌∷◌, map, find, length, get_or, option_map, Option, Some, None, IsSome, Contains, All, ◌⊎◌, inl, inr, refl, sym, ap, subst, ◌∙◌, cond, arith, ◌==◌}
-use Rattle.std.specs.Prelude.{MatchOption, slice_get}
+use Rattle.std.proofs.Common.{◌≡◌, ℕ, zero, suc, ◌<◌, ◌≤◌, Bool, true, false, ◌&&◌, List, [], ◌∷◌, map, find, option_map, Option, Some, None, Contains, ◌⊎◌, inl, inr, refl, sym, ap, subst, ◌∙◌, cond, arith, ◌==◌}
 use Rattle.std.specs.List.{filter}
 use Rattle.std.proofs.lemmas.Bool.{eq-eqb, and_from}
-use Rattle.std.proofs.lemmas.List.Elements.{All-contains}
-use Rattle.flow_value.specs.declared.ty.Ty.{Ty}
-use Rattle.flow_value.specs.declared.ty.Ty.TheVariants as ty
 use Rattle.if1_graph.specs.declared.graph.Edge.{Edge}
 use Rattle.if1_graph.specs.declared.graph.Graph.{Graph}
 use Rattle.if1_graph.specs.declared.graph.Graph.TheViews.{out-Graph}
 use Rattle.if1_graph.specs.declared.graph.Node.{Node, out-Node}
 use Rattle.if1_graph.specs.declared.graph.Unit1.{Unit1}
-use Rattle.if1_graph.specs.declared.op.Compound.{Compound}
 use Rattle.if1_graph.specs.declared.op.Simple.{Simple}
-use Rattle.if1_graph.specs.declared.row.Want.{Want}
-use Rattle.if1_graph.specs.declared.row.Want.TheVariants as want
-use Rattle.if1_graph.specs.Formed.{IsOnce, IsGraph, want_at}
+use Rattle.if1_graph.specs.Formed.{IsOnce, want_at}
 use Rattle.if1_graph.specs.Ops.{simple_at, compound_at}
-use Rattle.if1_graph.specs.Ports.{AreFirst, AreAtLeast, IsEndFilled, IsNodeFilled, carried}
+use Rattle.if1_graph.specs.Ports.{AreFirst, IsEndFilled, IsNodeFilled, carried}
 use Rattle.if1_graph.specs.Ready.{IsReady}
-use Rattle.if1_graph.specs.Rows.{Operand, operand_of, row_of}
+use Rattle.if1_graph.specs.Rows.{Operand, operand_of}
 use Rattle.if1_graph.specs.Tables.{◌>>=◌}
 use Rattle.if1_graph.specs.Types.{Sort, sort_at}
-use Rattle.if1_graph.specs.Typing.{known, Fits, FitsNode, IsWanted}
-use Rattle.if1_graph.specs.Units.{label_of, greatest, node_at, edge_into, edges_into, ports_into, width, ends, Place, places}
+use Rattle.if1_graph.specs.Typing.{FitsNode, IsWanted}
+use Rattle.if1_graph.specs.Units.{label_of, greatest, node_at, edge_into, edges_into, ports_into, width, Place, places}
 use Rattle.if1_marks.proofs.Lists.{here, there, here-or-there, in-none, in-mapped, found-in, in-filter}
 use Rattle.if1_marks.proofs.Tests.{same-number, no-both}
-use Rattle.unit_laws.proofs.TypeLists.{some-same}
-use Rattle.unit_laws.proofs.TypedEdges.{bound, IsValueWant, graph-formed, ports-at, node-end, IsWantedHere, wanted-here, found-edge}
+use Rattle.unit_laws.proofs.TypedEdges.{IsValueWant, graph-formed, ports-at, node-end, wanted-here, found-edge}
 
 -- ---- ports
 
@@ -96,6 +88,9 @@ greatest-within : (ns : List ℕ) (n : ℕ) → ((m : ℕ) → Contains ns m →
 greatest-within [] n h = omega arith
 greatest-within (m ∷ ns) n h = let a = h m (here m ns) in let b = greatest-within ns n (λ k c. h k (there m ns k c)) in omega (arith, a, b)
 
+pub width-over : (g : Graph) (l port : ℕ) → Contains (ports_into g l) port → port ≤ width g l
+width-over g l port h = greatest-over (ports_into g l) port h
+
 -- where the ports are 1 to n, there are n
 pub first-width : (n : ℕ) (ports : List ℕ) → AreFirst n ports → greatest ports ≡ n
 first-width zero ports f = let b = greatest-within ports 0 (λ m c. ((f.these m).0 c).1) in omega (arith, b)
@@ -145,7 +140,7 @@ module _ (u : Unit1) (ready : IsReady u) (p : Place) (place : Contains (places u
       let r = found-edge u ready p place l port e f in
       let x = wanted-here u ready p place e r.0 (subst IsValueWant (sym (ap (λ n. want_at p.graph n e.port) r.1 ∙ ap (want_at p.graph l) r.2)) v) in
       let w : IsWanted u p l (node_at (out-Graph p.graph).nodes l) port x.0 =
-          subst (λ q. IsWanted u p l (node_at (out-Graph p.graph).nodes l) q x.0) r.2 (subst (λ m. IsWanted u p m (node_at (out-Graph p.graph).nodes m) e.port x.0) r.1 x.2.wanted) in
+      subst (λ q. IsWanted u p l (node_at (out-Graph p.graph).nodes l) q x.0) r.2 (subst (λ m. IsWanted u p m (node_at (out-Graph p.graph).nodes m) e.port x.0) r.1 x.2.wanted) in
       record {
         edge = e;
         found = f;

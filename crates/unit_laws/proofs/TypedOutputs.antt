@@ -1,7 +1,6 @@
 -- The outputs of simple nodes of a ready unit belong to the types of the edges that leave them.
-use Rattle.std.proofs.Common.{◌≡◌, ◌≢◌, ℕ, zero, suc, ◌+◌, ◌-◌, ◌<◌, ◌≤◌, Bool, true, false, List, [], ◌∷◌, map, length, get_or, option_map, Option, Some, None, Contains, All, ◌⊎◌, inl, inr, refl, sym, ap, subst, ◌∙◌, arith, ◌==◌}
-use Rattle.std.specs.Prelude.{MatchOption, slice_get}
-use Rattle.std.specs.List.{filter}
+use Rattle.std.proofs.Common.{◌≡◌, ◌≢◌, ℕ, zero, suc, ◌+◌, ◌-◌, ◌<◌, ◌≤◌, List, [], ◌∷◌, length, get_or, option_map, Option, Some, None, Contains, All, ◌⊎◌, inl, inr, refl, sym, ap, subst, ◌∙◌, arith, ◌==◌}
+use Rattle.std.specs.Prelude.{MatchOption}
 use Rattle.std.proofs.lemmas.Bool.{eq-eqb, and_from}
 use Rattle.std.proofs.lemmas.List.Elements.{All-contains, All-head}
 use Rattle.flow_value.specs.declared.operation.Scalar1.TheVariants as one
@@ -11,10 +10,8 @@ use Rattle.if1_graph.specs.declared.graph.Edge.{Edge}
 use Rattle.if1_graph.specs.declared.graph.Graph.{Graph}
 use Rattle.if1_graph.specs.declared.graph.Graph.TheViews.{out-Graph}
 use Rattle.if1_graph.specs.declared.graph.Node.{Node, out-Node}
-use Rattle.if1_graph.specs.declared.graph.Origin.{Origin}
 use Rattle.if1_graph.specs.declared.graph.Origin.TheVariants as origin
 use Rattle.if1_graph.specs.declared.graph.Unit1.{Unit1}
-use Rattle.if1_graph.specs.declared.op.Compound.{Compound}
 use Rattle.if1_graph.specs.declared.op.Grouping.{Grouping}
 use Rattle.if1_graph.specs.declared.op.Simple.{Simple}
 use Rattle.if1_graph.specs.declared.op.Simple.TheVariants as simple
@@ -22,19 +19,19 @@ use Rattle.if1_graph.specs.declared.row.Rest.{Rest}
 use Rattle.if1_graph.specs.declared.row.Rest.TheVariants.{Nothing, Mask, More, Arguments, Fields, NewFields}
 use Rattle.if1_graph.specs.declared.row.Want.{Want}
 use Rattle.if1_graph.specs.declared.row.Want.TheVariants as want
-use Rattle.if1_graph.specs.Formed.{IsOnce, want_at}
+use Rattle.if1_graph.specs.Formed.{want_at}
 use Rattle.if1_graph.specs.Ops.{simple_at, compound_at, reducer_at}
-use Rattle.if1_graph.specs.Ports.{AreFirst, AreAtLeast, AreArguments, AreParts, AreFilled, IsOnePort, IsSimpleFilled, IsFilledAs, carried, literal_at, leaves, edges_from, fields_of, tags_of, callee, arguments_of}
+use Rattle.if1_graph.specs.Ports.{AreFirst, AreParts, AreFilled, IsOnePort, IsSimpleFilled, IsFilledAs, carried, literal_at, leaves, edges_from, fields_of, tags_of}
 use Rattle.if1_graph.specs.Ready.{IsReady}
 use Rattle.if1_graph.specs.Rows.{Operand, operand_of, output_of, row_of}
-use Rattle.if1_graph.specs.Tables.{◌>>=◌, at_port}
+use Rattle.if1_graph.specs.Tables.{◌>>=◌}
 use Rattle.if1_graph.specs.Types.{Member, Sort, Plain, sort_at}
 use Rattle.if1_graph.specs.Typing.{Known, known, Fits, FitsNode, FitsOutputAs, FitsOutput, IsGiven, AgreesWith}
 use Rattle.if1_graph.specs.Units.{label_of, node_at, edge_into, ports_into, width, Place, places}
 use Rattle.if1_line.specs.Spelling.{IsLabel}
-use Rattle.if1_marks.proofs.Lists.{here, there, here-or-there, in-none, in-filter}
-use Rattle.graph_meaning.specs.Carried.{Carried, Value, Name, Unfilled}
-use Rattle.graph_meaning.specs.NodeValues.{op, Shape}
+use Rattle.if1_marks.proofs.Lists.{here-or-there, in-none, in-filter}
+use Rattle.graph_meaning.specs.Carried.{Carried, Name, Unfilled}
+use Rattle.graph_meaning.specs.NodeValues.{op}
 use Rattle.graph_meaning.specs.Networks.{first_type, output_type, stream_shape, union_shape, shape_of}
 use Rattle.unit_laws.specs.Typed.{Belongs, Fills, valued, typed_at}
 use Rattle.unit_laws.proofs.TypeLists.{some-same, out_rec, out_uni}
@@ -42,18 +39,18 @@ use Rattle.unit_laws.proofs.TypedRows as rows
 use Rattle.unit_laws.proofs.TypedSimple.{wanted, GivenAt, GivenFrom, ShapeFor, IsWhollyFilled, simple-right}
 use Rattle.unit_laws.proofs.TypedRecords.{IsFilledFor, built-right, MayChange, changed-right}
 use Rattle.unit_laws.proofs.TypedTables.{IsNoReduce, no-reduction, record-of-few}
-use Rattle.unit_laws.proofs.TypedEdges.{IsValueWant, node-formed, edge-agrees, found-edge, Leaving}
-use Rattle.unit_laws.proofs.TypedNodes.{first-width, first-edge, filled-port, port-filled, node-found, node-filled, IsWantedAt, wanted-at, want-is}
+use Rattle.unit_laws.proofs.TypedEdges.{IsValueWant, node-formed, edge-agrees, Leaving}
+use Rattle.unit_laws.proofs.TypedNodes.{first-width, first-edge, filled-port, port-filled, node-found, node-filled, wanted-at, want-is}
 
 -- ---- rows
 
-abbrev NotPartial : Rest → Type 0
+abbrev pub NotPartial : Rest → Type 0
 NotPartial Fields = ⊥
 NotPartial NewFields = ⊥
 NotPartial Arguments = ⊥
 NotPartial _ = Unit {0}
 
-wholly-rest : (o : Simple) → IsWhollyFilled o → NotPartial (row_of o).rest
+pub wholly-rest : (o : Simple) → IsWhollyFilled o → NotPartial (row_of o).rest
 wholly-rest (simple.Two two.Plus) h = tt
 wholly-rest (simple.Two two.Minus) h = tt
 wholly-rest (simple.Two two.Times) h = tt
@@ -77,12 +74,12 @@ wholly-rest simple.RBuild h = absurd h
 wholly-rest simple.RReplace h = absurd h
 wholly-rest _ h = tt
 
-no-reduce-or : (o : Simple) → IsNoReduce o ⊎ ((g : Grouping) × (o ≡ simple.Reduce g))
+pub no-reduce-or : (o : Simple) → IsNoReduce o ⊎ ((g : Grouping) × (o ≡ simple.Reduce g))
 no-reduce-or (simple.Reduce g) = inr (g, refl)
 no-reduce-or _ = inl tt
 
 -- only the first port of a Reduce takes the name of a reduction
-reduction-first : (o : Simple) (i : ℕ) → wanted o (suc i) ≡ Some want.Reduction → i ≡ 0
+pub reduction-first : (o : Simple) (i : ℕ) → wanted o (suc i) ≡ Some want.Reduction → i ≡ 0
 reduction-first o i e =
     elim (no-reduce-or o) [
       | inl h ↦ absurd (no-reduction o h i e)
@@ -226,10 +223,10 @@ module _ (u : Unit1) (ready : IsReady u) (p : Place) (place : Contains (places u
           let w = wholly h in
           let many : length ks ≡ w.count = given.long ∙ first-width w.count (ports_into p.graph l) w.first in (
             given-from k o 1 ks
-            (λ i lt.
-            let x = first-edge p.graph l w.count w.first i (omega (arith, lt, many)) in
-            let next : suc i ≡ 1 + i = omega arith in
-            subst (λ q. GivenAt k q (wanted o q) (get_or ks i Unfilled)) next (given-at i x.0 x.1)),
+                (λ i lt.
+                let x = first-edge p.graph l w.count w.first i (omega (arith, lt, many)) in
+                let next : suc i ≡ 1 + i = omega arith in
+                subst (λ q. GivenAt k q (wanted o q) (get_or ks i Unfilled)) next (given-at i x.0 x.1)),
             let enough = w.enough in omega (arith, enough, many),
           )
 

@@ -1,19 +1,18 @@
 -- Records and unions that are built or changed are of the types that their rows give.
-use Rattle.std.proofs.Common.{◌≡◌, ◌≢◌, ℕ, zero, suc, ◌+◌, ◌-◌, ◌<◌, ◌≤◌, Bool, true, false, List, [], ◌∷◌, map, length, get_or, Option, Some, None, ◌⊎◌, inl, inr, refl, sym, ap, subst, ◌∙◌, arith}
-use Rattle.std.specs.Prelude.{slice_get, drop}
+use Rattle.std.proofs.Common.{◌≡◌, ◌≢◌, ℕ, zero, suc, ◌+◌, ◌<◌, ◌≤◌, List, [], ◌∷◌, map, length, get_or, Option, Some, None, ◌⊎◌, inl, inr, refl, sym, ap, subst, ◌∙◌, arith}
+use Rattle.std.specs.Prelude.{slice_get}
 use Rattle.flow_value.specs.declared.ty.Ty.{Ty}
 use Rattle.flow_value.specs.declared.ty.Ty.TheVariants as ty
 use Rattle.flow_value.specs.declared.value.Val.{Val}
 use Rattle.flow_value.specs.declared.value.Val.TheVariants as val
 use Rattle.if1_graph.specs.Ports.{fields_of, tags_of}
 use Rattle.if1_graph.specs.Tables.{◌>>=◌, at_port}
-use Rattle.if1_graph.specs.Types.{Member, Sort, Plain, Many}
+use Rattle.if1_graph.specs.Types.{Member, Sort, Plain}
 use Rattle.if1_graph.specs.Typing.{Known, IsCarried, IsMember, Fits}
 use Rattle.if1_graph.specs.declared.row.Want.TheVariants as want
 use Rattle.value_ops.specs.Operations.{op_value}
 use Rattle.value_ops.specs.declared.operation.Operation.TheVariants as op
-use Rattle.graph_meaning.specs.Carried.{Carried, Value, Spoiled, Name, Unfilled, vals, val_of, filled_from}
-use Rattle.graph_meaning.specs.Carried as carried
+use Rattle.graph_meaning.specs.Carried.{Carried, Value, Unfilled, vals, filled_from}
 use Rattle.graph_meaning.specs.NodeValues.{Shape, built, union_of, replaced}
 use Rattle.graph_meaning.specs.NodeValues as shape
 use Rattle.graph_meaning.specs.Networks.{union_shape}
@@ -21,9 +20,9 @@ use Rattle.typed_rows.specs.Rows.{Of, AreOf, AreFields}
 use Rattle.typed_rows.specs.Rows as row
 use Rattle.typed_rows.proofs.Rows.{row_well, union_well}
 use Rattle.unit_laws.specs.Typed.{Belongs, Fills}
-use Rattle.unit_laws.proofs.TypeLists.{some-same, plain-is, rec-same, uni-same, carried-is, out_rec, out_uni}
+use Rattle.unit_laws.proofs.TypeLists.{out_rec, out_uni}
 use Rattle.unit_laws.proofs.TypedRows.{Operand, at-type, again, AllPlain, plain-at, by-row}
-use Rattle.unit_laws.proofs.TypedLists.{IsValue, value-of, of-value}
+use Rattle.unit_laws.proofs.TypedLists.{value-of, of-value}
 
 -- ---- one filled port
 

@@ -1,16 +1,12 @@
 -- Operands of the types that a simple node wants give outputs of the types that it gives.
-use Rattle.std.proofs.Common.{◌≡◌, ℕ, zero, suc, ◌+◌, ◌-◌, ◌≤◌, ℤ, pos, Bool, true, false, ◌&&◌, List, [], ◌∷◌, map, length, get_or, option_map, Option, Some, None, ◌⊎◌, inl, inr, refl, sym, ap, subst, ◌∙◌, arith}
-use Rattle.std.specs.Prelude.{slice_get}
-use Rattle.std.specs.List.{list_all}
+use Rattle.std.proofs.Common.{◌≡◌, ℕ, List, [], ◌∷◌, Option, Some, inl, inr, refl, sym, ap, subst, ◌∙◌}
 use Rattle.flow_value.specs.declared.operation.Scalar1.TheVariants as one
 use Rattle.flow_value.specs.declared.operation.Scalar2.{Scalar2}
 use Rattle.flow_value.specs.declared.operation.Scalar2.TheVariants as two
 use Rattle.flow_value.specs.declared.ty.Ty.{Ty}
 use Rattle.flow_value.specs.declared.ty.Ty.TheVariants as ty
-use Rattle.flow_value.specs.declared.value.Val.{Val}
-use Rattle.flow_value.specs.Well.{is_well}
-use Rattle.if1_graph.specs.Types.{Member, Sort, Plain, Many}
-use Rattle.if1_graph.specs.Typing.{Known, IsSequence, HasElements, IsCarried, Fits}
+use Rattle.if1_graph.specs.Types.{Sort, Plain}
+use Rattle.if1_graph.specs.Typing.{Known, HasElements, Fits}
 use Rattle.if1_graph.specs.declared.row.Want.{Want}
 use Rattle.if1_graph.specs.declared.row.Want.TheVariants as want
 use Rattle.value_ops.specs.Operations.{op_value}
@@ -22,7 +18,7 @@ use Rattle.typed_rows.specs.Rows.{Of, AreOf, Row, AreAll}
 use Rattle.typed_rows.specs.Rows as row
 use Rattle.typed_rows.proofs.Rows.{row_well}
 use Rattle.unit_laws.specs.Typed.{Belongs}
-use Rattle.unit_laws.proofs.TypeLists.{some-same, plain-is, many-is, elements-of-array, elements-of-stream, carried-is}
+use Rattle.unit_laws.proofs.TypeLists.{some-same, elements-of-array, elements-of-stream, carried-is}
 
 -- ---- operands
 

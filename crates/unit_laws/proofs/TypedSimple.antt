@@ -1,6 +1,5 @@
 -- Each row of the table gives outputs of its types on operands of its types.
-use Rattle.std.proofs.Common.{◌≡◌, ◌≢◌, ℕ, zero, suc, ◌+◌, ◌-◌, ◌<◌, ◌≤◌, Bool, true, false, List, [], ◌∷◌, map, length, get_or, option_map, Option, Some, None, ◌⊎◌, inl, inr, refl, sym, ap, subst, ◌∙◌, arith}
-use Rattle.std.specs.Prelude.{slice_get}
+use Rattle.std.proofs.Common.{◌≡◌, ℕ, zero, suc, ◌≤◌, List, [], ◌∷◌, length, get_or, option_map, Option, Some, None, inl, inr, refl, sym, ap, subst, ◌∙◌, arith}
 use Rattle.flow_value.specs.declared.operation.Scalar1.TheVariants as one
 use Rattle.flow_value.specs.declared.operation.Scalar2.TheVariants as two
 use Rattle.flow_value.specs.declared.ty.Ty.{Ty}
@@ -9,22 +8,22 @@ use Rattle.if1_graph.specs.Ops.{reducer_at}
 use Rattle.if1_graph.specs.Ports.{fields_of, tags_of}
 use Rattle.if1_graph.specs.Rows.{operand_of, output_of, row_of}
 use Rattle.if1_graph.specs.Tables.{at_port}
-use Rattle.if1_graph.specs.Types.{Sort, Plain, Many}
-use Rattle.if1_graph.specs.Typing.{Known, IsSequence, IfCarried, IsMember, Fits}
+use Rattle.if1_graph.specs.Types.{Sort, Plain}
+use Rattle.if1_graph.specs.Typing.{Known, IfCarried, Fits}
 use Rattle.if1_graph.specs.declared.op.Simple.{Simple}
 use Rattle.if1_graph.specs.declared.op.Simple.TheVariants as simple
 use Rattle.if1_graph.specs.declared.row.Want.{Want}
 use Rattle.if1_graph.specs.declared.row.Want.TheVariants as want
 use Rattle.value_ops.specs.Operations.{op_value}
 use Rattle.value_ops.specs.declared.operation.Operation.TheVariants as op
-use Rattle.graph_meaning.specs.Carried.{Carried, Value, Spoiled, Name, Unfilled, vals}
+use Rattle.graph_meaning.specs.Carried.{Carried, Value, Name, Unfilled, vals}
 use Rattle.graph_meaning.specs.NodeValues.{Shape}
 use Rattle.graph_meaning.specs.NodeValues as nodes
 use Rattle.graph_meaning.specs.Networks.{stream_shape, union_shape, fields_shape}
 use Rattle.typed_rows.specs.Rows as row
 use Rattle.unit_laws.specs.Typed.{Belongs}
 use Rattle.unit_laws.proofs.TypeLists.{some-same}
-use Rattle.unit_laws.proofs.TypedRows.{Operand, at-type, again, plain-at, by-row, unary, plus, times, arithmetic, equality, order, to-int, to-bool, to-char, is-error, fill, element, replace, add-high, add-low, array-kept, array-to-int, set-low, adjust, size, is-empty, first, rest}
+use Rattle.unit_laws.proofs.TypedRows.{Operand, again, plain-at, by-row, unary, plus, times, arithmetic, equality, order, to-int, to-bool, to-char, is-error, fill, element, replace, add-high, add-low, array-kept, array-to-int, set-low, adjust, size, is-empty, first, rest}
 use Rattle.unit_laws.proofs.TypedLists.{EachPlain, elements-built, catenated-arrays, catenated-streams, kept, ranged, scattered, indices, gathered, last-taken, reduction-right, field-given}
 
 -- the type that is wanted at a port

@@ -34,6 +34,7 @@ use Rattle.std.proofs.Common.{◌≤◌, arith, ◌≡◌, [], ◌∷◌, None, 
 use Rattle.std.proofs.lemmas.List.{map-append, take_all}
 use Rattle.std.proofs.lemmas.Result.{on_ok_weaker}
 use Rattle.type_rules.specs.Applies.{Grows}
+use Rattle.type_rules.specs.Arms.{are_all_named}
 use Rattle.typed_tree.specs.Breaks.{generators_in, line_of}
 use Rattle.typed_tree.specs.Scopes.{AreDistinct, targets}
 use Rattle.typed_tree.specs.Typing.{at, names_of}
@@ -236,7 +237,8 @@ cases::tag_case-returns-clause-typed t c =
           let es = w.in-Some.es in
           subst (λ o. Ends g h2 n o done final) (sym w.in-Some.is) (subst (λ m. AddsLast g h2 m es done final) now (subst (λ l. AddsLast g h2 c.each_arm.new.walk.names l done final) w.as_slice-in-Some.ensures
           (subst (λ x. AddsLast g x.types c.each_arm.new.walk.names w.as_slice-in-Some.result.now done final) (sym w.walk-is) (subst (λ x. AddsLast g w.last.new.walk.types c.each_arm.new.walk.names w.as_slice-in-Some.result.now done (arms_of x)) (sym w.done-is) w.in_ok-last-in-Some.ensures.adds))))
-      | cases::tag_case-in-None+in_ok-name_all-in-None w ↦ subst (λ o. Ends g h2 n o done final) (sym w.in-None.is) (w.in_ok-name_all-in-None.ensures.named, ap arms_of w.done-is)
+      | cases::tag_case-in-None+in_ok-name_all-in-None w ↦ subst (λ o. Ends g h2 n o done final) (sym w.in-None.is)
+          (subst (λ x. are_all_named x.types done.union done.chosen ≡ true) (sym w.walk-is) w.in_ok-name_all-in-None.ensures.named, ap arms_of w.done-is)
     ] in
     if_ok_weaker c.case.result (λ t is. case_typed g h0 h1 h2 n c.args.line c.in_ok-count.count cases (parts_of s) begun done final t c.in_ok-each_arm.ensures.used.grows used.grows subject begins adds count ends is) c.case.ensures.is
 

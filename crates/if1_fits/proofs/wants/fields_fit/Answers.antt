@@ -1,5 +1,4 @@
-use Rattle.std.proofs.Common.{◌≡◌, ◌∙◌, ℕ, suc, ◌+◌, ◌-◌, Some, true, false, sym, ap, arith}
-use Rattle.if1_types.specs.Shapes.{Key}
+use Rattle.std.proofs.Common.{◌≡◌, ◌∙◌, suc, ◌+◌, ◌-◌, Some, true, false, sym, ap, arith}
 use Rattle.if1_fits.specs.Views.{value_of, are_same, carried_at}
 use Rattle.if1_fits.specs.Tests.{fields_fit}
 use Rattle.if1_fits.proofs.Walks.{fields_on, fields_stop, fields_end}
@@ -40,3 +39,11 @@ loop-left-preserved c =
           ∙ fields_on ks at c.loop-left.rest c.loop-left.left (c.loop-left.left - 1) port c.in-Member.ty c.in-Member.others is (sym c.in-Member.ensures.form) found
           ∙ ap (fields_fit ks at (c.loop-left.left - 1) c.in-Member.others) next;
     }
+
+pub returns : goal.returns
+returns c =
+    let ks = c.args.sorts.now.shapes in
+    let at = carried_at c.args.sorts.now.labels c.args.sorts.now.numbers c.args.edges.now in
+    let done : c.loop-left.left ≡ 0 = omega (arith, c.loop-left-test.false) in
+    sym (ap (λ count. fields_fit ks at count c.args.fields 1) (sym c.length-count.ensures.members) ∙ c.loop-left.invariant.same
+    ∙ ap (λ left. fields_fit ks at left c.loop-left.rest (c.length-count.result - c.loop-left.left + 1)) done)

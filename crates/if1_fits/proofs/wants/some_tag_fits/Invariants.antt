@@ -1,15 +1,6 @@
-use Rattle.std.proofs.Common.{◌≡◌, ◌≤◌, ◌+◌, ◌-◌}
 use Rattle.if1_fits.specs.Views.{carried_at}
-use Rattle.if1_fits.specs.Tests.{some_tag_fits}
+use Rattle.if1_fits.proofs.Walks.{NoneFits}
 use Rattle.if1_fits.proofs.wants.some_tag_fits.Given as goal
 
-abbrev pub invariant-loop-left : goal.invariant-loop-left
-invariant-loop-left l = record {
-  within : l.left ≤ l.count;
-  same :
-      some_tag_fits l.sorts.shapes (carried_at l.sorts.labels l.sorts.numbers l.edges) l.count l.tags 1
-      ≡ some_tag_fits l.sorts.shapes (carried_at l.sorts.labels l.sorts.numbers l.edges) l.left l.rest (l.count - l.left + 1);
-}
-
-abbrev pub decreases-loop-left : goal.decreases-loop-left
-decreases-loop-left l = l.left
+abbrev pub invariant-loop-edge : goal.invariant-loop-edge
+invariant-loop-edge l = NoneFits l.sorts.shapes (carried_at l.sorts.labels l.sorts.numbers l.edges) l.tags l.edges l.edge-index

@@ -1,11 +1,11 @@
 use Rattle.std.proofs.Common.{◌≡◌, ◌-◌, ◌++◌, drop, length, map}
 use Rattle.if1_line.specs.Lines.{lines_in}
-use Rattle.if1_line.specs.Reading.{line_of}
+use Rattle.if1_read.specs.Faults.{row_of}
 use Rattle.if1_read.proofs.lines.read_lines.Given as goal
 
 -- what was read, with what is still to read, is all
 abbrev pub invariant-loop-end : goal.invariant-loop-end
-invariant-loop-end l = l.lines ++ map line_of (lines_in (drop l.at l.text)) ≡ map line_of (lines_in l.text)
+invariant-loop-end l = l.lines ++ map row_of (lines_in (drop l.at l.text)) ≡ map row_of (lines_in l.text)
 
 abbrev pub decreases-loop-end : goal.decreases-loop-end
 decreases-loop-end l = length l.text - l.at

@@ -1,5 +1,6 @@
 use Rattle.if1_types.specs.Shapes.{trees_in}
 use Rattle.if1_types.proofs.Sorted.{are_sorts, they_stand}
+use Rattle.if1_types.proofs.Views.{are_read}
 use Rattle.if1_types.proofs.sorts.sorts_of.Goals as goal
 
 pub returns-clause-numbers : goal.returns-clause-numbers
@@ -11,3 +12,6 @@ pub returns-clause-stand : goal.returns-clause-stand
 returns-clause-stand c =
     they_stand (trees_in c.type_numbers.new.shapes) c.sort_numbers.new.shapes c.args.types.now c.in_ok-numbers.numbers c.as_slice-3.result.now c.in_ok-sorts.sorts c.in_ok-labels.labels
     c.in_ok-labels.ensures c.in_ok-numbers.ensures.numbers c.as_slice-3.ensures c.in_ok-sorts.ensures
+
+pub returns-clause-read : goal.returns-clause-read
+returns-clause-read c = are_read c.sort_numbers.new.shapes c.holds.ensures.keys

@@ -9,7 +9,7 @@ use Rattle.if1_order.specs.Within.{whole}
 use Rattle.if1_order.proofs.Within.{levels_out, parts_below, below}
 use Rattle.if1_order.proofs.Units.{found_weaker}
 use Rattle.if1_typing.specs.Tables.{table_of}
-use Rattle.if1_typing.specs.Fed.{AreUp}
+use Rattle.if1_fits.specs.Views.{AreUp}
 use Rattle.if1_typing.specs.Sites.{Around, site_at}
 use Rattle.if1_typing.specs.Ends.{FindsWrong}
 use Rattle.if1_typing.specs.Inside.{IsLaidInside, AreLaid, AllRight, SomeWrong, NodeRight, NodeWrong, NodesRight, NodesWrong}

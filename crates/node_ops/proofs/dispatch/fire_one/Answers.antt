@@ -1,7 +1,6 @@
 use Rattle.std.proofs.Common.{◌≡◌, ◌∷◌, [], map, sym, ap, ◌∙◌}
 use Rattle.std.proofs.lemmas.Result.{IfOk-weaker}
 use Rattle.flow_value.specs.Lent.{operand_value}
-use Rattle.flow_value.specs.declared.value.Val.{Val}
 use Rattle.node_ops.specs.Operands.{node_values}
 use Rattle.node_ops.specs.Rows.{single_value}
 use Rattle.node_ops.specs.declared.row.Row.TheVariants.{One}

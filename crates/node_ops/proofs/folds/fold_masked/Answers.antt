@@ -1,4 +1,4 @@
-use Rattle.std.proofs.Common.{◌≡◌, ◌≤◌, length, ap, ◌∙◌, arith, rules}
+use Rattle.std.proofs.Common.{◌≡◌, ◌≤◌, length, arith, rules}
 use Rattle.std.specs.Vec.Iter.{into_iter_items}
 use Rattle.graph_meaning.specs.NodeValues.{masked}
 use Rattle.node_ops.proofs.Listing.{masked-end}

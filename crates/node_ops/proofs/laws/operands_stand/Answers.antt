@@ -1,5 +1,3 @@
-use Rattle.node_ops.proofs.Listing.{masked-end}
-use Rattle.node_ops.proofs.Resolving.{node_row}
 use Rattle.node_ops.proofs.Standing.{operands-stand}
 use Rattle.node_ops.proofs.laws.operands_stand.Goals as goal
 

@@ -1,4 +1,4 @@
-use Rattle.std.proofs.Common.{◌≡◌, ◌++◌, ◌∷◌, [], map, sym, ap, ◌∙◌}
+use Rattle.std.proofs.Common.{◌++◌, ◌∷◌, [], map, sym, ap, ◌∙◌}
 use Rattle.flow_value.specs.Lent.{operand_value}
 use Rattle.value_ops.specs.Given.{values_in}
 use Rattle.node_ops.specs.Rows.{field_values}

@@ -1,4 +1,4 @@
-use Rattle.std.proofs.Common.{◌≡◌, ◌≢◌, ◌<◌, ◌∙◌, ℕ, length, subst, sym, ap, refl, Contains, All, false, arith}
+use Rattle.std.proofs.Common.{◌∙◌, subst, sym, refl, Contains, false, arith}
 use Rattle.if1_marks.proofs.Tests.{no-both}
 use Rattle.take_marks.proofs.Weighed.{nth}
 use Rattle.std.proofs.lemmas.Result.{IfOk-weaker}

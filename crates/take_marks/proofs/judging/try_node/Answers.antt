@@ -1,4 +1,4 @@
-use Rattle.std.proofs.Common.{◌≡◌, ◌<◌, ◌∙◌, ℕ, length, slice_index, subst, sym, ap, refl, MatchOption}
+use Rattle.std.proofs.Common.{◌∙◌, length, subst, sym, ap, MatchOption}
 use Rattle.if1_order.specs.Walks.{AreInside}
 use Rattle.take_marks.specs.Standing.{IsFree, IsBlockedBy}
 use Rattle.take_marks.proofs.Tried.{places-all, places-other, items-are, blocked-inside, tried-blocked, tried-taken}

@@ -1,6 +1,6 @@
-use Rattle.std.proofs.Common.{◌≡◌, ◌+◌, ◌∙◌, ◌||◌, not, ◌==◌, zero, suc, ap, refl, slice_index, sym, subst, arith}
+use Rattle.std.proofs.Common.{◌∙◌, ◌||◌, not, ◌==◌, ap, refl, slice_index}
 use Rattle.std.specs.Prelude.{nat_lt}
-use Rattle.take_marks.proofs.Entered.{last_of, none-entered, one-entered, last-is}
+use Rattle.take_marks.proofs.Entered.{none-entered, one-entered, last-is}
 use Rattle.take_marks.proofs.order.enter.Goals as goal
 
 pub loop-index-init : goal.loop-index-init

@@ -1,9 +1,9 @@
-use Rattle.std.proofs.Common.{◌≡◌, ◌≢◌, ◌<◌, ◌≤◌, ◌∙◌, ℕ, length, subst, sym, ap, MatchOption, refl, [], set, take}
+use Rattle.std.proofs.Common.{◌≢◌, ◌<◌, ◌∙◌, ℕ, length, subst, sym, ap, MatchOption, refl, [], take}
 use Rattle.std.proofs.lemmas.List.{get_or_default, get_or-set_same}
 use Rattle.std.proofs.lemmas.List.Elements.{All-contains}
-use Rattle.if1_order.specs.Walks.{Lists, AreInside, Leads, feeders_of}
+use Rattle.if1_order.specs.Walks.{AreInside, Leads}
 use Rattle.if1_reach.specs.Ranks.{IsRanked}
-use Rattle.take_marks.proofs.Delays.{ext, ext-inside, extended, is-fed, shortened, no-circle, ranked-before, free-all, before-all}
+use Rattle.take_marks.proofs.Delays.{ext-inside, extended, is-fed, shortened, no-circle, ranked-before, free-all, before-all}
 use Rattle.take_marks.proofs.order.reordered.Goals as goal
 
 pub ranked-requires : goal.ranked-requires

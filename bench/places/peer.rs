@@ -1,0 +1,57 @@
+//! The work of the crate `bench_places` with a `Vec` of an enum of 40 bytes.
+use std::env;
+use std::hint::black_box;
+
+const SHORT: i64 = 1000;
+const LONG: i64 = 10_000_000;
+
+#[allow(dead_code)]
+#[derive(Clone)]
+enum Val {
+    Err(u8),
+    Int(i64),
+    Bool(bool),
+    Char(u8),
+    Null,
+    Arr(i64, Vec<Val>),
+    Rec(Vec<Val>),
+    Uni(u32, Box<Val>),
+    Stream(Vec<Val>, u64),
+}
+
+fn replace_often(mut v: Vec<Val>, steps: i64) -> Vec<Val> {
+    for i in 0..steps {
+        let place = black_box(1);
+        v[place] = Val::Int(i);
+    }
+    v
+}
+
+fn change_ends(mut v: Vec<Val>, steps: i64) -> Vec<Val> {
+    for i in 0..steps {
+        v.push(Val::Int(black_box(i)));
+        black_box(v.pop());
+    }
+    v
+}
+
+fn main() {
+    assert!(std::mem::size_of::<Val>() == 40);
+    let (mut ends, mut count, mut steps) = (false, 4, SHORT);
+    for arg in env::args() {
+        match arg.as_str() {
+            "ends" => ends = true,
+            "some" => count = 4096,
+            "many" => count = 4_000_000,
+            "long" => steps = LONG,
+            _ => {}
+        }
+    }
+    let array = vec![Val::Int(7); count];
+    let v = if ends { change_ends(array, steps) } else { replace_often(array, steps) };
+    let second = match v[1] {
+        Val::Int(n) => n,
+        _ => 0,
+    };
+    println!("{steps} steps: {second} {}", v.len());
+}

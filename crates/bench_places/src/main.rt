@@ -1,0 +1,92 @@
+//! Updates in place, for a script to time. It prints what was done.
+//!
+//! Arguments: what to do (`replace`, or `ends`), how many elements there are (`few`, `some` or
+//! `many`), and `long` for much of it.
+#![tactic(auto)]
+
+use flow_value::{NoMemory, Operand, Shape, Val};
+use if1_graph::Simple;
+use node_ops::fire_one;
+use place_ops::{add_high_taken, fire_taken, update_taken};
+use std::alloc::Global;
+use std::{env, io};
+
+const SHORT: i64 = 1000;
+
+const LONG: i64 = 10_000_000;
+
+#[derive(Drop)]
+enum Work {
+    // The element at one place is changed again and again.
+    Replace,
+    // An element is added at the end and taken off again.
+    Ends,
+}
+
+/// An array of so many sevens from 1.
+fn sevens(alloc: Global, count: i64) -> Result<Val, NoMemory> {
+    let mut ins = [
+        Operand::Owned(Val::Int(1)),
+        Operand::Owned(Val::Int(count)),
+        Operand::Owned(Val::Int(7)),
+    ];
+    fire_one(alloc, Simple::AFill, Shape::Plain, &mut ins)
+}
+
+fn replace_often(array: Val, steps: i64) -> Val {
+    let mut array = array;
+    for i in 0..steps {
+        update_taken(&mut array, &Val::Int(2), Val::Int(i));
+    }
+    array
+}
+
+fn change_ends(array: Val, steps: i64) -> Result<Val, NoMemory> {
+    let mut array = array;
+    for i in 0..steps {
+        add_high_taken(&mut array, Val::Int(i))?;
+        fire_taken(Simple::ARemH, &mut array, &mut []);
+    }
+    Ok(array)
+}
+
+/// The second element and the number of elements.
+fn told(array: &Val) -> (i64, usize) {
+    match array {
+        Val::Arr(a) => match a.as_slice() {
+            [_, Val::Int(second), ..] => (*second, a.len()),
+            _ => (0, a.len()),
+        },
+        _ => (0, 0),
+    }
+}
+
+fn run(alloc: Global, work: Work, count: i64, steps: i64) -> Result<(i64, usize), NoMemory> {
+    let array = sevens(alloc, count)?;
+    let changed = match work {
+        Work::Replace => replace_often(array, steps),
+        Work::Ends => change_ends(array, steps)?,
+    };
+    Ok(told(&changed))
+}
+
+fn main(rt: HostRuntime) -> io::Result<()> {
+    let mut work = Work::Replace;
+    let mut count = 4;
+    let mut steps = SHORT;
+    for arg in env::args(&rt)? {
+        match arg.as_str() {
+            "ends" => work = Work::Ends,
+            "some" => count = 4096,
+            "many" => count = 4_000_000,
+            "long" => steps = LONG,
+            _ => {}
+        }
+    }
+    let Ok((second, length)) = run(rt.alloc(), work, count, steps) else {
+        println!(rt; "no memory")?;
+        return Ok(());
+    };
+    println!(rt; "{steps} steps: {second} {length}")?;
+    Ok(())
+}
