@@ -57,9 +57,10 @@ module _ (u : tree.Unit) (forms : List Form) (ds : List Declared) (tags_fit : (t
 
   functions_fit : (es : List Declared) (fs : List Function) → All IsEven es → IsWrittenProgram fs → AreFunctionsOf u forms ds es fs → FunctionsFit Numbers Hs (headers (map (λ d. d.signature) es)) fs
   functions_fit _ _ even w units.no_function = tt
-  functions_fit _ _ even w (units.a_function {d = d} {f = f} {es = es} {fs = fs} p ps) =
-      (function_fits d f (All-head IsEven d es even) (All-head (λ (f : Function). IsWrittenBody f.body) f fs w) p,
-      functions_fit es fs (All-tail IsEven d es even) (All-tail (λ (f : Function). IsWrittenBody f.body) f fs w) ps)
+  functions_fit _ _ even w (units.a_function {d = d} {f = f} {es = es} {fs = fs} p ps) = (
+    function_fits d f (All-head IsEven d es even) (All-head (λ (f : Function). IsWrittenBody f.body) f fs w) p,
+    functions_fit es fs (All-tail IsEven d es even) (All-tail (λ (f : Function). IsWrittenBody f.body) f fs w) ps,
+  )
 
 pub program_fits : (u : tree.Unit) (p : Program) (t : IsTyped u p) → ((types : List (ℕ × Ty)) → AreTagsFit (known u p.types t.declared types) (denotes u types)) → IsWrittenProgram p.functions
     → IsFittingTree p.types u.tokens.names (headers (signatures t.declared)) p.functions
