@@ -2,3 +2,4 @@ pub mod Tables
 pub mod Levels
 pub mod Walk
 pub mod Programs
+pub mod Choices
