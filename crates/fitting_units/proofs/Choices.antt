@@ -3,15 +3,12 @@ use Rattle.std.proofs.Common.{◌≡◌, ◌⊎◌, inl, inr, ℕ, zero, suc, �
 use Rattle.std.specs.Prelude.{if◌then◌else◌}
 use Rattle.std.proofs.lemmas.Option.{same_Some, none-some, slice_get_within}
 use Rattle.std.proofs.lemmas.Bool.{eqb-true, eq-eqb}
-use Rattle.std.proofs.lemmas.List.{length-append}
 use Rattle.std.proofs.lemmas.List.Elements.{All-nil, All-cons, All-head, All-tail, All-contains, Contains-append_left, Contains-append_right, Contains-append_cases, Contains-push, Contains-push_cases}
 use Rattle.flow_value.specs.declared.ty.Ty.{Ty}
-use Rattle.sisal_tree.specs.declared.unit.Named.{Named}
 use Rattle.sisal_tree.specs.declared.unit.Written.{Written}
 use Rattle.sisal_tree.specs.declared.expr.Expr.{Expr}
 use Rattle.sisal_tree.specs.declared.expr.Arm.{Arm}
 use Rattle.typed_tree.specs.declared.expr.Choice.{Choice}
-use Rattle.typed_tree.specs.declared.expr.Case.{Case}
 use Rattle.typed_tree.specs.declared.expr.TypedExpr.{TypedExpr}
 use Rattle.typed_tree.specs.Scopes.{Scope}
 use Rattle.typed_tree.specs.Types.{Member}
@@ -23,10 +20,10 @@ use Rattle.fitting_units.proofs.Walk.{Contents}
 
 -- ---- elements
 
-first : (xs : List ℕ) (x : ℕ) → Contains (x ∷ xs) x
+pub first : (xs : List ℕ) (x : ℕ) → Contains (x ∷ xs) x
 first xs x = Contains-append_left (x ∷ []) xs x (Contains-push [] x)
 
-further : (y : ℕ) (xs : List ℕ) (x : ℕ) → Contains xs x → Contains (y ∷ xs) x
+pub further : (y : ℕ) (xs : List ℕ) (x : ℕ) → Contains xs x → Contains (y ∷ xs) x
 further y xs x c = Contains-append_right (y ∷ []) xs x c
 
 nothing_in : (x : ℕ) → Contains [] x → ⊥
@@ -95,7 +92,7 @@ module _ (k : Known) (ms : List Member) where
   contents_counted y (names ∷ tags) [] t = absurd t
   contents_counted y (names ∷ tags) (a ∷ contents) t = ap suc (contents_counted y tags contents t.1)
 
-  choice_for : (xs : List (ℕ × ℕ)) (cs : List Choice) → AreChoices k ms xs cs → (x i : ℕ) → Among xs x i → Contains (map (λ c. c.arm) cs) i
+  pub choice_for : (xs : List (ℕ × ℕ)) (cs : List Choice) → AreChoices k ms xs cs → (x i : ℕ) → Among xs x i → Contains (map (λ c. c.arm) cs) i
   choice_for [] cs p x i m = elim m [ ]
   choice_for (y ∷ xs) [] p x i m = absurd p
   choice_for (y ∷ xs) (c ∷ cs) p x i m = by y p.0.1 (λ x i m. choice_for xs cs p.1 x i m) x i m
@@ -134,8 +131,14 @@ module _ (k : Known) (ms : List Member) where
       where
         by : (b : Bool) → nat_eq c.tag j ≡ b → IsNamedAt xs cs others j ⊎ IsUnnamedAt xs cs others j → IsNamedAt (x ∷ xs) (c ∷ cs) others j ⊎ IsUnnamedAt (x ∷ xs) (c ∷ cs) others j
         by true e rest =
-            inl (record { name = x.0; place = x.1; content = p.0.0.0; among = this x.0 x.1; has = subst (λ z. Has k ms x.0 z p.0.0.0) (eqb-true c.tag j e) p.0.0.1;
-            chosen = ap (λ b. if b then c.arm else arm_place cs others j) e ∙ p.0.1 })
+            inl (record {
+              name = x.0;
+              place = x.1;
+              content = p.0.0.0;
+              among = this x.0 x.1;
+              has = subst (λ z. Has k ms x.0 z p.0.0.0) (eqb-true c.tag j e) p.0.0.1;
+              chosen = ap (λ b. if b then c.arm else arm_place cs others j) e ∙ p.0.1;
+            })
         by false e (inl f) = inl (record { name = f.name; place = f.place; content = f.content; among = later f.among; has = f.has; chosen = ap (λ b. if b then c.arm else arm_place cs others j) e ∙ f.chosen })
         by false e (inr f) = inr (record { chosen = ap (λ b. if b then c.arm else arm_place cs others j) e ∙ f.chosen; none = λ y i content m h. cases x p.0.0.1 y i content m h })
           where
@@ -152,11 +155,11 @@ placed_below : (i n : ℕ) (names : List ℕ) → i < n → (xs : List (ℕ × �
 placed_below i n [] lt xs p = p
 placed_below i n (x ∷ names) lt xs p = All-cons (λ x. x.1 < n) (x, i) (map (λ x. (x, i)) names ++ xs) lt (placed_below i n names lt xs p)
 
-tags_below : (i n : ℕ) (tags : List (List ℕ)) → i + length tags ≤ n → All (λ x. x.1 < n) (tags_from i tags)
+pub tags_below : (i n : ℕ) (tags : List (List ℕ)) → i + length tags ≤ n → All (λ x. x.1 < n) (tags_from i tags)
 tags_below i n [] e = All-nil (λ x. x.1 < n)
 tags_below i n (t ∷ tags) e = placed_below i n t (omega (arith, e)) (tags_from (suc i) tags) (tags_below (suc i) n tags (omega (arith, e)))
 
-choices_below : (k : Known) (ms : List Member) (n : ℕ) (xs : List (ℕ × ℕ)) (cs : List Choice) → AreChoices k ms xs cs → All (λ x. x.1 < n) xs → All (λ c. c.arm < n) cs
+pub choices_below : (k : Known) (ms : List Member) (n : ℕ) (xs : List (ℕ × ℕ)) (cs : List Choice) → AreChoices k ms xs cs → All (λ x. x.1 < n) xs → All (λ c. c.arm < n) cs
 choices_below k ms n [] [] p q = All-nil (λ c. c.arm < n)
 choices_below k ms n [] (c ∷ cs) p q = absurd p
 choices_below k ms n (x ∷ xs) [] p q = absurd p
@@ -164,13 +167,13 @@ choices_below k ms n (x ∷ xs) (c ∷ cs) p q =
     All-cons (λ c. c.arm < n) c cs (subst (λ i. i < n) (sym p.0.1) (All-head (λ x. x.1 < n) x xs q)) (choices_below k ms n xs cs p.1 (All-tail (λ x. x.1 < n) x xs q))
 
 module _ (k : Known) (denotes : Written → Ty → Type 0) where
-  arms_counted : (s : Scope) (x : Option ℕ) (ms : List Member) (tys : List Ty) (arms : List Arm) (us : List (List TypedExpr)) (tags : List (List ℕ)) → AreArms k denotes s x ms tys arms us tags
+  pub arms_counted : (s : Scope) (x : Option ℕ) (ms : List Member) (tys : List Ty) (arms : List Arm) (us : List (List TypedExpr)) (tags : List (List ℕ)) → AreArms k denotes s x ms tys arms us tags
       → (length us ≡ length tags) × (length arms ≡ length tags)
   arms_counted s x ms tys _ _ _ rule.no_arm = (refl, refl)
   arms_counted s x ms tys _ _ _ (rule.an_arm l content names {arms = arms} {typed_arms = us} {tags = tags} o t p q) = let r = arms_counted s x ms tys arms us tags q in (ap suc r.0, ap suc r.1)
 
   -- each arm has a tag
-  reach : (s : Scope) (x : Option ℕ) (ms : List Member) (tys : List Ty) (arms : List Arm) (us : List (List TypedExpr)) (tags : List (List ℕ)) → AreArms k denotes s x ms tys arms us tags
+  pub reach : (s : Scope) (x : Option ℕ) (ms : List Member) (tys : List Ty) (arms : List Arm) (us : List (List TypedExpr)) (tags : List (List ℕ)) → AreArms k denotes s x ms tys arms us tags
       → (from i j : ℕ) → j ≡ from + i → i < length tags → (y : ℕ) × Among (tags_from from tags) y j
   reach s x ms tys _ _ _ rule.no_arm from i j e l = absurd (omega (arith, l))
   reach s x ms tys _ _ _ (rule.an_arm l content [] {tags = tags} o t p q) from i j e h = absurd (o refl)
@@ -179,7 +182,7 @@ module _ (k : Known) (denotes : Written → Ty → Type 0) where
   reach s x ms tys _ _ _ (rule.an_arm l content (n ∷ names) {arms = arms} {typed_arms = us} {tags = tags} o t p q) from (suc i) j e h =
       let rest = reach s x ms tys arms us tags q (suc from) i j (omega (arith, e)) (omega (arith, h)) in (rest.0, among_right from (names_of (n ∷ names)) (tags_from (suc from) tags) rest.0 j rest.1)
 
-  last_counted : (s : Scope) (tys : List Ty) (es : List Expr) (other : Option (List Expr)) (last : List (List TypedExpr)) → IsOtherwise k denotes s tys other last → other ≡ Some es → length last ≡ 1
+  pub last_counted : (s : Scope) (tys : List Ty) (es : List Expr) (other : Option (List Expr)) (last : List (List TypedExpr)) → IsOtherwise k denotes s tys other last → other ≡ Some es → length last ≡ 1
   last_counted s tys es _ _ rule.no_otherwise e = absurd cc
   last_counted s tys es _ _ (rule.otherwise p) e = refl
 
@@ -210,13 +213,14 @@ module _ (k : Known) (denotes : Written → Ty → Type 0) where
         by : (other : Option (List Expr)) → AreAllNamed k tags (m ∷ rest) other → ((es : List Expr) → other ≡ Some es → length tags < n) → IsNamedAt k ms (tags_from 0 tags) cs (length tags) j ⊎ IsUnnamedAt k ms (tags_from 0 tags) cs (length tags) j
             → (arm_place cs (length tags) j < n) × ((a : Ty) → slice_get contents (arm_place cs (length tags) j) ≡ Some a → a ≡ m.1)
         by other all more (inl f) =
-            let l = (among_within 0 tags f.name f.place f.among).1 in
-            (subst (λ z. z < n) (sym f.chosen) (omega (arith, l, many)),
-            λ a e.
-              let tag = seen_at x told f.name f.place f.among a (subst (λ z. slice_get contents z ≡ Some a) f.chosen e) in
-              let same = same_place k ms one f.name tag.0 j a f.content tag.1 f.has in
-              let here = subst (λ z. slice_get ms z ≡ Some (tag.1.spelling, a)) same tag.1.member in
-              ap (λ m. m.1) (same_Some (tag.1.spelling, a) m (sym here ∙ there)))
+            let l = (among_within 0 tags f.name f.place f.among).1 in (
+              subst (λ z. z < n) (sym f.chosen) (omega (arith, l, many)),
+              λ a e.
+                  let tag = seen_at x told f.name f.place f.among a (subst (λ z. slice_get contents z ≡ Some a) f.chosen e) in
+                  let same = same_place k ms one f.name tag.0 j a f.content tag.1 f.has in
+                  let here = subst (λ z. slice_get ms z ≡ Some (tag.1.spelling, a)) same tag.1.member in
+                  ap (λ m. m.1) (same_Some (tag.1.spelling, a) m (sym here ∙ there)),
+            )
         by None all more (inr f) =
             let named = All-head (λ m. (x : ℕ) × IsSpelled k x m.0 × Contains (flat_map (λ tags. tags) tags) x) m rest all in
             let among = among_flat 0 tags named.0 named.2 in

@@ -3,3 +3,4 @@ pub mod Levels
 pub mod Walk
 pub mod Programs
 pub mod Choices
+pub mod Tags

@@ -1,5 +1,5 @@
 -- The program of a typed unit fits, where the choices of its `tagcase`s do.
-use Rattle.std.proofs.Common.{◌≡◌, ℕ, ◌+◌, List, [], ◌∷◌, ◌++◌, map, Option, Some, None, All, length, refl, sym, ap, ◌∙◌}
+use Rattle.std.proofs.Common.{◌≡◌, ℕ, ◌+◌, List, [], ◌∷◌, map, Option, All, length, refl, sym, ap, ◌∙◌}
 use Rattle.std.proofs.lemmas.List.{length-append, length-map}
 use Rattle.std.proofs.lemmas.List.Elements.{All-nil, All-cons, All-head, All-tail, All-filter}
 use Rattle.flow_value.specs.declared.ty.Ty.{Ty}
@@ -13,13 +13,15 @@ use Rattle.typed_tree.specs.declared.program.Function.{Function}
 use Rattle.typed_tree.specs.declared.program.Program.{Program}
 use Rattle.typed_tree.specs.Scopes.{no_names}
 use Rattle.typed_tree.specs.Types.{AreNumbers}
-use Rattle.typed_tree.specs.Typing.{Signature, Known, names_of}
+use Rattle.typed_tree.specs.Typing.{Signature, names_of}
 use Rattle.typed_tree.specs.Units as units
 use Rattle.typed_tree.specs.Units.{Declared, is_given, given, signatures, parameters, denotes, known, HasParams, Declares, HasBody, IsFunctionOf, AreFunctionsOf, IsTyped}
 use Rattle.fitting_trees.specs.Fitting.{Header, BodyFits, FunctionFits, FunctionsFit, IsFittingTree}
 use Rattle.fitting_units.specs.Leaves.{IsWrittenBody, IsWrittenProgram}
 use Rattle.fitting_units.proofs.Levels.{IsScope, define_all_scope}
-use Rattle.fitting_units.proofs.Walk.{header, headers, AreTagsFit, all_fit}
+use Rattle.fitting_units.specs.Laws.{header, headers, UnitsFit}
+use Rattle.fitting_units.proofs.Walk.{AreTagsFit, all_fit}
+use Rattle.fitting_units.proofs.Tags.{tags_fit}
 
 -- a function has as many parameters as types of parameters
 abbrev IsEven : Declared → Type 0
@@ -67,3 +69,6 @@ pub program_fits : (u : tree.Unit) (p : Program) (t : IsTyped u p) → ((types :
 program_fits u p t tags w = record {
   fits = functions_fit u p.types t.declared tags (given t.declared) p.functions (All-filter (λ d. is_given d.function) IsEven t.declared (declared_even u [] u.items t.declared t.declares.declares)) w t.functions;
 }
+
+pub units_fit : UnitsFit
+units_fit u p once tags w t = program_fits u p t (λ types. tags_fit (known u p.types t.declared types) (denotes u types) once tags) w

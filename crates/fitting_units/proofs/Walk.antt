@@ -1,24 +1,19 @@
 -- A typed expression fits where the names in force have the types of their levels, and its constants and records are those of a text.
 use Rattle.std.proofs.Common.{◌≡◌, ◌⊎◌, inl, inr, ℕ, zero, suc, ◌+◌, ◌<◌, ◌≤◌, Bool, true, false, List, [], ◌∷◌, ◌++◌, map, flat_map, All, Contains, Option, Some, None, slice_get, length, refl, sym, ap, subst, ◌∙◌, arith, append_assoc}
-use Rattle.std.proofs.lemmas.Option.{slice_get-map}
 use Rattle.std.specs.Prelude.{option_map}
 use Rattle.std.proofs.lemmas.List.{length-append, length-map}
 use Rattle.std.proofs.lemmas.List.Elements.{All-head, All-tail}
 use Rattle.flow_value.specs.declared.ty.Ty.{Ty}
 use Rattle.flow_value.specs.declared.ty.Ty.TheVariants as ty
-use Rattle.type_table.specs.declared.form.Form.{Form}
 use Rattle.sisal_tree.specs.declared.unit.Written.{Written}
 use Rattle.sisal_tree.specs.declared.unit.Named.{Named}
 use Rattle.sisal_tree.specs.declared.expr.Expr.{Expr}
-use Rattle.sisal_tree.specs.declared.expr.Constant.{Constant}
 use Rattle.sisal_tree.specs.declared.expr.FieldValue.{FieldValue}
 use Rattle.sisal_tree.specs.declared.expr.Def.{Def, roll-Def, out-roll-Def}
 use Rattle.sisal_tree.specs.declared.expr.Target.{Target}
 use Rattle.sisal_tree.specs.declared.expr.Arm.{Arm}
 use Rattle.sisal_tree.specs.declared.expr.Generator.{Generator}
 use Rattle.sisal_tree.specs.declared.expr.Clause.{Clause}
-use Rattle.sisal_tree.specs.declared.expr.ClauseKind.{ClauseKind}
-use Rattle.sisal_tree.specs.declared.expr.Mask.{Mask}
 use Rattle.value_ops.specs.declared.operation.Operation.{Operation}
 use Rattle.value_ops.specs.declared.operation.Operation.TheVariants as op
 use Rattle.flow_value.specs.declared.operation.Scalar1.TheVariants as one
@@ -37,13 +32,14 @@ use Rattle.typed_tree.specs.declared.expr.Source.{Source}
 use Rattle.typed_tree.specs.declared.expr.Source.TheVariants as source
 use Rattle.typed_tree.specs.declared.expr.ClauseForm.{ClauseForm}
 use Rattle.typed_tree.specs.Scopes.{Scope, At, define_all, targets, in_turn, renewals, AreDistinct}
-use Rattle.typed_tree.specs.Types.{Member, AreNumbers, constant_type, scalar_type, prefix_type, binary_type}
-use Rattle.typed_tree.specs.Operations.{prefix_operation, binary_operation, convert_operation, built_in_operation, clause_form, masking_of}
+use Rattle.typed_tree.specs.Types.{Member, AreNumbers, prefix_type}
+use Rattle.typed_tree.specs.Operations.{prefix_operation, binary_operation, convert_operation, built_in_operation, masking_of}
 use Rattle.typed_tree.specs.Typing as rule
 use Rattle.typed_tree.specs.Typing.{Signature, Known, Number, Has, IsTag, Chooses, AreAllNamed, with, names_in, names_of, loop_of, named_arms, with_content, AreTargets, Folds, Types, AreTyped, Replaces, HasFields, Defines, Crosses, Generates, AreClauses, IsMask, AreArms, IsOtherwise}
 use Rattle.fitting_trees.specs.Fitting.{Row, Header, Goes, AreAll, AreFields, AreMade, Fits, AllFit, DefsFit, ArmsFit, TagsFit}
 use Rattle.fitting_trees.specs.Fitting as is
-use Rattle.fitting_units.specs.Leaves.{Leaf, a_constant, a_record, a_change, a_case, IsWritten, AreWritten, all_in, in_apply, in_kind, leaves}
+use Rattle.fitting_units.specs.Leaves.{Leaf, AreWritten, all_in, in_apply, in_kind, leaves}
+use Rattle.fitting_units.specs.Laws.{header, headers}
 use Rattle.fitting_units.proofs.Tables.{operands_row, built_in_row, prefix_row, convert_row, makes_folding}
 use Rattle.fitting_units.proofs.Levels.{IsScope, newest_at, define_scope, define_all_scope, nil_right, turn_scope, loop_renews}
 
@@ -98,12 +94,6 @@ targets_first xs es ds = ap (λ d. map (λ t. t.name.name) d.targets ++ targets 
 all_one : (a : Ty) (tys : List Ty) → All (λ b. b ≡ a) tys → AreAll a tys
 all_one a [] h = tt
 all_one a (t ∷ tys) h = (All-head (λ b. b ≡ a) t tys h, all_one a tys (All-tail (λ b. b ≡ a) t tys h))
-
-abbrev pub header : Signature → Header
-header f = record { params = f.params; results = f.results }
-
-abbrev pub headers : List Signature → List Header
-headers fs = map header fs
 
 header_there : (fs : List Signature) (n : ℕ) (f : Signature) → slice_get fs n ≡ Some f → slice_get (headers fs) n ≡ Some (header f)
 header_there [] n f e = absurd cc

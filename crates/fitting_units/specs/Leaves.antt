@@ -1,8 +1,12 @@
 -- What a typed tree has to keep to as trees of texts do (SISAL Language Reference Manual 1.2, expressions): each constant is one
 -- that a text can spell and that fits 64 bits, each new record has at most as many fields as an aggregate may have elements,
 -- `replace` changes one field at least, and `tagcase` has one arm at least.
-use Rattle.std.specs.Prelude.{ℕ, ◌≤◌, List, [], ◌∷◌, ◌++◌, map, length, All, Option, Some, None}
+use Rattle.std.specs.Prelude.{◌≡◌, slice_get, ℕ, ◌≤◌, List, [], ◌∷◌, ◌++◌, map, length, All, Option, Some, None}
 use Rattle.sisal_tree.specs.declared.expr.Constant.{Constant}
+use Rattle.type_table.specs.declared.form.Form.{Form}
+use Rattle.type_table.specs.declared.form.Form.TheVariants as form
+use Rattle.type_table.specs.declared.form.Member.{Member}
+use Rattle.typed_tree.specs.Scopes.{AreDistinct}
 use Rattle.value_ops.specs.declared.operation.Operation.{Operation}
 use Rattle.value_ops.specs.declared.operation.Operation.TheVariants as op
 use Rattle.typed_tree.specs.declared.expr.TypedExpr.{TypedExpr}
@@ -60,3 +64,11 @@ IsWrittenBody (Some ts) = AreWritten (all_in (map leaves ts))
 -- so are those of a program
 abbrev pub IsWrittenProgram : List Function → Type 0
 IsWrittenProgram fs = All (λ f. IsWrittenBody f.body) fs
+
+-- no name is spelled as another one
+abbrev pub AreNamesOnce : List (List ℕ) → Type 0
+AreNamesOnce spellings = (x y : ℕ) (s : List ℕ) → slice_get spellings x ≡ Some s → slice_get spellings y ≡ Some s → x ≡ y
+
+-- no union of the table has a tag twice
+abbrev pub AreTagsOnce : List Form → Type 0
+AreTagsOnce forms = (n : ℕ) (ms : List Member) → slice_get forms n ≡ Some (form.Union ms) → AreDistinct (map (λ m. m.name) ms)
