@@ -95,7 +95,7 @@ all_one : (a : Ty) (tys : List Ty) → All (λ b. b ≡ a) tys → AreAll a tys
 all_one a [] h = tt
 all_one a (t ∷ tys) h = (All-head (λ b. b ≡ a) t tys h, all_one a tys (All-tail (λ b. b ≡ a) t tys h))
 
-header_there : (fs : List Signature) (n : ℕ) (f : Signature) → slice_get fs n ≡ Some f → slice_get (headers fs) n ≡ Some (header f)
+pub header_there : (fs : List Signature) (n : ℕ) (f : Signature) → slice_get fs n ≡ Some f → slice_get (headers fs) n ≡ Some (header f)
 header_there [] n f e = absurd cc
 header_there (g ∷ fs) zero f e = ap (option_map header) e
 header_there (g ∷ fs) (suc n) f e = header_there fs n f e
