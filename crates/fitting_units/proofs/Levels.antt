@@ -1,12 +1,12 @@
 -- The names in force have the types of their levels.
-use Rattle.std.proofs.Common.{◌≡◌, ℕ, zero, suc, ◌+◌, ◌-◌, ◌<◌, Bool, true, false, List, [], ◌∷◌, ◌++◌, nat_eq, length, Option, Some, None, slice_get, refl, ap, sym, subst, ◌∙◌, arith, append_assoc}
+use Rattle.std.proofs.Common.{◌≡◌, ℕ, zero, suc, ◌+◌, ◌-◌, Bool, true, false, List, [], ◌∷◌, ◌++◌, nat_eq, length, Option, Some, None, slice_get, refl, ap, sym, subst, ◌∙◌, arith, append_assoc}
 use Rattle.std.specs.Prelude.{if◌then◌else◌}
 use Rattle.std.proofs.lemmas.Option.{same_Some, none-some}
 use Rattle.name_scope.specs.Newest.{newest}
 use Rattle.flow_value.specs.declared.ty.Ty.{Ty}
 use Rattle.sisal_tree.specs.declared.expr.Def.{Def}
 use Rattle.typed_tree.specs.Scopes.{Meaning, At, Later, Scope, define, define_all, loop_names, not_yet, in_turn, targets, renewals, KeepTypes, KeepsType}
-use Rattle.typed_tree.specs.Typing.{loop_of, with_content}
+use Rattle.typed_tree.specs.Typing.{loop_of}
 use Rattle.fitting_trees.specs.Fitting.{Renews}
 
 -- ---- names

@@ -1,24 +1,19 @@
 -- A typed expression fits where the names in force have the types of their levels, and its constants and records are those of a text.
 use Rattle.std.proofs.Common.{◌≡◌, ◌⊎◌, inl, inr, ℕ, zero, suc, ◌+◌, ◌<◌, ◌≤◌, Bool, true, false, List, [], ◌∷◌, ◌++◌, map, flat_map, All, Contains, Option, Some, None, slice_get, length, refl, sym, ap, subst, ◌∙◌, arith, append_assoc}
-use Rattle.std.proofs.lemmas.Option.{slice_get-map}
 use Rattle.std.specs.Prelude.{option_map}
 use Rattle.std.proofs.lemmas.List.{length-append, length-map}
 use Rattle.std.proofs.lemmas.List.Elements.{All-head, All-tail}
 use Rattle.flow_value.specs.declared.ty.Ty.{Ty}
 use Rattle.flow_value.specs.declared.ty.Ty.TheVariants as ty
-use Rattle.type_table.specs.declared.form.Form.{Form}
 use Rattle.sisal_tree.specs.declared.unit.Written.{Written}
 use Rattle.sisal_tree.specs.declared.unit.Named.{Named}
 use Rattle.sisal_tree.specs.declared.expr.Expr.{Expr}
-use Rattle.sisal_tree.specs.declared.expr.Constant.{Constant}
 use Rattle.sisal_tree.specs.declared.expr.FieldValue.{FieldValue}
 use Rattle.sisal_tree.specs.declared.expr.Def.{Def, roll-Def, out-roll-Def}
 use Rattle.sisal_tree.specs.declared.expr.Target.{Target}
 use Rattle.sisal_tree.specs.declared.expr.Arm.{Arm}
 use Rattle.sisal_tree.specs.declared.expr.Generator.{Generator}
 use Rattle.sisal_tree.specs.declared.expr.Clause.{Clause}
-use Rattle.sisal_tree.specs.declared.expr.ClauseKind.{ClauseKind}
-use Rattle.sisal_tree.specs.declared.expr.Mask.{Mask}
 use Rattle.value_ops.specs.declared.operation.Operation.{Operation}
 use Rattle.value_ops.specs.declared.operation.Operation.TheVariants as op
 use Rattle.flow_value.specs.declared.operation.Scalar1.TheVariants as one
@@ -30,19 +25,21 @@ use Rattle.typed_tree.specs.declared.expr.TypedKind.TheViews.{roll-TypedKind}
 use Rattle.typed_tree.specs.declared.expr.TypedKind.TheOpen.{TypedKind-F}
 use Rattle.typed_tree.specs.declared.expr.TypedKind.TheFolds.{map-TypedKind, fold-TypedKind, fold-roll-TypedKind, fold-roll-TypedExpr}
 use Rattle.typed_tree.specs.declared.expr.Case.{Case}
+use Rattle.typed_tree.specs.declared.expr.Choice.{Choice}
 use Rattle.typed_tree.specs.declared.expr.Product.{Product}
 use Rattle.typed_tree.specs.declared.expr.Turns.{Turns}
 use Rattle.typed_tree.specs.declared.expr.Source.{Source}
 use Rattle.typed_tree.specs.declared.expr.Source.TheVariants as source
 use Rattle.typed_tree.specs.declared.expr.ClauseForm.{ClauseForm}
 use Rattle.typed_tree.specs.Scopes.{Scope, At, define_all, targets, in_turn, renewals, AreDistinct}
-use Rattle.typed_tree.specs.Types.{Member, AreNumbers, constant_type, scalar_type, prefix_type, binary_type}
-use Rattle.typed_tree.specs.Operations.{prefix_operation, binary_operation, convert_operation, built_in_operation, clause_form, masking_of}
+use Rattle.typed_tree.specs.Types.{Member, AreNumbers, prefix_type}
+use Rattle.typed_tree.specs.Operations.{prefix_operation, binary_operation, convert_operation, built_in_operation, masking_of}
 use Rattle.typed_tree.specs.Typing as rule
 use Rattle.typed_tree.specs.Typing.{Signature, Known, Number, Has, IsTag, Chooses, AreAllNamed, with, names_in, names_of, loop_of, named_arms, with_content, AreTargets, Folds, Types, AreTyped, Replaces, HasFields, Defines, Crosses, Generates, AreClauses, IsMask, AreArms, IsOtherwise}
 use Rattle.fitting_trees.specs.Fitting.{Row, Header, Goes, AreAll, AreFields, AreMade, Fits, AllFit, DefsFit, ArmsFit, TagsFit}
 use Rattle.fitting_trees.specs.Fitting as is
-use Rattle.fitting_units.specs.Leaves.{Leaf, a_constant, a_record, a_change, a_case, IsWritten, AreWritten, all_in, in_apply, in_kind, leaves}
+use Rattle.fitting_units.specs.Leaves.{Leaf, AreWritten, all_in, in_apply, in_kind, leaves}
+use Rattle.fitting_units.specs.Laws.{header, headers}
 use Rattle.fitting_units.proofs.Tables.{operands_row, built_in_row, prefix_row, convert_row, makes_folding}
 use Rattle.fitting_units.proofs.Levels.{IsScope, newest_at, define_scope, define_all_scope, nil_right, turn_scope, loop_renews}
 
@@ -98,13 +95,7 @@ all_one : (a : Ty) (tys : List Ty) → All (λ b. b ≡ a) tys → AreAll a tys
 all_one a [] h = tt
 all_one a (t ∷ tys) h = (All-head (λ b. b ≡ a) t tys h, all_one a tys (All-tail (λ b. b ≡ a) t tys h))
 
-abbrev pub header : Signature → Header
-header f = record { params = f.params; results = f.results }
-
-abbrev pub headers : List Signature → List Header
-headers fs = map header fs
-
-header_there : (fs : List Signature) (n : ℕ) (f : Signature) → slice_get fs n ≡ Some f → slice_get (headers fs) n ≡ Some (header f)
+pub header_there : (fs : List Signature) (n : ℕ) (f : Signature) → slice_get fs n ≡ Some f → slice_get (headers fs) n ≡ Some (header f)
 header_there [] n f e = absurd cc
 header_there (g ∷ fs) zero f e = ap (option_map header) e
 header_there (g ∷ fs) (suc n) f e = header_there fs n f e
@@ -130,12 +121,17 @@ module _ (k : Known) (denotes : Written → Ty → Type 0) where
       let rest = defined_counted _ ds us others after q in
       ap length (targets_first xs es ds) ∙ length-append (names_in xs) (targets ds) ∙ ap (λ n. n + length (targets ds)) first ∙ ap (λ n. length tys + n) rest ∙ sym (length-append tys others)
 
-  -- the choices of a `tagcase` reach arms that see contents of the types of their tags, and each arm that sees one is reached
+  -- what `tagcase` keeps of its tags, by what it says of them
+  pub record FitsTags (x : Option ℕ) (ms : List Member) (contents : List Ty) (arms : List Arm) (all : List (List TypedExpr)) (choices : List Choice) : Type 0 where
+    pub each : TagsFit (length all) contents (record { named = named_arms x arms; choices = choices; others = length arms }) 0 ms
+    pub reached : (i : ℕ) → i < named_arms x arms → Contains (map (λ c. c.arm) choices) i
+    pub there : All (λ c. c.arm < length all) choices
+    pub last : length arms ≤ length all
+
   abbrev pub AreTagsFit : Type 0
-  AreTagsFit = (s : Scope) (x : Option ℕ) (ms : List Member) (tys contents : List Ty) (arms : List Arm) (us last : List (List TypedExpr)) (tags : List (List ℕ)) (other : Option (List Expr)) (choices ns : List ℕ)
+  AreTagsFit = (s : Scope) (x : Option ℕ) (ms : List Member) (tys contents : List Ty) (arms : List Arm) (us last : List (List TypedExpr)) (tags : List (List ℕ)) (other : Option (List Expr)) (choices : List Choice) (ns : List ℕ)
       → Numbers ns (ty.Uni ms ∷ []) → AreArms k denotes s x ms tys arms us tags → AreDistinct (flat_map (λ names. names) tags) → AreAllNamed k tags ms other → IsOtherwise k denotes s tys other last
-      → Chooses k tags ms choices → Contents k x ms tags contents
-      → TagsFit (length (us ++ last)) contents ms choices × ((i : ℕ) → i < named_arms x arms → Contains choices i)
+      → Chooses k tags ms choices → Contents k x ms tags contents → FitsTags x ms contents arms (us ++ last) choices
 
   abbrev Fit : List Ty → TypedExpr → List Ty → Type 0
   Fit = Fits Numbers Hs
@@ -148,7 +144,7 @@ module _ (k : Known) (denotes : Written → Ty → Type 0) where
   numbered γ _ _ (is.apply h r n) = n
   numbered γ _ _ (is.let_in d h n) = n
   numbered γ _ _ (is.if_else h i j n) = n
-  numbered γ _ _ (is.tag_case ms cs h i j l m n) = n
+  numbered γ _ _ (is.tag_case ms cs h i j l x y m n) = n
   numbered γ _ _ (is.product h i j l m n) = n
   numbered γ _ _ (is.initial h i j l m o n) = n
 
@@ -281,13 +277,13 @@ module _ (k : Known) (denotes : Written → Ty → Type 0) where
           is.if_else (one_fit γ t ty.Bool (λ y. fits s c t (ty.Bool ∷ []) p γ sc y) (left (exprs_leaves (t ∷ [])) (exprs_leaves ts ++ exprs_leaves us) parts)) (all_fit s es ts tys q γ sc (left (exprs_leaves ts) (exprs_leaves us) rest))
           (all_fit s fs us tys r γ sc (right (exprs_leaves ts) (exprs_leaves us) rest)) n.each
       fits s _ _ _ (rule.tag_case {l = l} {ms = ms} {x = x} {e = e} {t = t} {arms = arms} {typed_arms = us} {last = last} {tags = tags} {choices = choices} {ns = ns} {tys = tys} {other = other} p q d all o c n) γ sc w =
-          let case : Case = record { named = named_arms x arms; choices = choices } in
+          let case : Case = record { named = named_arms x arms; choices = choices; others = length arms } in
           let parts = level (TypedKind-F.Case case (t ∷ []) (us ++ last)) (typed.Case case (t ∷ []) (us ++ last)) l ns (sym (typed.rolls-Case case (t ∷ []) (us ++ last))) w in
           let subject = fits s e t (ty.Uni ms ∷ []) p γ sc (left (leaves t) [] (left (exprs_leaves (t ∷ [])) (defs_leaves (us ++ last)) parts.1)) in
           let seen = arms_fit s x ms tys arms us tags q γ sc last (last_fit s tys other last o γ sc) (right (exprs_leaves (t ∷ [])) (defs_leaves (us ++ last)) parts.1) in
           let told = tags_fit s x ms tys seen.contents arms us last tags other choices t.types (numbered γ t (ty.Uni ms ∷ []) subject) q d all o c seen.told in
           let some = parts.0 in
-          is.tag_case ms seen.contents (is.more subject is.no_more) seen.fit told.0 told.1 (omega (arith, some, length-map (us ++ last) (map leaves))) n.each
+          is.tag_case ms seen.contents (is.more subject is.no_more) seen.fit told.each told.reached told.there told.last (omega (arith, some, length-map (us ++ last) (map leaves))) n.each
       fits s _ _ tys (rule.for_product {l = l} {gs = gs} {ds = ds} {cs = cs} {t = t} p) γ sc w = crossed_fit s l gs ds cs t tys p γ sc w
       fits s _ _ tys (rule.for_initial {started = started} {turned = turned} {l = l} {first = first} {later = later} {ns = ns} is_first is_until {test = test} {t = t} {ds = ds} {es = es} {us = us} {vs = vs} {cs = cs} {forms = clauses} {ts = ts} p d q r e keeps c n) γ sc w =
           let turns : Turns = record { is_first = is_first; is_until = is_until; renewed = renewals (loop_of s ds first) s.height (targets es); clauses = clauses } in

@@ -1,5 +1,5 @@
 -- The arm of a `tagcase` that a union takes.
-use Rattle.std.proofs.Common.{◌≡◌, ℕ, zero, suc, Bool, true, false, List, [], ◌∷◌, ◌++◌, Option, Some, None, slice_get, refl, ap, sym, subst, ◌∙◌, arith}
+use Rattle.std.proofs.Common.{◌≡◌, ℕ, zero, suc, Bool, true, false, List, [], ◌∷◌, ◌++◌, Option, Some, None, slice_get, refl, ap, sym, subst, ◌∙◌, arith, ◌+◌, ◌<◌}
 use Rattle.std.specs.Prelude.{nat_lt, if◌then◌else◌}
 use Rattle.std.proofs.lemmas.Bool.{le-ltb, ltb-true, ltb-false}
 use Rattle.flow_value.specs.declared.value.Val.{Val}
@@ -10,7 +10,7 @@ use Rattle.typed_tree.specs.declared.expr.Case.{Case}
 use Rattle.typed_tree.specs.Types.{Member}
 use Rattle.meaning.specs.Timed.{given}
 use Rattle.meaning.specs.Words.{failed}
-use Rattle.meaning.specs.Meaning.{Gives, with_content, arm_in, arm_at}
+use Rattle.meaning.specs.Meaning.{Gives, with_content, arm_in, arm_place}
 use Rattle.fitting_trees.specs.Fitting.{TagsFit}
 use Rattle.typed_rows.specs.Rows.{Of}
 use Rattle.typed_values.proofs.Texts.{lt-nat}
@@ -48,13 +48,11 @@ pub later_unseen : (k : ℕ) (o : Option Gives) (place : ℕ) (v : Val) (env : L
 later_unseen k None place v env = refl
 later_unseen k (Some g) place v env = ap g (no_content (suc place) v env ∙ sym (no_content place v env))
 
--- the place of a tag's arm, and what that arm may see
-pub place_there : (arms : ℕ) (contents : List Ty) (ms : List Member) (choices : List ℕ) → TagsFit arms contents ms choices → (tag : ℕ) (v : Val) → is_well_tag ms tag v ≡ true
-    → (place : ℕ) × (slice_get choices tag ≡ Some place) × ((a : Ty) → slice_get contents place ≡ Some a → Of a v)
-place_there arms contents [] choices t tag v q = absurd cc
-place_there arms contents (m ∷ ms) [] t tag v q = absurd t
-place_there arms contents (m ∷ ms) (k ∷ ks) t zero v q = (k, refl, λ a e. subst (λ b. Of b v) (sym (t.1 a e)) q)
-place_there arms contents (m ∷ ms) (k ∷ ks) t (suc tag) v q = place_there arms contents ms ks t.2 tag v q
-
-pub arm_placed : (c : Case) (k : ℕ) (arms : List Gives) (tag place : ℕ) (v : Val) (env : List Val) → slice_get c.choices tag ≡ Some place → arm_at c k arms (slice_get c.choices tag) v env ≡ arm_here c.named k (slice_get arms place) place v env
-arm_placed c k arms tag place v env e = ap (λ o. arm_at c k arms o v env) e ∙ as_here c k (slice_get arms place) place v env
+-- the arm of a tag is there, and what it may see
+pub place_there : (arms : ℕ) (contents : List Ty) (c : Case) (from : ℕ) (ms : List Member) → TagsFit arms contents c from ms → (tag j : ℕ) (v : Val) → j ≡ from + tag → is_well_tag ms tag v ≡ true
+    → (arm_place c.choices c.others j < arms) × ((a : Ty) → slice_get contents (arm_place c.choices c.others j) ≡ Some a → Of a v)
+place_there arms contents c from [] t tag j v e q = absurd cc
+place_there arms contents c from (m ∷ ms) t zero j v e q =
+    let same : from ≡ j = omega (arith, e) in
+    (subst (λ z. arm_place c.choices c.others z < arms) same t.0, λ a f. subst (λ b. Of b v) (sym (t.1 a (subst (λ z. slice_get contents (arm_place c.choices c.others z) ≡ Some a) (sym same) f))) q)
+place_there arms contents c from (m ∷ ms) t (suc tag) j v e q = place_there arms contents c (suc from) ms t.2 tag j v (omega (arith, e)) q

@@ -7,3 +7,4 @@ pub mod Values
 pub mod Outs
 pub mod Runs
 pub mod NoTree
+pub mod Units

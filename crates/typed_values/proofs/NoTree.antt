@@ -71,7 +71,7 @@ module _ (numbers : List ℕ → List Ty → Type 0) (hs : List Header) where
       subst (λ p. Applied γ p ts) i (subst (λ l. Applied γ q l) j (record { types = tys; result = a; fit = h; row = r }))
   applied γ _ _ (is.let_in {us = us} {ts = vs} d h n) o ts e = let z = other (typed.Let us vs) (TypedKind-F.Let us vs) (TypedKind-F.Apply o ts) (out_let us vs) e in absurd cc
   applied γ _ _ (is.if_else {ts = us} {us = vs} {vs = ws} h i j n) o ts e = let z = other (typed.If us vs ws) (TypedKind-F.If us vs ws) (TypedKind-F.Apply o ts) (out_if us vs ws) e in absurd cc
-  applied γ _ _ (is.tag_case ms cs {c = c} {ts = us} {arms = arms} h i j k l n) o ts e = let z = other (typed.Case c us arms) (TypedKind-F.Case c us arms) (TypedKind-F.Apply o ts) (out_case c us arms) e in absurd cc
+  applied γ _ _ (is.tag_case ms cs {c = c} {ts = us} {arms = arms} h i j k x y l n) o ts e = let z = other (typed.Case c us arms) (TypedKind-F.Case c us arms) (TypedKind-F.Apply o ts) (out_case c us arms) e in absurd cc
   applied γ _ _ (is.product {p = q} {bounds = bs} {us = us} {ts = vs} h i j k l n) o ts e = let z = other (typed.Product q bs us vs) (TypedKind-F.Product q bs us vs) (TypedKind-F.Apply o ts) (out_product q bs us vs) e in absurd cc
   applied γ _ _ (is.initial {t = t} {us = us} {vs = vs} {tests = ws} {ts = xs} h i j k l m n) o ts e = let z = other (typed.Initial t us ws vs xs) (TypedKind-F.Initial t us ws vs xs) (TypedKind-F.Apply o ts) (out_initial t us ws vs xs) e in absurd cc
 
@@ -84,7 +84,7 @@ module _ (numbers : List ℕ → List Ty → Type 0) (hs : List Header) where
   constant_typed γ _ _ (is.apply {o = q} {ts = us} h r n) k e = let z = other (typed.Apply q us) (TypedKind-F.Apply q us) (TypedKind-F.Constant k) (out_apply q us) e in absurd cc
   constant_typed γ _ _ (is.let_in {us = us} {ts = vs} d h n) k e = let z = other (typed.Let us vs) (TypedKind-F.Let us vs) (TypedKind-F.Constant k) (out_let us vs) e in absurd cc
   constant_typed γ _ _ (is.if_else {ts = us} {us = vs} {vs = ws} h i j n) k e = let z = other (typed.If us vs ws) (TypedKind-F.If us vs ws) (TypedKind-F.Constant k) (out_if us vs ws) e in absurd cc
-  constant_typed γ _ _ (is.tag_case ms cs {c = c} {ts = us} {arms = arms} h i j l m n) k e = let z = other (typed.Case c us arms) (TypedKind-F.Case c us arms) (TypedKind-F.Constant k) (out_case c us arms) e in absurd cc
+  constant_typed γ _ _ (is.tag_case ms cs {c = c} {ts = us} {arms = arms} h i j l x y m n) k e = let z = other (typed.Case c us arms) (TypedKind-F.Case c us arms) (TypedKind-F.Constant k) (out_case c us arms) e in absurd cc
   constant_typed γ _ _ (is.product {p = q} {bounds = bs} {us = us} {ts = vs} h i j l m n) k e = let z = other (typed.Product q bs us vs) (TypedKind-F.Product q bs us vs) (TypedKind-F.Constant k) (out_product q bs us vs) e in absurd cc
   constant_typed γ _ _ (is.initial {t = t} {us = us} {vs = vs} {tests = ws} {ts = xs} h i j l m o n) k e = let z = other (typed.Initial t us ws vs xs) (TypedKind-F.Initial t us ws vs xs) (TypedKind-F.Constant k) (out_initial t us ws vs xs) e in absurd cc
 

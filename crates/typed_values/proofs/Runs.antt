@@ -1,5 +1,5 @@
 -- What a run of a fitting tree meets is right.
-use Rattle.std.proofs.Common.{◌≡◌, ◌⊎◌, inl, inr, ℕ, zero, suc, ◌<◌, Bool, true, List, [], ◌∷◌, ◌++◌, map, length, drop, Option, Some, None, slice_get, refl, sym, subst, ◌∙◌}
+use Rattle.std.proofs.Common.{◌≡◌, ◌⊎◌, inl, inr, ℕ, zero, suc, Bool, true, List, [], ◌∷◌, ◌++◌, map, length, drop, Option, Some, None, slice_get, refl, sym, subst, ◌∙◌, arith}
 use Rattle.std.proofs.lemmas.Option.{same_Some, none-some}
 use Rattle.flow_value.specs.declared.value.Val.{Val}
 use Rattle.flow_value.specs.declared.value.Val.TheVariants as val
@@ -20,7 +20,7 @@ use Rattle.typed_tree.specs.declared.program.Function.{Function}
 use Rattle.typed_tree.specs.Types.{Member, AreNumbers}
 use Rattle.meaning.specs.Timed.{given}
 use Rattle.meaning.specs.Sources.{names_at}
-use Rattle.meaning.specs.Meaning.{with_content, turned, renew, defined}
+use Rattle.meaning.specs.Meaning.{with_content, turned, renew, defined, arm_place}
 use Rattle.meaning.specs.Plain.{all_at, plain, depth}
 use Rattle.fitting_trees.specs.Fitting.{Row, Header, Goes, AreMade, Renews, Fits, AllFit, DefsFit, ArmsFit, TagsFit, BodyFits, FunctionFits, FunctionsFit}
 use Rattle.fitting_trees.specs.Fitting as is
@@ -45,32 +45,16 @@ truth_met vs h = with_one ty.Bool IsTruth (λ v k. (v, refl, by v (as_bool v k))
     by _ (a_bool b) = inl (b, refl)
     by _ (no_bool c) = inr (c, refl)
 
--- the arm of each tag is there, and what it may see
-arm_met : (arms : ℕ) (contents : List Ty) (ms : List Member) (c : Case) → TagsFit arms contents ms c.choices → (tag : ℕ) (v : Val) → is_well_tag ms tag v ≡ true
-    → (place : ℕ) × IsArm c tag place × (place < arms) × ((a : Ty) → slice_get contents place ≡ Some a → Of a v)
-arm_met arms contents ms c t tag v q =
-    let there = place_there arms contents ms c.choices t tag v q in (there.0, there.1, below arms contents ms c.choices t tag there.0 there.1, there.2)
-  where
-    below : (arms : ℕ) (contents : List Ty) (ms : List Member) (choices : List ℕ) → TagsFit arms contents ms choices → (tag place : ℕ) → slice_get choices tag ≡ Some place → place < arms
-    below arms contents ms [] t tag place e = absurd (none-some place e)
-    below arms contents [] (k ∷ ks) t tag place e = absurd t
-    below arms contents (m ∷ ms) (k ∷ ks) t zero place e = subst (λ z. z < arms) (same_Some k place e) t.0
-    below arms contents (m ∷ ms) (k ∷ ks) t (suc tag) place e = below arms contents ms ks t.2 tag place e
-
-union_met : (arms : ℕ) (contents : List Ty) (ms : List Member) (c : Case) → TagsFit arms contents ms c.choices → (vs : List Val) → AreOf (ty.Uni ms ∷ []) vs → IsUnion c arms vs
+union_met : (arms : ℕ) (contents : List Ty) (ms : List Member) (c : Case) → TagsFit arms contents c 0 ms → (vs : List Val) → AreOf (ty.Uni ms ∷ []) vs → IsUnion c arms vs
 union_met arms contents ms c t vs h = with_one (ty.Uni ms) (IsUnion c arms) (λ v k. (v, refl, by v (as_uni ms v k))) vs h
   where
     by : (v : Val) → UniKind ms v → HasArm c arms v ⊎ IsErrorValue v
-    by _ (a_uni tag w q) = let there = arm_met arms contents ms c t tag w q in inl (record { tag = tag; content = w; place = there.0; tagged = refl; arm = there.1; there = there.2 })
+    by _ (a_uni tag w q) = inl (record { tag = tag; content = w; place = arm_place c.choices c.others tag; tagged = refl; arm = refl; there = (place_there arms contents c 0 ms t tag tag w (omega arith) q).0 })
     by _ (no_uni x) = inr (x, refl)
 
 -- a union's content is of the type of its tag
 content_met : (ms : List Member) (tag : ℕ) (v : Val) → AreOf (ty.Uni ms ∷ []) (val.Uni tag v ∷ []) → is_well_tag ms tag v ≡ true
 content_met ms tag v h = is_well-uni ms tag v ∙ h.0
-
--- a tag has one arm
-same_arm : (c : Case) (tag i j : ℕ) → IsArm c tag i → IsArm c tag j → i ≡ j
-same_arm c tag i j e f = same_Some i j (sym e ∙ f)
 
 no_defs : (n : ℕ) (p : List Function) (env : List Val) (a : Asked) → DefsMeet p n [] env a → IsRight a
 no_defs n p env a m = elim m [ ]
@@ -141,14 +125,14 @@ module _ (forms : List Form) (spellings : List (List ℕ)) (hs : List Header) (p
   ArmsRight γ named arms contents = (place : ℕ) (us : List TypedExpr) → slice_get arms place ≡ Some us → (v : Val) → ((x : Ty) → slice_get contents place ≡ Some x → Of x v)
       → (n : ℕ) → Lesser n → (env : List Val) (a : Asked) → AreOf γ env → AnyMeets p n us (with_content named place v env) a → IsRight a
 
-  case_right : (γ : List Ty) (ms : List Member) (contents : List Ty) (c : Case) (ts : List TypedExpr) (arms : List (List TypedExpr)) → AllFit Numbers hs γ ts (ty.Uni ms ∷ []) → TagsFit (length arms) contents ms c.choices
+  case_right : (γ : List Ty) (ms : List Member) (contents : List Ty) (c : Case) (ts : List TypedExpr) (arms : List (List TypedExpr)) → AllFit Numbers hs γ ts (ty.Uni ms ∷ []) → TagsFit (length arms) contents c 0 ms
       → AnyRight γ ts → ArmsRight γ c.named arms contents → (n : ℕ) → Lesser n → (env : List Val) (a : Asked) → AreOf γ env → MeetsIn p n (TypedKind-F.Case c ts arms) env a → IsRight a
   case_right γ ms contents c ts arms h t j k n b env a w (met.in_union m) = j n b env a w m
   case_right γ ms contents c ts arms h t j k n b env _ w (met.the_union {r = r} e) = union_met (length arms) contents ms c t r.0 (values_typed γ ts (ty.Uni ms ∷ []) h n env w r e)
   case_right γ ms contents c ts arms h t j k n b env a w (met.in_arm {place = place} tag v {us = us} {steps = steps} e arm there m) =
       let q = content_met ms tag v (values_typed γ ts (ty.Uni ms ∷ []) h n env w (val.Uni tag v ∷ [], steps) e) in
-      let own = arm_met (length arms) contents ms c t tag v q in
-      k place us there v (subst (λ z. (x : Ty) → slice_get contents z ≡ Some x → Of x v) (same_arm c tag own.0 place own.1 arm) own.3) n b env a w m
+      let own = (place_there (length arms) contents c 0 ms t tag tag v (omega arith) q).1 in
+      k place us there v (subst (λ z. (x : Ty) → slice_get contents z ≡ Some x → Of x v) arm own) n b env a w m
 
   place_right : (γ δ row made : List Ty) (cs : List ClauseForm) (us : List (List TypedExpr)) (ts : List TypedExpr) → DefsFit Numbers hs γ us δ → AllFit Numbers hs (γ ++ δ) ts row → AreMade cs row made
       → DefsRight γ us → AnyRight (γ ++ δ) ts → (n : ℕ) → Lesser n → (env : List Val) (a : Asked) → AreOf γ env → PlaceMeets p n cs us ts env a → IsRight a
@@ -220,7 +204,7 @@ module _ (forms : List Form) (spellings : List (List ℕ)) (hs : List Header) (p
     right γ _ tys (is.if_else {ts = ts} {us = us} {vs = vs} t h k num) n b env a w (met.meets m) =
         if_right γ ts us vs t (λ n b env a w m. any_right γ ts (ty.Bool ∷ []) t n b env a w m) (λ n b env a w m. any_right γ us tys h n b env a w m) (λ n b env a w m. any_right γ vs tys k n b env a w m)
         n b env a w (subst (λ z. MeetsIn p n z env a) (out_if ts us vs) m)
-    right γ _ tys (is.tag_case ms contents {c = c} {ts = ts} {arms = arms} h r t some least num) n b env a w (met.meets m) =
+    right γ _ tys (is.tag_case ms contents {c = c} {ts = ts} {arms = arms} h r t some all others least num) n b env a w (met.meets m) =
         case_right γ ms contents c ts arms h t (λ n b env a w m. any_right γ ts (ty.Uni ms ∷ []) h n b env a w m)
         (λ place us e v j n b env a w m. arms_right γ c.named arms contents tys r place us e v j n b env a w m) n b env a w (subst (λ z. MeetsIn p n z env a) (out_case c ts arms) m)
     right γ _ made (is.product {tys = tys} {names = names} {δ = δ} {row = row} {p = q} {bounds = bs} {us = us} {ts = ts} f g d h y num) n b env a w (met.meets m) =

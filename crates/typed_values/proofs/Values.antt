@@ -31,7 +31,7 @@ use Rattle.meaning.specs.declared.words.Test.{Test}
 use Rattle.meaning.specs.declared.words.Test.TheVariants as test
 use Rattle.meaning.specs.Timed.{Timed, given, plus, andthen}
 use Rattle.meaning.specs.Words.{value_at, constant_value, failed, test_of, goes_on}
-use Rattle.meaning.specs.Meaning.{Gives, all_of, defined, body_of, chosen, arm_of, each, environments, at_place, folded, over, Members, member, renew, turned, turn, unless_failed, results_of, function_gives}
+use Rattle.meaning.specs.Meaning.{Gives, all_of, defined, body_of, chosen, arm_of, each, environments, at_place, folded, over, Members, member, renew, turned, turn, unless_failed, results_of, function_gives, arm_place}
 use Rattle.meaning.specs.Plain.{Depth, Deep, at, all_at, called, turns_at, members_at, looped_at, kind_at, expr_at, plain, plain_kind, depth, plain_calls, plain_meaning}
 use Rattle.typed_tree.specs.Typing.{with}
 use Rattle.typed_tree.specs.Types.{Member, constant_type, AreNumbers}
@@ -47,7 +47,7 @@ use Rattle.typed_rows.proofs.Rows.{row_well}
 use Rattle.typed_values.proofs.Texts.{text_well, lt-nat}
 use Rattle.typed_values.specs.Laws.{AreExpressionsTyped, AreCallsTyped}
 use Rattle.typed_values.proofs.AsRows.{row_as}
-use Rattle.typed_values.proofs.Arms.{arm_here, arm_placed, place_there, first_content, later_arm, later_unseen, no_content}
+use Rattle.typed_values.proofs.Arms.{arm_here, as_here, place_there, first_content, later_arm, later_unseen, no_content}
 
 -- ---- lists of values
 
@@ -188,14 +188,14 @@ module _ (numbers : List ℕ → List Ty → Type 0) (counted : (ns : List ℕ) 
   abbrev arms_at : ℕ → List (List TypedExpr) → List Gives
   arms_at n arms = map all_of (all_at (depth n p) (map (map plain) arms))
 
-  union_well : (c : Case) (arms : List (List TypedExpr)) (contents tys : List Ty) (ms : List Member) (k n : ℕ) (env : List Val) → k ≡ length tys → TagsFit (length arms) contents ms c.choices
+  union_well : (c : Case) (arms : List (List TypedExpr)) (contents tys : List Ty) (ms : List Member) (k n : ℕ) (env : List Val) → k ≡ length tys → TagsFit (length arms) contents c 0 ms
       → ((place : ℕ) (v : Val) → ((a : Ty) → slice_get contents place ≡ Some a → Of a v) → Only (AreOf tys) (arm_here c.named k (slice_get (arms_at n arms) place) place v env))
       → (v : Val) → UniKind ms v → Only (AreOf tys) (arm_of c k (arms_at n arms) (out-Val v) env)
   union_well c arms contents tys ms k n env e t f _ (no_uni x) = subst (λ y. Only (AreOf tys) (arm_of c k (arms_at n arms) y env)) (sym (out_err x)) (of_failed tys k x e)
   union_well c arms contents tys ms k n env e t f _ (a_uni tag v q) =
-      let there = place_there (length arms) contents ms c.choices t tag v q in
+      let place = arm_place c.choices c.others tag in
       subst (λ y. Only (AreOf tys) (arm_of c k (arms_at n arms) y env)) (sym (out_uni tag v))
-      (subst (Only (AreOf tys)) (sym (arm_placed c k (arms_at n arms) tag there.0 v env there.1)) (f there.0 v there.2))
+      (subst (Only (AreOf tys)) (sym (as_here c k (slice_get (arms_at n arms) place) place v env)) (f place v (place_there (length arms) contents c 0 ms t tag tag v (omega arith) q).1))
 
   -- the loop names before each turn and after the last, where each turn keeps their types at every depth
   abbrev TurnWell : List Ty → Turns → List (List TypedExpr) → List Val → Type 0
@@ -247,7 +247,7 @@ module _ (numbers : List ℕ → List Ty → Type 0) (counted : (ns : List ℕ) 
         seen (AreOf tys) (TypedKind-F.If ts us vs) (typed.If ts us vs) l ns n env (sym (typed.rolls-If ts us vs))
         (only_then (AreOf (ty.Bool ∷ [])) (AreOf tys) (means n ts env) (λ xs. chosen (length ns) (test_of xs) (means n us env) (means n vs env)) (all_well γ ts (ty.Bool ∷ []) t n b env w)
         (λ xs q. chosen_well tys (length ns) (test_of xs) (means n us env) (means n vs env) (counted ns tys num) (all_well γ us tys h n b env w) (all_well γ vs tys k n b env w)))
-    well γ _ tys (is.tag_case ms contents {l = l} {ns = ns} {c = c} {ts = ts} {arms = arms} h r t some least num) n b env w =
+    well γ _ tys (is.tag_case ms contents {l = l} {ns = ns} {c = c} {ts = ts} {arms = arms} h r t some all others least num) n b env w =
         seen (AreOf tys) (TypedKind-F.Case c ts arms) (typed.Case c ts arms) l ns n env (sym (typed.rolls-Case c ts arms))
         (only_then (AreOf (ty.Uni ms ∷ [])) (AreOf tys) (means n ts env) (λ xs. arm_of c (length ns) (arms_at n arms) (out-Val (value_at xs 0)) env) (all_well γ ts (ty.Uni ms ∷ []) h n b env w)
         (λ xs q. with_one (ty.Uni ms) (λ xs. Only (AreOf tys) (arm_of c (length ns) (arms_at n arms) (out-Val (value_at xs 0)) env))

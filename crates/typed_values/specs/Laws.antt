@@ -10,8 +10,12 @@ use Rattle.type_table.specs.declared.form.Form.{Form}
 use Rattle.typed_tree.specs.declared.expr.TypedExpr.{TypedExpr}
 use Rattle.typed_tree.specs.declared.expr.TypedKind.TheVariants as typed
 use Rattle.typed_tree.specs.declared.program.Function.{Function}
-use Rattle.typed_tree.specs.Typing.{with}
+use Rattle.typed_tree.specs.Typing.{Signature, with}
 use Rattle.typed_tree.specs.Types.{AreNumbers}
+use Rattle.sisal_tree.specs.declared.unit.Unit as tree
+use Rattle.typed_tree.specs.declared.program.Program.{Program}
+use Rattle.typed_tree.specs.Units.{signatures, IsTyped}
+use Rattle.fitting_units.specs.Leaves.{IsWrittenProgram, AreNamesOnce, AreTagsOnce}
 use Rattle.meaning.specs.Plain.{plain_calls, plain_meaning}
 use Rattle.fitting_trees.specs.Fitting.{Header, Fits, IsFittingTree}
 use Rattle.typed_rows.specs.Rows.{AreOf}
@@ -34,6 +38,16 @@ abbrev pub AreRunsRight : Type 0
 AreRunsRight = (forms : List Form) (spellings : List (List ℕ)) (hs : List Header) (p : List Function) → IsFittingTree forms spellings hs p
     → (γ tys : List Ty) (e : TypedExpr) → Fits (AreNumbers forms spellings) hs γ e tys
     → (n : ℕ) (env : List Val) (a : Asked) → AreOf γ env → Meets p n e env a → IsRight a
+
+-- ---- units
+
+-- On arguments of the types of its parameters a function of a typed unit gives values of the types of its results, at every
+-- depth, and so many: where names are spelled once each, no union of the table has a tag twice, and the program's constants,
+-- records, changes and arms are such as a text can write.
+abbrev pub AreUnitsTyped : Type 0
+AreUnitsTyped = (u : tree.Unit) (p : Program) → AreNamesOnce u.tokens.names → AreTagsOnce p.types → IsWrittenProgram p.functions
+    → (t : IsTyped u p) (f : ℕ) (s : Signature) → slice_get (signatures t.declared) f ≡ Some s
+    → (n : ℕ) (vs : List Val) (r : List Val × ℕ) → AreOf s.params vs → plain_calls n p.functions f vs ≡ Some r → AreOf s.results r.0
 
 -- ---- examples
 

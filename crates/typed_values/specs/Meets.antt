@@ -21,7 +21,7 @@ use Rattle.meaning.specs.declared.words.Test.TheVariants as test
 use Rattle.meaning.specs.declared.sources.Places.TheVariants as places
 use Rattle.meaning.specs.Words.{test_of}
 use Rattle.meaning.specs.Sources.{places_of, names_at}
-use Rattle.meaning.specs.Meaning.{Gives, all_of, defined, with_content, turned}
+use Rattle.meaning.specs.Meaning.{Gives, all_of, defined, with_content, arm_place, turned}
 use Rattle.meaning.specs.Plain.{at, all_at, plain, depth}
 use Rattle.fitting_trees.specs.Fitting.{Row, Goes, AreMade}
 use Rattle.typed_rows.specs.Rows.{AreOf}
@@ -37,7 +37,7 @@ pub data Asked : Type 0 where
 
 -- the place of the arm of a tag
 abbrev pub IsArm : Case → ℕ → ℕ → Type 0
-IsArm c tag place = slice_get c.choices tag ≡ Some place
+IsArm c tag place = arm_place c.choices c.others tag ≡ place
 
 -- what expressions give at a depth, one after another
 abbrev pub values_of : List Function → ℕ → List TypedExpr → Gives

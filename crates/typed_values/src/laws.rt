@@ -1,5 +1,5 @@
 //! The laws of values and types.
-ghost use Rattle.typed_values.specs.Laws.{AreCallsTyped, AreExpressionsTyped, AreRunsRight, HasNoRow, HasNoTree};
+ghost use Rattle.typed_values.specs.Laws.{AreCallsTyped, AreExpressionsTyped, AreRunsRight, AreUnitsTyped, HasNoRow, HasNoTree};
 
 /// On values of the types of the names in force, an expression gives values of its types.
 pub fn expressions_give_values_of_their_types()
@@ -15,6 +15,12 @@ pub fn calls_give_values_of_their_types()
 /// errors, each test a truth value, each `tagcase` a union that has an arm, and so on.
 pub fn runs_meet_what_they_take()
     ensures { AreRunsRight }
+{}
+
+/// On arguments of the types of its parameters, a function of a typed unit gives values of the
+/// types of its results.
+pub fn functions_of_typed_units_give_values_of_their_types()
+    ensures { AreUnitsTyped }
 {}
 
 /// An example: `1 + true` has no fitting tree, and no row of the sum takes its operands.
