@@ -30,7 +30,7 @@ const FIRST: [u64; 1] = [0];
 const SECOND: [u64; 1] = [1];
 
 /// The words of a call, and how its source and its sinks behave.
-#[derive(Copy)]
+#[derive(Clone, Copy)]
 struct Planned<'a> {
     words: &'a str,
     most: usize,
