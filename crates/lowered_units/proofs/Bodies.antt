@@ -16,7 +16,6 @@ use Rattle.lowering.specs.Programs.{function_lowered, functions_lowered, graphs,
 use Rattle.lowering.specs.TooMany.{most_nodes, types_over, graphs_over, too_many}
 use Rattle.lowering.specs.Types.{basics, needs}
 use Rattle.lowered_units.specs.Fitting.{IsFitting}
-use Rattle.lowered_units.specs.Laws.{IsNested}
 use Rattle.lowered_units.specs.Listed.{all_of}
 use Rattle.lowered_units.specs.Small.{IsSmallNode, IsSmallGraph, HasSmallPorts}
 use Rattle.lowered_units.specs.Units.{called_name, edges_into, node_edges, edges_of, IsTranslated}
@@ -27,6 +26,7 @@ use Rattle.lowered_units.proofs.Heads.{In, listing-is, Lie, unit-lies, all-withi
 use Rattle.lowered_units.proofs.Lined.{IsCalleeIn, WiresIn, NodesIn, IsGraphIn, GraphsIn, program-lined}
 use Rattle.lowered_units.proofs.Literals.{IsValueWant}
 use Rattle.lowered_units.proofs.Named.{match, none-before, standing}
+use Rattle.lowered_units.proofs.Nested.{AreNested}
 use Rattle.lowered_units.proofs.Nets.{boundary-wants}
 use Rattle.lowered_units.proofs.Normality.{node-beside}
 use Rattle.lowered_units.proofs.OneUnit.{head_of}
@@ -103,7 +103,7 @@ below-length [] i x e = absurd cc
 below-length (y ∷ xs) zero x e = omega arith
 below-length (y ∷ xs) (suc i) x e = omega (arith, below-length xs i x e)
 
-module _ (p : Program) (u : Unit1) (fit : IsFitting p) (t : IsTranslated p u) (within : too_many p ≡ None) (small : HasSmallPorts p) (nests : IsNested u) where
+module _ (p : Program) (u : Unit1) (fit : IsFitting p) (t : IsTranslated p u) (within : too_many p ≡ None) (small : HasSmallPorts p) (nests : AreNested u) where
   abbrev count : ℕ
   count = functions p fit
 
