@@ -23,7 +23,7 @@ pub record IsFitting (p : Program) : Type 0 where
   -- each record has a field, each union a tag, and each function a result
   pub members : (t : ℕ) (ms : List Member) → (slice_get p.types t ≡ Some (Record ms)) ⊎ (slice_get p.types t ≡ Some (Union ms)) → 1 ≤ length ms
   pub results : All (λ f. 1 ≤ length f.results) p.functions
-  -- expressions nest at most 200 deep, as those of a text do (LANGUAGE.md, expressions)
+  -- expressions nest at most 200 deep, as those of a text do (LANGUAGE.md, grammar)
   pub shallow : All (λ f. AreWithin 200 f.body) p.functions
   -- names are spelled by characters that stand in a text
   pub visible : All IsName p.names
