@@ -13,25 +13,26 @@ use Rattle.typed_tree.specs.declared.program.Program.{Program}
 use Rattle.lowering.specs.Feeds.{Carried, Wire}
 use Rattle.lowering.specs.Graphs.{LoweredNode, LoweredGraph, graph_lines}
 use Rattle.lowering.specs.Programs.{function_lowered, functions_lowered, graphs, graph_at}
-use Rattle.lowering.specs.TooMany.{most_nodes, types_over, graphs_over, too_many}
+use Rattle.lowering.specs.TooMany.{most_nodes, most_graphs, types_over, graphs_over, too_many}
 use Rattle.lowering.specs.Types.{basics, needs}
 use Rattle.lowered_units.specs.Fitting.{IsFitting}
-use Rattle.lowered_units.specs.Laws.{IsNested}
 use Rattle.lowered_units.specs.Listed.{all_of}
-use Rattle.lowered_units.specs.Small.{IsSmallNode, IsSmallGraph, HasSmallPorts}
+use Rattle.lowered_units.specs.Small.{AreSmall, IsSmallGraph, HasSmallPorts}
 use Rattle.lowered_units.specs.Units.{called_name, edges_into, node_edges, edges_of, IsTranslated}
 use Rattle.lowered_units.proofs.Built as built
+use Rattle.lowered_units.proofs.Counted.{IsGraphCounted, nodes-small, all-counted, few-in-all}
 use Rattle.lowered_units.proofs.Entries.{whole_listing, length-new, entry}
 use Rattle.lowered_units.proofs.Forming.{AreFew, few-graphs, or-right, nodes-formed, block-formed, node-edges-formed}
 use Rattle.lowered_units.proofs.Heads.{In, listing-is, Lie, unit-lies, all-within}
 use Rattle.lowered_units.proofs.Lined.{IsCalleeIn, WiresIn, NodesIn, IsGraphIn, GraphsIn, program-lined}
 use Rattle.lowered_units.proofs.Literals.{IsValueWant}
 use Rattle.lowered_units.proofs.Named.{match, none-before, standing}
+use Rattle.lowered_units.proofs.Nested.{AreNested}
 use Rattle.lowered_units.proofs.Nets.{boundary-wants}
 use Rattle.lowered_units.proofs.Normality.{node-beside}
 use Rattle.lowered_units.proofs.OneUnit.{head_of}
 use Rattle.lowered_units.proofs.Ordered.{labels-are}
-use Rattle.lowered_units.proofs.Programs.{functions, right-of}
+use Rattle.lowered_units.proofs.Programs.{functions, program-built, right-of}
 use Rattle.lowered_units.proofs.Rights.{IsRightNode, AreRight}
 use Rattle.lowered_units.proofs.Running.{found-function}
 
@@ -103,15 +104,26 @@ below-length [] i x e = absurd cc
 below-length (y ∷ xs) zero x e = omega arith
 below-length (y ∷ xs) (suc i) x e = omega (arith, below-length xs i x e)
 
-module _ (p : Program) (u : Unit1) (fit : IsFitting p) (t : IsTranslated p u) (within : too_many p ≡ None) (small : HasSmallPorts p) (nests : IsNested u) where
+module _ (p : Program) (u : Unit1) (fit : IsFitting p) (t : IsTranslated p u) (within : too_many p ≡ None) (small : HasSmallPorts p) (nests : AreNested u) where
   abbrev count : ℕ
   count = functions p fit
 
   named : (f : ℕ) → f < count → IsSome (function_named u.graphs (called_name p (slice_get p.functions f)))
   named f i = let h = found-function p u fit t nests f i in ap (λ o. is_some (function_named u.graphs (called_name p o))) h.1 ∙ ap is_some h.2.found
 
+  as-many : length p.functions ≡ length (functions_lowered p)
+  as-many = sym (length-new p 1 (map (function_lowered p.types) p.functions) ∙ length-map p.functions (function_lowered p.types))
+
+  not-over : graphs_over p.functions (functions_lowered p) 0 ≡ None
+  not-over = or-right (types_over (needs p) basics) (graphs_over p.functions (functions_lowered p) 0) within
+
   few : AreFew (graphs p)
-  few = few-graphs p.functions (functions_lowered p) 0 (sym (length-new p 1 (map (function_lowered p.types) p.functions) ∙ length-map p.functions (function_lowered p.types))) (or-right (types_over (needs p) basics) (graphs_over p.functions (functions_lowered p) 0) within)
+  few = few-graphs p.functions (functions_lowered p) 0 as-many not-over
+
+  counts : All (IsGraphCounted most_graphs) (graphs p)
+  counts =
+      let all = few-in-all p.functions (functions_lowered p) 0 as-many (omega arith) not-over in
+      all-counted p.types count most_graphs [] 0 0 1 (functions_lowered p) (program-built p fit) (omega (arith, all))
 
   edges-join : (g : Graph) (label : ℕ) (vs : List LoweredNode) (results : List Wire) → ((i : ℕ) (v : LoweredNode) → slice_get vs i ≡ Some v → All (IsEdge u g) (node_edges p (label + i) v.action v.ins)) → All (IsEdge u g) (edges_into p 0 1 results) → All (IsEdge u g) (edges_of p label vs results)
   edges-join g label [] results h r = r
@@ -142,7 +154,7 @@ module _ (p : Program) (u : Unit1) (fit : IsFitting p) (t : IsTranslated p u) (w
       let labels = labels-are 1 ns d.nodes m in
       let size : length ns ≡ length d.nodes = sym (length-map ns label_of) ∙ (ap length labels ∙ size-of 1 (length d.nodes)) in
       record {
-        nodes = nodes-formed 1 ns d.nodes m (omega arith) (omega (arith, most)) s.nodes;
+        nodes = nodes-formed 1 ns d.nodes m (omega arith) (omega (arith, most)) (nodes-small d.nodes (by-number p (IsGraphCounted most_graphs) (all-at (IsGraphCounted most_graphs) (graphs p) counts) q d e.there));
         labels = subst IsOnce (sym labels) (once-from 1 (length d.nodes));
         few = omega (arith, size, most);
         edges = subst (All (IsEdge u g)) (sym e.edges)
@@ -150,7 +162,7 @@ module _ (p : Program) (u : Unit1) (fit : IsFitting p) (t : IsTranslated p u) (w
             (λ i v k.
             let n = node-beside 1 ns d.nodes m i v k in
             let c = nodes-in-at (graph_lines (functions_lowered p)) d.nodes lined.0 i v k in
-            node-edges-formed p u fit t within named g n.0 (1 + i) v.action v.ins (standing 1 ns d.nodes m i n.0 v n.1 k) (omega (arith, below-length d.nodes i v k, most)) (right-node d.nodes i v right.0 k) c.0 c.1 (all-at IsSmallNode d.nodes s.nodes i v k).ins)
+            node-edges-formed p u fit t within named g n.0 (1 + i) v.action v.ins (standing 1 ns d.nodes m i n.0 v n.1 k) (omega (arith, below-length d.nodes i v k, most)) (right-node d.nodes i v right.0 k) c.0 c.1 (all-at (λ (v : LoweredNode). AreSmall v.ins) d.nodes s.nodes i v k))
             (block-formed p u fit t within named g 0 1 d.results (omega arith) (omega arith) (omega (arith, s.results.few)) (built.good-filled p.types count d.results right.1) lined.1 s.results.feeds
             (λ j i. subst IsValueWant (sym (boundary-wants p u t.types count g (none-before 1 ns d.nodes m 0 (omega arith)) j)) tt)));
       }

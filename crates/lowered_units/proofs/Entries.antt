@@ -13,7 +13,7 @@ use Rattle.lowered_units.proofs.Heads.{In}
 abbrev pub strip : ListedGraph → ListedGraph
 strip x = record x { exported = false; name = []; fun = 0 }
 
-map-both : {A B : Type 0} (f : A → B) (xs ys : List A) → map f (xs ++ ys) ≡ map f xs ++ map f ys
+pub map-both : {A B : Type 0} (f : A → B) (xs ys : List A) → map f (xs ++ ys) ≡ map f xs ++ map f ys
 map-both f [] ys = refl
 map-both f (x ∷ xs) ys = ap (λ l. f x ∷ l) (map-both f xs ys)
 
@@ -32,7 +32,7 @@ module _ (p : Program) where
   inner-strips q [] = refl
   inner-strips q (d ∷ ds) = ap (λ l. inner_graph p q d ∷ l) (inner-strips (suc q) ds)
 
-  inner-both : (q : ℕ) (ds es : List LoweredGraph) → inner_graphs p q (ds ++ es) ≡ inner_graphs p q ds ++ inner_graphs p (q + length ds) es
+  pub inner-both : (q : ℕ) (ds es : List LoweredGraph) → inner_graphs p q (ds ++ es) ≡ inner_graphs p q ds ++ inner_graphs p (q + length ds) es
   inner-both q [] es = ap (λ i. inner_graphs p i es) (omega arith)
   inner-both q (d ∷ ds) es = ap (λ l. inner_graph p q d ∷ l) (inner-both (suc q) ds es ∙ ap (λ i. inner_graphs p (suc q) ds ++ inner_graphs p i es) (omega arith))
 

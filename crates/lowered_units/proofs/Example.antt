@@ -31,6 +31,7 @@ use Rattle.typed_tree.specs.declared.program.Function.{Function}
 use Rattle.typed_tree.specs.declared.program.Program.{Program}
 use Rattle.typed_tree.specs.Types as number
 use Rattle.lowering.specs.TooMany.{too_many}
+use Rattle.bound_trees.specs.Depths.{AreWithin}
 use Rattle.lowered_units.specs.Fitting.{HasName, IsFitting}
 use Rattle.lowered_units.specs.Listed.{Listing, NodeListing, list_graph, list_node, listing}
 use Rattle.lowered_units.specs.Units.{IsTranslated}
@@ -145,6 +146,7 @@ example-fits = record {
   types = basics;
   members = no-members;
   results = All-cons (λ (f : Function). 1 ≤ length f.results) function [] (omega arith) (All-nil (λ (f : Function). 1 ≤ length f.results));
+  shallow = All-cons (λ (f : Function). AreWithin 200 f.body) function [] tt (All-nil (λ (f : Function). AreWithin 200 f.body));
   visible = All-cons IsName (codes "f") [] refl (All-nil IsName);
   quotable = All-cons IsQuotable (codes "f") [] refl (All-nil IsQuotable);
   named = All-cons (λ (f : Function). (name : List ℕ) × (slice_get program.names f.name ≡ Some name)) function [] (codes "f", refl) (All-nil (λ (f : Function). (name : List ℕ) × (slice_get program.names f.name ≡ Some name)));

@@ -32,7 +32,7 @@ use Rattle.lowering.specs.TooMany.{most_nodes, most_graphs, is_large, graphs_ove
 use Rattle.lowering.specs.Types.{label_of as type_label_of}
 use Rattle.lowered_units.specs.Fitting.{IsFitting}
 use Rattle.lowered_units.specs.Listed.{ListedNode}
-use Rattle.lowered_units.specs.Small.{IsSmallFeed, AreSmall, IsSmallAction, IsSmallNode}
+use Rattle.lowered_units.specs.Small.{IsSmallFeed, AreSmall}
 use Rattle.lowered_units.specs.Units.{constant_text, simple_code, compound_code, edge, edge_if, edges_into, node_edges, called_name, listed_node, origin_of, IsTranslated}
 use Rattle.lowered_units.proofs.Built.{IsGap, IsGoodFeed, AreGood, AreFilled, Fills, fills_row, fills_reduction, fills_call}
 use Rattle.lowered_units.proofs.Built as built
@@ -95,7 +95,7 @@ few-left : (ds es : List LoweredGraph) → AreFew (ds ++ es) → AreFew ds
 few-left [] es h = tt
 few-left (d ∷ ds) es h = (h.0, few-left ds es h.1)
 
-or-false : (a b : Bool) → (a || b) ≡ false → (a ≡ false) × (b ≡ false)
+pub or-false : (a b : Bool) → (a || b) ≡ false → (a ≡ false) × (b ≡ false)
 or-false true b e = absurd cc
 or-false false b e = (refl, e)
 
@@ -133,6 +133,14 @@ before-none l (Row op) = refl
 before-none l (Call f) = refl
 before-none l (Whole c gs arms given outs) = refl
 
+-- at most so many graphs inside, and arms of such numbers
+abbrev pub IsSmallAction : Action → Type 0
+IsSmallAction (Whole c gs arms given outs) = (length gs < 2 ^ 32) × All (λ k. k < 2 ^ 32) arms
+IsSmallAction a = Unit {0}
+
+abbrev pub HasSmallAction : LoweredNode → Type 0
+HasSmallAction v = IsSmallAction v.action
+
 node-formed : (n : Node) (l : ℕ) (v : LoweredNode) → row_of n ≡ listed_node l v.action → 1 ≤ l → l ≤ most_nodes → IsSmallAction v.action → IsNode n
 node-formed n l v e one few small = record {
   label = subst IsLabel (sym (label-at l n v e)) (one, omega (arith, few));
@@ -164,13 +172,13 @@ node-formed n l v e one few small = record {
     arm-numbers (Call f) s = All-nil IsNumber
     arm-numbers (Whole c gs arms given outs) s = s.1
 
-pub nodes-formed : (label : ℕ) (ns : List Node) (vs : List LoweredNode) → Match label ns vs → 1 ≤ label → label + length vs ≤ suc most_nodes → All IsSmallNode vs → All IsNode ns
+pub nodes-formed : (label : ℕ) (ns : List Node) (vs : List LoweredNode) → Match label ns vs → 1 ≤ label → label + length vs ≤ suc most_nodes → All HasSmallAction vs → All IsNode ns
 nodes-formed label [] [] m one few s = All-nil IsNode
 nodes-formed label [] (v ∷ vs) m one few s = absurd m
 nodes-formed label (n ∷ ns) [] m one few s = absurd m
 nodes-formed label (n ∷ ns) (v ∷ vs) m one few s =
-    All-cons IsNode n ns (node-formed n label v m.0 one (omega (arith, few)) (All-head IsSmallNode v vs s).action)
-    (nodes-formed (suc label) ns vs m.1 (omega arith) (omega (arith, few)) (All-tail IsSmallNode v vs s))
+    All-cons IsNode n ns (node-formed n label v m.0 one (omega (arith, few)) (All-head HasSmallAction v vs s))
+    (nodes-formed (suc label) ns vs m.1 (omega arith) (omega (arith, few)) (All-tail HasSmallAction v vs s))
 
 -- ---- edges
 

@@ -1,4 +1,8 @@
 pub mod OneUnit
+pub mod Nested
+pub mod NestedForms
+pub mod NestedTrees
+pub mod Counted
 pub mod Built
 pub mod BuiltForms
 pub mod BuiltLoops

@@ -161,7 +161,7 @@ node-layer y =
 pub once : (g : Graph) → Once g
 once = ind-Graph Once NodeOnce (λ x y is. subst (λ z. Once (roll-Graph z)) is (graph-layer y)) (λ x y is. subst (λ z. NodeOnce (roll-Node z)) is (node-layer y))
 
-all-once : (gs hs : List Graph) → map listing gs ≡ map listing hs → gs ≡ hs
+pub all-once : (gs hs : List Graph) → map listing gs ≡ map listing hs → gs ≡ hs
 all-once [] [] e = refl
 all-once [] (h ∷ hs) e = nil-is-no-cons (listing h) (map listing hs) e
 all-once (g ∷ gs) [] e = cons-is-no-nil (listing g) (map listing gs) e

@@ -15,7 +15,6 @@ use Rattle.typed_tree.specs.declared.program.Program.{Program}
 use Rattle.lowering.specs.Graphs.{LoweredGraph}
 use Rattle.lowering.specs.Programs.{function_lowered, functions_lowered, graph_at, number_of}
 use Rattle.lowered_units.specs.Fitting.{HasName, IsFitting}
-use Rattle.lowered_units.specs.Laws.{IsNested}
 use Rattle.lowered_units.specs.Listed.{ListedGraph, all_of}
 use Rattle.lowered_units.specs.Networks.{net_of, shape_in, shapes}
 use Rattle.lowered_units.specs.Units.{called_name, listed_nodes, edges_of, name_of, IsTranslated}
@@ -25,11 +24,12 @@ use Rattle.lowered_units.proofs.Entries.{length-new, whole_listing, IsEntry, ent
 use Rattle.lowered_units.proofs.Heads.{In, listing-is, Lie, unit-heads, unit-lies, all-within, part-within, find-place}
 use Rattle.lowered_units.proofs.OneUnit.{nodes_in, head_of}
 use Rattle.lowered_units.proofs.Named.{Called, called}
+use Rattle.lowered_units.proofs.Nested.{AreNested}
 use Rattle.lowered_units.proofs.Nets.{Agrees, AreCalled, net-is}
 use Rattle.lowered_units.proofs.Programs.{functions, function-count, right-of}
 use Rattle.lowered_units.proofs.Rights.{results_in, count}
 
-module _ (p : Program) (u : Unit1) (fit : IsFitting p) (t : IsTranslated p u) (nests : IsNested u) where
+module _ (p : Program) (u : Unit1) (fit : IsFitting p) (t : IsTranslated p u) (nests : AreNested u) where
   -- ---- the functions by their names
 
   has-name : (j : ℕ) (h : Function) → slice_get p.functions j ≡ Some h → HasName p j (name_of p h)

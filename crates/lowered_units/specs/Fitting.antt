@@ -1,6 +1,7 @@
 -- What a typed unit's program meets: names are bound, literals are spelled, types stand in place, and no function is named twice.
 use Rattle.std.specs.Prelude.{◌≡◌, ◌≤◌, ◌⊎◌, ℕ, List, All, Some, slice_get, length}
 use Rattle.if1_line.specs.Spelling.{IsName, IsQuotable}
+use Rattle.bound_trees.specs.Depths.{AreWithin}
 use Rattle.type_table.specs.declared.form.Form.TheVariants.{Record, Union}
 use Rattle.type_table.specs.declared.form.Member.{Member}
 use Rattle.type_table.specs.Tables.{IsTable}
@@ -22,6 +23,8 @@ pub record IsFitting (p : Program) : Type 0 where
   -- each record has a field, each union a tag, and each function a result
   pub members : (t : ℕ) (ms : List Member) → (slice_get p.types t ≡ Some (Record ms)) ⊎ (slice_get p.types t ≡ Some (Union ms)) → 1 ≤ length ms
   pub results : All (λ f. 1 ≤ length f.results) p.functions
+  -- expressions nest at most 200 deep, as those of a text do (LANGUAGE.md, grammar)
+  pub shallow : All (λ f. AreWithin 200 f.body) p.functions
   -- names are spelled by characters that stand in a text
   pub visible : All IsName p.names
   pub quotable : All IsQuotable p.names

@@ -1,10 +1,9 @@
 -- What the laws on translated units say.
-use Rattle.std.specs.Prelude.{◌≡◌, ◌≤◌, ℕ, Some, None, All}
+use Rattle.std.specs.Prelude.{◌≡◌, ℕ, Some, None}
 use Rattle.typed_tree.specs.declared.program.Program.{Program}
 use Rattle.if1_graph.specs.declared.graph.Unit1.{Unit1}
 use Rattle.if1_graph.specs.Formed.{IsTable, IsFormed}
 use Rattle.if1_graph.specs.Normal.{IsNormal}
-use Rattle.if1_graph.specs.Units.{levels, most_levels}
 use Rattle.graph_meaning.specs.Networks.{network}
 use Rattle.lowering.specs.Graphs.{LoweredGraph}
 use Rattle.lowering.specs.Programs.{graph_at, number_of}
@@ -18,13 +17,9 @@ use Rattle.lowered_units.specs.Units.{IsTranslated}
 abbrev pub IsOneUnit : Type 0
 IsOneUnit = (p : Program) (u v : Unit1) → IsTranslated p u → IsTranslated p v → u ≡ v
 
--- the graphs of the unit nest at most 200 levels deep
-abbrev pub IsNested : Unit1 → Type 0
-IsNested u = All (λ g. levels g ≤ most_levels) u.graphs
-
 -- each graph of the unit runs as the lowered graph of its number
 abbrev pub AreLowered : Type 0
-AreLowered = (p : Program) (u : Unit1) → IsFitting p → IsTranslated p u → IsNested u
+AreLowered = (p : Program) (u : Unit1) → IsFitting p → IsTranslated p u
     → (q : ℕ) (d : LoweredGraph) → graph_at p q ≡ Some d → network u q ≡ net_of (shapes u q) (number_of p) d
 
 -- nodes and edges stand in the order of the text, and literals are spelled canonically
@@ -37,4 +32,4 @@ AreTablesFormed = (p : Program) (u : Unit1) → IsFitting p → too_many p ≡ N
 
 -- a unit within the limits is formed and normal
 abbrev pub AreFormed : Type 0
-AreFormed = (p : Program) (u : Unit1) → IsFitting p → too_many p ≡ None → HasSmallPorts p → IsTranslated p u → IsNested u → IsFormed u × IsNormal u
+AreFormed = (p : Program) (u : Unit1) → IsFitting p → too_many p ≡ None → HasSmallPorts p → IsTranslated p u → IsFormed u × IsNormal u

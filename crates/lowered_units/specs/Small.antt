@@ -1,8 +1,8 @@
--- That labels, ports and numbers of graphs in a node fit 32 bits (IF1 manual M-170, text form).
+-- That ports, and the labels of nodes that they are of, fit 32 bits (IF1 manual M-170, text form).
 use Rattle.std.specs.Prelude.{suc, ◌<◌, ◌^◌, List, All, length}
 use Rattle.typed_tree.specs.declared.program.Program.{Program}
 use Rattle.lowering.specs.Feeds.{Feed, Port, Wire}
-use Rattle.lowering.specs.Graphs.{Action, Whole, LoweredNode, LoweredGraph}
+use Rattle.lowering.specs.Graphs.{LoweredGraph}
 use Rattle.lowering.specs.Programs.{graphs}
 
 abbrev pub IsSmallFeed : Feed → Type 0
@@ -14,16 +14,8 @@ pub record AreSmall (ws : List Wire) : Type 0 where
   pub few : suc (length ws) < 2 ^ 32
   pub feeds : All (λ w. IsSmallFeed w.feed) ws
 
-abbrev pub IsSmallAction : Action → Type 0
-IsSmallAction (Whole c gs arms given outs) = (length gs < 2 ^ 32) × All (λ k. k < 2 ^ 32) arms
-IsSmallAction a = Unit {0}
-
-pub record IsSmallNode (v : LoweredNode) : Type 0 where
-  pub action : IsSmallAction v.action
-  pub ins : AreSmall v.ins
-
 pub record IsSmallGraph (d : LoweredGraph) : Type 0 where
-  pub nodes : All IsSmallNode d.nodes
+  pub nodes : All (λ v. AreSmall v.ins) d.nodes
   pub results : AreSmall d.results
 
 abbrev pub HasSmallPorts : Program → Type 0

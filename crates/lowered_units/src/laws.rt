@@ -18,8 +18,8 @@ pub fn translated_units_are_normal()
     ensures { AreNormal }
 {}
 
-/// A translated unit within the limits, whose ports fit 32 bits and whose graphs nest at most 200 levels
-/// deep, is formed and normal.
+/// A translated unit within the limits, whose ports fit 32 bits, is formed and normal; its graphs nest no
+/// deeper than the expressions of the program, which are at most 200 deep.
 pub fn translated_units_are_formed()
     ensures { AreFormed }
 {}
