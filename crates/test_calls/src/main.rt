@@ -40,7 +40,7 @@ struct Planned<'a> {
 }
 
 /// What a row's words ask for.
-fn planned(words: &str) -> Planned<'_> {
+fn plan_of(words: &str) -> Planned<'_> {
     let (first, rest) = words.split_once('^').unwrap_or(("", ""));
     let plan = Planned {
         words: rest,
@@ -136,7 +136,7 @@ fn main(rt: HostRuntime) -> io::Result<()> {
         let row = line?.replace(rt.alloc(), "@", "\n")?;
         let (name, rest) = row.split_once('\t').unwrap_or(("no name", ""));
         let (words, text) = rest.split_once('\t').unwrap_or(("", ""));
-        match call(rt.alloc(), planned(words), text) {
+        match call(rt.alloc(), plan_of(words), text) {
             Ok(ended) => {
                 let out = shown(ended.out.bytes().as_slice());
                 let err = shown(ended.err.bytes().as_slice());
