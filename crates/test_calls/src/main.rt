@@ -10,6 +10,8 @@
 //! implementation.
 #![tactic(auto)]
 
+ghost use Rattle.std.specs.Prelude.{◌<◌};
+
 use flow_io::{MemSink, MemSource};
 use flow_value::{NoMemory, Seq};
 use sisal_top::{Status, sisal};
@@ -40,7 +42,9 @@ struct Planned<'a> {
 }
 
 /// What a row's words ask for.
-fn plan_of(words: &str) -> Planned<'_> {
+fn plan_of(words: &str) -> Planned<'_>
+    ensures most { 0 < result.most }
+{
     let (first, rest) = words.split_once('^').unwrap_or(("", ""));
     let plan = Planned {
         words: rest,
@@ -114,7 +118,9 @@ fn text_of(alloc: Global, row: &str) -> Result<Vec<u8>, NoMemory> {
 }
 
 /// The call on the text of a row.
-fn call(alloc: Global, plan: Planned<'_>, row: &str) -> Result<Ended, NoMemory> {
+fn call(alloc: Global, plan: Planned<'_>, row: &str) -> Result<Ended, NoMemory>
+    requires most { 0 < plan.most }
+{
     let words = words_of(alloc, plan.words)?;
     let text = text_of(alloc, row)?;
     let bytes = Seq::from_slice(alloc, text.as_slice())?;
