@@ -62,7 +62,7 @@ fn main(rt: HostRuntime) -> io::Result<()> {
             },
             "values" => time_values(rt, FEW)?,
             "values-long" => time_values(rt, MANY)?,
-            _ => println!(rt; "no such word")?,
+            _ => {}
         }
     }
     Ok(())
