@@ -44,28 +44,28 @@ use Rattle.lowered_units.proofs.BuiltLoops as loops
 
 -- ---- types by number
 
-out-bool : out-Ty ty.Bool ≡ Ty-F.Bool
+pub out-bool : out-Ty ty.Bool ≡ Ty-F.Bool
 out-bool = search (rules, types.the_lemmas)
 
-out-char : out-Ty ty.Char ≡ Ty-F.Char
+pub out-char : out-Ty ty.Char ≡ Ty-F.Char
 out-char = search (rules, types.the_lemmas)
 
-out-int : out-Ty ty.Int ≡ Ty-F.Int
+pub out-int : out-Ty ty.Int ≡ Ty-F.Int
 out-int = search (rules, types.the_lemmas)
 
-out-null : out-Ty ty.Null ≡ Ty-F.Null
+pub out-null : out-Ty ty.Null ≡ Ty-F.Null
 out-null = search (rules, types.the_lemmas)
 
-out-array : (t : Ty) → out-Ty (ty.Arr t) ≡ Ty-F.Arr t
+pub out-array : (t : Ty) → out-Ty (ty.Arr t) ≡ Ty-F.Arr t
 out-array t = search (rules, types.the_lemmas)
 
-out-stream : (t : Ty) → out-Ty (ty.Stream t) ≡ Ty-F.Stream t
+pub out-stream : (t : Ty) → out-Ty (ty.Stream t) ≡ Ty-F.Stream t
 out-stream t = search (rules, types.the_lemmas)
 
-out-record : (ms : List Member) → out-Ty (ty.Rec ms) ≡ Ty-F.Rec ms
+pub out-record : (ms : List Member) → out-Ty (ty.Rec ms) ≡ Ty-F.Rec ms
 out-record ms = search (rules, types.the_lemmas)
 
-out-union : (ms : List Member) → out-Ty (ty.Uni ms) ≡ Ty-F.Uni ms
+pub out-union : (ms : List Member) → out-Ty (ty.Uni ms) ≡ Ty-F.Uni ms
 out-union ms = search (rules, types.the_lemmas)
 
 -- the form of a basic type
