@@ -1,12 +1,12 @@
 -- What a lowering has no more of than ports, and that ports and the labels of nodes are then no more than these.
-use Rattle.std.proofs.Common.{◌≡◌, ℕ, zero, suc, ◌+◌, ◌<◌, ◌≤◌, Bool, true, false, List, [], ◌∷◌, ◌++◌, map, length, refl, sym, ap, subst, ◌∙◌, arith}
+use Rattle.std.proofs.Common.{◌≡◌, ℕ, zero, suc, ◌+◌, ◌≤◌, Bool, true, false, List, [], ◌∷◌, ◌++◌, map, length, refl, ap, ◌∙◌, arith}
 use Rattle.std.specs.Prelude.{All, ◌^◌, if◌then◌else◌}
 use Rattle.std.proofs.lemmas.List.{length-append, length-map}
 use Rattle.std.proofs.lemmas.List.Elements.{All-nil, All-cons}
 use Rattle.if1_graph.specs.declared.op.Compound.{Compound}
 use Rattle.if1_graph.specs.declared.op.Compound.TheVariants as compound
-use Rattle.lowering.specs.Feeds.{Feed, Literal, Named, Absent, Port, Carried, One, Wire, wire, is_port, inside, into, outside, outsides, has, with_new, distinct, place}
-use Rattle.lowering.specs.Graphs.{Action, Row, Call, Whole, LoweredNode, LoweredGraph, Lowered, Lowering, only, joined, andthen, ports, a_node, used_by, used, uses, resolved, closed_wire, closed_wires, closed_nodes, closed, closed_graphs, all_uses, inputs, numbers, size, whole, tag_case_on, new_graph, new_graphs}
+use Rattle.lowering.specs.Feeds.{Feed, Literal, Named, Absent, Port, Carried, One, Wire, is_port, outside, outsides, has, with_new, distinct, place}
+use Rattle.lowering.specs.Graphs.{Action, Row, Call, Whole, LoweredNode, LoweredGraph, Lowered, Lowering, only, joined, andthen, ports, a_node, used_by, used, uses, resolved, closed_wire, closed_wires, closed_nodes, closed_graphs, all_uses, inputs, numbers, size, whole, tag_case_on, new_graph, new_graphs}
 use Rattle.lowering.specs.TooMany.{node_ports, all_node_ports, graph_ports}
 use Rattle.lowered_units.specs.Small.{IsSmallFeed, AreSmall, IsSmallGraph}
 

@@ -27,9 +27,9 @@ use Rattle.typed_tree.specs.Types.{Member, constant_type, IsNumber, AreMembers, 
 use Rattle.typed_tree.specs.Types as number
 use Rattle.fitting_trees.specs.Fitting.{Row, Header, Fits, AllFit, DefsFit, ArmsFit, BodyFits, FunctionsFit}
 use Rattle.fitting_trees.specs.Fitting as is
-use Rattle.lowering.specs.Feeds.{One, Wire}
-use Rattle.lowering.specs.Graphs.{LoweredGraph, Lowered, size, closed, closed_graphs, new_graph, new_graphs}
-use Rattle.lowering.specs.Operations.{Lowers, all_lowered, wire_at}
+use Rattle.lowering.specs.Feeds.{One}
+use Rattle.lowering.specs.Graphs.{LoweredGraph, Lowered, size, closed_graphs, new_graph, new_graphs}
+use Rattle.lowering.specs.Operations.{Lowers, all_lowered}
 use Rattle.lowering.specs.Choices.{applied, case_lowered}
 use Rattle.lowering.specs.Loops.{Phrase, own_inputs, product_lowered}
 use Rattle.lowering.specs.Phrases.{Kind, each, expr_lowered, kind_lowered, phrase, phrase_kind, lowers}

@@ -1,6 +1,11 @@
 //! The laws of translated units.
 ghost use Rattle.lowered_units.specs.Laws.{
-    AreFormed, AreLowered, AreNormal, ArePortsSmall, AreTablesFormed, IsOneUnit,
+  AreFormed,
+  AreLowered,
+  AreNormal,
+  ArePortsSmall,
+  AreTablesFormed,
+  IsOneUnit,
 };
 
 /// A program has at most one unit.
