@@ -1,13 +1,13 @@
 -- What is lowered has the sizes that are told of it.
-use Rattle.std.proofs.Common.{◌≡◌, ℕ, zero, suc, ◌+◌, ◌≤◌, max, List, [], ◌∷◌, ◌++◌, map, length, refl, sym, ap, subst, ◌∙◌, arith}
+use Rattle.std.proofs.Common.{◌≡◌, ℕ, suc, ◌+◌, max, List, [], ◌∷◌, ◌++◌, map, length, refl, ap, ◌∙◌, arith}
 use Rattle.std.proofs.lemmas.List.{length-append, length-map}
 use Rattle.if1_graph.specs.declared.op.Compound.{Compound}
 use Rattle.lowering.specs.Feeds.{Carried, One, Wire}
-use Rattle.lowering.specs.Graphs.{Action, Row, Call, LoweredNode, LoweredGraph, Lowered, Lowering, only as only_wires, joined as joined_graphs, andthen, ports, a_node as a_lowered_node, inputs, closed_nodes, closed_graphs, size, whole as whole_node, tag_case_on, new_graph, new_graphs}
+use Rattle.lowering.specs.Graphs.{Action, LoweredNode, LoweredGraph, Lowered, Lowering, only as only_wires, joined as joined_graphs, andthen, ports, a_node as a_lowered_node, inputs, closed_nodes, closed_graphs, size, whole as whole_node, tag_case_on, new_graph, new_graphs}
 use Rattle.lowering.specs.TooMany.{node_ports}
 use Rattle.lowered_units.proofs.Kept.{weight, inner, inner-is, weight-joined}
 use Rattle.lowered_sizes.specs.declared.sizes.Sizes.{Sizes}
-use Rattle.lowered_sizes.specs.Counting.{only, valued, joined, beside, a_node, part, parts, whole}
+use Rattle.lowered_sizes.specs.Counting.{only, joined, beside, a_node, parts, whole}
 
 abbrev pub largest_in : List LoweredGraph → ℕ
 largest_in [] = 0

@@ -1,6 +1,6 @@
 -- Lists of phrases, definitions, constants, operations and choices have their sizes.
-use Rattle.std.proofs.Common.{◌≡◌, ℕ, zero, suc, ◌+◌, ◌<◌, ◌≤◌, Bool, true, false, List, [], ◌∷◌, ◌++◌, map, length, drop, slice_get, Contains, Some, refl, sym, ap, subst, ◌∙◌, arith}
-use Rattle.std.specs.Prelude.{All, if◌then◌else◌, nat_lt}
+use Rattle.std.proofs.Common.{◌≡◌, ℕ, zero, suc, ◌+◌, ◌<◌, ◌≤◌, Bool, true, false, List, [], ◌∷◌, ◌++◌, map, length, drop, slice_get, Some, refl, sym, ap, subst, ◌∙◌, arith}
+use Rattle.std.specs.Prelude.{if◌then◌else◌, nat_lt}
 use Rattle.std.proofs.lemmas.Bool.{ltb-true, ltb-false}
 use Rattle.std.proofs.lemmas.List.{length-append, length-map, append_assoc, append-nil}
 use Rattle.flow_value.specs.declared.operation.Scalar1.TheVariants as unary
@@ -13,19 +13,19 @@ use Rattle.sisal_tree.specs.declared.expr.Constant.{Constant}
 use Rattle.sisal_tree.specs.declared.expr.Constant.TheVariants as constant
 use Rattle.type_table.specs.declared.form.Form.{Form}
 use Rattle.typed_tree.specs.declared.expr.Case.{Case}
-use Rattle.typed_tree.specs.Types.{constant_type, IsNumber, AreNumbers}
+use Rattle.typed_tree.specs.Types.{IsNumber, AreNumbers}
 use Rattle.value_ops.specs.declared.operation.Operation.{Operation}
 use Rattle.value_ops.specs.declared.operation.Operation.TheVariants as operation
 use Rattle.lowering.specs.Feeds.{Literal, Port, One, Wire, wire, into}
 use Rattle.lowering.specs.Graphs.{Row, Call, Lowering, only as only_wires, andthen, a_node as a_lowered_node, size, new_graph, new_graphs}
-use Rattle.lowering.specs.Operations.{Lowers, boolean, character, integer, one, all_lowered, defs_lowered, body_lowered, wire_at, row_lowered, constant_lowered, absents, reversed, changed, operation_lowered}
-use Rattle.lowering.specs.Choices.{tag_count, type_of, content_of, first_tag, selector_lowered, if_lowered, tag_case, arms_of, arm_names, arms_from, case_lowered, two_arms, truth, is_tag_lowered, applied}
+use Rattle.lowering.specs.Operations.{Lowers, boolean, character, integer, one, all_lowered, defs_lowered, body_lowered, wire_at, row_lowered, constant_lowered, absents, reversed, changed}
+use Rattle.lowering.specs.Choices.{tag_count, type_of, content_of, first_tag, selector_lowered, if_lowered, arms_of, arm_names, arms_from, case_lowered, two_arms, truth, is_tag_lowered, applied}
 use Rattle.lowering.specs.Phrases.{call_lowered}
 use Rattle.lowered_sizes.specs.declared.sizes.Sizes.{Sizes}
 use Rattle.lowered_sizes.specs.Counting.{Sizing, only, valued, joined, beside, behind, a_node, whole}
-use Rattle.lowered_sizes.specs.Forms.{all_sized, defs_sized, body_sized, constant_sized, filled, applied_sized, selector_sized, if_sized, arms_sized, case_sized}
+use Rattle.lowered_sizes.specs.Forms.{all_sized, defs_sized, body_sized, constant_sized, applied_sized, selector_sized, if_sized, arms_sized, case_sized}
 use Rattle.lowered_sizes.proofs.Typed.{AreTyped, typed-both, typed-into, typed-at, typed-ports, typed-literals}
-use Rattle.lowered_sizes.proofs.Sized.{Any, plainly, Gives, resized, only-gives, then-gives, beside-gives, row-gives, AreSized, no_part, a_part, whole-sized, tag-sized, AllGive, gives_none, gives_more, new-sized}
+use Rattle.lowered_sizes.proofs.Sized.{Any, plainly, Gives, resized, only-gives, then-gives, beside-gives, row-gives, no_part, a_part, whole-sized, tag-sized, AllGive, gives_none, gives_more, new-sized}
 
 module _ (forms : List Form) (names : List (List ℕ)) where
   -- values of these types

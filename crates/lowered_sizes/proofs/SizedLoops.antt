@@ -1,18 +1,15 @@
 -- Loops have their sizes.
-use Rattle.std.proofs.Common.{◌≡◌, ℕ, zero, suc, ◌+◌, ◌≤◌, Bool, true, false, List, [], ◌∷◌, ◌++◌, map, length, drop, slice_get, Option, Some, None, refl, sym, ap, subst, ◌∙◌, arith}
+use Rattle.std.proofs.Common.{◌≡◌, ℕ, zero, suc, ◌+◌, ◌≤◌, Bool, true, false, List, [], ◌∷◌, ◌++◌, map, length, drop, Option, Some, None, refl, sym, ap, subst, ◌∙◌, arith}
 use Rattle.std.specs.Prelude.{◌-◌, if◌then◌else◌, min, slice_set}
-use Rattle.std.proofs.lemmas.List.{length-append, length-map, length-drop, append_assoc, append-nil}
+use Rattle.std.proofs.lemmas.List.{length-append, length-map, length-drop}
 use Rattle.flow_value.specs.declared.operation.Scalar1.TheVariants as unary
 use Rattle.flow_value.specs.declared.ty.Ty.{Ty}
 use Rattle.flow_value.specs.declared.ty.Ty.TheVariants as ty
 use Rattle.if1_graph.specs.declared.op.Simple.TheVariants as simple
-use Rattle.if1_graph.specs.declared.op.Compound.{Compound}
 use Rattle.if1_graph.specs.declared.op.Compound.TheVariants as compound
 use Rattle.sisal_tree.specs.declared.expr.Direction.{Direction}
 use Rattle.loop_folds.specs.declared.folding.Folding.{Folding}
 use Rattle.loop_folds.specs.declared.folding.Folding.TheVariants as folding
-use Rattle.loop_folds.specs.declared.masking.Masking.{Masking}
-use Rattle.loop_folds.specs.declared.masking.Masking.TheVariants as masking
 use Rattle.type_table.specs.declared.form.Form.{Form}
 use Rattle.typed_tree.specs.declared.expr.Product.{Product}
 use Rattle.typed_tree.specs.declared.expr.Turns.{Turns}
@@ -26,13 +23,12 @@ use Rattle.lowering.specs.Feeds.{Named, Carried, One, Many, Callee, Wire, wire, 
 use Rattle.lowering.specs.Graphs.{Row, Lowering, only as only_wires, andthen, ports, a_node as a_lowered_node, size, new_graph}
 use Rattle.lowering.specs.Operations.{Lowers, boolean, integer, one, all_lowered, defs_lowered, body_lowered, wire_at, row_lowered}
 use Rattle.lowering.specs.Choices.{element_of, is_array, type_of}
-use Rattle.lowering.specs.Loops.{own_inputs, many, single, types, take_up, with_not, mask_places, unless_places, clauses_lowered, reducer_name, grouping_of, span, Bound, Wired, Limit, fold_lowered, returns_lowered, width, elements_in, generator_lowered, generators_lowered, bound_of, product_lowered, Phrase, loop_lowered, loop_kind, loop_name, extra, extras, place_of, collected, renew, renew_one, test_lowered, row_of_turn, initial_lowered}
-use Rattle.lowering.specs.Phrases.{each as each_lowered}
+use Rattle.lowering.specs.Loops.{own_inputs, many, single, types, take_up, with_not, unless_places, clauses_lowered, reducer_name, grouping_of, span, Bound, Wired, Limit, fold_lowered, returns_lowered, elements_in, generator_lowered, generators_lowered, bound_of, product_lowered, Phrase, loop_kind, loop_name, extra, extras, place_of, collected, renew, renew_one, test_lowered, row_of_turn, initial_lowered}
 use Rattle.lowered_sizes.specs.declared.sizes.Sizes.{Sizes}
-use Rattle.lowered_sizes.specs.Counting.{Sizing, only, valued, joined, beside, a_node, part, parts, whole}
-use Rattle.lowered_sizes.specs.Forms.{all_sized, defs_sized, body_sized, not_sized, clauses_sized, fold_sized, returns_sized, generator_sized, generators_sized, first_array, is_limited, product_sized, SizedPhrase, each, extra_sized, extras_sized, test_sized, initial_sized}
+use Rattle.lowered_sizes.specs.Counting.{Sizing, only, valued, joined, beside, a_node}
+use Rattle.lowered_sizes.specs.Forms.{all_sized, defs_sized, body_sized, not_sized, clauses_sized, fold_sized, returns_sized, generators_sized, first_array, is_limited, product_sized, SizedPhrase, extra_sized, extras_sized, test_sized, initial_sized}
 use Rattle.lowered_sizes.proofs.Typed.{IsTyped, AreTyped, typed-length, typed-both, typed-into, typed-drop, typed-take, typed-ports, typed-renew, same-array, array-elements, stream-elements}
-use Rattle.lowered_sizes.proofs.Sized.{Any, plainly, Gives, resized, only-gives, then-gives, beside-gives, row-gives, AreSized, no_part, a_part, whole-sized}
+use Rattle.lowered_sizes.proofs.Sized.{Any, plainly, Gives, resized, only-gives, then-gives, beside-gives, row-gives, no_part, a_part, whole-sized}
 use Rattle.lowered_sizes.proofs.SizedForms.{Of, To, EachTo, each_none, each_more, DefsTo}
 use Rattle.lowered_sizes.proofs.SizedForms as forms_are
 
@@ -381,9 +377,10 @@ module _ (forms : List Form) (names : List (List ℕ)) where
       let whole_count = typed-length forms names seen (γ ++ loop) seen_typed in
       let bh = turn-gives γ loop ((γ ++ loop) ++ later) (valued (inside + bz.values) bz) (defs_lowered ds seen) ez es s.values n around (λ ws. renew t.renewed (drop (length seen) ws) (drop (length env) seen))
       (forms_are.defs-to forms names (γ ++ loop) dz ds later d seen seen_typed inside seen_count) eh around_typed around_count
-      (λ ws tw lw.
-      (typed-renew forms names loop t.renewed later renews (drop (length seen) ws) (drop (length env) seen) (typed-drop forms names (γ ++ loop) later ws (length seen) (sym whole_count) tw) held_typed,
-        length-renew t.renewed (drop (length seen) ws) (drop (length env) seen) ∙ held_count)) 0 (suc (q + size i + size x)) in
+      (λ ws tw lw. (
+        typed-renew forms names loop t.renewed later renews (drop (length seen) ws) (drop (length env) seen) (typed-drop forms names (γ ++ loop) later ws (length seen) (sym whole_count) tw) held_typed,
+        length-renew t.renewed (drop (length seen) ws) (drop (length env) seen) ∙ held_count,
+      )) 0 (suc (q + size i + size x)) in
       let places = collected named (length loop_wires) bs ps in
       let ms = map (wire_at (own_inputs 1 (map many (types i.values)))) places in
       let count = min (length bs) (length zs) in

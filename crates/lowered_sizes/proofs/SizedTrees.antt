@@ -1,14 +1,12 @@
 -- A fitting tree has its sizes, and so the limits show in the same function.
-use Rattle.std.proofs.Common.{◌≡◌, ℕ, zero, suc, ◌+◌, Bool, true, false, ◌||◌, max, List, [], ◌∷◌, ◌++◌, map, length, slice_get, Option, Some, None, refl, sym, ap, subst, ◌∙◌, arith}
+use Rattle.std.proofs.Common.{◌≡◌, ℕ, suc, ◌+◌, Bool, true, false, ◌||◌, max, List, [], ◌∷◌, ◌++◌, map, length, Option, Some, None, refl, sym, ap, subst, ◌∙◌, arith}
 use Rattle.std.specs.Prelude.{if◌then◌else◌, nat_lt}
 use Rattle.std.specs.List.{list_any}
 use Rattle.std.proofs.lemmas.Bool.{lt-ltb, le-ltb, ltb-true, ltb-false}
-use Rattle.std.proofs.lemmas.List.{length-map}
 use Rattle.flow_value.specs.declared.ty.Ty.{Ty}
 use Rattle.flow_value.specs.declared.ty.Ty.TheVariants as ty
 use Rattle.if1_graph.specs.declared.op.Simple.TheVariants as simple
 use Rattle.type_table.specs.declared.form.Form.{Form}
-use Rattle.type_table.specs.declared.form.Form.TheVariants as form
 use Rattle.typed_tree.specs.declared.expr.TypedExpr.{TypedExpr}
 use Rattle.typed_tree.specs.declared.expr.TypedKind.{TypedKind}
 use Rattle.typed_tree.specs.declared.expr.TypedKind.TheVariants as typed
@@ -22,23 +20,22 @@ use Rattle.typed_tree.specs.Types.{constant_type, IsNumber, AreNumbers}
 use Rattle.typed_tree.specs.Types as number
 use Rattle.fitting_trees.specs.Fitting.{Header, Fits, AllFit, DefsFit, ArmsFit, BodyFits, FunctionsFit}
 use Rattle.fitting_trees.specs.Fitting as is
-use Rattle.lowering.specs.Feeds.{One, Wire}
+use Rattle.lowering.specs.Feeds.{One}
 use Rattle.lowering.specs.Graphs.{LoweredGraph, Lowered, size, closed_graphs, new_graph, new_graphs}
 use Rattle.lowering.specs.Operations.{Lowers, integer, all_lowered, wire_at}
-use Rattle.lowering.specs.Choices.{type_of, first_tag, content_of, applied, case_lowered}
+use Rattle.lowering.specs.Choices.{type_of, applied, case_lowered}
 use Rattle.lowering.specs.Loops.{Phrase, own_inputs, product_lowered}
 use Rattle.lowering.specs.Phrases.{Kind, each as each_lowered, expr_lowered, kind_lowered, phrase, phrase_kind, lowers}
-use Rattle.lowering.specs.Programs.{stub, bodies, function_lowered, functions_lowered}
+use Rattle.lowering.specs.Programs.{stub, bodies, function_lowered}
 use Rattle.lowering.specs.TooMany.{most_nodes, most_graphs, most_ports, is_large, graph_ports, member_ports, header_ports, graphs_over, program_over}
 use Rattle.lowered_units.specs.Fitting.{IsFitting}
 use Rattle.lowered_units.proofs.Kept.{inner-is}
 use Rattle.lowered_units.proofs.Programs.{has-basics}
-use Rattle.lowered_sizes.specs.declared.sizes.Sizes.{Sizes}
-use Rattle.lowered_sizes.specs.Counting.{Sizing, part, parts, joined, a_node}
+use Rattle.lowered_sizes.specs.Counting.{Sizing}
 use Rattle.lowered_sizes.specs.Forms.{all_sized, applied_sized, case_sized, product_sized, SizedPhrase, SizedKind, each, types_of, expr_sized, kind_sized, phrase_sized, kind_sizes, sizes}
 use Rattle.lowered_sizes.specs.Programs.{stub_sized, bodies_sized, function_sized, sizes_over, program_sized}
-use Rattle.lowered_sizes.proofs.Typed.{AreTyped, typed-ports, content-typed}
-use Rattle.lowered_sizes.proofs.Sized.{Any, plainly, IsSized, Gives, then-gives, largest_in, HasParts, a_part, no_part, closed-parts}
+use Rattle.lowered_sizes.proofs.Typed.{typed-ports, content-typed}
+use Rattle.lowered_sizes.proofs.Sized.{Any, then-gives, largest_in, a_part, no_part, closed-parts}
 use Rattle.lowered_sizes.proofs.SizedForms.{Of, To, AllTo, to_none, to_more, EachTo, each_none, each_more, DefsTo, to_no_def, to_def, ArmsTo, no_arm, named_arm, other_arm}
 use Rattle.lowered_sizes.proofs.SizedForms as forms_are
 use Rattle.lowered_sizes.proofs.SizedLoops.{PhrasesTo, no_phrase, a_phrase, first-typed, the-number}

@@ -1,8 +1,8 @@
 -- The wires of a fitting tree carry what its types say.
-use Rattle.std.proofs.Common.{◌≡◌, ℕ, zero, suc, ◌+◌, ◌<◌, ◌⊎◌, inl, inr, Bool, true, false, List, [], ◌∷◌, ◌++◌, nat_eq, map, length, drop, slice_get, Contains, Option, Some, None, refl, sym, ap, subst, ◌∙◌, arith}
+use Rattle.std.proofs.Common.{◌≡◌, ℕ, zero, suc, ◌+◌, ◌<◌, inl, inr, Bool, true, false, List, [], ◌∷◌, ◌++◌, nat_eq, map, length, drop, slice_get, Contains, Option, Some, None, refl, sym, ap, subst, ◌∙◌, arith}
 use Rattle.std.specs.Prelude.{All, if◌then◌else◌, slice_set}
 use Rattle.std.proofs.lemmas.Bool.{eqb-true, eq-eqb}
-use Rattle.std.proofs.lemmas.Option.{same_Some, slice_get_within}
+use Rattle.std.proofs.lemmas.Option.{same_Some}
 use Rattle.std.proofs.lemmas.List.Elements.{All-head, All-tail, Contains-append_cases, Contains-push_cases}
 use Rattle.flow_value.specs.declared.ty.Ty.{Ty}
 use Rattle.flow_value.specs.declared.ty.Ty.TheVariants as ty
@@ -10,9 +10,8 @@ use Rattle.flow_value.specs.declared.ty.Ty.TheOpen.{Ty-F}
 use Rattle.flow_value.specs.declared.ty.Ty.TheViews.{out-Ty}
 use Rattle.sisal_tree.specs.declared.expr.Constant.{Constant}
 use Rattle.type_table.specs.declared.form.Form.{Form}
-use Rattle.type_table.specs.declared.form.Form.TheVariants as form
 use Rattle.type_table.specs.declared.form.Member.{Member as NumberedMember}
-use Rattle.type_table.specs.Tables.{members_if, members_at}
+use Rattle.type_table.specs.Tables.{members_if}
 use Rattle.typed_tree.specs.declared.expr.Case.{Case}
 use Rattle.typed_tree.specs.declared.expr.Choice.{Choice}
 use Rattle.typed_tree.specs.Types.{Member, IsNumber, AreMembers, AreNumbers}
@@ -22,7 +21,7 @@ use Rattle.fitting_trees.specs.Fitting.{IsChosen, TagsFit, Renews}
 use Rattle.lowering.specs.Feeds.{Literal, Carried, One, Many, Callee, Wire, wire, into}
 use Rattle.lowering.specs.Graphs.{ports}
 use Rattle.lowering.specs.Operations.{wire_at}
-use Rattle.lowering.specs.Choices.{element_in, element_of, is_array, is_array_form, type_in, type_of, content_of, tag_named, first_tag}
+use Rattle.lowering.specs.Choices.{element_in, element_of, is_array, is_array_form, type_in, content_of, tag_named, first_tag}
 use Rattle.lowering.specs.Loops.{take_up, renew, renew_one}
 use Rattle.lowered_units.proofs.BuiltTrees.{out-bool, out-char, out-int, out-null, out-array, out-stream, out-record, out-union}
 

@@ -1,6 +1,6 @@
 -- How much each form of phrase becomes: its nodes, graphs, ports and values are so many as `lowering` makes of it, in a tree whose types
 -- stand in place.
-use Rattle.std.specs.Prelude.{ℕ, zero, suc, ◌+◌, ◌-◌, min, Bool, true, false, nat_lt, List, [], ◌∷◌, ◌++◌, map, length, slice_get, Option, Some, None, if◌then◌else◌}
+use Rattle.std.specs.Prelude.{ℕ, zero, suc, ◌+◌, ◌-◌, min, Bool, true, false, nat_lt, List, [], ◌∷◌, ◌++◌, map, length, Option, Some, None, if◌then◌else◌}
 use Rattle.std.specs.List.{flat_map}
 use Rattle.if1_graph.specs.Units.{greatest}
 use Rattle.loop_folds.specs.declared.folding.Folding.{Folding}
