@@ -1,0 +1,8 @@
+//! Sizes of what a typed program becomes, told by one walk over its tree before anything is made.
+#![tactic(auto)]
+
+mod leaves;
+mod sums;
+mod walk;
+
+pub use walk::expr;

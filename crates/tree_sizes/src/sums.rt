@@ -1,0 +1,85 @@
+//! Sizes of phrases that stand one behind the other or inside of nodes.
+ghost use Rattle.std.specs.Prelude.{◌≡◌, ℕ, max};
+ghost use Rattle.lowered_sizes.specs.Counting.{only, valued, joined, beside, a_node, part};
+ghost use Rattle.tree_sizes.specs.Capped.{Keeps, KeepsSizes};
+
+use lowered_sizes::Sizes;
+
+/// The greater of two numbers.
+fn greater(a: u128, b: u128) -> u128
+    ensures { result ≡ max a b }
+{
+    if a < b { b } else { a }
+}
+
+/// Values, and no node.
+pub fn only(values: u128) -> Sizes
+    ensures { (k : ℕ) → Keeps values k → KeepsSizes result (only k) }
+{
+    Sizes {
+        nodes: 0,
+        graphs: 0,
+        largest: 0,
+        ports: 0,
+        values,
+    }
+}
+
+/// The same with so many values.
+pub fn valued(values: u128, sizes: Sizes) -> Sizes
+    ensures { (k : ℕ) (s : Sizes) → Keeps values k → KeepsSizes sizes s → KeepsSizes result (valued k s) }
+{
+    Sizes {
+        nodes: sizes.nodes,
+        graphs: sizes.graphs,
+        largest: sizes.largest,
+        ports: sizes.ports,
+        values,
+    }
+}
+
+/// One after the other, with the values of the second.
+pub fn joined(first: Sizes, next: Sizes) -> Sizes
+    ensures { (a b : Sizes) → KeepsSizes first a → KeepsSizes next b → KeepsSizes result (joined a b) }
+{
+    Sizes {
+        nodes: first.nodes.saturating_add(next.nodes),
+        graphs: first.graphs.saturating_add(next.graphs),
+        largest: greater(first.largest, next.largest),
+        ports: first.ports.saturating_add(next.ports),
+        values: next.values,
+    }
+}
+
+/// One after the other, with the values of both.
+pub fn beside(first: Sizes, next: Sizes) -> Sizes
+    ensures { (a b : Sizes) → KeepsSizes first a → KeepsSizes next b → KeepsSizes result (beside a b) }
+{
+    valued(first.values.saturating_add(next.values), joined(first, next))
+}
+
+/// A node without graphs inside.
+pub fn node(operands: u128, values: u128) -> Sizes
+    ensures { (k v : ℕ) → Keeps operands k → Keeps values v → KeepsSizes result (a_node k v) }
+{
+    Sizes {
+        nodes: 1,
+        graphs: 0,
+        largest: 0,
+        ports: operands.saturating_add(1),
+        values,
+    }
+}
+
+/// A graph of its own, with the graphs inside of it.
+pub fn part(sizes: Sizes) -> Sizes
+    ensures { (s : Sizes) → KeepsSizes sizes s → KeepsSizes result (part s) }
+{
+    Sizes {
+        nodes: 0,
+        graphs: sizes.graphs.saturating_add(1),
+        largest: greater(sizes.nodes, sizes.largest),
+        ports: sizes.ports.saturating_add(sizes.values),
+        values: 0,
+    }
+}
