@@ -1,0 +1,135 @@
+use Rattle.std.proofs.Common.{rules, ◌≡◌, ◌∙◌, ℕ, suc, ◌+◌, ◌-◌, ◌<◌, List, length, drop, map, sym, ap, subst, refl, arith}
+use Rattle.std.specs.Prelude.{◌^◌, get_or}
+use Rattle.std.proofs.Math.Seq.{drop-cons}
+use Rattle.typed_tree.specs.declared.expr.TypedKind.TheOpen.{TypedKind-F}
+use Rattle.typed_tree.specs.declared.expr.TypedKind.TheVariants as typed
+use Rattle.lowered_sizes.specs.Counting.{joined, beside, a_node, part, parts, only, capped_sizes}
+use Rattle.lowered_sizes.specs.Forms.{all_sized, defs_sized, arms_sized, applied_sized, sizes}
+use Rattle.tree_sizes.specs.Capped.{Keeps, KeepsSizes}
+use Rattle.tree_sizes.specs.Phrases.{phrases, lists}
+use Rattle.tree_sizes.proofs.Kept.{sum-kept, values-kept, beside-none}
+use Rattle.tree_sizes.proofs.Folds.{expr-is, kind-is, length-kept}
+use Rattle.tree_sizes.proofs.walk.+sizes.Goals as goal
+
+pub expr-returns : goal.expr-returns
+expr-returns t c = λ n h.
+    let ts = c.args.e.now.types in
+    let same : c.len.result ≡ length ts = search rules in
+    let fits : c.len.result < 2 ^ 64 = search rules in
+    c.kind.ensures n ts h (length-kept c.len.result (length ts) same fits) ∙ ap capped_sizes (sym (expr-is c.args.types.now c.args.e.now n))
+
+pub exprs-returns : goal.exprs-returns
+exprs-returns t c = λ n h.
+    let none : c.loop-at.at ≡ 0 = omega (arith, c.loop-at-test.false) in
+    subst (λ i. KeepsSizes c.loop-at.all (all_sized (phrases c.args.types.now (drop i c.args.parts.now)) n)) none (c.loop-at.invariant.1 n h)
+
+pub arms-returns : goal.arms-returns
+arms-returns t c = λ n h.
+    let none : c.loop-at.at ≡ 0 = omega (arith, c.loop-at-test.false) in
+    subst (λ i. KeepsSizes c.loop-at.all (parts (arms_sized c.args.case.now i (lists c.args.types.now (drop i c.args.bodies.now)) n))) none (c.loop-at.invariant.1 n h)
+
+pub arms-loop-at-preserved : goal.arms-loop-at-preserved
+arms-loop-at-preserved t c = ?
+
+pub defs-loop-list-init : goal.defs-loop-list-init
+defs-loop-list-init t c = λ n h. (only 0, c.only-all.ensures 0 refl, ap (defs_sized (lists c.args.types.now c.args.definitions.now)) (omega arith) ∙ sym (beside-none (defs_sized (lists c.args.types.now c.args.definitions.now) (n + 0))))
+
+pub defs-loop-list-preserved : goal.defs-loop-list-preserved
+defs-loop-list-preserved t c = ?
+
+pub exprs-loop-at-preserved : goal.exprs-loop-at-preserved
+exprs-loop-at-preserved t c =
+    let forms = c.args.types.now in
+    let es = c.args.parts.now in
+    let e = c.index-parts-at.result in
+    let at = c.loop-at.at in
+    let some = c.loop-at-test.true in
+    let inv = c.loop-at.invariant in
+    let inside = inv.0 in
+    let next : at ≡ suc (at - 1) = omega (arith, some) in
+    let cons = drop-cons es (at - 1) e (omega (arith, some, inside)) in
+    let same : get_or es (at - 1) e ≡ e = search rules in (
+      omega (arith, inside),
+      λ n h.
+          let rest = subst (λ i. KeepsSizes c.loop-at.all (all_sized (phrases forms (drop i es)) n)) next (inv.1 n h) in
+          c.beside-all.ensures (sizes forms e n) (all_sized (phrases forms (drop (suc (at - 1)) es)) n) (c.expr.ensures n h) rest
+          ∙ ap (λ x. capped_sizes (beside (sizes forms x n) (all_sized (phrases forms (drop (suc (at - 1)) es)) n))) (sym same)
+          ∙ ap (λ l. capped_sizes (all_sized (phrases forms l) n)) (sym cons),
+    )
+
+pub kind-exprs-requires-in-Let : goal.kind-exprs-requires-in-Let
+kind-exprs-requires-in-Let t c = ?
+
+pub kind-returns-in-Group : goal.kind-returns-in-Group
+kind-returns-in-Group t c = λ n ts h k.
+    let forms = c.args.types.now in
+    let parts = c.in-Group.parts in
+    c.exprs.ensures n h ∙ ap (λ es. capped_sizes (all_sized (phrases forms es) n)) c.as_slice.ensures
+    ∙ ap capped_sizes (sym (kind-is forms (TypedKind-F.Group parts) c.args.kind.now (c.in-Group.is ∙ sym (typed.rolls-Group parts)) ts n))
+
+pub kind-returns-in-Call : goal.kind-returns-in-Call
+kind-returns-in-Call t c = λ n ts h k.
+    let forms = c.args.types.now in
+    let parts = c.in-Call.parts in
+    let all = c.exprs-all.ensures n h ∙ ap (λ es. capped_sizes (all_sized (phrases forms es) n)) c.as_slice-in-Call.ensures in
+    let s = all_sized (phrases forms parts) n in
+    c.joined.ensures s (a_node s.values (length ts)) all (c.node.ensures s.values (length ts) (values-kept c.exprs-all.result s all) k)
+    ∙ ap capped_sizes (sym (kind-is forms (TypedKind-F.Call c.in-Call.field-0 parts) c.args.kind.now (c.in-Call.is ∙ sym (typed.rolls-Call c.in-Call.field-0 parts)) ts n))
+
+pub kind-returns-in-Apply : goal.kind-returns-in-Apply
+kind-returns-in-Apply t c = λ n ts h k.
+    let forms = c.args.types.now in
+    let parts = c.in-Apply.parts in
+    let op = c.in-Apply.op in
+    let all = c.exprs-all-in-Apply.ensures n h ∙ ap (λ es. capped_sizes (all_sized (phrases forms es) n)) c.as_slice-in-Apply.ensures in
+    let s = all_sized (phrases forms parts) n in
+    c.joined-in-Apply.ensures s (applied_sized op s.values (length ts)) all (c.applied.ensures s.values (length ts) (values-kept c.exprs-all-in-Apply.result s all) k)
+    ∙ ap capped_sizes (sym (kind-is forms (TypedKind-F.Apply op parts) c.args.kind.now (c.in-Apply.is ∙ sym (typed.rolls-Apply op parts)) ts n))
+
+pub kind-returns-in-Let : goal.kind-returns-in-Let
+kind-returns-in-Let t c = λ n ts h k.
+    let forms = c.args.types.now in
+    let ds = c.in-Let.parts in
+    let es = c.in-Let.body in
+    let first = c.defs-first.ensures n h ∙ ap (λ us. capped_sizes (defs_sized (lists forms us) n)) c.as_slice-in-Let.ensures in
+    let s = defs_sized (lists forms ds) n in
+    let inside = c.saturating_add-inside.ensures ∙ sum-kept c.args.names c.defs-first.result.values n s.values h (values-kept c.defs-first.result s first) in
+    let rest = c.exprs-in-Let.ensures (n + s.values) inside ∙ ap (λ us. capped_sizes (all_sized (phrases forms us) (n + s.values))) c.as_slice-in-Let-2.ensures in
+    c.joined-in-Let.ensures s (all_sized (phrases forms es) (n + s.values)) first rest
+    ∙ ap capped_sizes (sym (kind-is forms (TypedKind-F.Let ds es) c.args.kind.now (c.in-Let.is ∙ sym (typed.rolls-Let ds es)) ts n))
+
+pub kind-returns-in-If : goal.kind-returns-in-If
+kind-returns-in-If t c = λ n ts h k.
+    let forms = c.args.types.now in
+    let test = c.in-If.test in
+    let yes = c.in-If.yes in
+    let no = c.in-If.no in
+    let z = all_sized (phrases forms test) n in
+    let x = all_sized (phrases forms no) n in
+    let y = all_sized (phrases forms yes) n in
+    let tested = c.exprs-tested.ensures n h ∙ ap (λ es. capped_sizes (all_sized (phrases forms es) n)) c.as_slice-in-If.ensures in
+    let chosen = c.joined-chosen.ensures z (a_node z.values 1) tested (c.node-in-If.ensures z.values 1 (values-kept c.exprs-tested.result z tested) refl) in
+    let other = c.exprs-other.ensures n h ∙ ap (λ es. capped_sizes (all_sized (phrases forms es) n)) c.as_slice-in-If-2.ensures in
+    let arm = c.exprs-arm.ensures n h ∙ ap (λ es. capped_sizes (all_sized (phrases forms es) n)) c.as_slice-in-If-3.ensures in
+    let last = c.joined-in-If.ensures (part y) (only 0) (c.part-in-If-2.ensures y arm) (c.only-in-If.ensures 0 refl) in
+    let two = c.joined-in-If-2.ensures (part x) (joined (part y) (only 0)) (c.part-in-If.ensures x other) last in
+    let inside = c.joined-inside.ensures (part (joined z (a_node z.values 1))) (joined (part x) (joined (part y) (only 0))) (c.part.ensures (joined z (a_node z.values 1)) chosen) two in
+    c.joined-in-If-3.ensures (joined (part (joined z (a_node z.values 1))) (joined (part x) (joined (part y) (only 0)))) (a_node (length ts) (length ts)) inside (c.node-in-If-2.ensures (length ts) (length ts) k k)
+    ∙ ap capped_sizes (sym (kind-is forms (TypedKind-F.If test yes no) c.args.kind.now (c.in-If.is ∙ sym (typed.rolls-If test yes no)) ts n))
+
+pub kind-returns-in-Case : goal.kind-returns-in-Case
+kind-returns-in-Case t c = λ n ts h k.
+    let forms = c.args.types.now in
+    let case = c.in-Case.case in
+    let us = c.in-Case.subject in
+    let bodies = c.in-Case.bodies in
+    let u = all_sized (phrases forms us) n in
+    let z = parts (arms_sized case 0 (lists forms bodies) n) in
+    let union = c.exprs-union.ensures n h ∙ ap (λ es. capped_sizes (all_sized (phrases forms es) n)) c.as_slice-in-Case.ensures in
+    let inside = c.arms-inside.ensures n h ∙ ap (λ es. capped_sizes (parts (arms_sized case 0 (lists forms es) n))) c.as_slice-in-Case-2.ensures in
+    let whole = c.joined-in-Case.ensures z (a_node (length ts) (length ts)) inside (c.node-in-Case.ensures (length ts) (length ts) k k) in
+    c.joined-in-Case-2.ensures u (joined z (a_node (length ts) (length ts))) union whole
+    ∙ ap capped_sizes (sym (kind-is forms (TypedKind-F.Case case us bodies) c.args.kind.now (c.in-Case.is ∙ sym (typed.rolls-Case case us bodies)) ts n))
+
+pub kind-returns-in_default : goal.kind-returns-in_default
+kind-returns-in_default t c = ?
