@@ -105,11 +105,11 @@ quoted b h = grind (arith, nat_tests)
 
 all_so : (p q : ℕ → Bool) → ((b : ℕ) → p b ≡ true → q b ≡ true) → (s : List ℕ) → list_all p s ≡ true → list_all q s ≡ true
 all_so p q f [] h = refl
-all_so p q f (b ∷ s) h = by (p b) refl h
+all_so p q f (b ∷ s) h = by (p b) refl (all_so p q f s) h
   where
-    by : (t : Bool) → p b ≡ t → t && list_all p s ≡ true → q b && list_all q s ≡ true
-    by true e h = ap (λ t. t && list_all q s) (f b e) ∙ all_so p q f s h
-    by false e h = cc
+    by : (t : Bool) → p b ≡ t → (list_all p s ≡ true → list_all q s ≡ true) → t && list_all p s ≡ true → q b && list_all q s ≡ true
+    by true e rest h = ap (λ t. t && list_all q s) (f b e) ∙ rest h
+    by false e rest h = cc
 
 folded_name : (s : List ℕ) → is_folded s ≡ true → list_all is_in_folded s ≡ true
 folded_name [] h = refl
