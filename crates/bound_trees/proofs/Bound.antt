@@ -1,5 +1,5 @@
 -- Typed trees are bound where the levels of the names in force are those in use, and the leaves are literals.
-use Rattle.std.proofs.Common.{◌≡◌, ◌≤◌, ℕ, suc, ◌+◌, Bool, List, [], ◌∷◌, ◌++◌, Option, Some, None, All, length, refl, sym, ap, subst, ◌∙◌, arith}
+use Rattle.std.proofs.Common.{◌≡◌, ◌≤◌, ℕ, ◌+◌, Bool, List, [], ◌∷◌, ◌++◌, Option, Some, None, All, length, sym, ap, subst, ◌∙◌, arith}
 use Rattle.std.proofs.lemmas.Option.{slice_get_within}
 use Rattle.flow_value.specs.declared.ty.Ty.{Ty}
 use Rattle.flow_value.specs.declared.ty.Ty.TheVariants as ty
@@ -21,7 +21,6 @@ use Rattle.typed_tree.specs.Types.{Member, prefix_type}
 use Rattle.typed_tree.specs.Typing as rule
 use Rattle.typed_tree.specs.Typing.{Known, at, names_in, loop_of, named_arms, with_content, Types, AreTyped, Replaces, HasFields, Defines, Crosses, Generates, AreClauses, IsMask, IsOtherwise}
 use Rattle.typed_tree.specs.Typing.{AreArms as AreTypedArms}
-use Rattle.sisal_tree.specs.declared.expr.Constant.{Constant}
 use Rattle.sisal_tree.specs.declared.expr.Elements.{roll-Elements}
 use Rattle.sisal_tree.specs.declared.expr.TagCase.{roll-TagCase}
 use Rattle.sisal_tree.specs.declared.expr.Turn.{roll-Turn}

@@ -1,5 +1,5 @@
 -- A number that stands at the head of a text fits 64 bits.
-use Rattle.std.proofs.Common.{◌≡◌, ◌≤◌, ℕ, suc, Bool, true, false, List, [], ◌∷◌, Option, Some, None, map, take, refl, arith, if◌then◌else◌, nat_le, nat_eq, pos, ℤ}
+use Rattle.std.proofs.Common.{◌≡◌, ◌≤◌, ℕ, suc, Bool, true, false, List, ◌∷◌, Option, Some, None, map, take, refl, arith, if◌then◌else◌, nat_le, nat_eq, pos}
 use Rattle.std.proofs.lemmas.Bool.Decides.{nat_tests}
 use Rattle.std.specs.Prelude.{nat_lt}
 use Rattle.std.specs.List.{prefix_len}
@@ -17,7 +17,7 @@ use Rattle.sisal_lex.specs.declared.quotes.Codes.{Codes}
 use Rattle.sisal_lex.specs.Words.{words, beside}
 use Rattle.sisal_lex.specs.Signs.{long_sign, short_sign}
 use Rattle.sisal_lex.specs.Quotes.{character, items}
-use Rattle.sisal_lex.specs.Tokens.{is_blank, is_in_line, is_in_name, number_value, head_of, name_at, number_at, character_at, text_at, sign_at}
+use Rattle.sisal_lex.specs.Tokens.{is_blank, is_in_name, number_value, head_of, name_at, number_at, character_at, text_at, sign_at}
 
 abbrev pub FitsHead : Head → Type 0
 FitsHead (head.Found (lexeme.Plain (kind.Number n)) more) = fits_64 n ≡ true

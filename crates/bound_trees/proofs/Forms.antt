@@ -1,5 +1,5 @@
 -- The leaves of each kind of phrase, and what they are at each of its forms.
-use Rattle.std.proofs.Common.{◌≡◌, ℕ, Bool, List, [], ◌∷◌, ◌++◌, Option, Some, None, map, option_map, length, sym, ◌∙◌, ap}
+use Rattle.std.proofs.Common.{◌≡◌, ℕ, Bool, List, [], ◌∷◌, ◌++◌, Option, Some, None, map, length, sym, ◌∙◌, ap}
 use Rattle.std.proofs.lemmas.List.{length-map}
 use Rattle.sisal_tree.specs.declared.unit.Named.{Named}
 use Rattle.sisal_tree.specs.declared.unit.Written.{Written}
@@ -25,7 +25,7 @@ use Rattle.sisal_tree.specs.declared.expr.ExprKind.TheVariants as expr
 use Rattle.sisal_tree.specs.declared.expr.Loop.TheVariants as loop
 use Rattle.sisal_tree.specs.declared.expr.ExprKind.TheFolds.{fold-ExprKind, fold-Loop, fold-Arm, fold-Clause, fold-Def, fold-Elements, fold-FieldValue, fold-Generator, fold-Mask, fold-TagCase, fold-Turn, fold-roll-ExprKind, fold-roll-Loop, fold-roll-Arm, fold-roll-Clause, fold-roll-Def, fold-roll-Elements, fold-roll-Generator, fold-roll-TagCase, fold-roll-Turn, fold-roll-Expr, fold-roll-FieldValue, fold-roll-Mask}
 use Rattle.sisal_tree.specs.declared.expr.ExprKind.TheOpen.{ExprKind-F, Loop-F}
-use Rattle.bound_trees.specs.Leaves.{a_constant, a_record, a_change, a_case, Leaves, leaves, all_in, if_any, all_if_any, in_kind, in_loop, in_arm, in_clause, in_def, in_elements, in_generator, in_case, in_turn}
+use Rattle.bound_trees.specs.Leaves.{a_constant, a_record, a_change, a_case, Leaves, leaves, all_in, in_kind, in_loop, in_arm, in_clause, in_def, in_elements, in_generator, in_case, in_turn}
 use Rattle.typed_tree.specs.Typing.{at}
 
 abbrev pub kind_leaves : ExprKind → Leaves

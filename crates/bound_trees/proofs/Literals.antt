@@ -5,7 +5,6 @@ use Rattle.sisal_tree.specs.declared.expr.Expr.{Expr}
 use Rattle.sisal_tree.specs.declared.expr.ExprKind.TheVariants as tree
 use Rattle.sisal_tree.specs.declared.expr.BinaryOperator.{BinaryOperator}
 use Rattle.sisal_tree.specs.declared.expr.Constant.TheVariants as constant
-use Rattle.sisal_tree.specs.declared.expr.FieldValue.{FieldValue}
 use Rattle.sisal_tree.specs.declared.expr.Elements.{Elements}
 use Rattle.sisal_tree.specs.declared.expr.Generator.{Generator}
 use Rattle.sisal_tree.specs.declared.unit.Header.{Header}
@@ -21,7 +20,7 @@ use Rattle.sisal_grammar.specs.Phrases.{ElseIf}
 use Rattle.sisal_grammar.specs.Spells.{compared, nested, listed}
 use Rattle.bound_trees.specs.Leaves.{IsWritten, a_change, a_constant, Leaves, leaves, all_in}
 use Rattle.bound_trees.proofs.Every.{Each, joined, left, right}
-use Rattle.bound_trees.proofs.Forms.{exprs_leaves, values_leaves, value_leaves, elements_leaves, generators_leaves, generator_leaves, groups_leaves, in_constant, in_binary, in_select, in_update, in_field, in_replace, in_if, in_array, in_no_elements}
+use Rattle.bound_trees.proofs.Forms.{exprs_leaves, values_leaves, elements_leaves, generators_leaves, groups_leaves, in_constant, in_binary, in_select, in_update, in_field, in_replace, in_if, in_array, in_no_elements}
 
 abbrev pub Fine : Leaves → Type 0
 Fine cs = Each IsWritten cs

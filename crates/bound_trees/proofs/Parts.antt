@@ -1,5 +1,5 @@
 -- What a bound expression consists of.
-use Rattle.std.proofs.Common.{◌≡◌, ℕ, List, [], ◌∷◌, All, refl, sym, subst, rules}
+use Rattle.std.proofs.Common.{◌≡◌, ℕ, List, sym, subst, rules}
 use Rattle.std.proofs.lemmas.List.Elements.{All-nil, All-cons}
 use Rattle.sisal_tree.specs.declared.expr.Constant.{Constant}
 use Rattle.value_ops.specs.declared.operation.Operation.{Operation}

@@ -1,24 +1,13 @@
 -- What a text spells has only literals.
-use Rattle.std.proofs.Common.{◌≡◌, ◌≤◌, ◌<◌, sym, ℕ, List, [], ◌∷◌, ◌++◌, Bool, true, false, Option, Some, None, length, subst, arith}
-use Rattle.sisal_lex.specs.declared.token.Kind.TheVariants as kind
+use Rattle.std.proofs.Common.{◌≤◌, ◌<◌, sym, ℕ, List, [], ◌∷◌, ◌++◌, Bool, true, false, Option, Some, None, length, subst, arith}
 use Rattle.sisal_tree.specs.declared.unit.Named.{Named}
-use Rattle.sisal_tree.specs.declared.unit.Written.{Written}
-use Rattle.sisal_tree.specs.declared.unit.Field.{Field}
-use Rattle.sisal_tree.specs.declared.unit.Header.{Header}
-use Rattle.sisal_tree.specs.declared.unit.Item.{Item}
-use Rattle.sisal_tree.specs.declared.unit.Item.TheVariants as item
-use Rattle.sisal_tree.specs.declared.unit.FunKind.TheVariants as fun
 use Rattle.sisal_tree.specs.declared.expr.Expr.{Expr}
 use Rattle.sisal_tree.specs.declared.expr.ExprKind.TheVariants as tree
 use Rattle.sisal_tree.specs.declared.expr.Constant.TheVariants as constant
 use Rattle.sisal_tree.specs.declared.expr.Scalar.TheVariants as scalar
 use Rattle.sisal_tree.specs.declared.expr.PrefixOperator.TheVariants as prefix
-use Rattle.sisal_tree.specs.declared.expr.BinaryOperator.{BinaryOperator}
-use Rattle.sisal_tree.specs.declared.expr.BinaryOperator.TheVariants as binary
-use Rattle.sisal_tree.specs.declared.expr.FieldValue.{FieldValue}
-use Rattle.sisal_tree.specs.declared.expr.Elements.{Elements, roll-Elements}
+use Rattle.sisal_tree.specs.declared.expr.Elements.{roll-Elements}
 use Rattle.sisal_tree.specs.declared.expr.Def.{Def, roll-Def}
-use Rattle.sisal_tree.specs.declared.expr.Target.{Target}
 use Rattle.sisal_tree.specs.declared.expr.Arm.{Arm, roll-Arm}
 use Rattle.sisal_tree.specs.declared.expr.Loop.TheVariants as loop
 use Rattle.sisal_tree.specs.declared.expr.Generator.{Generator, roll-Generator}
@@ -26,17 +15,10 @@ use Rattle.sisal_tree.specs.declared.expr.Turn.{Turn, roll-Turn}
 use Rattle.sisal_tree.specs.declared.expr.Clause.{Clause, roll-Clause}
 use Rattle.sisal_tree.specs.declared.expr.ClauseKind.{ClauseKind}
 use Rattle.sisal_tree.specs.declared.expr.ClauseKind.TheVariants as made_by
-use Rattle.sisal_tree.specs.declared.expr.Direction.{Direction}
-use Rattle.sisal_tree.specs.declared.expr.Direction.TheVariants as towards
-use Rattle.sisal_tree.specs.declared.expr.Reduction.{Reduction}
-use Rattle.sisal_tree.specs.declared.expr.Reduction.TheVariants as reduction
 use Rattle.sisal_tree.specs.declared.expr.Mask.{Mask}
 use Rattle.sisal_grammar.specs.declared.value.Placed.{Placed}
-use Rattle.sisal_grammar.specs.declared.value.Selector.{Selector}
-use Rattle.sisal_grammar.specs.declared.value.Selector.TheVariants as select
-use Rattle.sisal_grammar.specs.declared.value.Test.{Test}
 use Rattle.sisal_grammar.specs.Acts.{named, name_in, name_of, at, content, tag_case}
-use Rattle.sisal_grammar.specs.Phrases.{Phrase, Meant, many, maybe, and_inv, arm, at_name, binding, cat, clause, colon_expr, colon_type, comma_expr, comma_name, comma_target, comma_type, comparison, conj, cross_group, def, definition, defs, direction, dot_gen, elements, else_if, expr, exprs, field, fields, folding, fundef, fv, gen, group, header, inv, mask, name, neg, or_conj, or_sum, otherwise, post, prim, red, rel, selector, semi_def, semi_field, semi_fv, semi_tagf, semicolon, sum, sum_term, tagf, target, term, term_neg, test, turn, ty, typedef, unit}
+use Rattle.sisal_grammar.specs.Phrases.{Phrase, Meant, many, maybe, and_inv, arm, cat, clause, colon_expr, comma_expr, comparison, conj, cross_group, def, definition, defs, dot_gen, elements, else_if, expr, exprs, fundef, fv, gen, group, header, inv, mask, neg, or_conj, or_sum, otherwise, post, prim, rel, selector, semi_def, semi_fv, sum, sum_term, term, term_neg, test, turn, typedef, unit}
 use Rattle.sisal_grammar.specs.Spells as grammar
 use Rattle.sisal_grammar.specs.Spells.{Spells, listed, nested, folded}
 use Rattle.bound_trees.specs.Leaves.{leaves, a_constant, a_record, a_case}

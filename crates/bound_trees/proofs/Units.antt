@@ -1,5 +1,5 @@
 -- The program of a typed unit is bound.
-use Rattle.std.proofs.Common.{◌≡◌, ℕ, suc, ◌+◌, ◌<◌, ◌≤◌, List, [], ◌∷◌, ◌++◌, map, Option, Some, None, All, slice_get, length, refl, sym, ap, subst, ◌∙◌, arith}
+use Rattle.std.proofs.Common.{◌≡◌, ℕ, suc, ◌+◌, ◌<◌, ◌≤◌, List, [], ◌∷◌, map, Option, Some, All, length, refl, sym, ap, subst, ◌∙◌, arith}
 use Rattle.std.proofs.lemmas.Option.{slice_get_within}
 use Rattle.std.proofs.lemmas.List.{length-append, length-map}
 use Rattle.std.proofs.lemmas.List.Elements.{All-nil, All-cons, All-head, All-tail, All-filter}
@@ -18,7 +18,7 @@ use Rattle.sisal_grammar.specs.Placed.{placed}
 use Rattle.typed_tree.specs.declared.expr.TypedExpr.{TypedExpr}
 use Rattle.typed_tree.specs.declared.program.Function.{Function}
 use Rattle.typed_tree.specs.declared.program.Program.{Program}
-use Rattle.typed_tree.specs.Scopes.{Scope, no_names}
+use Rattle.typed_tree.specs.Scopes.{no_names}
 use Rattle.typed_tree.specs.Typing.{Signature, names_of}
 use Rattle.typed_tree.specs.Units as units
 use Rattle.typed_tree.specs.Units.{Declared, is_given, given, signatures, parameters, denotes, known, HasParams, HasResults, IsHeader, Declares, AreDeclared, HasBody, IsFunctionOf, AreFunctionsOf, AreDefined, IsTyped}

@@ -1,5 +1,5 @@
 -- Operations, records, changes and choices of typed trees have as many parts as their texts, and so such as a text can write.
-use Rattle.std.proofs.Common.{◌≡◌, ◌≤◌, ℕ, suc, ◌+◌, List, [], ◌∷◌, ◌++◌, Option, length, refl, ap, arith}
+use Rattle.std.proofs.Common.{◌≡◌, ◌≤◌, ℕ, suc, List, ◌++◌, Option, length, refl, ap, arith}
 use Rattle.std.proofs.lemmas.List.{length-append}
 use Rattle.flow_value.specs.declared.ty.Ty.{Ty}
 use Rattle.sisal_tree.specs.declared.expr.Arm.{Arm}

@@ -1,5 +1,5 @@
 -- What the laws on bound trees say.
-use Rattle.std.specs.Prelude.{ℕ, suc, ◌+◌, ◌<◌, ◌≤◌, ◌≡◌, List, All, length, Ok}
+use Rattle.std.specs.Prelude.{ℕ, ◌+◌, ◌<◌, ◌≤◌, ◌≡◌, List, All, length, Ok}
 use Rattle.sisal_tree.specs.declared.unit.Unit as tree
 use Rattle.typed_tree.specs.declared.expr.TypedExpr.{TypedExpr}
 use Rattle.typed_tree.specs.declared.expr.TypedKind.{TypedKind}
@@ -15,7 +15,7 @@ use Rattle.sisal_grammar.specs.Spells.{Spells}
 use Rattle.bound_trees.specs.Leaves.{IsLiteral, IsWritten, a_case}
 use Rattle.sisal_tree.specs.Depth.{depth_of}
 use Rattle.bound_trees.specs.Depths.{AreWithin}
-use Rattle.bound_trees.specs.Bound.{values_in, levels_in, levels_over, IsWrittenApply, IsRenewal, IsBound, AreBound, AreDefined, AreArms, IsBoundProgram}
+use Rattle.bound_trees.specs.Bound.{levels_in, levels_over, IsWrittenApply, IsRenewal, IsBound, AreBound, AreDefined, AreArms, IsBoundProgram}
 
 -- a typed unit of the tokens of a text is bound
 abbrev pub BoundLaw : Type 0

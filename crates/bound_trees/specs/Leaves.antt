@@ -1,6 +1,6 @@
 -- What stands at the leaves of an expression, in the order of the text: its constants, and how many parts its records, changes and
 -- choices have (SISAL Language Reference Manual 1.2, constants, records, unions).
-use Rattle.std.specs.Prelude.{◌≡◌, ℕ, ◌<◌, ◌≤◌, true, ℤ, pos, ◌≤ℤ◌, List, [], ◌∷◌, ◌++◌, All, Option, Some, None, map, length}
+use Rattle.std.specs.Prelude.{◌≡◌, ℕ, ◌<◌, ◌≤◌, true, pos, ◌≤ℤ◌, List, [], ◌∷◌, ◌++◌, All, Option, Some, None, map, length}
 use Rattle.flow_value.specs.Scalar.{fits_64}
 use Rattle.sisal_tree.specs.declared.expr.Constant.{Constant}
 use Rattle.sisal_tree.specs.declared.expr.Constant.TheVariants as constant

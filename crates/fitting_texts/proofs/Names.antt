@@ -1,5 +1,5 @@
 -- The names of a text: each is spelled in its own way, by characters that stand in a text of lines.
-use Rattle.std.proofs.Common.{◌≡◌, ◌<◌, ℕ, zero, suc, Bool, true, false, not, cond, ◌&&◌, ◌||◌, nat_eq, nat_le, List, [], ◌∷◌, ◌++◌, map, All, Option, Some, None, slice_get, bytes_eq, length, refl, sym, ap, subst, ◌∙◌, arith, if◌then◌else◌, Ok, Err, nat_lt, ◌⊎◌, inl, inr, ◌+◌, IsTrue}
+use Rattle.std.proofs.Common.{◌≡◌, ℕ, zero, suc, Bool, true, false, ◌&&◌, ◌||◌, List, [], ◌∷◌, ◌++◌, All, Some, slice_get, bytes_eq, length, refl, sym, ap, subst, ◌∙◌, arith, if◌then◌else◌, Ok, Err, nat_lt, ◌⊎◌, inl, inr, IsTrue}
 use Rattle.std.proofs.lemmas.Bool.Decides.{nat_tests}
 use Rattle.std.proofs.lemmas.Slice.Eq.{bytes_eq-Decides}
 use Rattle.std.proofs.lemmas.List.Elements.{All-nil, All-cons, All-head, All-tail, All-push}
@@ -11,12 +11,12 @@ use Rattle.sisal_lex.specs.declared.head.Lexeme.TheVariants as lexeme
 use Rattle.sisal_lex.specs.declared.fault.LexFault.{LexFault}
 use Rattle.sisal_lex.specs.declared.fault.LexFault.TheVariants as fault
 use Rattle.sisal_lex.specs.declared.token.Tokens.{Tokens}
-use Rattle.sisal_lex.specs.Names.{Lexed, used, used_by, names_of, with_names}
+use Rattle.sisal_lex.specs.Names.{Lexed, used, used_by, with_names}
 use Rattle.sisal_lex.specs.Sound.{is_folded, is_in_folded, AreFolded}
 use Rattle.sisal_lex.specs.Tokens.{tokens_of, named, lexed}
 use Rattle.fitting_units.specs.Leaves.{AreNamesOnce}
 use Rattle.if1_line.specs.Spelling.{is_visible, is_quotable, IsName, IsQuotable}
-use Rattle.bound_trees.proofs.Told.{SoundLexeme, AreSoundLexemes, AreTold, lexed_sound}
+use Rattle.bound_trees.proofs.Told.{SoundLexeme, AreSoundLexemes, lexed_sound}
 
 true_false : true ≡ false → ⊥
 true_false e = cc

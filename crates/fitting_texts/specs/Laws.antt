@@ -1,5 +1,5 @@
 -- What is said of the programs of texts.
-use Rattle.std.specs.Prelude.{◌≡◌, ◌≤◌, ◌⊎◌, ℕ, List, All, Some, slice_get, length, map, Ok}
+use Rattle.std.specs.Prelude.{◌≡◌, ◌≤◌, ◌⊎◌, ℕ, List, Some, slice_get, length, Ok}
 use Rattle.type_table.specs.declared.form.Form.{Form}
 use Rattle.type_table.specs.declared.form.Form.TheVariants.{Record, Union}
 use Rattle.type_table.specs.declared.form.Member.{Member}
@@ -11,13 +11,13 @@ use Rattle.sisal_grammar.specs.Phrases.{unit}
 use Rattle.sisal_grammar.specs.Placed.{placed}
 use Rattle.sisal_grammar.specs.Spells.{Spells}
 use Rattle.typed_tree.specs.declared.program.Program.{Program}
-use Rattle.typed_tree.specs.Scopes.{AreDistinct}
+use Rattle.unit_types.specs.Rests.{AreStanding}
 use Rattle.typed_tree.specs.Units.{IsTyped}
 use Rattle.lowered_units.specs.Fitting.{IsFitting}
 
--- each record of a table of types has a field and each union a tag, and no two of a union have one name
-abbrev pub AreMembersRight : List Form → Type 0
-AreMembersRight forms = (n : ℕ) (ms : List Member) → (slice_get forms n ≡ Some (Record ms)) ⊎ (slice_get forms n ≡ Some (Union ms)) → (1 ≤ length ms) × AreDistinct (map (λ m. m.name) ms)
+-- each record of a table of types has a field, and each union a tag
+abbrev pub HaveMembers : List Form → Type 0
+HaveMembers forms = (n : ℕ) (ms : List Member) → (slice_get forms n ≡ Some (Record ms)) ⊎ (slice_get forms n ≡ Some (Union ms)) → 1 ≤ length ms
 
 -- a unit that a text spells, at most 200 deep, and a program of it
 pub record IsProgramOf (bytes : List ℕ) (u : tree.Unit) (p : Program) : Type 0 where
@@ -26,7 +26,8 @@ pub record IsProgramOf (bytes : List ℕ) (u : tree.Unit) (p : Program) : Type 0
   pub shallow : depth_of u.items ≤ 200
   pub typed : IsTyped u p
   pub table : IsTable p.types
-  pub members : AreMembersRight p.types
+  pub standing : AreStanding u.tokens.names p.types
+  pub members : HaveMembers p.types
 
 abbrev pub DoTextsFit : Type 0
 DoTextsFit = (bytes : List ℕ) (u : tree.Unit) (p : Program) → IsProgramOf bytes u p → IsFitting p
