@@ -2,3 +2,4 @@ pub mod Written
 pub mod Names
 pub mod Functions
 pub mod Texts
+pub mod Typed
