@@ -1,1 +1,4 @@
 pub mod Wrong
+mod Lesser
+mod Early
+mod Blamed

@@ -1,1 +1,4 @@
 pub mod Entries
+pub mod Least
+pub mod Late
+pub mod Takers
