@@ -1,15 +1,15 @@
 -- Which users come before a taker, by places and by labels.
-use Rattle.std.proofs.Common.{◌≡◌, ◌≢◌, ◌∙◌, ◌↔◌, ℕ, ◌+◌, ◌<◌, ◌≤◌, Bool, true, List, [], ◌∷◌, length, set, get_or, slice_index, take, Option, Some, None, IsSome, ◌⊎◌, inl, inr, Contains, arith, refl, sym, ap, subst, ◌==◌}
+use Rattle.std.proofs.Common.{◌≡◌, ◌≢◌, ◌∙◌, ◌↔◌, ℕ, ◌+◌, ◌<◌, ◌≤◌, Bool, true, List, [], ◌∷◌, suc, replicate, length, set, get_or, slice_index, take, Option, Some, None, IsSome, ◌⊎◌, inl, inr, Contains, arith, refl, sym, ap, subst, ◌==◌}
 use Rattle.std.specs.List.Sorted.{IsStrictlyIncreasing}
-use Rattle.std.proofs.lemmas.Bool.{cases_eq}
-use Rattle.std.proofs.lemmas.List.{get_or-set_same, get_or-set_other, take_more, take_all, length-set}
+use Rattle.std.proofs.lemmas.Bool.{cases_eq, cases_lt}
+use Rattle.std.proofs.lemmas.List.{get_or-set_same, get_or-set_other, get_or_past, get_or-replicate, take_more, take_all, length-set, length-replicate}
 use Rattle.std.proofs.lemmas.List.Elements.{Contains-push_cases}
 use Rattle.if1_graph.specs.declared.graph.Graph.{Graph}
 use Rattle.if1_graph.specs.declared.graph.Graph.TheViews.{out-Graph}
 use Rattle.if1_graph.specs.declared.graph.Node.{Node, out-Node}
 use Rattle.if1_graph.specs.Units.{label_of, node_at}
 use Rattle.if1_order.specs.Orders.{node_labels}
-use Rattle.if1_order.specs.Walks.{Lists, Leads}
+use Rattle.if1_order.specs.Walks.{Lists, Leads, step, feeders_of}
 use Rattle.if1_order.specs.Feeders.{IsPlace}
 use Rattle.if1_order.proofs.Orders.{contained_place, place_contained, same_place}
 use Rattle.if1_marks.specs.Orders.{Precedes, fed, listed, between, ComesBefore, led, at_the_end}
@@ -19,9 +19,10 @@ use Rattle.if1_reach.specs.declared.ranks.Ranks.{Ranks}
 use Rattle.if1_reach.specs.Ranks.{IsRanked}
 use Rattle.if1_reach.specs.Least.{IsInStretch, IsOrLeads, AreLeast}
 use Rattle.if1_reach.proofs.Ranking.{leads-up}
+use Rattle.mark_check.specs.declared.late.Scratch.{Scratch}
 use Rattle.mark_check.specs.Entries.{IsNetOf}
 use Rattle.mark_check.specs.Least.{IsLeast, IsAmong}
-use Rattle.mark_check.specs.Late.{IsInOrder, IsLow, AreCleared, AreTold, IsEarly, IsLate, IsAfter}
+use Rattle.mark_check.specs.Late.{IsInOrder, IsLow, AreCleared, AreTold, IsEarly, IsLate, IsAfter, AreStamps, IsScratch, AreStamped}
 use Rattle.mark_check.proofs.Lesser.{least-same}
 use Rattle.mark_check.proofs.Wrong.{by-places, by-labels}
 
@@ -148,3 +149,41 @@ early-there labels up ranks weights taker k l p b h = (
       let same : k ≡ e.0 = same_place labels k e.0 up p.0 e.1.0 (p.1 ∙ sym e.1.1) in
       h.1 (subst (λ z. slice_index ranks z < slice_index ranks taker) (sym same) e.2, ap (slice_index weights) same ∙ e.3)),
 )
+
+-- ---- stamps
+
+pub no-scratch : (s : Scratch) (n : ℕ) → s.weights ≡ replicate n 0 → s.stamps ≡ replicate n 0 → (lists : Lists) → length lists ≡ n → IsScratch lists s
+no-scratch s n e f lists fit =
+    record {
+      weights = ap length e ∙ (length-replicate n 0 ∙ sym fit);
+      stamps = ap length f ∙ (length-replicate n 0 ∙ sym fit);
+      right = λ x t is. absurd (omega (arith, is, ap (λ xs. slice_index xs x) f ∙ get_or-replicate n 0 x));
+    }
+
+pub stamped-more : (lists : Lists) (stamps : List ℕ) (taker mark place : ℕ) → AreStamps lists stamps → mark ≡ suc taker → Contains (feeders_of lists taker) place → (new : List ℕ) → new ≡ set stamps place mark → AreStamps lists new
+stamped-more lists stamps taker mark place right is c new e x t h =
+    elim (cases_eq x place) [
+      | inl same ↦ by same
+      | inr ne ↦ right x t (sym (get_or-set_other stamps place x mark 0 ne) ∙ (ap (λ xs. slice_index xs x) (sym e) ∙ h))
+    ]
+  where
+    by : x ≡ place → Contains (feeders_of lists t) x
+    by same =
+        elim (cases_lt place (length stamps)) [
+          | inl lt ↦
+              let at : slice_index new place ≡ suc taker = ap (λ xs. slice_index xs place) e ∙ (get_or-set_same stamps place mark 0 lt ∙ is) in
+              let same-taker : taker ≡ t = omega (arith, at, ap (slice_index new) same, h) in
+              subst (λ k. Contains (feeders_of lists k) x) same-taker (subst (Contains (feeders_of lists taker)) (sym same) c)
+          | inr ge ↦ absurd (omega (arith, h, ap (λ xs. slice_index xs x) e ∙ get_or-set_past x same ge))
+        ]
+      where
+        get_or-set_past : (x : ℕ) → x ≡ place → length stamps ≤ place → slice_index (set stamps place mark) x ≡ 0
+        get_or-set_past x same ge = get_or_past (set stamps place mark) x 0 (omega (arith, same, ge, length-set stamps place mark))
+
+-- from all other users links lead straight to the taker
+pub direct-before : (g : Graph) (labels : List ℕ) (lists : Lists) → IsNetOf g labels lists → (stamps users : List ℕ) (taker node mark : ℕ) → IsPlace labels taker node → AreStamps lists stamps → mark ≡ suc taker → AreStamped labels stamps users node mark →
+    IsLeast (IsAmong users (IsAfter g node)) None
+direct-before g labels lists w stamps users taker node mark pt right is all =
+    λ l x.
+    let r = all l x.0 x.1.0 in
+    x.1.1 (led (subst (λ a. Precedes g a node) r.1.1 (by-labels g labels lists w r.0 taker node r.1.0 pt (step (right r.0 taker (r.2 ∙ is))))))

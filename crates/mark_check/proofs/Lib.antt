@@ -2,3 +2,6 @@ pub mod Wrong
 mod Lesser
 mod Early
 mod Blamed
+mod InOrder
+mod Listed
+mod Whole

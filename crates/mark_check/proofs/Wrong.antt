@@ -158,6 +158,14 @@ module _ (g : Graph) where
       last [] = refl
       last (z ∷ zs) = ap (λ ys. z ∷ ys) (last zs)
 
+  -- without lists there are no entries
+  pub none-listed : (ns : List Node) → All (λ n. (out-Node n).before ≡ []) ns → All Right (entries ns)
+  none-listed [] h = All-nil Right
+  none-listed (n ∷ ns) h =
+      All-append Right (entries_of n) (entries ns)
+      (all-mapped (label_of n) (out-Node n).before (subst (All (λ l. ¬ IsWrong g (label_of n, l))) (sym (h 0 n (omega arith))) (All-nil (λ l. ¬ IsWrong g (label_of n, l)))))
+      (none-listed ns (λ k d lt. h (suc k) d (omega (arith, lt))))
+
   -- as the loop over the nodes has it
   module _ (labels : List ℕ) (is-labels : labels ≡ node_labels g) (items : List Node) (is-items : items ≡ (out-Graph g).nodes) (n : ℕ) (x : Node) (h : n < length items) (is : x ≡ get_or items n x) (list : List ℕ) (is-list : list ≡ (out-Node x).before) where
     lt : n < length (out-Graph g).nodes

@@ -1,18 +1,43 @@
 //! Which users of a port come before its taker.
-ghost use Rattle.std.specs.Prelude.{◌≡◌, ◌≢◌, ◌<◌, ◌≤◌, ◌↔◌, ℕ, length, slice_index, All, Contains, IsTrue};
+ghost use Rattle.std.specs.Prelude.{◌≡◌, ◌≢◌, ◌<◌, ◌≤◌, ◌↔◌, ℕ, suc, None, length, slice_index, All, Contains, IfOk, IsTrue};
 ghost use Rattle.std.specs.List.Sorted.{IsStrictlyIncreasing};
 ghost use Rattle.if1_graph.specs.declared.graph.Graph.{Graph};
 ghost use Rattle.if1_order.specs.Feeders.{IsPlace};
-ghost use Rattle.if1_order.specs.Walks.{AreInside};
+ghost use Rattle.if1_order.specs.Walks.{AreInside, Lists};
 ghost use Rattle.if1_reach.specs.Ranks.{IsRanked};
 ghost use Rattle.mark_check.specs.Entries.{IsNetOf};
 ghost use Rattle.mark_check.specs.Least.{IsLeast, IsAmong};
-ghost use Rattle.mark_check.specs.Late.{IsInOrder, IsLow, AreCleared, AreTold, IsEarly, IsLate, IsAfter};
+ghost use Rattle.mark_check.specs.Late.{IsInOrder, IsLow, AreCleared, AreTold, IsEarly, IsLate, IsAfter, AreStamps, IsScratch, AreStamped};
 
 use crate::least::keep;
-use flow_value::Numbers;
+use flow_value::{NoMemory, Numbers, Seq};
 use if1_order::{Places, place_of};
 use if1_reach::{Ranks, sink};
+use std::alloc::Global;
+
+/// What is kept of places from one taker to the next.
+#[derive(Drop)]
+pub struct Scratch {
+    /// Which places lead to the last taker that was looked at.
+    pub weights: Numbers,
+    /// Which places lead straight to which taker.
+    pub stamps: Places,
+}
+
+impl Scratch {
+    /// Room for so many places.
+    pub fn new(alloc: Global, places: usize) -> Result<Scratch, NoMemory>
+        ensures { IfOk result (λ s. (lists : Lists) → length lists ≡ places → IsScratch lists s) }
+    {
+        let mut weights = Seq::with_room(alloc, places)?;
+        let mut stamps = Seq::with_room(alloc, places)?;
+        for _ in 0..places {
+            weights.add(0)?;
+            stamps.add(0)?;
+        }
+        Ok(Scratch { weights, stamps })
+    }
+}
 
 fn the_place(labels: &[u32], label: u32) -> usize
     requires rising { IsStrictlyIncreasing labels.now }
@@ -148,7 +173,8 @@ fn least_late(
     least
 }
 
-fn late_in(
+// by what leads to the taker at any distance
+fn late_by_ranks(
     labels: &[u32],
     lists: &[Places],
     ranks: &Ranks,
@@ -171,28 +197,98 @@ fn late_in(
     least_late(labels, ranks.ranks.as_slice(), weights.as_slice(), users, taker, node)
 }
 
+// the places from which links lead straight to the taker bear its stamp
+fn stamp(lists: &[Places], taker: usize, mark: usize, stamps: &mut Places)
+    requires inside { AreInside lists.now }
+    requires taker { taker < length lists.now }
+    requires mark { mark ≡ suc taker }
+    requires fit { length stamps.old ≡ length lists.now }
+    requires right { AreStamps lists.now stamps.old }
+    ensures fit { length stamps.new ≡ length lists.now }
+    ensures right { AreStamps lists.now stamps.new }
+{
+    for place in lists[taker].as_slice() {
+        stamps.set(*place, mark);
+    }
+}
+
+fn is_stamped(labels: &[u32], stamps: &[usize], user: u32, mark: usize) -> bool
+    requires rising { IsStrictlyIncreasing labels.now }
+    requires fit { length stamps.now ≡ length labels.now }
+    ensures { IsTrue result → (x : ℕ) × IsPlace labels.now x user × (slice_index stamps.now x ≡ mark) }
+{
+    match place_of(labels, user) {
+        Some(place) => stamps[place] == mark,
+        None => false,
+    }
+}
+
+fn are_stamped(labels: &[u32], stamps: &[usize], users: &[u32], node: u32, mark: usize) -> bool
+    requires rising { IsStrictlyIncreasing labels.now }
+    requires fit { length stamps.now ≡ length labels.now }
+    ensures { IsTrue result → AreStamped labels.now stamps.now users.now node mark }
+{
+    for user in users {
+        if *user != node && !is_stamped(labels, stamps, *user, mark) {
+            return false;
+        }
+    }
+    true
+}
+
+// whether links lead straight to the node from all other users
+fn are_direct(
+    labels: &[u32],
+    lists: &[Places],
+    users: &[u32],
+    node: u32,
+    stamps: &mut Places,
+) -> bool
+    requires rising { IsStrictlyIncreasing labels.now }
+    requires inside { AreInside lists.now }
+    requires fit { length lists.now ≡ length labels.now }
+    requires node { Contains labels.now node }
+    requires stamps { length stamps.old ≡ length lists.now }
+    requires right { AreStamps lists.now stamps.old }
+    ensures direct { IsTrue result
+        → (g : Graph)
+        → IsNetOf g labels.now lists.now
+        → IsLeast (IsAmong users.now (IsAfter g node)) None }
+    ensures stamps { length stamps.new ≡ length lists.now }
+    ensures right { AreStamps lists.now stamps.new }
+{
+    let taker = the_place(labels, node);
+    let mark = taker + 1;
+    stamp(lists, taker, mark, stamps);
+    are_stamped(labels, stamps.as_slice(), users, node, mark)
+}
+
 /// The least label of a user of a port, other than the taker, that does not come before it. Linear in the
-/// ranks from the first of the users to the taker and the links into their places, but for a search
-/// among the nodes for each user.
+/// users and the links to the taker where those lead straight there from all of them, but for a search
+/// among the nodes for each user; else in the ranks from the first of the users to the taker and the
+/// links into their places.
 pub fn late_user(
     labels: &[u32],
     lists: &[Places],
     ranks: &Ranks,
     users: &[u32],
     node: u32,
-    weights: &mut Numbers,
+    scratch: &mut Scratch,
 ) -> Option<u32>
     requires rising { IsStrictlyIncreasing labels.now }
     requires inside { AreInside lists.now }
     requires fit { length lists.now ≡ length labels.now }
     requires ranked { IsRanked lists.now ranks.now }
-    requires weights { length weights.old ≡ length lists.now }
+    requires scratch { IsScratch lists.now scratch.old }
     requires node { node ≢ 0 → Contains labels.now node }
     ensures late { (g : Graph) → IsInOrder g → IsNetOf g labels.now lists.now → IsLeast (IsAmong users.now (IsAfter g node)) result }
-    ensures weights { length weights.new ≡ length lists.now }
+    ensures scratch { IsScratch lists.now scratch.new }
 {
     if node == 0 {
         return None;
     }
-    late_in(labels, lists, ranks, users, node, weights)
+    if are_direct(labels, lists, users, node, &mut scratch.stamps) {
+        return None;
+    }
+    late_by_ranks(labels, lists, ranks, users, node, &mut scratch.weights)
 }

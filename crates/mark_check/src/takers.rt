@@ -11,13 +11,13 @@ ghost use Rattle.if1_reach.specs.Ranks.{IsRanked};
 ghost use Rattle.if1_reach.specs.Users.{AreGrouped, HasUsers};
 ghost use Rattle.marks_made.specs.Units.{is_candidate};
 ghost use Rattle.mark_check.specs.Entries.{IsNetOf};
-ghost use Rattle.mark_check.specs.Late.{IsInOrder};
+ghost use Rattle.mark_check.specs.Late.{IsInOrder, IsScratch};
 ghost use Rattle.mark_check.specs.Least.{IsLeast};
 ghost use Rattle.mark_check.specs.Takers.{IsOwnFault, IsReader, IsReaderAt, IsLookedAt, FirstTaker, taking};
 
-use crate::late::late_user;
+use crate::late::{Scratch, late_user};
 use crate::least::{least_other, lesser};
-use flow_value::{NoMemory, Numbers, Seq};
+use flow_value::NoMemory;
 use if1_graph::{Edge, Graph};
 use if1_order::{Places, labels_of};
 use if1_reach::{PortUsers, Ranks, nets_of, note_edge, port_users, ranked, users_of};
@@ -92,20 +92,20 @@ fn reader_of(
     takers: &[u32],
     node: u32,
     may: bool,
-    weights: &mut Numbers,
+    scratch: &mut Scratch,
 ) -> Option<u32>
     requires rising { IsStrictlyIncreasing labels.now }
     requires inside { AreInside lists.now }
     requires fit { length lists.now ≡ length labels.now }
     requires ranked { IsRanked lists.now ranks.now }
-    requires weights { length weights.old ≡ length lists.now }
+    requires scratch { IsScratch lists.now scratch.old }
     requires node { node ≢ 0 → Contains labels.now node }
     ensures reader { (g : Graph) → IsInOrder g → IsNetOf g labels.now lists.now → IsLeast (IsReader g users.now takers.now node may) result }
-    ensures weights { length weights.new ≡ length lists.now }
+    ensures scratch { IsScratch lists.now scratch.new }
 {
     let own = own_fault(users, node, may);
     let taker = least_other(takers, node);
-    let late = late_user(labels, lists, ranks, users, node, weights);
+    let late = late_user(labels, lists, ranks, users, node, scratch);
     let others = lesser(taker, late);
     lesser(own, others)
 }
@@ -119,13 +119,13 @@ fn reader_at(
     takers: &PortUsers,
     edge: &Edge,
     may: bool,
-    weights: &mut Numbers,
+    scratch: &mut Scratch,
 ) -> Option<u32>
     requires rising { IsStrictlyIncreasing labels.now }
     requires inside { AreInside lists.now }
     requires fit { length lists.now ≡ length labels.now }
     requires ranked { IsRanked lists.now ranks.now }
-    requires weights { length weights.old ≡ length lists.now }
+    requires scratch { IsScratch lists.now scratch.old }
     requires users { AreGrouped users.now }
     requires takers { AreGrouped takers.now }
     requires node { edge.now.node ≢ 0 → Contains labels.now edge.now.node }
@@ -134,14 +134,14 @@ fn reader_at(
         → Contains (out-Graph p.graph).edges edge.now
         → may ≡ is_candidate u p edge.now
         → IsReaderAt u p edge.now result }
-    ensures weights { length weights.new ≡ length lists.now }
+    ensures scratch { IsScratch lists.now scratch.new }
 {
     if !edge.takes {
         return None;
     }
     let port = users_of(users, &edge.from);
     let taken = users_of(takers, &edge.from);
-    reader_of(labels, lists, ranks, port, taken, edge.node, may, weights)
+    reader_of(labels, lists, ranks, port, taken, edge.node, may, scratch)
 }
 
 fn first_bad(
@@ -152,13 +152,13 @@ fn first_bad(
     users: &PortUsers,
     takers: &PortUsers,
     flags: &[bool],
-    weights: &mut Numbers,
+    scratch: &mut Scratch,
 ) -> Option<BadTaker>
     requires looked { IsLookedAt graph.now labels.now lists.now users.now takers.now }
     requires rising { IsStrictlyIncreasing labels.now }
     requires ranked { IsRanked lists.now ranks.now }
     requires flags { length flags.now ≡ length (out-Graph graph.now).edges }
-    requires weights { length weights.old ≡ length lists.now }
+    requires scratch { IsScratch lists.now scratch.old }
     ensures { (u : Unit1) (home : Home)
         → flags.now ≡ map (is_candidate u (record { graph = graph.now; home = home })) (out-Graph graph.now).edges
         → FirstTaker u (record { graph = graph.now; home = home }) result }
@@ -172,7 +172,7 @@ fn first_bad(
             takers,
             edge,
             flags[index],
-            weights,
+            scratch,
         );
         if let Some(reader) = found {
             return Some(BadTaker {
@@ -185,17 +185,8 @@ fn first_bad(
     None
 }
 
-fn no_weights(alloc: Global, places: usize) -> Result<Numbers, NoMemory>
-    ensures { IfOk result (λ r. length r ≡ places) }
-{
-    let mut weights = Seq::with_room(alloc, places)?;
-    for _ in 0..places {
-        weights.add(0)?;
-    }
-    Ok(weights)
-}
-
-fn takes_nothing(edges: &[Edge]) -> bool
+/// Whether no edge takes.
+pub fn takes_nothing(edges: &[Edge]) -> bool
     ensures { IsTrue result ↔ All (λ e. e.takes ≡ false) edges.now }
 {
     for edge in edges {
@@ -232,7 +223,7 @@ fn bad_in(alloc: Global, graph: &Graph, flags: &[bool]) -> Result<Option<BadTake
     let ranks = ranks_of(alloc, lists.as_slice())?;
     let users = port_users(alloc, edges)?;
     let takers = port_takers(alloc, edges)?;
-    let mut weights = no_weights(alloc, labels.len())?;
+    let mut scratch = Scratch::new(alloc, lists.as_slice().len())?;
     Ok(first_bad(
         graph,
         labels.as_slice(),
@@ -241,7 +232,7 @@ fn bad_in(alloc: Global, graph: &Graph, flags: &[bool]) -> Result<Option<BadTake
         &users,
         &takers,
         flags,
-        &mut weights,
+        &mut scratch,
     ))
 }
 

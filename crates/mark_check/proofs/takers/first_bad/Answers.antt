@@ -18,7 +18,7 @@ returns-in-Some c = λ u home flags.
 pub loop-index-preserved : goal.loop-index-preserved
 loop-index-preserved c =
     record {
-      fit = c.reader_at-found.ensures.weights;
+      scratch = c.reader_at-found.ensures.scratch;
       right = λ u home flags.
           turn-good c.args.graph.now c.args.flags.now c.args.labels.now c.args.lists.now c.args.users.now c.args.takers.now c.requires.looked c.as_slice-edge-items.result.now c.as_slice-edge-items.ensures
           c.loop-index.index c.edge-item.result c.loop-index-test.true c.edge-item.is c.reader_at-found.result c.reader_at-found.ensures.reader c.in_default.is u home flags (c.loop-index.invariant.right u home flags);
