@@ -157,8 +157,15 @@ no-scratch s n e f lists fit =
     record {
       weights = ap length e ∙ (length-replicate n 0 ∙ sym fit);
       stamps = ap length f ∙ (length-replicate n 0 ∙ sym fit);
-      right = λ x t is. absurd (omega (arith, is, ap (λ xs. slice_index xs x) f ∙ get_or-replicate n 0 x));
+      right = λ x t is. absurd (omega (arith, is, ap (λ xs. slice_index xs x) f ∙ zeros n x));
     }
+  where
+    zeros : (n x : ℕ) → slice_index (replicate n 0) x ≡ 0
+    zeros n x =
+        elim (cases_lt x n) [
+          | inl lt ↦ get_or-replicate n x 0 0 lt
+          | inr ge ↦ get_or_past (replicate n 0) x 0 (omega (arith, ge, length-replicate {A = ℕ} n 0))
+        ]
 
 pub stamped-more : (lists : Lists) (stamps : List ℕ) (taker mark place : ℕ) → AreStamps lists stamps → mark ≡ suc taker → Contains (feeders_of lists taker) place → (new : List ℕ) → new ≡ set stamps place mark → AreStamps lists new
 stamped-more lists stamps taker mark place right is c new e x t h =

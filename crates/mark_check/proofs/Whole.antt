@@ -1,5 +1,5 @@
 -- The marks of a unit, graph by graph.
-use Rattle.std.proofs.Common.{◌≡◌, ◌≢◌, ◌∙◌, ℕ, ◌+◌, ◌<◌, ◌≤◌, Bool, false, List, [], ◌∷◌, ◌++◌, length, map, take, get_or, Option, Some, None, ◌⊎◌, inl, inr, Contains, All, Bor, arith, refl, sym, ap, subst}
+use Rattle.std.proofs.Common.{◌≡◌, ◌≢◌, ◌∙◌, ℕ, ◌+◌, ◌<◌, ◌≤◌, Bool, false, List, [], ◌∷◌, ◌++◌, length, map, take, get_or, Option, Some, None, ◌⊎◌, inl, inr, Contains, All, Bor, Result, Ok, Err, IfErr, IsErrAnd, arith, refl, sym, ap, subst}
 use Rattle.std.proofs.lemmas.List.{length-map, get_or-map, take_all}
 use Rattle.std.proofs.lemmas.List.Elements.{All-contains, All-contains_itself, All-weaker, All-more, Contains-append_right, Contains-append_cases}
 use Rattle.if1_graph.specs.declared.graph.Edge.{Edge}
@@ -197,3 +197,7 @@ list-first u (BadMark graph node port reader) w = inl w
 pub taker-first : (u : Unit1) (f : MarkFault) → IsTakerFaultAs u f → IsFirstFault u f
 taker-first u NoMemory w = tt
 taker-first u (BadMark graph node port reader) w = inr w
+
+pub passed-on : {A : Type 0} (P : MarkFault → Type 0) (r : Result A MarkFault) (x : MarkFault) → IsErrAnd r (λ e. e ≡ x) → P x → IfErr r P
+passed-on P (Ok a) x h p = tt
+passed-on P (Err e) x h p = subst P (sym h) p
