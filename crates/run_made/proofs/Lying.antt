@@ -56,7 +56,7 @@ module _ (P : Plan) where
   PutsAll places [] lo = Unit {0}
   PutsAll places (v ∷ vs) lo = Puts places v.label lo (P.width v) × PutsAll places vs (lo + P.width v)
 
-  puts-as : (places others : Places) (vs : List Vertex) (lo : ℕ) → ((l p : ℕ) → IsLabel vs l → others l p ≡ places l p) → PutsAll places vs lo → PutsAll others vs lo
+  pub puts-as : (places others : Places) (vs : List Vertex) (lo : ℕ) → ((l p : ℕ) → IsLabel vs l → others l p ≡ places l p) → PutsAll places vs lo → PutsAll others vs lo
   puts-as places others [] lo same h = tt
   puts-as places others (v ∷ vs) lo same h =
       ((λ i lt. same v.label (suc i) (inl refl) ∙ h.0 i lt), puts-as places others vs (lo + P.width v) (λ l p there. same l p (inr there)) h.1)
@@ -67,7 +67,7 @@ module _ (P : Plan) where
       ap (λ b. if b then (if ltb (suc i - 1) (P.width v) then At (lo + (suc i - 1)) else Lit Unfilled) else put P vs (lo + P.width v) v.label (suc i)) (eq-eqb v.label v.label refl)
       ∙ (ap (λ x. if ltb x (P.width v) then At (lo + x) else Lit Unfilled) e ∙ ap (λ b. if b then At (lo + i) else Lit Unfilled) (lt-ltb i (P.width v) lt))
 
-  puts-put : (vs : List Vertex) (lo : ℕ) → LabelsOnce vs → PutsAll (put P vs lo) vs lo
+  pub puts-put : (vs : List Vertex) (lo : ℕ) → LabelsOnce vs → PutsAll (put P vs lo) vs lo
   puts-put [] lo once = tt
   puts-put (v ∷ vs) lo once = (
     (λ i lt. put-here v vs lo i lt),
@@ -76,7 +76,7 @@ module _ (P : Plan) where
         (puts-put vs (lo + P.width v) once.1),
   )
 
-  is-suc : (vs : List Vertex) (l : ℕ) → EachNode (λ v. v.label ≢ 0) vs → IsLabel vs l → (k : ℕ) × (l ≡ suc k)
+  pub is-suc : (vs : List Vertex) (l : ℕ) → EachNode (λ v. v.label ≢ 0) vs → IsLabel vs l → (k : ℕ) × (l ≡ suc k)
   is-suc [] l h there = absurd there
   is-suc (v ∷ vs) l h (inl e) = go v.label refl
     where

@@ -1,0 +1,11 @@
+pub mod Alive
+pub mod Scenes
+pub mod Around
+pub mod Flows
+pub mod Owned
+pub mod Walks
+pub mod Plain
+pub mod Parts
+pub mod Tags
+pub mod Behind
+pub mod Loops

@@ -1,0 +1,7 @@
+//! The laws.
+ghost use Rattle.made_store.specs.Laws.{IsThere};
+
+/// Nothing.
+pub fn nothing()
+    ensures { IsThere }
+{}
