@@ -9,3 +9,8 @@ pub mod Parts
 pub mod Tags
 pub mod Behind
 pub mod Loops
+pub mod ForAlls
+pub mod Nodes
+pub mod Functions
+pub mod Settling
+pub mod Units

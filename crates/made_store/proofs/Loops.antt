@@ -109,10 +109,10 @@ module _ (P : Plan) (S : Shares) (W : Weighing) (handling : ℕ → Handling) (l
       below-x : (j c : ℕ) → get_or x j (Lit Unfilled) ≡ At c → c < top
       below-x j c e =
           both-low args (cells_at mid n) top j c (λ j c e. let lt = h.below j c e in omega (arith, lt)) (λ j c e.
-              let z = cells-is mid n j c e in
-              let lt = z.0 in
-              let s = z.1 in
-              omega (arith, lt, s)) e
+          let z = cells-is mid n j c e in
+          let lt = z.0 in
+          let s = z.1 in
+          omega (arith, lt, s)) e
 
       kb-v : (c : ℕ) → KB c ≡ true → V c ≡ true
       kb-v c e = go (or-either (keep c) (range_of (mid + n) k c) e)
@@ -223,14 +223,18 @@ module _ (P : Plan) (S : Shares) (W : Weighing) (handling : ℕ → Handling) (l
       body-scene : IsScene S KB HB x b top
       body-scene =
           behind-scene S b args (cells_at mid n) mid top KB HB (omega arith) h.below (λ j c e.
-              let z = cells-is mid n j c e in
-              let lt = z.0 in
-              let s = z.1 in
-              (omega (arith, s), omega (arith, lt, s))) past_b
-          (λ j c o e. ((λ z. apart keep j c (λ c e. under c e) e z), (λ z. apart hold j c (λ c e. under-own c e) e z), λ q f.
-              let z = (cells-is mid n j c e).1 in
-              let w = (cells-is mid n q c f).1 in
-              omega (arith, z, w)))
+          let z = cells-is mid n j c e in
+          let lt = z.0 in
+          let s = z.1 in
+          (omega (arith, s), omega (arith, lt, s))) past_b
+          (λ j c o e. (
+            (λ z. apart keep j c (λ c e. under c e) e z),
+            (λ z. apart hold j c (λ c e. under-own c e) e z),
+            λ q f.
+                let z = (cells-is mid n j c e).1 in
+                let w = (cells-is mid n q c f).1 in
+                omega (arith, z, w),
+          ))
           (λ c e. low-of keep (mid + n) k under (omega arith) (omega arith) c e) (λ c e. low-of hold (mid + n) k under-own (omega arith) (omega arith) c e)
         where
           apart : (some : Cells_of) (j c : ℕ) → ((c : ℕ) → some c ≡ true → c < mid) → get_or (cells_at mid n) j (Lit Unfilled) ≡ At c → either_of some (range_of (mid + n) k) c ≡ true → ⊥
@@ -279,10 +283,10 @@ module _ (P : Plan) (S : Shares) (W : Weighing) (handling : ℕ → Handling) (l
           let f = end-flows P S W handling live own room shared keep hold args i mid mid (length froms + k) scene V VO e (λ c z. split keep c (or-either (keep c) (range_of mid (n + k) c) z)) (λ c z. split hold c (or-either (hold c) (range_of mid (n + k) c) z)) under under-own in
           fine-at W handling live own m (line (OfResults i) (Keep true (P.collects r) froms mid starts)) (result_modes P S i) [] (live_behind P S keep args i mid) (own_behind P S hold args i mid) set.1 (plain-modes (S.takes i 0) (S.copies i 0) 1 (P.results i)) tt
           (λ ks.
-              let z = none-put (P.collects r) ks in
-              let w = all-copied (result_modes P S i) (length froms) ks (many ∙ sym (modes-long (S.takes i 0) (S.copies i 0) 1 (P.results i))) in
-              let q = (shared i).results (take (length froms) ks) in
-              omega (arith, z, w, q))
+          let z = none-put (P.collects r) ks in
+          let w = all-copied (result_modes P S i) (length froms) ks (many ∙ sym (modes-long (S.takes i 0) (S.copies i 0) 1 (P.results i))) in
+          let q = (shared i).results (take (length froms) ks) in
+          omega (arith, z, w, q))
           (may-modes live own m (S.takes i 0) (S.copies i 0) (P.results i) froms 1 many (λ j c z. set.1.1 c ∙ e.looks j c z) (λ j c o z. set.1.2 c ∙ (e.takes j c o z).0))
           (follow W handling live own m starts mid (length froms + k) (result_modes P S i) [] froms (live_behind P S keep args i mid) (own_behind P S hold args i mid) V VO set.1 next f.0 f.1, tt) tt
         where
@@ -302,16 +306,18 @@ module _ (P : Plan) (S : Shares) (W : Weighing) (handling : ℕ → Handling) (l
           fine-at W handling live own m (line (OfResults b) (Keep false (P.collects r) froms mid tests)) (result_modes P S b ++ takes_all k) [] lives' owns' set.1
           (plain-both (result_modes P S b) (takes_all k) (plain-modes (S.takes b 0) (S.copies b 0) 1 (P.results b)) (plain-takes k)) tt
           (λ ks.
-              let z = none-put (P.collects r) ks in
-              let w = front-copied (result_modes P S b) k (length froms) ks (many ∙ sym (modes-long (S.takes b 0) (S.copies b 0) 1 (P.results b))) in
-              let q = (shared b).results (take (length froms) ks) in
-              omega (arith, z, w, q))
+          let z = none-put (P.collects r) ks in
+          let w = front-copied (result_modes P S b) k (length froms) ks (many ∙ sym (modes-long (S.takes b 0) (S.copies b 0) 1 (P.results b))) in
+          let q = (shared b).results (take (length froms) ks) in
+          omega (arith, z, w, q))
           (may-both live own m (result_modes P S b) (takes_all k) froms (cells_at (mid + length froms) k) (modes-long (S.takes b 0) (S.copies b 0) 1 (P.results b) ∙ sym many)
           (may-modes live own m (S.takes b 0) (S.copies b 0) (P.results b) froms 1 many (λ j c z. set.1.1 c ∙ e.looks j c z) (λ j c o z. set.1.2 c ∙ (e.takes j c o z).0))
-          (may-take-all live own m (mid + length froms) k (λ c u v. set.1.2 c ∙ or-left (HB c) _ (or-right (hold c) (range_of (mid + n) k c) (range-so (mid + n) k c (omega (arith, u, many, same)) (omega (arith, v, many, same)))))))
-          (follow W handling live own m tests mid (length froms + k) (result_modes P S b ++ takes_all k) [] (froms ++ cells_at (mid + length froms) k) lives' owns' V VO set.1 next
-          (λ c z. go keep lives' c (or-either (keep c) (range_of mid (n + k) c) z) (λ z. or-left (KB c) _ (or-left (keep c) (range_of (mid + n) k c) z)) (λ z. under c z) (λ o z. (e.takes o.0 c o.1 o.2).1 (or-left (keep c) (range_of (mid + n) k c) z)))
-          (λ c z. go hold owns' c (or-either (hold c) (range_of mid (n + k) c) z) (λ z. or-left (HB c) _ (or-left (hold c) (range_of (mid + n) k c) z)) (λ z. under-own c z) (λ o z. (e.takes o.0 c o.1 o.2).2 (or-left (hold c) (range_of (mid + n) k c) z))), tt) tt
+          (may-take-all live own m (mid + length froms) k (λ c u v. set.1.2 c ∙ or-left (HB c) _ (or-right (hold c) (range_of (mid + n) k c) (range-so (mid + n) k c (omega (arith, u, many, same)) (omega (arith, v, many, same))))))) (
+            follow W handling live own m tests mid (length froms + k) (result_modes P S b ++ takes_all k) [] (froms ++ cells_at (mid + length froms) k) lives' owns' V VO set.1 next
+                (λ c z. go keep lives' c (or-either (keep c) (range_of mid (n + k) c) z) (λ z. or-left (KB c) _ (or-left (keep c) (range_of (mid + n) k c) z)) (λ z. under c z) (λ o z. (e.takes o.0 c o.1 o.2).1 (or-left (keep c) (range_of (mid + n) k c) z)))
+                (λ c z. go hold owns' c (or-either (hold c) (range_of mid (n + k) c) z) (λ z. or-left (HB c) _ (or-left (hold c) (range_of (mid + n) k c) z)) (λ z. under-own c z) (λ o z. (e.takes o.0 c o.1 o.2).2 (or-left (hold c) (range_of (mid + n) k c) z))),
+            tt,
+          ) tt
         where
           m : ℕ
           m = turn + P.size b
@@ -408,7 +414,7 @@ module _ (P : Plan) (S : Shares) (W : Weighing) (handling : ℕ → Handling) (l
           let arm = arm-fine P S W handling live own room shared make sets lays long fine ends keep hold y o leave w past lo top right_o returns-scene s_o (omega (arith, fits, m1, m3, m5, m6)) (λ c z. (h.kept c z).1) (λ c z. (h.held c z).1) next in
           let o_turn = shrink turn KB HB (cells_where (S.has b) x) (cells_where (S.owns b) x) V VO kb-v (x-live b has_b) hb-v (x-own b past_b) p_b.1 in
           let o_tests = shrink tests V VO (cells_where (S.has t) x) (cells_where (S.owns t) x) V VO (λ c z. z) (x-live t has_t) (λ c z. z)
-              (λ c z. absurd (let q = where-sound (S.owns t) x c z in true-false (S.owns t (suc q.0)) q.1 (none_t (suc q.0)))) p_t.1 in
+          (λ c z. absurd (let q = where-sound (S.owns t) x c z in true-false (S.owns t (suc q.0)) q.1 (none_t (suc q.0)))) p_t.1 in
           let o_leave = shrink leave keep hold (cells_where (S.has o) y) (cells_where (S.owns o) y) V VO kept-v y-live held-v y-own arm.1 in
           let f = firsts o_turn o_tests in
           let c4 = arm_code P make room y o leave w past lo top in

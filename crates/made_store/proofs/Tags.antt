@@ -163,10 +163,11 @@ module _ (P : Plan) (S : Shares) (W : Weighing) (handling : ℕ → Handling) (l
   tag-fine gs a w b others gives set fits next =
       let y = arms-fine P S W handling live own room shared make sets lays long fine ends keep hold inner gs (suc a) w b lo (suc mid) (as-arms gs others gives) set.1 (omega (arith, fits)) (λ i k. (h.kept i k).1) (λ i k. (h.held i k).1) next in
       let tag = fine-at W handling live own a (line OfNothing (Tag union (arms_at P make room gs (suc a)) mid lo w b)) (mode_if (given 1)) [] all_kept all_held set.0 (plain-if (given 1)) tt (copied-if (given 1))
-          (may-if live own a (given 1) union (λ i t. set.0.1 i ∙ or-right (keep i) (cells_where (λ p. true) args i) (where-so (λ p. true) args i 0 refl t)) (λ g i t. set.0.2 i ∙ or-right (hold i) (cells_where given args i) (where-so given args i 0 g t)))
-          (follow W handling live own a b lo w (mode_if (given 1)) [] (union ∷ []) all_kept all_held (either_of (range_of lo w) keep) (either_of (range_of lo w) hold) set.0 next (λ i t. past i (or-either (range_of lo w i) (keep i) t))
-          (λ i t. past-own i (or-either (range_of lo w i) (hold i) t)),
-          arms-follow P S W handling live own room shared make sets lays long fine ends keep hold inner a mid 1 (mode_if (given 1)) (union ∷ []) all_kept all_held gs (suc a) set.0 y.1 (arm-flows gs gives)) tt in
+      (may-if live own a (given 1) union (λ i t. set.0.1 i ∙ or-right (keep i) (cells_where (λ p. true) args i) (where-so (λ p. true) args i 0 refl t)) (λ g i t. set.0.2 i ∙ or-right (hold i) (cells_where given args i) (where-so given args i 0 g t))) (
+        follow W handling live own a b lo w (mode_if (given 1)) [] (union ∷ []) all_kept all_held (either_of (range_of lo w) keep) (either_of (range_of lo w) hold) set.0 next (λ i t. past i (or-either (range_of lo w i) (keep i) t))
+            (λ i t. past-own i (or-either (range_of lo w i) (hold i) t)),
+        arms-follow P S W handling live own room shared make sets lays long fine ends keep hold inner a mid 1 (mode_if (given 1)) (union ∷ []) all_kept all_held gs (suc a) set.0 y.1 (arm-flows gs gives),
+      ) tt in
       ((tag, y.0), ((λ i t. sym (set.0.1 i) ∙ t), λ i t. sym (set.0.2 i) ∙ t))
     where
       past : (i : ℕ) → (range_of lo w i ≡ true) ⊎ (keep i ≡ true) → ((lo ≤ i) × (i < lo + w)) ⊎ ((all_kept i ≡ true) × (IsTaken (mode_if (given 1)) (union ∷ []) i → ⊥) × ((i < lo) ⊎ (lo + w ≤ i)))

@@ -31,10 +31,10 @@ reached keep places owned bottom placed known taken takes copies v lo w r puts k
     own j (suc l) p f t = own-output keep places owned bottom placed known lo (suc l) p r (known-at known (first_port v.kind) v.ins j l p knows f)
 
 module _ (P : Plan) (S : Shares) (W : Weighing) (keep hold : Cells_of) (args : List Operand) (g bottom : ℕ) (shared : IsShared P S W g) (scene : IsScene S keep hold args g bottom) where
-  abbrev seats_there : Places
+  abbrev pub seats_there : Places
   seats_there = there P S args g (P.nodes g) bottom
 
-  abbrev seats_owned : Places
+  abbrev pub seats_owned : Places
   seats_owned = owned P S args g (P.nodes g) bottom
 
   -- what is known on the way through a graph: which outputs stand between its first cell and another one

@@ -1,3 +1,4 @@
 pub mod Settings
 pub mod Shared
+pub mod Settled
 pub mod Laws

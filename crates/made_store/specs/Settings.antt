@@ -4,7 +4,6 @@
 -- the parts of a compound node run, those that are live behind the node.
 use Rattle.std.specs.Prelude.{◌≡◌, ℕ, zero, suc, ◌+◌, ◌-◌, ◌&&◌, ◌||◌, not, eqb, leb, ltb, if◌then◌else◌, Bool, true, false, List, [], ◌∷◌, ◌++◌, drop, map, length, get_or}
 use Rattle.graph_meaning.specs.Carried.{Unfilled}
-use Rattle.graph_meaning.specs.Entered.{IsIn}
 use Rattle.graph_meaning.specs.Forms as form
 use Rattle.graph_meaning.specs.Demand.{Kind, Plain, Whole, Vertex}
 use Rattle.ordered_meaning.specs.Taking.{Taken, first_port, taken_by}
@@ -200,10 +199,11 @@ module _ (P : Plan) where
       GraphSet zero keep hold args g a lo = Unit {0}
       GraphSet (suc n) keep hold args g a lo = NodesSet (GraphSet n) keep hold args g lo [] [] (P.nodes g) a lo
 
-      -- A function: its inputs are live, and it owns those that it is given.
-      abbrev pub FunctionSet : (levels function : ℕ) → Type 0
-      FunctionSet n f = PartSet (GraphSet n) none_of none_of (cells_at 0 (P.params f)) f (P.entry f) (P.params f) (result_modes f) []
+      -- A function from a place on: its inputs are live, and it owns those that it is given.
+      abbrev pub FunctionSet : (levels function place : ℕ) → Type 0
+      FunctionSet n f a = PartSet (GraphSet n) none_of none_of (cells_at 0 (P.params f)) f a (P.params f) (result_modes f) []
 
-      -- so it is in all functions
-      abbrev pub AreSet : (levels : ℕ) → List ℕ → Type 0
-      AreSet n fs = (f : ℕ) → IsIn f fs → FunctionSet n f
+      -- functions behind one another
+      abbrev pub FunctionsSet : (levels : ℕ) → List ℕ → (place : ℕ) → Type 0
+      FunctionsSet n [] a = Unit {0}
+      FunctionsSet n (f ∷ fs) a = FunctionSet n f a × FunctionsSet n fs (a + suc (P.size f))

@@ -1,7 +1,18 @@
-//! The laws.
-ghost use Rattle.made_store.specs.Laws.{IsThere};
+//! The laws of code that is made with its settings.
+ghost use Rattle.made_store.specs.Laws.{AreMadeUnitRunsDecided, IsMadeStored, IsSetStored};
 
-/// Nothing.
-pub fn nothing()
-    ensures { IsThere }
+/// Where the places of code that is made of a right plan are set by its shares, no step reads what was
+/// taken or takes what is lent, and its modes copy what the steps add.
+pub fn code_that_is_set_is_stored_code()
+    ensures { IsSetStored }
+{}
+
+/// The settings that are made beside the steps set them so.
+pub fn code_that_is_made_is_stored_code()
+    ensures { IsMadeStored }
+{}
+
+/// So each run of code that is made of a right plan of a ready unit with sound marks is decided.
+pub fn runs_of_units_that_are_made_are_decided()
+    ensures { AreMadeUnitRunsDecided }
 {}

@@ -1,7 +1,10 @@
-//! How the steps of code that is made handle their operands, and which cells are live there. Laws without
-//! code.
+//! How the steps of code that is made handle their operands, and which cells are live there and own what
+//! they have. Laws without code.
 #![tactic(auto)]
 
 mod laws;
 
-pub use laws::nothing;
+pub use laws::{
+    code_that_is_made_is_stored_code, code_that_is_set_is_stored_code,
+    runs_of_units_that_are_made_are_decided,
+};
