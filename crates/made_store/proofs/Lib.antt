@@ -14,3 +14,5 @@ pub mod Nodes
 pub mod Functions
 pub mod Settling
 pub mod Units
+pub mod Weights
+pub mod Marks

@@ -9,14 +9,15 @@ use Rattle.graph_meaning.specs.Demand.{Vertex, Network}
 use Rattle.graph_meaning.specs.Entered.{IsIn}
 use Rattle.graph_meaning.specs.Networks.{network}
 use Rattle.graph_meaning.specs.Plain.{Costs}
-use Rattle.graph_meaning.specs.Storage.{Storage, copying}
-use Rattle.graph_meaning.specs.StorageUnits.{storage_of}
+use Rattle.graph_meaning.specs.Storage.{Storage, capped, copying, writing}
+use Rattle.graph_meaning.specs.StorageUnits.{UnitWrites, storage_of}
 use Rattle.ordered_meaning.specs.Orders.{AreInOrder}
 use Rattle.run_code.specs.Made.{Plan, functions_size}
 use Rattle.run_laws.specs.Weighing.{AreAlike}
-use Rattle.run_made.specs.Plans.{IsRightPlan, Weighing, laid}
+use Rattle.run_made.specs.Plans.{IsRightPlan, Weighing, laid, lines_of, weigh_at}
 use Rattle.run_store.specs.Lively.{Live}
 use Rattle.run_store.specs.Stored.{Handling}
+use Rattle.run_store.specs.Sums.{EndsAddingStored}
 use Rattle.run_store.specs.Whole.{EndsStored, IsOfUnit, IsStoredCode, StopsStored, entered_stored, first_cells}
 use Rattle.made_store.specs.Settings.{FunctionsSet, Shares}
 use Rattle.made_store.specs.Settled.{functions_settings, handling_of, live_of, own_of}
@@ -45,3 +46,12 @@ AreMadeUnitRunsDecided = (u : Unit1) (P : Plan) (S : Shares) (W : Weighing) (ord
     let handling = handling_of (functions_settings P S levels functions) in
     ((rs : List Carried) × (c : ℕ) × (copies : ℕ) × EndsStored X handling limit (entered_stored X f (first_cells ins)) rs c copies × IsOfUnit u f ins rs c copies × (c ≤ limit))
     ⊎ (StopsStored X handling limit (entered_stored X f (first_cells ins)) × ((d c : ℕ) → Costs (network u) d f ins c → limit < c)))
+
+-- Where the plan is right with weights for writes too, what such a run that ends adds up by them is what is written by the definition of
+-- record.
+abbrev pub AreMadeWritesRecorded : Type 0
+AreMadeWritesRecorded = (u : Unit1) (P : Plan) (S : Shares) (W V : Weighing) (order : ℕ → List Vertex) (functions : List ℕ) (levels limit : ℕ) → IsReady u → IsSound u → AreInOrder (network u) order
+    → IsRightPlan P W (network u) order functions levels → IsRightPlan P V (network u) order functions levels → ((g : ℕ) → IsShared P S W g) → AreAlike (network u) W.weights (copying (storage_of u)) → AreAlike (network u) V.weights (writing (storage_of u))
+    → (f : ℕ) (ins rs : List Carried) (c copies sum : ℕ) → IsIn f functions → length ins ≡ P.params f
+    → EndsAddingStored (laid P W (network u) order functions levels) (weigh_at V (lines_of P V (network u) order functions levels)) (handling_of (functions_settings P S levels functions)) limit (entered_stored (laid P W (network u) order functions levels) f (first_cells ins)) rs c copies sum
+    → UnitWrites u f ins (capped sum)

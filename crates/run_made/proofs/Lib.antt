@@ -6,3 +6,4 @@ pub mod Making
 pub mod Staying
 pub mod Inside
 pub mod Decided
+pub mod Orders

@@ -5,5 +5,5 @@ mod laws;
 
 pub use laws::{
     code_that_is_made_does_its_graphs, code_that_is_made_stays_inside, lines_that_are_made_lie,
-    runs_of_what_is_made_are_decided,
+    orders_are_readable, runs_of_what_is_made_are_decided,
 };

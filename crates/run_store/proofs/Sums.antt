@@ -103,5 +103,5 @@ have-sums X extra handling limit s rs c copies ends =
 pub unit-writes : AreUnitWritesRecorded
 unit-writes u X handling facts live own limit ready sound same inorder is w extra coded alike_ f ins rs c copies sum h cells in_f as_many begins ends =
     let r = sums-recorded (storage_of u) X handling facts live own limit is w extra coded (subst AreOrderly (sym same) (units-orderly u ready (sound-in-order u sound))) (subst (λ z. AreInOrder z X.order) (sym same) inorder) f ins rs c copies sum h cells in_f as_many
-        begins ends in
+    begins ends in
     (r.0, (sum, same-totals (network u) w (writing (storage_of u)) alike_ r.0 f ins sum (subst (λ z. GraphAdds z w r.0 f ins sum) same r.1), refl))
