@@ -18,12 +18,12 @@ use Rattle.lowering.specs.TooMany.{too_many}
 use Rattle.lowering.specs.Types.{Labelled, Table, basics, function_label, header_need, body_needs, with_needs, table, header_label}
 use Rattle.lowered_units.specs.Fitting.{IsFitting}
 use Rattle.lowered_units.specs.Listed.{ListedGraph, Listing, all_of, listing}
-use Rattle.lowered_units.specs.Small.{HasSmallPorts}
 use Rattle.lowered_units.specs.Units.{inner_graphs, function_graph, function_listings, name_of, import_if, imports_of, entries_from, IsTranslated}
 use Rattle.lowered_units.proofs.Bodies.{bodies-formed}
 use Rattle.lowered_units.proofs.Edges.{called-quotable}
 use Rattle.lowered_units.proofs.Entries.{strip, whole_listing, whole-strips}
 use Rattle.lowered_units.proofs.Heads.{In, listing-is}
+use Rattle.lowered_units.proofs.KeptTrees.{small-ports}
 use Rattle.lowered_units.proofs.Lined.{HasLabel, header_table, after-headers, grown-length}
 use Rattle.lowered_units.proofs.Nested.{AreNested}
 use Rattle.lowered_units.proofs.OneUnit.{inside_in, head_of, nil-is-no-cons, heads, tails}
@@ -121,9 +121,9 @@ module _ (p : Program) where
             All-cons (IsImport (entries_from p 1 (table p))) (header_label p f, name_of p f) (imports_of p fs) (w.0, w.1, called-quotable p fit.quotable (Some f)) r
         by (Some es) r = r
 
-    pub is-formed : (u : Unit1) → IsTranslated p u → too_many p ≡ None → HasSmallPorts p → AreNested u → IsFormed u
-    is-formed u t few small nests =
-        let bodies = bodies-formed p u fit t few small nests in
+    pub is-formed : (u : Unit1) → IsTranslated p u → too_many p ≡ None → AreNested u → IsFormed u
+    is-formed u t few nests =
+        let bodies = bodies-formed p u fit t few (small-ports p fit few) nests in
         let placed = all-placed p u (subst (From 1) (sym (ap all_of t.graphs)) whole-from) (λ x i. subst (In x) (ap all_of t.graphs) i)
         (λ g i.
         let h = headers-of 0 1 p.functions (functions_lowered p) u.graphs t.graphs g i in

@@ -20,7 +20,7 @@ use Rattle.lowering.specs.declared.graph.Lowered.{Lowered}
 use Rattle.lowering.specs.Graphs.{size, graph_lines}
 use Rattle.lowering.specs.Programs.{functions_lowered}
 use Rattle.lowering.specs.Types.{Entry, Table, basics, with_types, function_label, Need, header_need, body_needs, needs, with_needs, table}
-use Rattle.lowering.specs.TooMany.{most_types, types_over, graphs_over, or_else, too_many}
+use Rattle.lowering.specs.TooMany.{most_types, types_over, or_else, program_over, too_many}
 use Rattle.lowered_units.specs.Fitting.{IsFitting}
 use Rattle.lowered_units.specs.Units.{entries_from}
 use Rattle.lowered_units.proofs.Built.{AreTypes, AllBuilt, no_graph, a_graph}
@@ -103,7 +103,7 @@ module _ (p : Program) (fit : IsFitting p) where
           at-most k = ltb-false most_types (length (n.enters ts)) k
 
   pub few-types : too_many p ≡ None → length (table p) ≤ most_types
-  few-types e = few-needs (needs p) basics (omega arith) (or-none (types_over (needs p) basics) (graphs_over p.functions (functions_lowered p) 0) e)
+  few-types e = few-needs (needs p) basics (omega arith) (or-none (types_over (needs p) basics) (program_over p) e)
 
   -- ---- the types of the unit
 

@@ -30,6 +30,10 @@ AreNormal = (p : Program) (u : Unit1) → IsFitting p → IsTranslated p u → I
 abbrev pub AreTablesFormed : Type 0
 AreTablesFormed = (p : Program) (u : Unit1) → IsFitting p → too_many p ≡ None → IsTranslated p u → IsTable u.types
 
+-- the ports of a program within the limits, and the labels of their nodes, fit 32 bits
+abbrev pub ArePortsSmall : Type 0
+ArePortsSmall = (p : Program) → IsFitting p → too_many p ≡ None → HasSmallPorts p
+
 -- a unit within the limits is formed and normal
 abbrev pub AreFormed : Type 0
-AreFormed = (p : Program) (u : Unit1) → IsFitting p → too_many p ≡ None → HasSmallPorts p → IsTranslated p u → IsFormed u × IsNormal u
+AreFormed = (p : Program) (u : Unit1) → IsFitting p → too_many p ≡ None → IsTranslated p u → IsFormed u × IsNormal u

@@ -17,15 +17,16 @@ use Rattle.lowering.specs.declared.graph.LoweredGraph.{LoweredGraph}
 use Rattle.lowering.specs.declared.graph.Lowered.{Lowered}
 use Rattle.lowering.specs.Graphs.{size, closed, closed_graphs, graph_lines}
 use Rattle.lowering.specs.Programs.{function_lowered, functions_lowered, graphs}
-use Rattle.lowering.specs.TooMany.{most_graphs, types_over, graphs_over, too_many}
+use Rattle.lowering.specs.TooMany.{most_graphs, types_over, member_ports, header_ports, program_over, too_many}
 use Rattle.lowering.specs.Types.{basics, needs}
 use Rattle.lowered_units.specs.Fitting.{IsFitting}
-use Rattle.lowered_units.specs.Small.{IsSmallFeed, AreSmall, IsSmallGraph, HasSmallPorts}
+use Rattle.lowered_units.specs.Small.{IsSmallFeed, AreSmall, IsSmallGraph}
 use Rattle.lowered_units.proofs.Built.{IsGap}
 use Rattle.lowered_units.proofs.Counted.{few-in-all}
 use Rattle.lowered_units.proofs.Entries.{length-new}
 use Rattle.lowered_units.proofs.Forming.{AreFew, few-graphs, or-right}
 use Rattle.lowered_units.proofs.Heads.{In}
+use Rattle.lowered_units.proofs.KeptTrees.{small-ports}
 use Rattle.lowered_units.proofs.Lined.{WiresIn, IsCalleeIn, NodesIn, GraphsIn, program-lined}
 use Rattle.lowered_units.proofs.Nested.{AllNested}
 use Rattle.lowered_units.proofs.NestedTrees.{functions-nested}
@@ -102,16 +103,19 @@ module _ (p : Program) where
     as-many : length p.functions ≡ length (functions_lowered p)
     as-many = sym (length-new p 1 (map (function_lowered p.types) p.functions) ∙ length-map p.functions (function_lowered p.types))
 
-    not-over : graphs_over p.functions (functions_lowered p) 0 ≡ None
-    not-over = or-right (types_over (needs p) basics) (graphs_over p.functions (functions_lowered p) 0) within
+    not-over : program_over p ≡ None
+    not-over = or-right (types_over (needs p) basics) (program_over p) within
+
+    abbrev headers : ℕ
+    headers = member_ports p.types + header_ports p.functions
 
     few-in-unit : length (graphs p) ≤ most_graphs
-    few-in-unit = let e = few-in-all p.functions (functions_lowered p) 0 as-many (omega arith) not-over in omega (arith, e)
+    few-in-unit = let e = few-in-all p.functions (functions_lowered p) 0 headers as-many (omega arith) not-over in omega (arith, e)
 
-    pub functions-ready : HasSmallPorts p → AreReady p 1 (functions_lowered p)
-    functions-ready small =
+    pub functions-ready : AreReady p 1 (functions_lowered p)
+    functions-ready =
         all-ready 1 most_levels (functions_lowered p) (functions-nested p p.types p.names fit.headers most_levels 1 fit.headers p.functions fit.tree.fits fit.shallow)
-        (let e = few-in-unit in omega (arith, e)) (graphs-ready (graphs p) (few-graphs p.functions (functions_lowered p) 0 as-many not-over) small (program-lined p fit))
+        (let e = few-in-unit in omega (arith, e)) (graphs-ready (graphs p) (few-graphs p.functions (functions_lowered p) 0 headers as-many not-over) (small-ports p fit within) (program-lined p fit))
 
     -- each function has a graph
     pub functions-few : length p.functions ≤ most_graphs

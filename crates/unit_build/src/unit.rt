@@ -7,7 +7,6 @@ ghost use Rattle.lowering.specs.TooMany.{too_many};
 ghost use Rattle.lowering.specs.Types.{table};
 ghost use Rattle.lowered_units.specs.Fitting.{IsFitting};
 ghost use Rattle.lowered_units.specs.Listed.{listing};
-ghost use Rattle.lowered_units.specs.Small.{HasSmallPorts};
 ghost use Rattle.lowered_units.specs.Units.{function_listings, import_if, imports_of, entries_from, IsTranslated};
 ghost use Rattle.unit_build.specs.Labels.{AreLabelsOf};
 ghost use Rattle.unit_build.specs.Readiness.{IsReadyFunction, AreReady};
@@ -137,7 +136,6 @@ pub fn unit_of(
 ) -> Result<Unit1, NoMemory>
     requires fits { IsFitting program.now }
     requires within { too_many program.now ≡ None }
-    requires small { HasSmallPorts program.now }
     requires functions { lowered ≡ functions_lowered program.now }
     requires labels { AreLabelsOf program.now labels.now }
     requires types { types ≡ entries_from program.now 1 (table program.now) }

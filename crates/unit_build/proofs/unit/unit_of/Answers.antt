@@ -12,4 +12,4 @@ graphs_of-requires-clause-few c = let few = functions-few c.args.program.now c.r
 pub graphs_of-requires-clause-ready : goal.graphs_of-requires-clause-ready
 graphs_of-requires-clause-ready c =
     let p = c.args.program.now in
-    subst (AreReady p 1) (sym c.requires.functions) (functions-ready p c.requires.fits c.requires.within c.requires.small)
+    subst (AreReady p 1) (sym c.requires.functions) (functions-ready p c.requires.fits c.requires.within)
