@@ -81,6 +81,20 @@ pub struct Body {
     pub edges: EdgeList,
 }
 
+/// Room for the edges into nodes.
+fn room(alloc: Global, nodes: &[LoweredNode], results: usize) -> Result<EdgeList, NoMemory>
+    ensures { IfOk result (λ edges. edges ≡ []) }
+{
+    let mut most = results;
+    for node in nodes {
+        most = most.saturating_add(node.ins.len());
+        if let Action::Call(_) = &node.action {
+            most = most.saturating_add(1);
+        }
+    }
+    EdgeList::with_room(alloc, most)
+}
+
 impl Maker<'_> {
     /// Adds a node, with the first of the graphs inside, and the edges into it.
     fn put_node(
@@ -103,10 +117,11 @@ impl Maker<'_> {
         body.nodes.add(node)
     }
 
-    /// Nodes, with the first of the graphs inside, and the edges into them.
+    /// Nodes, with the first of the graphs inside, and the edges into them, with room for so many more.
     fn put_nodes(
         &self,
         nodes: Seq<LoweredNode>,
+        results: usize,
         made: &mut VecDeque<Graph>,
     ) -> Result<Body, NoMemory>
         requires few { length nodes ≤ most_nodes }
@@ -118,7 +133,7 @@ impl Maker<'_> {
     {
         let mut body = Body {
             nodes: NodeList::with_room(self.alloc, nodes.len())?,
-            edges: EdgeList::new(self.alloc),
+            edges: room(self.alloc, nodes.as_slice(), results)?,
         };
         let mut label = 1;
         let mut left = nodes.into_vec().into_iter();
@@ -138,7 +153,7 @@ impl Maker<'_> {
         ensures edges { IfOk result (λ body. body.edges ≡ edges_of self.now.program.now 1 graph.nodes graph.results) }
     {
         let LoweredGraph { nodes, results } = graph;
-        let mut body = self.put_nodes(nodes, made)?;
+        let mut body = self.put_nodes(nodes, results.len(), made)?;
         self.put_edges(0, 1, results, &mut body.edges)?;
         Ok(body)
     }
