@@ -1,9 +1,6 @@
--- The labels of tuples and functions by the labels of types, and what an edge carries as the definition of tables has it.
+-- The labels of tuples and functions by the labels of types.
 use Rattle.std.specs.Prelude.{ℕ, List, [], map}
-use Rattle.lowering.specs.Feeds as feeds
 use Rattle.lowering.specs.Types.{Table, Labelled, Part, entry, enter, members}
-use Rattle.type_labels.specs.declared.carried.Carried.{Carried}
-use Rattle.type_labels.specs.declared.carried.Carried.TheVariants as carried
 
 -- the members of a tuple have no names
 abbrev pub unnamed : List ℕ → List Part
@@ -17,8 +14,3 @@ function_by type params results ts =
     let a = tuple_by type params ts in
     let r = tuple_by type results a.table in
     enter (entry 3 a.label r.label []) r.table
-
-abbrev pub carried_of : Carried → feeds.Carried
-carried_of (carried.One t) = feeds.One t
-carried_of (carried.Many t) = feeds.Many t
-carried_of (carried.Callee f) = feeds.Callee f

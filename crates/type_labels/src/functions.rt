@@ -11,12 +11,12 @@ ghost use Rattle.lowering.specs.Types.{
 };
 ghost use Rattle.lowering.specs.TooMany.{most_types};
 ghost use Rattle.type_labels.specs.Keys.{before};
-ghost use Rattle.type_labels.specs.Functions.{tuple_by, function_by, carried_of};
+ghost use Rattle.type_labels.specs.Functions.{tuple_by, function_by};
 
-use crate::carried::Carried;
 use crate::table::{LabelFault, Table};
 use crate::types::DEEPEST;
 use flow_value::{Name, item_at};
+use lowering::Carried;
 use type_table::Types;
 use typed_tree::Function;
 
@@ -44,8 +44,8 @@ impl Table {
         functions: &[Function],
         carried: Carried,
     ) -> Result<u32, LabelFault>
-        ensures ok { IfOk result (λ label. carried_label types.now names.now functions.now (carried_of carried) self.old ≡ labelled label self.new) }
-        ensures too_many { IfErr result (λ e. e ≡ LabelFault.TooMany → most_types < length (carried_label types.now names.now functions.now (carried_of carried) self.old).table) }
+        ensures ok { IfOk result (λ label. carried_label types.now names.now functions.now carried self.old ≡ labelled label self.new) }
+        ensures too_many { IfErr result (λ e. e ≡ LabelFault.TooMany → most_types < length (carried_label types.now names.now functions.now carried self.old).table) }
     {
         match carried {
             Carried::One(ty) => self.type_label(types, names, ty),

@@ -2,10 +2,8 @@
 //! the labels of types (IF1 manual M-170, type table).
 #![tactic(auto)]
 
-mod carried;
 mod functions;
 mod table;
 mod types;
 
-pub use carried::Carried;
 pub use table::{LabelFault, Table};
