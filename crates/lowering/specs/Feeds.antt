@@ -1,11 +1,11 @@
 -- What fills the ports of nodes while a graph is made (IF1 manual M-170, edges and literals): a literal, or a port of this graph or
 -- of one around it.
 use Rattle.std.specs.Prelude.{ℕ, suc, Bool, true, false, nat_eq, List, [], ◌∷◌, ◌++◌, if◌then◌else◌}
-pub use Rattle.lowering.specs.declared.feed.Feed.{Feed}
-pub use Rattle.lowering.specs.declared.feed.Feed.TheVariants.{Literal, Named, Absent, Port}
-pub use Rattle.lowering.specs.declared.feed.Carried.{Carried}
-pub use Rattle.lowering.specs.declared.feed.Carried.TheVariants.{One, Many, Callee}
-pub use Rattle.lowering.specs.declared.feed.Wire.{Wire}
+use Rattle.lowering.specs.declared.feed.Feed.{Feed}
+use Rattle.lowering.specs.declared.feed.Feed.TheVariants.{Literal, Named, Absent, Port}
+use Rattle.lowering.specs.declared.feed.Carried.{Carried}
+use Rattle.lowering.specs.declared.feed.Carried.TheVariants.{One, Many, Callee}
+use Rattle.lowering.specs.declared.feed.Wire.{Wire}
 
 abbrev pub wire : Feed → Carried → Wire
 wire f t = record { feed = f; ty = t }

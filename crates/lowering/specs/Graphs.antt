@@ -3,12 +3,17 @@
 use Rattle.std.specs.Prelude.{ℕ, zero, suc, ◌+◌, List, [], ◌∷◌, ◌++◌, map, length}
 use Rattle.if1_graph.specs.declared.op.Compound.{Compound}
 use Rattle.if1_graph.specs.declared.op.Compound.TheVariants as compound
-use Rattle.lowering.specs.Feeds.{Feed, Port, Carried, One, Callee, Wire, wire, outsides, carried, distinct, place}
-pub use Rattle.lowering.specs.declared.graph.Action.{Action}
-pub use Rattle.lowering.specs.declared.graph.Action.TheVariants.{Row, Call, Whole}
-pub use Rattle.lowering.specs.declared.graph.LoweredNode.{LoweredNode}
-pub use Rattle.lowering.specs.declared.graph.LoweredGraph.{LoweredGraph}
-pub use Rattle.lowering.specs.declared.graph.Lowered.{Lowered}
+use Rattle.lowering.specs.declared.feed.Feed.{Feed}
+use Rattle.lowering.specs.declared.feed.Feed.TheVariants.{Port}
+use Rattle.lowering.specs.declared.feed.Carried.{Carried}
+use Rattle.lowering.specs.declared.feed.Carried.TheVariants.{One, Callee}
+use Rattle.lowering.specs.declared.feed.Wire.{Wire}
+use Rattle.lowering.specs.Feeds.{wire, outsides, carried, distinct, place}
+use Rattle.lowering.specs.declared.graph.Action.{Action}
+use Rattle.lowering.specs.declared.graph.Action.TheVariants.{Row, Call, Whole}
+use Rattle.lowering.specs.declared.graph.LoweredNode.{LoweredNode}
+use Rattle.lowering.specs.declared.graph.LoweredGraph.{LoweredGraph}
+use Rattle.lowering.specs.declared.graph.Lowered.{Lowered}
 
 abbrev pub node : Action → List Wire → LoweredNode
 node a ins = record { action = a; ins = ins }
