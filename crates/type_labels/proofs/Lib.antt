@@ -2,3 +2,4 @@ mod Growth
 mod Names
 mod Places
 mod Steps
+mod Tuples
