@@ -1,4 +1,5 @@
 mod Growth
+mod Lines
 mod Names
 mod Places
 mod Steps
