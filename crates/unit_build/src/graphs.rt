@@ -9,10 +9,10 @@ ghost use Rattle.lowered_units.specs.Units.{listed_nodes, inner_graph, inner_gra
 ghost use Rattle.unit_build.specs.Nesting.{listings, head, parts, Hold, IsNesting, IsNext};
 ghost use Rattle.unit_build.specs.Readiness.{IsReadyGraph, IsReadyFunction};
 
-use crate::closing::{closed_nodes, closed_wires};
 use crate::maker::Maker;
 use flow_value::{Name, NoMemory, Seq};
 use if1_graph::Graph;
+use lowered_data::{Keys, close_graph};
 use lowering::{Lowered, LoweredGraph};
 use std::collections::VecDeque;
 use typed_tree::Function;
@@ -95,9 +95,10 @@ impl Maker<'_> {
         } = lowered;
         let mut made = self.nested(number + 1, graphs)?;
         let graph = LoweredGraph {
-            nodes: closed_nodes(self.alloc, nodes)?,
-            results: closed_wires(self.alloc, values)?,
+            nodes,
+            results: values,
         };
+        let graph = close_graph(graph, &Keys::new(self.alloc), 0, 0)?;
         let body = self.body_of(graph, &mut made)?;
         Ok(Graph {
             number,

@@ -2,7 +2,6 @@
 //! functions of other texts (IF1 manual M-170, text form).
 #![tactic(auto)]
 
-mod closing;
 mod codes;
 mod edges;
 mod graphs;
