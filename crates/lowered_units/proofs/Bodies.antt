@@ -10,8 +10,11 @@ use Rattle.if1_graph.specs.Formed.{function_named, most, IsNode, IsOnce, IsEdge}
 use Rattle.if1_graph.specs.Ports.{count_from}
 use Rattle.if1_graph.specs.Units.{label_of, most_levels, Place, places}
 use Rattle.typed_tree.specs.declared.program.Program.{Program}
-use Rattle.lowering.specs.Feeds.{Carried, Wire}
-use Rattle.lowering.specs.Graphs.{LoweredNode, LoweredGraph, graph_lines}
+use Rattle.lowering.specs.declared.feed.Carried.{Carried}
+use Rattle.lowering.specs.declared.feed.Wire.{Wire}
+use Rattle.lowering.specs.declared.graph.LoweredNode.{LoweredNode}
+use Rattle.lowering.specs.declared.graph.LoweredGraph.{LoweredGraph}
+use Rattle.lowering.specs.Graphs.{graph_lines}
 use Rattle.lowering.specs.Programs.{function_lowered, functions_lowered, graphs, graph_at}
 use Rattle.lowering.specs.TooMany.{most_nodes, most_graphs, types_over, program_over, too_many, member_ports, header_ports}
 use Rattle.lowering.specs.Types.{basics, needs}

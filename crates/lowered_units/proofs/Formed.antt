@@ -10,7 +10,9 @@ use Rattle.if1_graph.specs.Formed.{IsTable, IsWholeType, IsImport, IsFormed}
 use Rattle.typed_tree.specs.declared.expr.TypedExpr.{TypedExpr}
 use Rattle.typed_tree.specs.declared.program.Function as typed
 use Rattle.typed_tree.specs.declared.program.Program.{Program}
-use Rattle.lowering.specs.Graphs.{LoweredGraph, Lowered, size, closed}
+use Rattle.lowering.specs.declared.graph.LoweredGraph.{LoweredGraph}
+use Rattle.lowering.specs.declared.graph.Lowered.{Lowered}
+use Rattle.lowering.specs.Graphs.{size, closed}
 use Rattle.lowering.specs.Programs.{functions_lowered, graphs}
 use Rattle.lowering.specs.TooMany.{too_many}
 use Rattle.lowering.specs.Types.{Labelled, Table, basics, function_label, header_need, body_needs, with_needs, table, header_label}

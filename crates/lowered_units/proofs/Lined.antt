@@ -4,8 +4,18 @@ use Rattle.std.proofs.lemmas.List.{length-append, length-map}
 use Rattle.type_table.specs.declared.form.Form.{Form}
 use Rattle.typed_tree.specs.declared.program.Function.{Function}
 use Rattle.typed_tree.specs.declared.program.Program.{Program}
-use Rattle.lowering.specs.Feeds.{Feed, Literal, Named, Absent, Port, Carried, Callee, Wire, one_carried, carried}
-use Rattle.lowering.specs.Graphs.{Action, Row, Call, Whole, callee, LoweredNode, LoweredGraph, Lowered, graph_lines, size, inputs, closed_wires, closed_nodes, closed_graphs}
+use Rattle.lowering.specs.declared.feed.Feed.{Feed}
+use Rattle.lowering.specs.declared.feed.Feed.TheVariants.{Literal, Named, Absent, Port}
+use Rattle.lowering.specs.declared.feed.Carried.{Carried}
+use Rattle.lowering.specs.declared.feed.Carried.TheVariants.{Callee}
+use Rattle.lowering.specs.declared.feed.Wire.{Wire}
+use Rattle.lowering.specs.Feeds.{one_carried, carried}
+use Rattle.lowering.specs.declared.graph.Action.{Action}
+use Rattle.lowering.specs.declared.graph.Action.TheVariants.{Row, Call, Whole}
+use Rattle.lowering.specs.declared.graph.LoweredNode.{LoweredNode}
+use Rattle.lowering.specs.declared.graph.LoweredGraph.{LoweredGraph}
+use Rattle.lowering.specs.declared.graph.Lowered.{Lowered}
+use Rattle.lowering.specs.Graphs.{callee, graph_lines, size, inputs, closed_wires, closed_nodes, closed_graphs}
 use Rattle.lowering.specs.Programs.{function_lowered, functions_lowered, graphs}
 use Rattle.lowering.specs.Types.{Table, Labelled, basics, carried_label, function_label, with_types, Need, header_need, body_needs, with_needs, table}
 use Rattle.lowered_units.specs.Fitting.{IsFitting}

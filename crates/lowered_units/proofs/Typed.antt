@@ -15,8 +15,9 @@ use Rattle.typed_tree.specs.declared.program.Function.{Function}
 use Rattle.typed_tree.specs.declared.program.Program.{Program}
 use Rattle.typed_tree.specs.Types.{AreNumbers}
 use Rattle.fitting_trees.specs.Fitting.{Header, FunctionFits, FunctionsFit}
-use Rattle.lowering.specs.Feeds.{One}
-use Rattle.lowering.specs.Graphs.{Lowered, size, graph_lines}
+use Rattle.lowering.specs.declared.feed.Carried.TheVariants.{One}
+use Rattle.lowering.specs.declared.graph.Lowered.{Lowered}
+use Rattle.lowering.specs.Graphs.{size, graph_lines}
 use Rattle.lowering.specs.Programs.{functions_lowered}
 use Rattle.lowering.specs.Types.{Entry, Table, basics, with_types, function_label, Need, header_need, body_needs, needs, with_needs, table}
 use Rattle.lowering.specs.TooMany.{most_types, types_over, or_else, program_over, too_many}

@@ -4,7 +4,7 @@ use Rattle.if1_graph.specs.declared.graph.TypeEntry.{TypeEntry}
 use Rattle.if1_graph.specs.Formed.{IsWholeType, HasReal, itself, within, IsRealType, is_real, is_basic}
 use Rattle.if1_graph.specs.Kinds.{kind_at, basic_at}
 use Rattle.typed_tree.specs.declared.program.Program.{Program}
-use Rattle.lowering.specs.Feeds.{Carried}
+use Rattle.lowering.specs.declared.feed.Carried.{Carried}
 use Rattle.lowering.specs.Graphs.{graph_lines}
 use Rattle.lowering.specs.Programs.{functions_lowered}
 use Rattle.lowering.specs.TooMany.{too_many}

@@ -5,7 +5,7 @@ use Rattle.if1_graph.specs.declared.graph.Unit1.{Unit1}
 use Rattle.if1_graph.specs.Formed.{IsTable, IsFormed}
 use Rattle.if1_graph.specs.Normal.{IsNormal}
 use Rattle.graph_meaning.specs.Networks.{network}
-use Rattle.lowering.specs.Graphs.{LoweredGraph}
+use Rattle.lowering.specs.declared.graph.LoweredGraph.{LoweredGraph}
 use Rattle.lowering.specs.Programs.{graph_at, number_of}
 use Rattle.lowering.specs.TooMany.{too_many}
 use Rattle.lowered_units.specs.Fitting.{IsFitting}

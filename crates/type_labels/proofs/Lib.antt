@@ -1,4 +1,6 @@
 mod Growth
+mod Lines
 mod Names
 mod Places
 mod Steps
+mod Tuples

@@ -1,0 +1,10 @@
+mod Tables
+mod Stable
+mod Same
+mod Wires
+mod Made
+mod Forms
+mod Loops
+mod Turns
+mod Trees
+mod Programs
