@@ -1,5 +1,5 @@
 mod Growth
-mod Names
+pub mod Names
 mod Places
 mod Steps
 mod Tuples
