@@ -1,6 +1,5 @@
 mod Growth
 mod Lines
-mod Names
 pub mod Names
 mod Places
 mod Steps
