@@ -41,7 +41,7 @@ tree_fits bytes u p h =
     units_fit u p (names_once bytes u.tokens h.lexed) (tags_once p.types h.standing.once) (program_written (length p.functions) p.functions bound.functions) h.typed
 
 pub texts_fit : DoTextsFit
-texts_fit bytes u p h deep table members =
+texts_fit bytes u p h deep table =
     let t = h.typed in
     let same = sym t.names in
     let bound = text_bound bytes u p h.lexed h.spelled t in
@@ -49,7 +49,6 @@ texts_fit bytes u p h deep table members =
       headers = headers (signatures t.declared);
       tree = subst (λ names. IsFittingTree p.types names (headers (signatures t.declared)) p.functions) same (tree_fits bytes u p h);
       types = table;
-      members = members;
       results = functions_give p p.functions bound.headers;
       shallow = unit_within u p 200 deep t;
       visible = subst (All IsName) same (names_visible bytes u.tokens h.lexed);

@@ -1,8 +1,5 @@
 -- What is said of the programs of texts.
-use Rattle.std.specs.Prelude.{◌≡◌, ◌≤◌, ◌⊎◌, ℕ, List, Some, slice_get, length, Ok}
-use Rattle.type_table.specs.declared.form.Form.{Form}
-use Rattle.type_table.specs.declared.form.Form.TheVariants.{Record, Union}
-use Rattle.type_table.specs.declared.form.Member.{Member}
+use Rattle.std.specs.Prelude.{◌≡◌, ◌≤◌, ℕ, List, Some, slice_get, Ok}
 use Rattle.type_table.specs.Tables.{IsTable}
 use Rattle.sisal_tree.specs.declared.unit.Unit as tree
 use Rattle.sisal_tree.specs.Depth.{depth_of}
@@ -22,10 +19,6 @@ use Rattle.typed_rows.specs.Rows.{AreOf}
 use Rattle.typed_values.specs.Meets.{Asked, Meets, IsRight}
 use Rattle.lowered_units.specs.Fitting.{IsFitting}
 
--- each record of a table of types has a field, and each union a tag
-abbrev pub HaveMembers : List Form → Type 0
-HaveMembers forms = (n : ℕ) (ms : List Member) → (slice_get forms n ≡ Some (Record ms)) ⊎ (slice_get forms n ≡ Some (Union ms)) → 1 ≤ length ms
-
 -- A program of a unit that a text spells. That its types stand, no union with a tag twice, is what `check` answers besides.
 pub record IsTypedText (bytes : List ℕ) (u : tree.Unit) (p : Program) : Type 0 where
   pub lexed : tokens_of bytes ≡ Ok u.tokens
@@ -33,9 +26,9 @@ pub record IsTypedText (bytes : List ℕ) (u : tree.Unit) (p : Program) : Type 0
   pub typed : IsTyped u p
   pub standing : AreStanding u.tokens.names p.types
 
--- it fits, where the text is at most 200 deep and its types are such as a text can write
+-- it fits, where the text is at most 200 deep
 abbrev pub DoTextsFit : Type 0
-DoTextsFit = (bytes : List ℕ) (u : tree.Unit) (p : Program) → IsTypedText bytes u p → depth_of u.items ≤ 200 → IsTable p.types → HaveMembers p.types → IsFitting p
+DoTextsFit = (bytes : List ℕ) (u : tree.Unit) (p : Program) → IsTypedText bytes u p → depth_of u.items ≤ 200 → IsTable p.types → IsFitting p
 
 -- on arguments of the types of its parameters, a function gives values of the types of its results
 abbrev pub DoTextsGiveTypes : Type 0

@@ -1,8 +1,7 @@
 //! The laws of programs of texts.
 ghost use Rattle.fitting_texts.specs.Laws.{DoTextsFit, DoTextsGiveTypes, DoTextsMeetWhatTheyTake};
 
-/// The program of a typed unit of a text fits, where each record of its table of types has a field
-/// and each union a tag.
+/// The program of a typed unit of a text fits.
 pub fn programs_of_texts_fit()
     ensures { DoTextsFit }
 {}

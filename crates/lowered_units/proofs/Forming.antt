@@ -40,7 +40,7 @@ use Rattle.lowering.specs.Operations.{integer}
 use Rattle.lowering.specs.Programs.{functions_lowered, graph_at}
 use Rattle.lowering.specs.TooMany.{most_nodes, most_graphs, most_ports, is_large, graph_ports, graphs_over, or_else, too_many}
 use Rattle.lowering.specs.Types.{label_of as type_label_of}
-use Rattle.lowered_units.specs.Fitting.{IsFitting}
+use Rattle.lowered_units.specs.Fitting.{HaveMembers, IsFitting}
 use Rattle.lowered_units.specs.Listed.{ListedNode}
 use Rattle.lowered_units.specs.Small.{IsSmallFeed, AreSmall}
 use Rattle.lowered_units.specs.Units.{constant_text, simple_code, compound_code, edge, edge_if, edges_into, node_edges, called_name, listed_node, origin_of, IsTranslated}
@@ -209,7 +209,7 @@ nodes-formed label (n ∷ ns) (v ∷ vs) m one few s =
 
 -- ---- edges
 
-module _ (p : Program) (u : Unit1) (fit : IsFitting p) (t : IsTranslated p u) (within : too_many p ≡ None)
+module _ (p : Program) (u : Unit1) (fit : IsFitting p) (members : HaveMembers p.types) (t : IsTranslated p u) (within : too_many p ≡ None)
     (found : (f : ℕ) → f < functions p fit → IsSome (function_named u.graphs (called_name p (slice_get p.functions f)))) where
   abbrev count : ℕ
   count = functions p fit
@@ -218,7 +218,7 @@ module _ (p : Program) (u : Unit1) (fit : IsFitting p) (t : IsTranslated p u) (w
   lines = graph_lines (functions_lowered p)
 
   whole : (c : Carried) → In c lines → IsWholeType u.types (type_label_of p c)
-  whole c i = subst (λ ts. IsWholeType ts (type_label_of p c)) (sym t.types) (whole-line p fit within c i)
+  whole c i = subst (λ ts. IsWholeType ts (type_label_of p c)) (sym t.types) (whole-line p fit members within c i)
 
   module _ (g : Graph) where
     abbrev IsFormedEdge : Edge → Type 0
