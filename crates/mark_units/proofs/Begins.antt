@@ -9,8 +9,8 @@ use Rattle.if1_graph.specs.declared.graph.Graph.TheViews.{out-Graph, roll-Graph,
 use Rattle.if1_graph.specs.declared.graph.Graph.TheOpen.{Graph-F, Node-F}
 use Rattle.if1_graph.specs.declared.graph.Node.{Node, roll-Node, out-Node}
 use Rattle.if1_graph.specs.declared.graph.Unit1.{Unit1}
-use Rattle.if1_graph.specs.Units.{label_of, levels, level_below, greatest, Home, Inside, Place, places_of, number_of}
-use Rattle.if1_order.proofs.Within.{levels_out, parts_below, below}
+use Rattle.if1_graph.specs.Units.{label_of, levels, level_below, Home, Inside, Place, places_of}
+use Rattle.if1_order.proofs.Within.{levels_out, parts_below}
 use Rattle.marks_made.specs.Made.{Answer, marked}
 use Rattle.marks_made.specs.Units.{is_candidate, each_graph, with_graphs, with_parts, marked_at}
 use Rattle.marks_made.specs.Laws.{IsMarkable}
@@ -25,7 +25,7 @@ use Rattle.take_marks.proofs.Marking.{marked-is}
 use Rattle.mark_units.specs.declared.begin.Begun.{Begun}
 use Rattle.mark_units.specs.declared.begin.Pass.{Pass}
 use Rattle.mark_units.specs.declared.note.Note.{Note}
-use Rattle.mark_units.specs.Begun.{HasTaken, HasBegun}
+use Rattle.mark_units.specs.Begun.{HasBegun}
 use Rattle.mark_units.specs.Notes.{AreNotes, AreNotesOf, is_kept, one_note, noted}
 use Rattle.mark_units.specs.Notes as notes
 use Rattle.mark_units.specs.Walked.{AllFlags, AreNext, WentBy, GraphNext, GraphMarked, NodesNext, NodesMarked, NodeNext, NodeMarked, PartsNext, PartsMarked, marked_node}

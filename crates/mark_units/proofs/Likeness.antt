@@ -1,5 +1,5 @@
 -- Graphs with the same edges and labels have the same marks made.
-use Rattle.std.proofs.Common.{◌≡◌, ◌≢◌, ◌∙◌, ℕ, zero, suc, ◌<◌, Bool, true, false, ◌||◌, ◌&&◌, not, List, [], ◌∷◌, ◌++◌, map, length, slice_index, slice_index_or, All, AllPairs, Contains, ◌↔◌, refl, sym, ap, subst, if◌then◌else◌, nat_lt, arith, ◌==◌}
+use Rattle.std.proofs.Common.{◌≡◌, ◌∙◌, ℕ, ◌<◌, Bool, true, ◌||◌, ◌&&◌, not, List, [], ◌∷◌, ◌++◌, map, length, slice_index, slice_index_or, AllPairs, Contains, ◌↔◌, refl, sym, ap, subst, if◌then◌else◌, nat_lt, ◌==◌}
 use Rattle.std.specs.List.{list_any, filter}
 use Rattle.std.specs.List.Sorted.{IsStrictlyIncreasing}
 use Rattle.if1_graph.specs.declared.graph.Edge.{Edge}
@@ -13,7 +13,6 @@ use Rattle.if1_graph.specs.Ports.{leaves}
 use Rattle.if1_graph.specs.Units.{label_of, ends}
 use Rattle.if1_order.specs.Orders.{node_labels}
 use Rattle.if1_marks.specs.Owned.{leaving}
-use Rattle.if1_marks.specs.Sound.{edges_to_its_node}
 use Rattle.marks_made.specs.Ways.{Links, leads_by}
 use Rattle.marks_made.specs.Made.{Answer, Orders, Kept, Taken, Twice, Blocked, is_taken, is_edge, is_order, links, precedes, others, is_twice, is_before, is_blocked, ordered, answer, after, answered, orders, made, made_orders}
 use Rattle.marks_made.specs.Laws.{IsMarkable}

@@ -21,9 +21,8 @@ use Rattle.if1_marks.specs.Alike.{IsUntakenLiteral, AreMarksSpelled, DoListsRise
 use Rattle.if1_marks.specs.Owned.{is_owned}
 use Rattle.if1_marks.specs.Sound.{IsTakerRight, AreMarksRight}
 use Rattle.if1_marks.proofs.AlikeUnits.{alike-ready, alike-normal}
-use Rattle.marks_made.specs.Made.{is_order, made_orders, with_list, marked}
+use Rattle.marks_made.specs.Made.{is_order, made_orders, with_list}
 use Rattle.marks_made.specs.Units.{is_candidate, marks_of}
-use Rattle.marks_made.specs.Laws.{AreMarksMade}
 use Rattle.marks_made.proofs.Units.{Origin_of, from-unit, units-marked}
 use Rattle.mark_units.specs.Laws.{AreMarksReady}
 

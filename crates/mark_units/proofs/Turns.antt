@@ -1,15 +1,14 @@
 -- Turns of the loops over graphs and over nodes.
-use Rattle.std.proofs.Common.{◌≡◌, ◌∙◌, ℕ, suc, ◌+◌, ◌≤◌, Bool, List, [], ◌∷◌, ◌++◌, map, drop, length, All, Contains, refl, sym, ap, subst, arith, append-nil, append_assoc}
+use Rattle.std.proofs.Common.{◌≡◌, ◌∙◌, ℕ, suc, ◌+◌, ◌≤◌, List, [], ◌∷◌, ◌++◌, map, drop, length, All, Contains, refl, sym, ap, subst, arith, append-nil, append_assoc}
 use Rattle.std.specs.List.{flat_map}
 use Rattle.std.proofs.lemmas.List.Elements.{All-contains, Contains-append_right}
 use Rattle.if1_graph.specs.declared.graph.Graph.{Graph}
 use Rattle.if1_graph.specs.declared.graph.Node.{Node}
 use Rattle.if1_graph.specs.declared.graph.Unit1.{Unit1}
 use Rattle.if1_graph.specs.Units.{Home, Place, levels, places_of}
-use Rattle.marks_made.specs.Units.{each_graph, marked_at}
 use Rattle.may_take.specs.Looked.{flags_at, node_places, node_levels}
 use Rattle.mark_units.specs.declared.begin.Pass.{Pass}
-use Rattle.mark_units.specs.Walked.{AllFlags, AreNext, WentBy, GraphNext, GraphMarked, NodeNext, NodeMarked, NodesNext, NodesMarked, PartsNext, PartsMarked, part_places, marked_parts, marked_node}
+use Rattle.mark_units.specs.Walked.{AllFlags, AreNext, GraphNext, GraphMarked, NodeNext, NodeMarked, NodesNext, NodesMarked, PartsNext, PartsMarked, part_places, marked_parts, marked_node}
 use Rattle.mark_units.proofs.Going.{first-next, others-next, HasNoted, noted-none, noted-more, noted-all}
 
 -- these are what is left of a list

@@ -1,6 +1,5 @@
 -- The pass over a whole unit.
-use Rattle.std.proofs.Common.{◌≡◌, ◌∙◌, Bool, List, [], ◌++◌, map, drop, Contains, sym, ap, append-nil}
-use Rattle.if1_graph.specs.declared.graph.Graph.{Graph}
+use Rattle.std.proofs.Common.{◌≡◌, ◌∙◌, [], map, drop, sym, append-nil}
 use Rattle.if1_graph.specs.declared.graph.Unit1.{Unit1}
 use Rattle.if1_graph.specs.Normal.{IsNormal}
 use Rattle.if1_graph.specs.Ready.{IsReady}

@@ -1,5 +1,5 @@
 -- The pass that makes the marks of graphs one after another.
-use Rattle.std.specs.Prelude.{◌≡◌, ℕ, suc, ◌+◌, ◌≤◌, Bool, List, ◌++◌, map, drop, All, Contains}
+use Rattle.std.specs.Prelude.{◌≡◌, ℕ, suc, ◌≤◌, Bool, List, ◌++◌, map, drop, All, Contains}
 use Rattle.std.specs.List.{flat_map}
 use Rattle.if1_graph.specs.declared.graph.Graph.{Graph}
 use Rattle.if1_graph.specs.declared.graph.Node.{Node}

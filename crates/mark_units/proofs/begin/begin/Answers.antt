@@ -1,6 +1,5 @@
-use Rattle.std.proofs.Common.{◌≡◌, ◌∙◌, ◌++◌, length, refl, sym, ap, subst}
-use Rattle.if1_graph.specs.declared.graph.Edge.{Edge}
-use Rattle.if1_graph.specs.declared.graph.Graph.TheOpen.{Graph-F, Node-F}
+use Rattle.std.proofs.Common.{◌∙◌, ◌++◌, length, sym, ap, subst}
+use Rattle.if1_graph.specs.declared.graph.Graph.TheOpen.{Graph-F}
 use Rattle.if1_graph.specs.declared.graph.Graph.TheViews.{out-Graph, out-roll-Graph}
 use Rattle.if1_graph.specs.declared.graph.Graph.{Graph}
 use Rattle.if1_graph.specs.declared.graph.Node.{Node}

@@ -1,9 +1,7 @@
-use Rattle.std.proofs.Common.{◌≡◌, ◌∙◌, All, sym, ap, subst}
-use Rattle.if1_graph.specs.declared.graph.Unit1.{Unit1}
+use Rattle.std.proofs.Common.{◌∙◌, All, sym, ap, subst}
 use Rattle.if1_graph.specs.Normal.{IsNormal}
 use Rattle.if1_graph.specs.Ready.{IsReady}
-use Rattle.if1_graph.specs.Units.{Place, places}
-use Rattle.if1_marks.specs.Alike.{AreAlike}
+use Rattle.if1_graph.specs.Units.{places}
 use Rattle.if1_marks.specs.Sound.{IsSound}
 use Rattle.if1_marks.specs.Unmarked.{unmarked_unit}
 use Rattle.marks_made.specs.Units.{is_candidate, marks_of}

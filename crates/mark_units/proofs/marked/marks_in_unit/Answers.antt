@@ -1,4 +1,4 @@
-use Rattle.std.proofs.Common.{◌≡◌, ◌∙◌, [], ◌++◌, sym, ap, subst}
+use Rattle.std.proofs.Common.{◌∙◌, [], ◌++◌, sym, ap, subst}
 use Rattle.if1_graph.specs.declared.graph.Unit1.{Unit1}
 use Rattle.if1_graph.specs.Units.{Function, places, most_levels}
 use Rattle.mark_units.specs.Notes.{AreNotes}

@@ -1,12 +1,11 @@
-use Rattle.std.proofs.Common.{◌≡◌, ◌∙◌, ◌+◌, ℕ, List, [], ◌∷◌, ◌++◌, length, drop, map, sym, ap, subst, arith}
+use Rattle.std.proofs.Common.{◌≡◌, ◌∙◌, List, [], ◌∷◌, drop, map, sym, ap, subst, arith}
 use Rattle.std.specs.Vec.Iter.{into_iter_items}
 use Rattle.if1_graph.specs.declared.graph.Graph.{Graph}
-use Rattle.if1_graph.specs.declared.graph.Graph.TheOpen.{Graph-F, Node-F}
+use Rattle.if1_graph.specs.declared.graph.Graph.TheOpen.{Graph-F}
 use Rattle.if1_graph.specs.declared.graph.Graph.TheViews.{out-Graph, roll-Graph}
-use Rattle.if1_graph.specs.declared.graph.Node.{Node, out-Node}
-use Rattle.if1_graph.specs.Units.{greatest, levels, level_below}
+use Rattle.if1_graph.specs.declared.graph.Node.{Node}
+use Rattle.if1_graph.specs.Units.{greatest}
 use Rattle.if1_order.proofs.Within.{node_levels, levels_out, parts_below, below}
-use Rattle.take_marks.specs.Applied.{AreNodesListed}
 use Rattle.mark_units.specs.Walked.{NodesNext, NodesMarked, GraphMarked}
 use Rattle.mark_units.proofs.Turns.{PartsGoing, NodesGoing, left-in, none-left, parts-begin, part-next, parts-turn, parts-end, nodes-begin, node-next, nodes-turn, nodes-end}
 use Rattle.mark_units.proofs.Begins.{node-parts, node-marked, graph-there, graph-shape, graph-flags, graph-nodes, graph-count, whole-graph, begun-is, begun-nodes}
