@@ -1,5 +1,5 @@
 -- A text whose unit has marks that are not sound.
-use Rattle.std.proofs.Common.{◌≡◌, ℕ, List, sym, subst, ◌∙◌}
+use Rattle.std.proofs.Common.{◌≡◌, ℕ, List, Result, Ok, Err, IfErr, IsErrAnd, sym, subst}
 use Rattle.if1_graph.specs.declared.fault.If1Fault.{If1Fault}
 use Rattle.if1_graph.specs.declared.graph.Unit1.{Unit1}
 use Rattle.if1_graph.specs.Reads.{ReadsIf1}
@@ -24,3 +24,7 @@ unsound_text text u v f e read ready first unsound is = subst (IsRefusedFor text
           first = subst (λ z. IsFirstFault z (BadMark graph node port reader)) ready.0 first;
           unsound = subst (λ z. ¬ IsSound z) ready.0 (unsound tt);
         }
+
+pub unsound_result : {A : Type 0} (text : List ℕ) (u v : Unit1) (f : MarkFault) (r : Result A If1Fault) → ReadsIf1 text u → (v ≡ u) × IsReady u → IsFirstFault v f → (IsBad f → ¬ IsSound v) → IsErrAnd r (λ e. e ≡ as_fault f) → IfErr r (IsRefusedFor text)
+unsound_result text u v f (Ok a) read ready first unsound is = tt
+unsound_result text u v f (Err e) read ready first unsound is = unsound_text text u v f e read ready first unsound is

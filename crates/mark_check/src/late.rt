@@ -89,13 +89,7 @@ fn clear(order: &[usize], first: usize, end: usize, weights: &mut Numbers)
 }
 
 // tells which places of ranks from the first on lead to the taker
-fn tell(
-    lists: &[Places],
-    ranks: &Ranks,
-    first: usize,
-    taker: usize,
-    weights: &mut Numbers,
-)
+fn tell(lists: &[Places], ranks: &Ranks, first: usize, taker: usize, weights: &mut Numbers)
     requires inside { AreInside lists.now }
     requires ranked { IsRanked lists.now ranks.now }
     requires taker { taker < length lists.now }
@@ -194,7 +188,14 @@ fn late_by_ranks(
     let taker = the_place(labels, node);
     let first = lowest(labels, ranks.ranks.as_slice(), users, taker);
     tell(lists, ranks, first, taker, weights);
-    least_late(labels, ranks.ranks.as_slice(), weights.as_slice(), users, taker, node)
+    least_late(
+        labels,
+        ranks.ranks.as_slice(),
+        weights.as_slice(),
+        users,
+        taker,
+        node,
+    )
 }
 
 // the places from which links lead straight to the taker bear its stamp
