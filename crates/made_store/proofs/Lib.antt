@@ -16,3 +16,4 @@ pub mod Settling
 pub mod Units
 pub mod Weights
 pub mod Marks
+pub mod Example
