@@ -1,12 +1,8 @@
 -- A plan that meets what is asked: of the ForAll over the arrays of an array, which adds 1 behind each element.
-use Rattle.std.proofs.Common.{◌≡◌, ℕ, zero, suc, ◌+◌, ◌-◌, ◌<◌, ◌≤◌, ◌&&◌, ◌||◌, eqb, Bool, true, false, None, Some, List, [], ◌∷◌, ◌++◌, length, get_or, inl, inr, refl, sym, ap, ◌∙◌, subst, arith}
+use Rattle.std.proofs.Common.{◌≡◌, ℕ, zero, suc, ◌+◌, ◌-◌, ◌<◌, ◌&&◌, ◌||◌, eqb, Bool, true, false, None, List, [], ◌∷◌, get_or, inl, inr, refl, sym, ap, subst, arith}
 use Rattle.if1_graph.specs.declared.op.Simple.TheVariants as simple
-use Rattle.graph_meaning.specs.Carried.{Carried}
-use Rattle.graph_meaning.specs.Entered.{IsIn}
-use Rattle.graph_meaning.specs.Forms.{columns}
 use Rattle.graph_meaning.specs.NodeValues as shape
 use Rattle.graph_meaning.specs.Demand.{Fixed, Port, Vertex}
-use Rattle.graph_meaning.specs.Storage.{copying}
 use Rattle.ordered_meaning.specs.Taking.{AreTakersLast}
 use Rattle.run_code.proofs.Collecting.{nodes-same}
 use Rattle.run_code.proofs.Layouts.{one, positive}
@@ -15,14 +11,14 @@ use Rattle.run_code.specs.Collections.{Sifts}
 use Rattle.run_code.specs.Known.{AreReadable}
 use Rattle.run_code.specs.Made.{IsSized, Plan, entry_from}
 use Rattle.run_code.specs.Refolds.{Refolds, a_fold, none_refolded, one_refolded}
-use Rattle.run_made.specs.Plans.{CanLay, IsRight, IsRightPlan, Weighing, laid}
-use Rattle.run_store.proofs.Example.{cs, gather, longer, net, node_of, over, scatter, storage}
+use Rattle.run_made.specs.Plans.{CanLay, IsRightPlan, Weighing, laid}
+use Rattle.run_store.proofs.Example.{cs, gather, net, node_of, over, storage}
 use Rattle.run_store.specs.Whole.{IsStoredCode}
 use Rattle.made_store.proofs.Units.{made-stored}
 use Rattle.made_store.proofs.Weights.{modes-weights}
 use Rattle.made_store.specs.Settings.{Shares, gives}
 use Rattle.made_store.specs.Settled.{functions_settings, handling_of, live_of, own_of}
-use Rattle.made_store.specs.Shared.{IsKindShared, IsShared}
+use Rattle.made_store.specs.Shared.{IsShared}
 use Rattle.made_store.specs.Weights.{IsMarked, IsNodeMarked, by_modes}
 
 -- the returns is done as graph 4

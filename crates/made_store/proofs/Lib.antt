@@ -17,3 +17,4 @@ pub mod Units
 pub mod Weights
 pub mod Marks
 pub mod Example
+pub mod UnitWeights

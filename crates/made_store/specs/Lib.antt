@@ -3,4 +3,5 @@ pub mod Shared
 pub mod Settled
 pub mod Weights
 pub mod Marks
+pub mod UnitWeights
 pub mod Laws

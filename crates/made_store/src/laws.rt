@@ -6,6 +6,7 @@ ghost use Rattle.made_store.specs.Laws.{
   IsSetStored,
 };
 ghost use Rattle.made_store.specs.Marks.{AreMarkedTakersLast};
+ghost use Rattle.made_store.specs.UnitWeights.{AreUnitWeights};
 ghost use Rattle.made_store.specs.Weights.{AreModesWeights};
 
 /// Where the places of code that is made of a right plan are set by its shares, no step reads what was
@@ -37,4 +38,9 @@ pub fn weights_by_modes_are_of_record()
 /// Takers by the marks of a ready unit with sound marks are last in each graph.
 pub fn takers_by_marks_are_last()
     ensures { AreMarkedTakersLast }
+{}
+
+/// So they are for every unit, where a plan takes and copies by its marks.
+pub fn weights_by_marks_of_units_are_of_record()
+    ensures { AreUnitWeights }
 {}
