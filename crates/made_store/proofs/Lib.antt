@@ -18,3 +18,5 @@ pub mod Weights
 pub mod Marks
 pub mod Example
 pub mod UnitWeights
+pub mod Marked
+pub mod Owners

@@ -4,4 +4,5 @@ pub mod Settled
 pub mod Weights
 pub mod Marks
 pub mod UnitWeights
+pub mod Marked
 pub mod Laws
