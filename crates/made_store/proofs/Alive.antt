@@ -1,5 +1,5 @@
 -- Cells that are alive, by test and by what it says.
-use Rattle.std.proofs.Common.{◌≡◌, ℕ, zero, suc, ◌+◌, ◌-◌, ◌<◌, ◌≤◌, ◌⊎◌, inl, inr, ◌&&◌, ◌||◌, not, eqb, leb, ltb, if◌then◌else◌, Bool, true, false, List, [], ◌∷◌, ◌++◌, length, map, get_or, refl, sym, ap, ◌∙◌, subst, arith}
+use Rattle.std.proofs.Common.{◌≡◌, ℕ, zero, suc, ◌+◌, ◌-◌, ◌<◌, ◌≤◌, ◌⊎◌, inl, inr, ◌&&◌, ◌||◌, not, eqb, leb, ltb, if◌then◌else◌, Bool, true, false, List, [], ◌∷◌, length, map, get_or, refl, sym, ap, ◌∙◌, subst, arith}
 use Rattle.std.proofs.lemmas.Bool.{eq-eqb, eqb-true, leb-true, le-leb, lt-ltb, ltb-false, ltb-true}
 use Rattle.graph_meaning.specs.Carried.{Unfilled}
 use Rattle.graph_meaning.specs.Demand.{Source, Port, Fixed, Vertex}
@@ -8,8 +8,8 @@ use Rattle.run_code.specs.Cells.{Operand, At, Lit}
 use Rattle.run_code.specs.Coded.{Places, operand}
 use Rattle.run_code.specs.Known.{Known, Knows}
 use Rattle.run_code.specs.Made.{Plan, placed, put}
-use Rattle.run_store.specs.Ports.{IsAlive, KnowsPort}
-use Rattle.made_store.specs.Settings.{Shares, Cells_of, alive, any_port, cells_where, either_of, is_at, range_of, seats, stand_known, stands, was_taken}
+use Rattle.run_store.specs.Ports.{IsAlive}
+use Rattle.made_store.specs.Settings.{Shares, Cells_of, alive, any_port, cells_where, is_at, range_of, seats, stand_known, stands, was_taken}
 use Rattle.made_store.specs.Shared.{AreThere}
 use Rattle.run_made.specs.Plans.{Weighing}
 

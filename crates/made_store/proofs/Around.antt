@@ -1,21 +1,21 @@
 -- What forms of nodes need to know of the cells around a node.
-use Rattle.std.proofs.Common.{◌≡◌, ◌≢◌, ℕ, zero, suc, ◌+◌, ◌-◌, ◌<◌, ◌≤◌, ◌⊎◌, inl, inr, if◌then◌else◌, Bool, true, false, List, [], ◌∷◌, ◌++◌, length, map, get_or, refl, sym, ap, ◌∙◌, subst, arith}
+use Rattle.std.proofs.Common.{◌≡◌, ℕ, zero, suc, ◌+◌, ◌<◌, ◌⊎◌, inl, inr, if◌then◌else◌, Bool, true, false, List, [], ◌∷◌, length, map, get_or, refl, sym, ap, ◌∙◌, subst, arith}
 use Rattle.graph_meaning.specs.Carried.{Unfilled}
 use Rattle.graph_meaning.specs.Demand.{Source, Port, Fixed, Vertex}
 use Rattle.ordered_meaning.specs.Taking.{Fills, NoneIsTaken, Taken, TakesAlone, IsTaken as WasTaken, first_port, taken_by}
 use Rattle.run_code.specs.Cells.{Operand, At, Lit}
 use Rattle.run_code.specs.Coded.{Places, operand}
-use Rattle.run_code.specs.Known.{Known, Knows, KnowsAll}
+use Rattle.run_code.specs.Known.{Known, KnowsAll}
 use Rattle.run_code.specs.Made.{Plan, placed}
 use Rattle.run_made.specs.Plans.{Weighing}
 use Rattle.run_store.proofs.Ports.{IsOwnCell, StandsBelow, gone-after, known-at}
 use Rattle.run_store.specs.Ports.{IsAlive, KnowsPort, mode_of, modes_of}
 use Rattle.run_store.specs.Refines.{IsTaken}
 use Rattle.run_store.specs.Stored.{Copies, Looks, Takes}
-use Rattle.made_store.proofs.Alive.{alive-so, alive-sound, lit-at, reads-there, same-cell, seat-inputs, seat-is, seat-so}
+use Rattle.made_store.proofs.Alive.{alive-so, alive-sound, reads-there, seat-inputs, seat-is, seat-so}
 use Rattle.made_store.proofs.Scenes.{IsReached, all-in, filled, kept-alive, owned, there}
-use Rattle.made_store.specs.Settings.{Cells_of, Shares, alive, seats}
-use Rattle.made_store.specs.Shared.{AreThere, TakesOwned}
+use Rattle.made_store.specs.Settings.{Cells_of, Shares, alive}
+use Rattle.made_store.specs.Shared.{AreThere}
 
 -- The cells that are live before a node, and those that own; and of these what is kept behind it, without its outputs. What it does not
 -- take is kept, and what it takes has a cell of its own.

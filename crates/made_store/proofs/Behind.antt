@@ -1,5 +1,5 @@
 -- Operands with cells behind them: loop values, elements and collections; and what steps do that put values to collections.
-use Rattle.std.proofs.Common.{◌≡◌, ℕ, zero, suc, ◌+◌, ◌-◌, ◌<◌, ◌≤◌, ◌⊎◌, inl, inr, ◌||◌, if◌then◌else◌, Bool, true, false, Option, Some, None, List, [], ◌∷◌, ◌++◌, take, length, map, get_or, slice_get, refl, sym, ap, ◌∙◌, subst, arith}
+use Rattle.std.proofs.Common.{◌≡◌, ℕ, zero, suc, ◌+◌, ◌<◌, ◌≤◌, ◌⊎◌, inl, inr, if◌then◌else◌, Bool, true, false, Some, None, List, [], ◌∷◌, ◌++◌, take, length, get_or, slice_get, refl, sym, ap, ◌∙◌, subst, arith}
 use Rattle.flow_value.specs.Leaves.{leaf_count}
 use Rattle.graph_meaning.specs.Carried.{Carried, Unfilled, val_of}
 use Rattle.run_code.specs.Cells.{Operand, At, Lit, cells_at}
@@ -8,10 +8,10 @@ use Rattle.run_code.specs.Collections.{AreWithin, Collect, Final, IsWithin, Sift
 use Rattle.run_code.specs.Made.{Plan, stand}
 use Rattle.run_store.specs.Lively.{AllMayBe, Live}
 use Rattle.run_store.specs.Refines.{IsTaken}
-use Rattle.run_store.specs.Stored.{Looks, Mode, Takes, copied, copied_as, mode_at, put_copied, tail}
+use Rattle.run_store.specs.Stored.{Mode, copied, copied_as, put_copied}
 use Rattle.made_store.proofs.Alive.{lit-no, same-cell, true-false}
 use Rattle.made_store.proofs.Flows.{none-copied}
-use Rattle.made_store.proofs.Owned.{cells-is, get-split}
+use Rattle.made_store.proofs.Owned.{get-split}
 use Rattle.made_store.proofs.Scenes.{IsScene}
 use Rattle.made_store.specs.Settings.{Cells_of, Shares, takes_all}
 

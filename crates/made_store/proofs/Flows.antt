@@ -1,19 +1,17 @@
 -- Steps whose operands and cells are handled as a place is set.
-use Rattle.std.proofs.Common.{◌≡◌, ℕ, zero, suc, ◌+◌, ◌-◌, ◌<◌, ◌≤◌, ◌⊎◌, inl, inr, ◌||◌, if◌then◌else◌, Bool, true, false, List, [], ◌∷◌, ◌++◌, length, map, get_or, refl, sym, ap, ◌∙◌, subst, arith}
+use Rattle.std.proofs.Common.{◌≡◌, ℕ, suc, ◌+◌, ◌<◌, ◌≤◌, ◌⊎◌, inl, inr, Bool, true, false, List, [], ◌∷◌, ◌++◌, length, get_or, refl, sym, ap, ◌∙◌, subst, arith}
 use Rattle.graph_meaning.specs.Carried.{Carried, Unfilled}
 use Rattle.graph_meaning.specs.Demand.{Source}
-use Rattle.run_code.specs.Cells.{Operand, At, Lit, cells_at, picked}
+use Rattle.run_code.specs.Cells.{Operand, At, Lit, picked}
 use Rattle.run_code.specs.Made.{Line}
-use Rattle.run_code.specs.Steps.{Step}
 use Rattle.run_laws.specs.Facts.{Fact}
 use Rattle.run_made.specs.Plans.{Weighing, adds}
 use Rattle.run_store.specs.Effects.{IsOneOf, leads, reads_of}
 use Rattle.run_store.specs.Lively.{AllMayBe, CallsLively, MayBe, Follows, IsLively, Live}
 use Rattle.run_store.specs.Ports.{copies_of, mode_of, modes_of}
 use Rattle.run_store.specs.Refines.{HavePaths, IsHandled, IsTaken, IsWeighed, LendsInside}
-use Rattle.run_store.specs.Stored.{Copies, CopiesOf, Handling, Looks, LooksAt, Mode, Takes, copied, mode_at, tail}
-use Rattle.made_store.proofs.Alive.{lit-at, or-either, range-so, same-cell}
-use Rattle.made_store.specs.Settings.{Cells_of, either_of, range_of}
+use Rattle.run_store.specs.Stored.{Copies, CopiesOf, Handling, Looks, LooksAt, Mode, Takes, copied}
+use Rattle.made_store.specs.Settings.{Cells_of}
 
 -- ---- modes that read no path
 

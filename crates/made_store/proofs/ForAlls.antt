@@ -1,28 +1,27 @@
 -- ForAlls.
-use Rattle.std.proofs.Common.{◌≡◌, ℕ, zero, suc, ◌+◌, ◌-◌, ◌<◌, ◌≤◌, ◌⊎◌, inl, inr, ◌||◌, max, ltb, if◌then◌else◌, Bool, true, false, List, [], ◌∷◌, ◌++◌, take, length, map, get_or, refl, sym, ap, ◌∙◌, subst, arith}
+use Rattle.std.proofs.Common.{◌≡◌, ℕ, zero, suc, ◌+◌, ◌-◌, ◌<◌, ◌≤◌, ◌⊎◌, inl, inr, max, ltb, Bool, true, false, List, [], ◌∷◌, ◌++◌, take, length, get_or, refl, sym, ap, ◌∙◌, subst, arith}
 use Rattle.std.proofs.lemmas.Bool.{ltb-false, ltb-true}
 use Rattle.std.proofs.lemmas.List.{length-append, length-map}
 use Rattle.std.proofs.Math.Nat.{le-max_left, le-max_right}
 use Rattle.graph_meaning.specs.Carried.{Carried, Unfilled}
 use Rattle.run_code.specs.Cells.{Operand, At, Lit, cells_at}
 use Rattle.run_code.specs.Coded.{operand}
-use Rattle.run_code.specs.Collections.{AreWithin, Collect}
-use Rattle.run_code.specs.Made.{Plan, Line, Makes, OfNothing, OfResults, OfRows, arm_code, ends_at, for_all_code, line, placed}
+use Rattle.run_code.specs.Collections.{AreWithin}
+use Rattle.run_code.specs.Made.{Plan, Makes, OfNothing, OfResults, OfRows, arm_code, ends_at, for_all_code, line, placed}
 use Rattle.run_code.specs.Steps.{Add, Each, Spread}
 use Rattle.run_made.proofs.Lengths.{IsLong}
 use Rattle.run_made.specs.Plans.{Weighing}
 use Rattle.run_store.specs.Lively.{Live}
 use Rattle.run_store.specs.Refines.{IsTaken}
-use Rattle.run_store.specs.Stored.{Handling, Looks, Mode, Takes, copied, put_copied}
+use Rattle.run_store.specs.Stored.{Handling, put_copied}
 use Rattle.made_store.proofs.Alive.{or-either, or-left, or-right, range-so, range-sound, same-cell, true-false, where-sound}
 use Rattle.made_store.proofs.Around.{taken-index}
 use Rattle.made_store.proofs.Behind.{behind-scene, both-low, cells-long, front-copied, may-take-all, none-scene, put-taken, takes-range}
-use Rattle.made_store.proofs.Flows.{AllFine, FineAt, Flows, Opens, fine-at, fine-both, follow, may-both, may-look, may-modes, modes-long, none-copied, none-taken, plain-both, plain-modes, set-opens, taken-of}
+use Rattle.made_store.proofs.Flows.{AllFine, FineAt, Opens, fine-at, fine-both, follow, may-both, may-look, may-modes, modes-long, none-copied, none-taken, plain-both, plain-modes, set-opens, taken-of}
 use Rattle.made_store.proofs.Loops.{part-fine, plain-takes, shrink, under, under-own}
 use Rattle.made_store.proofs.Owned.{IsGivenTo, cells-is, get-split, part-scene}
 use Rattle.made_store.proofs.Parts.{DoesFine, EndsSo, arm-fine, begins-all, end-flows}
 use Rattle.made_store.proofs.Scenes.{IsScene}
-use Rattle.made_store.proofs.Walks.{IsEnd}
 use Rattle.made_store.specs.Settings.{Cells_of, IsSet, PartSet, Sets, Shares, cells_where, either_of, live_behind, own_behind, range_of, result_modes, takes_all}
 use Rattle.made_store.specs.Shared.{IsShared}
 

@@ -1,29 +1,25 @@
 -- Functions whose places are set, and all code that is made.
-use Rattle.std.proofs.Common.{◌≡◌, ℕ, zero, suc, ◌+◌, ◌-◌, ◌<◌, ◌≤◌, ◌⊎◌, inl, inr, ◌||◌, eqb, ltb, if◌then◌else◌, Bool, true, false, List, [], ◌∷◌, ◌++◌, length, map, get_or, take, refl, sym, ap, ◌∙◌, subst, arith}
+use Rattle.std.proofs.Common.{◌≡◌, ℕ, zero, suc, ◌+◌, ◌<◌, ◌≤◌, inl, inr, eqb, ltb, if◌then◌else◌, Bool, true, false, List, [], ◌∷◌, length, map, get_or, take, refl, sym, ◌∙◌, subst, arith}
 use Rattle.std.proofs.lemmas.Bool.{eq-eqb, ltb-false, ltb-true}
 use Rattle.std.proofs.lemmas.List.{length-append, length-map}
-use Rattle.graph_meaning.specs.Carried.{Carried, Unfilled}
+use Rattle.graph_meaning.specs.Carried.{Carried}
 use Rattle.graph_meaning.specs.Entered.{IsIn}
 use Rattle.graph_meaning.specs.Demand.{Vertex, Network}
-use Rattle.graph_meaning.specs.Storage.{Storage, copying}
 use Rattle.ordered_meaning.specs.Taking.{first_port, taken_by}
-use Rattle.run_code.specs.Cells.{Operand, At, Lit, cells_at}
+use Rattle.run_code.specs.Cells.{Operand, cells_at}
 use Rattle.run_code.specs.Coded.{operand}
 use Rattle.run_code.specs.Known.{known_after}
 use Rattle.run_code.specs.Machine.{Weigh}
-use Rattle.run_code.specs.Made.{Plan, Line, OfNothing, OfResults, IsSized, ends_at, entry_from, function_lines, functions_lines, functions_size, graph_code, line, nodes_size, placed, room_of}
+use Rattle.run_code.specs.Made.{Plan, Line, OfResults, ends_at, entry_from, function_lines, functions_lines, functions_size, graph_code, line, nodes_size, placed, room_of}
 use Rattle.run_code.specs.Steps.{Add, Branch, Call, Count, Each, Fire, Keep, Move, Return, Spread, Step, Tag, Test}
 use Rattle.run_laws.specs.Facts.{AllPlaces, Preserves}
-use Rattle.run_laws.specs.Weighing.{AreAlike}
 use Rattle.run_made.proofs.Lengths.{graph-long}
 use Rattle.run_made.proofs.Lying.{eqb-sound}
 use Rattle.run_made.proofs.Making.{function-long, lines-lie, made}
-use Rattle.run_made.specs.Plans.{CanLay, IsRightPlan, Weighing, adds, code_at, laid, last_line, lines_of, weigh_at}
-use Rattle.run_store.specs.Lively.{IsLively, Live}
-use Rattle.run_store.specs.Refines.{IsHandled, IsWeighed}
-use Rattle.run_store.specs.Stored.{Handling, Mode, copied}
-use Rattle.run_store.specs.Whole.{IsStoredCode}
-use Rattle.made_store.proofs.Alive.{or-either, where-sound}
+use Rattle.run_made.specs.Plans.{CanLay, IsRightPlan, Weighing, adds, laid, last_line, lines_of}
+use Rattle.run_store.specs.Lively.{Live}
+use Rattle.run_store.specs.Refines.{IsWeighed}
+use Rattle.run_store.specs.Stored.{Handling, copied}
 use Rattle.made_store.proofs.Flows.{AllFine, FineAt, Opens, fine-at, fine-both, may-modes, none-copied, plain-modes, set-opens}
 use Rattle.made_store.proofs.Nodes.{ends-so, graph-fine, kind-opens}
 use Rattle.made_store.proofs.Owned.{cells-is}

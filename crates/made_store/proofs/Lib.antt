@@ -16,3 +16,7 @@ pub mod Settling
 pub mod Units
 pub mod Weights
 pub mod Marks
+pub mod Example
+pub mod UnitWeights
+pub mod Marked
+pub mod Owners

@@ -1,26 +1,25 @@
 -- Loops.
-use Rattle.std.proofs.Common.{◌≡◌, ℕ, zero, suc, ◌+◌, ◌-◌, ◌<◌, ◌≤◌, ◌⊎◌, inl, inr, ◌||◌, max, if◌then◌else◌, Bool, true, false, Option, Some, None, List, [], ◌∷◌, ◌++◌, take, length, map, get_or, slice_get, refl, sym, ap, ◌∙◌, subst, arith}
-use Rattle.std.proofs.lemmas.List.{length-append, length-map}
+use Rattle.std.proofs.Common.{◌≡◌, ℕ, zero, suc, ◌+◌, ◌<◌, ◌≤◌, ◌⊎◌, inl, inr, max, Bool, true, false, Some, List, [], ◌∷◌, ◌++◌, take, length, get_or, slice_get, sym, ◌∙◌, subst, arith}
+use Rattle.std.proofs.lemmas.List.{length-map}
 use Rattle.std.proofs.Math.Nat.{le-max_left, le-max_right}
-use Rattle.graph_meaning.specs.Carried.{Carried, Unfilled}
+use Rattle.graph_meaning.specs.Carried.{Unfilled}
 use Rattle.run_code.specs.Cells.{Operand, At, Lit, cells_at}
 use Rattle.run_code.specs.Coded.{operand}
-use Rattle.run_code.specs.Collections.{AreWithin, Collect, Final}
-use Rattle.run_code.specs.Made.{Plan, Line, Makes, OfNothing, OfResults, arm_code, end_at, ends_at, greatest_extent, line, loop_code, loop_extent, placed, stand}
-use Rattle.run_code.specs.Steps.{Count, Keep, Test}
+use Rattle.run_code.specs.Collections.{AreWithin, Final}
+use Rattle.run_code.specs.Made.{Plan, Line, Makes, OfNothing, OfResults, arm_code, end_at, ends_at, greatest_extent, line, loop_code, placed, stand}
+use Rattle.run_code.specs.Steps.{Keep, Test}
 use Rattle.run_made.proofs.Lengths.{IsLong}
 use Rattle.run_made.specs.Plans.{Weighing}
 use Rattle.run_store.specs.Lively.{Live}
 use Rattle.run_store.specs.Refines.{IsTaken}
-use Rattle.run_store.specs.Stored.{Handling, Looks, Mode, Takes, copied, put_copied}
+use Rattle.run_store.specs.Stored.{Handling, Looks, Mode}
 use Rattle.made_store.proofs.Alive.{or-either, or-left, or-right, range-so, range-sound, true-false, where-sound}
 use Rattle.made_store.proofs.Around.{taken-index}
-use Rattle.made_store.proofs.Behind.{all-copied, behind-scene, both-low, cells-long, front-copied, last-within, may-take-all, none-put, none-scene, stand-is, takes-range}
-use Rattle.made_store.proofs.Flows.{AllFine, AllFollow, ArePlain, FineAt, Flows, Opens, Standing, fine-at, fine-both, follow, look-copied, look-untaken, may-both, may-look-one, may-modes, modes-long, none-copied, none-taken, plain-both, plain-modes, set-opens, taken-of}
+use Rattle.made_store.proofs.Behind.{all-copied, behind-scene, both-low, front-copied, last-within, may-take-all, none-put, none-scene, stand-is, takes-range}
+use Rattle.made_store.proofs.Flows.{AllFine, ArePlain, FineAt, Opens, fine-at, fine-both, follow, look-copied, look-untaken, may-both, may-look-one, may-modes, modes-long, plain-both, plain-modes, taken-of}
 use Rattle.made_store.proofs.Owned.{IsGivenTo, cells-is, get-split, part-scene}
 use Rattle.made_store.proofs.Parts.{DoesFine, EndsSo, arm-fine, begins-all, end-flows}
 use Rattle.made_store.proofs.Scenes.{IsScene}
-use Rattle.made_store.proofs.Walks.{IsEnd}
 use Rattle.made_store.specs.Settings.{Cells_of, PartSet, Sets, Shares, cells_where, either_of, live_behind, own_behind, range_of, result_modes, takes_all}
 use Rattle.made_store.specs.Shared.{IsShared}
 

@@ -1,13 +1,13 @@
 -- Nodes and graphs whose places are set.
-use Rattle.std.proofs.Common.{◌≡◌, ℕ, zero, suc, ◌+◌, ◌-◌, ◌<◌, ◌≤◌, ◌⊎◌, inl, inr, ◌||◌, max, if◌then◌else◌, Bool, true, false, List, [], ◌∷◌, ◌++◌, drop, length, map, get_or, refl, sym, ap, ◌∙◌, subst, arith}
-use Rattle.std.proofs.lemmas.List.{length-append, length-map}
+use Rattle.std.proofs.Common.{◌≡◌, ℕ, zero, suc, ◌+◌, ◌<◌, ◌≤◌, ◌⊎◌, inl, inr, true, List, [], ◌∷◌, length, map, refl, sym, ap, ◌∙◌, subst, arith}
+use Rattle.std.proofs.lemmas.List.{length-map}
 use Rattle.std.proofs.Math.Nat.{le-max_left, le-max_right}
-use Rattle.graph_meaning.specs.Carried.{Carried, Unfilled}
+use Rattle.graph_meaning.specs.Carried.{Carried}
 use Rattle.graph_meaning.specs.Entered.{IsIn}
 use Rattle.graph_meaning.specs.Forms as form
 use Rattle.graph_meaning.specs.Demand.{Kind, Plain, Whole, Vertex, Network, EachNode}
 use Rattle.ordered_meaning.specs.Taking.{AreTakersLast, Taken, first_port, taken_by}
-use Rattle.run_code.specs.Cells.{Operand, At, Lit, cells_at, own_cells, picked}
+use Rattle.run_code.specs.Cells.{Operand, cells_at, own_cells, picked}
 use Rattle.run_code.specs.Coded.{operand}
 use Rattle.run_code.specs.Collections.{AreWithin}
 use Rattle.run_code.specs.Known.{IsReadable, Known, known_after}
@@ -20,7 +20,7 @@ use Rattle.run_store.specs.Lively.{Live}
 use Rattle.run_store.specs.Ports.{copies_of}
 use Rattle.run_store.specs.Refines.{IsTaken}
 use Rattle.run_store.specs.Stored.{Handling, copied}
-use Rattle.made_store.proofs.Alive.{or-either, or-left, or-right, where-sound}
+use Rattle.made_store.proofs.Alive.{or-either, where-sound}
 use Rattle.made_store.proofs.Around.{IsAround}
 use Rattle.made_store.proofs.Flows.{AllFine, FineAt, Opens, copies-untaken, fine-at, fine-both, follow, may-copy, none-copied, plain-copies, set-opens}
 use Rattle.made_store.proofs.ForAlls.{for-all-fine}
@@ -31,7 +31,7 @@ use Rattle.made_store.proofs.Plain.{call-fine, plain-fine}
 use Rattle.made_store.proofs.Scenes.{IsScene}
 use Rattle.made_store.proofs.Tags.{tag-fine}
 use Rattle.made_store.proofs.Walks.{IsOn, begins-live, begins-own, behind-node, node-around, on-first, on-next, puts-owned, puts-there, seats_owned, seats_there, the-end}
-use Rattle.made_store.specs.Settings.{Cells_of, GraphSet, IsSet, KindSet, NodesSet, PartsSet, Sets, Shares, cells_where, either_of, gives, live_in, modes_at, own_in, range_of, taken_in}
+use Rattle.made_store.specs.Settings.{Cells_of, GraphSet, IsSet, KindSet, NodesSet, Sets, Shares, cells_where, either_of, gives, live_in, modes_at, own_in, range_of, taken_in}
 use Rattle.made_store.specs.Shared.{AreThere, IsKindShared, IsShared, TakesOwned}
 
 inners-lay : (P : Plan) (W : Weighing) (u : Network) (order : ℕ → List Vertex) (functions : List ℕ) (lays : ℕ → Type 0) (gs : List ℕ) → All (IsInner P W u order functions lays) gs → All lays gs

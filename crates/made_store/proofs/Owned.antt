@@ -1,13 +1,11 @@
 -- The operands that a compound node gives to its parts.
-use Rattle.std.proofs.Common.{◌≡◌, ℕ, zero, suc, ◌+◌, ◌-◌, ◌<◌, ◌≤◌, ◌⊎◌, inl, inr, ◌||◌, if◌then◌else◌, Bool, true, false, Option, Some, None, List, [], ◌∷◌, ◌++◌, length, map, get_or, slice_get, refl, sym, ap, ◌∙◌, subst, arith}
+use Rattle.std.proofs.Common.{◌≡◌, ℕ, zero, suc, ◌+◌, ◌-◌, ◌<◌, ◌≤◌, ◌⊎◌, inl, inr, ◌||◌, Bool, true, false, List, [], ◌∷◌, ◌++◌, length, get_or, refl, sym, ap, ◌∙◌, arith}
 use Rattle.graph_meaning.specs.Carried.{Unfilled}
 use Rattle.run_code.specs.Cells.{Operand, At, Lit, cells_at, own_cells, picked}
-use Rattle.run_code.specs.Collections.{AreWithin, Collect, Final, Sifts}
-use Rattle.run_code.specs.Made.{Plan, stand}
-use Rattle.made_store.proofs.Alive.{lit-at, lit-no, or-either, or-left, or-right, range-so, range-sound, same-cell, true-false, within}
+use Rattle.made_store.proofs.Alive.{lit-at, lit-no, or-either, or-left, or-right, same-cell, true-false}
 use Rattle.made_store.proofs.Around.{IsAround}
 use Rattle.made_store.proofs.Scenes.{IsScene}
-use Rattle.made_store.specs.Settings.{Cells_of, Shares, either_of, range_of}
+use Rattle.made_store.specs.Settings.{Cells_of, Shares}
 
 -- ---- operands by their number
 

@@ -1,26 +1,23 @@
 -- Graphs inside nodes, and the alternatives and arms of Selects and TagCases.
-use Rattle.std.proofs.Common.{◌≡◌, ℕ, zero, suc, ◌+◌, ◌-◌, ◌<◌, ◌≤◌, ◌⊎◌, inl, inr, ◌||◌, max, if◌then◌else◌, Bool, true, false, List, [], ◌∷◌, ◌++◌, drop, length, map, get_or, refl, sym, ap, ◌∙◌, subst, arith}
-use Rattle.std.proofs.lemmas.List.{length-append, length-map}
+use Rattle.std.proofs.Common.{◌≡◌, ℕ, suc, ◌+◌, ◌<◌, ◌≤◌, ◌⊎◌, inl, inr, max, Bool, true, false, List, [], ◌∷◌, length, map, refl, sym, ◌∙◌, arith}
+use Rattle.std.proofs.lemmas.List.{length-map}
 use Rattle.std.proofs.Math.Nat.{le-max_left, le-max_right}
-use Rattle.graph_meaning.specs.Carried.{Carried, Unfilled}
-use Rattle.graph_meaning.specs.Demand.{Source, Vertex}
-use Rattle.run_code.specs.Cells.{Operand, At, Lit, cells_at}
+use Rattle.run_code.specs.Cells.{Operand}
 use Rattle.run_code.specs.Coded.{operand}
-use Rattle.run_code.specs.Made.{Plan, Line, Makes, OfNothing, OfResults, arm_code, arms_at, arms_code, arms_size, end_at, ends_at, greatest_extent, line, placed, select_code, tag_code}
-use Rattle.run_code.specs.Steps.{Branch, Move, Tag}
+use Rattle.run_code.specs.Made.{Plan, Makes, OfNothing, OfResults, arm_code, arms_at, arms_code, end_at, ends_at, greatest_extent, line, placed, select_code}
+use Rattle.run_code.specs.Steps.{Branch, Move}
 use Rattle.run_made.proofs.Lengths.{IsLong, arm-long}
 use Rattle.run_made.specs.Plans.{All, Weighing}
 use Rattle.run_store.specs.Lively.{Live}
-use Rattle.run_store.specs.Ports.{modes_of}
 use Rattle.run_store.specs.Refines.{IsTaken}
-use Rattle.run_store.specs.Stored.{Handling, Looks, Mode, Takes, copied}
-use Rattle.made_store.proofs.Alive.{lit-no, or-either, or-left, or-right, range-so, range-sound, same-cell, true-false, where-as, where-so, where-sound}
+use Rattle.run_store.specs.Stored.{Handling, Looks, Mode}
+use Rattle.made_store.proofs.Alive.{or-either, or-left, or-right, range-sound, true-false, where-as, where-sound}
 use Rattle.made_store.proofs.Around.{taken-index}
-use Rattle.made_store.proofs.Flows.{AllFine, AllFollow, ArePlain, FineAt, Flows, Opens, Standing, fine-at, fine-both, follow, handled_as, look-copied, look-untaken, may-look-one, may-modes, may-take-one, none-copied, plain-modes}
+use Rattle.made_store.proofs.Flows.{AllFine, AllFollow, Flows, Opens, Standing, fine-at, fine-both, follow, handled_as, look-copied, look-untaken, may-look-one, may-modes, plain-modes}
 use Rattle.made_store.proofs.Owned.{IsGivenTo, part-scene, selector-scene}
 use Rattle.made_store.proofs.Scenes.{IsScene}
 use Rattle.made_store.proofs.Walks.{IsEnd}
-use Rattle.made_store.specs.Settings.{ArmsSet, Cells_of, IsBehind, PartSet, SelectSet, Sets, Shares, TagSet, cells_where, either_of, live_behind, own_behind, range_of, result_modes}
+use Rattle.made_store.specs.Settings.{ArmsSet, Cells_of, PartSet, SelectSet, Sets, Shares, cells_where, either_of, live_behind, own_behind, range_of, result_modes}
 use Rattle.made_store.specs.Shared.{IsShared}
 
 module _ (P : Plan) (S : Shares) (W : Weighing) (handling : ℕ → Handling) (live own : Live) (room : ℕ) (shared : (g : ℕ) → IsShared P S W g) where

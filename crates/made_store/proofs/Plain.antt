@@ -1,29 +1,23 @@
 -- Simple nodes, Calls, and steps that bring the results of a graph on.
-use Rattle.std.proofs.Common.{◌≡◌, ℕ, zero, suc, ◌+◌, ◌-◌, ◌<◌, ◌≤◌, ◌⊎◌, inl, inr, ◌||◌, if◌then◌else◌, Bool, true, false, List, [], ◌∷◌, ◌++◌, length, map, get_or, refl, sym, ap, ◌∙◌, subst, arith}
-use Rattle.std.proofs.lemmas.List.{length-append, length-map}
+use Rattle.std.proofs.Common.{◌≡◌, ℕ, zero, suc, ◌+◌, ◌<◌, ◌≤◌, ◌⊎◌, inl, inr, ◌||◌, Bool, true, false, List, [], ◌∷◌, length, get_or, refl, sym, ap, ◌∙◌, subst, arith}
 use Rattle.if1_graph.specs.declared.op.Simple.{Simple}
 use Rattle.graph_meaning.specs.Carried.{Carried, Unfilled}
 use Rattle.graph_meaning.specs.NodeValues.{Shape}
 use Rattle.graph_meaning.specs.Demand.{Source, Vertex}
 use Rattle.ordered_meaning.specs.Taking.{first_port}
 use Rattle.run_code.specs.Cells.{Operand, At, Lit, cells_at}
-use Rattle.run_code.specs.Coded.{operand}
-use Rattle.run_code.specs.Made.{Plan, Line, Makes, OfNode, OfResults, arm_code, ends_at, line, placed}
-use Rattle.run_code.specs.Steps.{Call, Fire, Move}
-use Rattle.run_made.proofs.Lengths.{IsLong}
+use Rattle.run_code.specs.Made.{Plan, OfNode, line}
+use Rattle.run_code.specs.Steps.{Call, Fire}
 use Rattle.run_made.specs.Plans.{Weighing}
 use Rattle.run_store.specs.Lively.{IsGiven, Live}
 use Rattle.run_store.specs.Ports.{mode_of, modes_of}
 use Rattle.run_store.specs.Refines.{IsLent, IsLentThrough, IsTaken}
-use Rattle.run_store.specs.Stored.{Copies, Handling, Looks, Mode, Takes, copied}
-use Rattle.made_store.proofs.Alive.{or-either, or-left, or-right, range-so, range-sound, true-false, where-sound, within}
+use Rattle.run_store.specs.Stored.{Handling, Looks, copied}
+use Rattle.made_store.proofs.Alive.{or-either, range-sound, true-false, where-sound}
 use Rattle.made_store.proofs.Around.{IsAround, taken-index}
-use Rattle.made_store.proofs.Flows.{AllFine, FineAt, Flows, Opens, Standing, fine-at, fine-both, follow, may-modes, plain-modes}
+use Rattle.made_store.proofs.Flows.{FineAt, Flows, Opens, Standing, fine-at, follow, may-modes, plain-modes}
 use Rattle.made_store.proofs.Owned.{cells-is}
-use Rattle.made_store.proofs.Scenes.{IsScene}
-use Rattle.made_store.proofs.Walks.{IsEnd}
-use Rattle.made_store.specs.Settings.{Cells_of, PartSet, Sets, Shares, cells_where, either_of, live_behind, modes_at, none_of, own_behind, range_of, result_modes}
-use Rattle.made_store.specs.Shared.{IsShared}
+use Rattle.made_store.specs.Settings.{Cells_of, Shares, cells_where, either_of, modes_at, range_of}
 
 -- what is lent is not taken
 lent-index : (takes copies : ℕ → Bool) (os : List Source) (args : List Operand) (first i : ℕ) → length args ≡ length os → IsLent (modes_of takes copies first os) args i → (j : ℕ) × (takes (first + j) ≡ false) × (get_or args j (Lit Unfilled) ≡ At i)

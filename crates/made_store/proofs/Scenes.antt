@@ -1,21 +1,19 @@
 -- What is asked of the operands of a graph, and what is known of a node where the graph goes through it.
-use Rattle.std.proofs.Common.{◌≡◌, ◌≢◌, ℕ, zero, suc, ◌+◌, ◌-◌, ◌<◌, ◌≤◌, ◌⊎◌, inl, inr, if◌then◌else◌, Bool, true, false, List, [], ◌∷◌, ◌++◌, length, map, get_or, refl, sym, ap, ◌∙◌, subst, arith}
+use Rattle.std.proofs.Common.{◌≡◌, ◌≢◌, ℕ, zero, suc, ◌+◌, ◌<◌, ◌≤◌, ◌⊎◌, inl, inr, if◌then◌else◌, Bool, true, List, [], ◌∷◌, map, get_or, refl, sym, ap, ◌∙◌, subst, arith}
 use Rattle.graph_meaning.specs.Carried.{Unfilled}
 use Rattle.graph_meaning.specs.Demand.{Source, Port, Fixed, Vertex, EachNode, LabelsOnce}
-use Rattle.ordered_meaning.specs.Taking.{AreTakersLast, Fills, NoneIsTaken, Taken, TakesAlone, IsTaken as WasTaken, first_port, taken_by}
+use Rattle.ordered_meaning.specs.Taking.{Fills, Taken, first_port, taken_by}
 use Rattle.run_code.specs.Cells.{Operand, At, Lit}
 use Rattle.run_code.specs.Coded.{Places, Puts, operand}
-use Rattle.run_code.specs.Known.{AreReadable, IsReadable, Known, Knows, KnowsAll, known_after}
-use Rattle.run_code.specs.Made.{Plan, placed, put}
-use Rattle.run_made.proofs.Lying.{PutsAll, are-labelled, puts-as, puts-put, is-suc}
-use Rattle.run_made.specs.Plans.{Weighing}
-use Rattle.run_store.proofs.Ports.{IsOwnCell, Ranged, StandsBelow, gone-after, gone-before, known-at, low, node-lively, own-input, own-output, reads-alive, taken-port}
-use Rattle.run_store.specs.Ports.{AllIn, AreInputsPlaced, IsAlive, KnowsPort, StaysAlive, modes_of}
+use Rattle.run_code.specs.Known.{Known}
+use Rattle.run_code.specs.Made.{Plan, put}
+use Rattle.run_made.proofs.Lying.{PutsAll, puts-as, puts-put, is-suc}
+use Rattle.run_store.proofs.Ports.{IsOwnCell, StandsBelow}
+use Rattle.run_store.specs.Ports.{AllIn, AreInputsPlaced, IsAlive, StaysAlive, modes_of}
 use Rattle.run_store.specs.Refines.{IsTaken}
 use Rattle.run_store.specs.Stored.{Copies, Looks, Takes}
-use Rattle.made_store.proofs.Alive.{lit-at, reads-there, same-cell, seat-is, seat-so, seat-inputs, within}
-use Rattle.made_store.specs.Settings.{Cells_of, Shares, modes_at, seats, taken_in}
-use Rattle.made_store.specs.Shared.{AreThere, IsShared, TakesOwned}
+use Rattle.made_store.proofs.Alive.{lit-at, same-cell, seat-is}
+use Rattle.made_store.specs.Settings.{Cells_of, Shares, seats}
 
 -- Operands of a graph from a cell on, while these cells are kept: all stand below it, and an operand that the graph owns has a cell of
 -- its own.

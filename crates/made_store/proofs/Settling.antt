@@ -1,5 +1,5 @@
 -- The settings that are made stand at their places.
-use Rattle.std.proofs.Common.{◌≡◌, ℕ, zero, suc, ◌+◌, ◌-◌, ◌<◌, ◌≤◌, inl, inr, if◌then◌else◌, Bool, true, false, List, [], ◌∷◌, ◌++◌, drop, length, map, get_or, refl, sym, ap, ◌∙◌, subst, arith}
+use Rattle.std.proofs.Common.{◌≡◌, ℕ, zero, suc, ◌+◌, inl, inr, Bool, true, false, List, [], ◌∷◌, ◌++◌, drop, length, map, refl, sym, ap, ◌∙◌, subst, arith}
 use Rattle.std.proofs.lemmas.List.{length-append}
 use Rattle.graph_meaning.specs.Entered.{IsIn}
 use Rattle.graph_meaning.specs.Forms as form
@@ -9,12 +9,11 @@ use Rattle.run_code.specs.Cells.{Operand, At, cells_at, own_cells, picked}
 use Rattle.run_code.specs.Coded.{operand}
 use Rattle.run_code.specs.Known.{Known}
 use Rattle.run_code.specs.Made.{Plan, IsSized, arms_size, functions_size, kind_size, loop_size, nodes_size, placed, stand}
-use Rattle.run_made.specs.Plans.{All, CanLay, IsInner, IsKindRight, IsPlanned, Weighing}
+use Rattle.run_made.specs.Plans.{All, CanLay, IsInner, IsKindRight, Weighing}
 use Rattle.run_store.specs.Lively.{Live}
-use Rattle.run_store.specs.Ports.{copies_of}
-use Rattle.run_store.specs.Stored.{Handling, Looks, Mode, Takes}
-use Rattle.made_store.specs.Settings.{ArmsSet, BeginSet, Cells_of, FunctionSet, FunctionsSet, GraphSet, IsSet, KindSet, LoopSet, NodesSet, PartSet, PartsSet, Sets, Shares, cells_where, either_of, gives, live_behind, live_in, modes_at, none_of, own_behind, own_in, range_of, result_modes, takes_all}
-use Rattle.made_store.specs.Settled.{Setting, Settles, arms_settings, begin_settings, for_all_settings, function_settings, functions_settings, graph_settings, handling_of, kind_settings, last_setting, live_of, loop_settings, nodes_settings, own_of, part_settings, parts_settings, setting}
+use Rattle.run_store.specs.Stored.{Handling, Looks, Mode}
+use Rattle.made_store.specs.Settings.{ArmsSet, BeginSet, Cells_of, FunctionsSet, GraphSet, IsSet, KindSet, LoopSet, NodesSet, PartSet, PartsSet, Sets, Shares, cells_where, either_of, gives, live_behind, live_in, none_of, own_behind, own_in, range_of, result_modes, takes_all}
+use Rattle.made_store.specs.Settled.{Setting, Settles, arms_settings, begin_settings, for_all_settings, function_settings, functions_settings, graph_settings, handling_of, kind_settings, live_of, loop_settings, nodes_settings, own_of, part_settings, parts_settings, setting}
 
 module _ (P : Plan) (S : Shares) (W : Weighing) (u : Network) (order : ℕ → List Vertex) (functions : List ℕ) where
   -- ---- as many settings as steps

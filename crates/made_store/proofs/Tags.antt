@@ -1,8 +1,8 @@
 -- TagCases.
-use Rattle.std.proofs.Common.{◌≡◌, ℕ, zero, suc, ◌+◌, ◌-◌, ◌<◌, ◌≤◌, ◌⊎◌, inl, inr, ◌||◌, if◌then◌else◌, Bool, true, false, List, [], ◌∷◌, ◌++◌, drop, length, map, get_or, refl, sym, ap, ◌∙◌, subst, arith}
+use Rattle.std.proofs.Common.{◌≡◌, ℕ, zero, suc, ◌+◌, ◌<◌, ◌≤◌, ◌⊎◌, inl, inr, if◌then◌else◌, Bool, true, false, List, [], ◌∷◌, drop, get_or, refl, sym, ◌∙◌, arith}
 use Rattle.graph_meaning.specs.Carried.{Carried, Unfilled}
 use Rattle.run_code.specs.Cells.{Operand, At, Lit}
-use Rattle.run_code.specs.Made.{Plan, Line, Makes, OfNothing, arms_at, arms_code, greatest_extent, line, tag_code}
+use Rattle.run_code.specs.Made.{Plan, Makes, OfNothing, arms_at, greatest_extent, line, tag_code}
 use Rattle.run_code.specs.Steps.{Tag}
 use Rattle.run_made.proofs.Lengths.{IsLong}
 use Rattle.run_made.specs.Plans.{All, Weighing}

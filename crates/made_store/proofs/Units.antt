@@ -1,19 +1,18 @@
 -- Code of units that is made with its settings.
-use Rattle.std.proofs.Common.{◌≡◌, ℕ, zero, suc, ◌+◌, ◌<◌, ◌≤◌, Bool, true, List, [], ◌∷◌, length, get_or, refl, sym, ap, ◌∙◌, subst, arith}
+use Rattle.std.proofs.Common.{◌≡◌, ℕ, zero, suc, ◌<◌, ◌≤◌, Bool, true, List, [], ◌∷◌, length, get_or, refl, ap, arith}
 use Rattle.if1_graph.specs.declared.graph.Unit1.{Unit1}
 use Rattle.graph_meaning.specs.Carried.{Carried, Unfilled}
 use Rattle.graph_meaning.specs.Entered.{IsIn}
 use Rattle.graph_meaning.specs.Demand.{Vertex, Network}
 use Rattle.graph_meaning.specs.Networks.{network}
 use Rattle.graph_meaning.specs.StorageUnits.{storage_of}
-use Rattle.run_code.specs.Cells.{At, Lit, Operand, cells_at}
-use Rattle.run_code.specs.Made.{Line, Plan, functions_size}
+use Rattle.run_code.specs.Cells.{At, Lit, cells_at}
+use Rattle.run_code.specs.Made.{Plan, functions_size}
 use Rattle.run_made.proofs.Inside.{inside}
 use Rattle.run_made.proofs.Making.{lines-lie, made}
 use Rattle.run_made.specs.Plans.{IsRightPlan, Weighing, end_of, laid}
 use Rattle.run_store.proofs.Sums.{unit-writes}
 use Rattle.run_store.proofs.Whole.{runs-begin, unit-decided}
-use Rattle.run_store.specs.Lively.{IsLive}
 use Rattle.run_store.specs.Whole.{Begins, first_cells}
 use Rattle.made_store.proofs.Alive.{where-sound}
 use Rattle.made_store.proofs.Functions.{entries-open, set-stored}

@@ -1,7 +1,7 @@
 -- Going through the nodes of a graph: what is known at each, and at the end.
-use Rattle.std.proofs.Common.{◌≡◌, ◌≢◌, ℕ, zero, suc, ◌+◌, ◌-◌, ◌<◌, ◌≤◌, ◌⊎◌, inl, inr, ◌||◌, if◌then◌else◌, Bool, true, false, List, [], ◌∷◌, ◌++◌, length, map, get_or, refl, sym, ap, ◌∙◌, subst, arith}
+use Rattle.std.proofs.Common.{◌≡◌, ℕ, zero, suc, ◌+◌, ◌<◌, ◌≤◌, ◌⊎◌, inl, inr, Bool, true, List, [], ◌∷◌, length, map, get_or, refl, sym, ap, ◌∙◌, subst, arith}
 use Rattle.graph_meaning.specs.Carried.{Unfilled}
-use Rattle.graph_meaning.specs.Demand.{Source, Vertex, EachNode, LabelsOnce}
+use Rattle.graph_meaning.specs.Demand.{Vertex, LabelsOnce}
 use Rattle.ordered_meaning.specs.Taking.{AreTakersLast, Fills, NoneIsTaken, Taken, TakesAlone, first_port, taken_by}
 use Rattle.run_code.specs.Cells.{Operand, At, Lit}
 use Rattle.run_code.specs.Coded.{Places, Puts, operand}
@@ -10,11 +10,11 @@ use Rattle.run_code.specs.Made.{Plan, ends_at, placed}
 use Rattle.run_made.proofs.Lying.{PutsAll, are-labelled}
 use Rattle.run_made.specs.Plans.{Weighing}
 use Rattle.run_store.proofs.Ports.{IsOwnCell, Ranged, known-at, low, node-lively, own-input, own-output, reads-alive}
-use Rattle.run_store.specs.Ports.{AreInputsPlaced, IsAlive, modes_of}
-use Rattle.made_store.proofs.Alive.{alive-so, alive-sound, lit-at, or-either, or-left, or-right, range-so, reads-there, seat-inputs, seat-is, seat-so, where-so}
+use Rattle.run_store.specs.Ports.{AreInputsPlaced, IsAlive}
+use Rattle.made_store.proofs.Alive.{alive-so, alive-sound, or-left, or-right, range-so, reads-there, seat-inputs, seat-is, seat-so, where-so}
 use Rattle.made_store.proofs.Around.{IsAround, around, none-filled}
 use Rattle.made_store.proofs.Scenes.{IsReached, IsScene, all-in, filled, inputs-owned, inputs-there, owned, seats-put, split-alive, there}
-use Rattle.made_store.specs.Settings.{Cells_of, Shares, alive, cells_where, either_of, live_behind, live_in, modes_at, own_behind, own_in, range_of, result_modes, seats, taken_in}
+use Rattle.made_store.specs.Settings.{Cells_of, Shares, alive, cells_where, either_of, live_behind, live_in, own_behind, own_in, range_of, seats, taken_in}
 use Rattle.made_store.specs.Shared.{AreThere, IsShared, TakesOwned}
 
 -- ---- a node

@@ -1,18 +1,17 @@
 -- Weights by modes are those of record where modes go by marks.
-use Rattle.std.proofs.Common.{◌≡◌, ◌⊎◌, inl, inr, ℕ, zero, suc, ◌+◌, ◌≤◌, ◌&&◌, not, if◌then◌else◌, Bool, true, false, List, [], ◌∷◌, length, refl, sym, ap, ◌∙◌, subst, arith}
+use Rattle.std.proofs.Common.{◌≡◌, ◌⊎◌, inl, inr, ℕ, suc, ◌+◌, ◌≤◌, ◌&&◌, not, if◌then◌else◌, Bool, true, false, List, [], ◌∷◌, length, refl, sym, ap, ◌∙◌, arith}
 use Rattle.graph_meaning.specs.Carried.{Carried}
 use Rattle.graph_meaning.specs.Forms as form
-use Rattle.graph_meaning.specs.Demand.{EachNode, Kind, Network, Plain, Source, Vertex, Whole}
+use Rattle.graph_meaning.specs.Demand.{EachNode, Kind, Plain, Source, Vertex, Whole}
 use Rattle.graph_meaning.specs.Storage.{Storage, copying, given_copied, is_left, leaves_at, leaves_of, node_copied}
-use Rattle.ordered_meaning.specs.Taking.{first_port}
 use Rattle.run_code.specs.Cells.{picked}
 use Rattle.run_code.specs.Made.{Plan}
 use Rattle.run_store.proofs.Ports.{modes-copied}
 use Rattle.run_store.specs.Ports.{copies_of, mode_of, modes_of, picks_of}
-use Rattle.run_store.specs.Stored.{Copies, Looks, Takes, copied, copied_as}
+use Rattle.run_store.specs.Stored.{copied, copied_as}
 use Rattle.made_store.proofs.Flows.{none-copied}
-use Rattle.made_store.specs.Settings.{Shares, modes_at, result_modes}
-use Rattle.made_store.specs.Weights.{AreModesWeights, IsMarked, IsNodeMarked, by_modes, is_copied, node_weight}
+use Rattle.made_store.specs.Settings.{Shares, result_modes}
+use Rattle.made_store.specs.Weights.{AreModesWeights, IsNodeMarked, by_modes, is_copied, node_weight}
 
 none-left : (test : ℕ → Bool) (first : ℕ) (ks : List Carried) → ((p : ℕ) → first ≤ p → test p ≡ false) → leaves_at test first ks ≡ 0
 none-left test first [] none = refl

@@ -3,4 +3,6 @@ pub mod Shared
 pub mod Settled
 pub mod Weights
 pub mod Marks
+pub mod UnitWeights
+pub mod Marked
 pub mod Laws

@@ -5,7 +5,9 @@ ghost use Rattle.made_store.specs.Laws.{
   IsMadeStored,
   IsSetStored,
 };
-ghost use Rattle.made_store.specs.Marks.{AreMarkedTakersLast};
+ghost use Rattle.made_store.specs.Marked.{AreMarkedRunsDecided};
+ghost use Rattle.made_store.specs.Marks.{AreMarkedTakersLast, AreTakersOwned};
+ghost use Rattle.made_store.specs.UnitWeights.{AreUnitWeights};
 ghost use Rattle.made_store.specs.Weights.{AreModesWeights};
 
 /// Where the places of code that is made of a right plan are set by its shares, no step reads what was
@@ -29,6 +31,11 @@ pub fn writes_of_units_that_are_made_are_of_record()
     ensures { AreMadeWritesRecorded }
 {}
 
+/// Inputs that are taken by marks are owned.
+pub fn takers_by_marks_are_owned()
+    ensures { AreTakersOwned }
+{}
+
 /// Weights by modes that go by marks are those of record.
 pub fn weights_by_modes_are_of_record()
     ensures { AreModesWeights }
@@ -37,4 +44,15 @@ pub fn weights_by_modes_are_of_record()
 /// Takers by the marks of a ready unit with sound marks are last in each graph.
 pub fn takers_by_marks_are_last()
     ensures { AreMarkedTakersLast }
+{}
+
+/// So they are for every unit, where a plan takes and copies by its marks.
+pub fn weights_by_marks_of_units_are_of_record()
+    ensures { AreUnitWeights }
+{}
+
+/// So nothing is asked of weights: a run of code that is made of a right plan that goes by the marks of a
+/// ready unit is decided.
+pub fn runs_of_units_by_marks_are_decided()
+    ensures { AreMarkedRunsDecided }
 {}

@@ -1,22 +1,21 @@
 -- What is made of graphs and functions stays inside.
-use Rattle.std.proofs.Common.{◌≡◌, ℕ, zero, suc, ◌+◌, ◌<◌, ◌≤◌, max, ltb, Bool, true, false, List, [], ◌∷◌, ◌++◌, length, map, sym, ap, ◌∙◌, subst, refl, arith}
+use Rattle.std.proofs.Common.{◌≡◌, ℕ, zero, suc, ◌+◌, ◌<◌, ◌≤◌, ltb, Bool, true, false, List, [], ◌∷◌, length, map, sym, ◌∙◌, subst, refl, arith}
 use Rattle.std.proofs.lemmas.Bool.{ltb-true, ltb-false}
 use Rattle.std.proofs.lemmas.List.{length-map}
 use Rattle.std.proofs.Math.Nat.{le-max_left, le-max_right}
 use Rattle.graph_meaning.specs.Entered.{IsIn}
 use Rattle.graph_meaning.specs.Forms as form
 use Rattle.graph_meaning.specs.Demand.{Kind, Plain, Whole, Vertex, Network, EachNode}
-use Rattle.run_code.specs.Cells.{Operand, At, Lit, cells_at, picked, own_cells}
+use Rattle.run_code.specs.Cells.{Operand, cells_at, picked, own_cells}
 use Rattle.run_code.specs.Coded.{Layout, Places, operand}
-use Rattle.run_code.specs.Collections.{AreWithin}
 use Rattle.run_code.specs.Machine.{Weigh}
-use Rattle.run_code.specs.Made.{Plan, Line, line, OfInputs, OfNothing, OfResults, IsSized, Makes, ends_at, entry_from, function_lines, functions_size, graph_code, kind_code, kind_size, nodes_code, nodes_extent, nodes_size, parts_code, parts_extent, placed, room_of}
+use Rattle.run_code.specs.Made.{Plan, Line, line, OfInputs, OfNothing, OfResults, IsSized, Makes, ends_at, function_lines, graph_code, kind_code, kind_size, nodes_code, nodes_extent, nodes_size, parts_code, parts_extent, placed, room_of}
 use Rattle.run_code.specs.Steps.{Code, Count, Move, Return}
-use Rattle.run_laws.specs.Inside.{AreCells, IsCell, IsInside, Stays}
+use Rattle.run_laws.specs.Inside.{AreCells, IsCell, Stays}
 use Rattle.run_made.proofs.Lengths.{IsLong, graph-long, kind-long}
-use Rattle.run_made.proofs.Lying.{own-long, picked-long}
+use Rattle.run_made.proofs.Lying.{picked-long}
 use Rattle.run_made.proofs.Making.{block-lies, entry-within, function-long}
-use Rattle.run_made.proofs.Staying.{AllStay, DoStay, arms-stay, cells-inside, ends-inside, for-all-stays, loop-stays, own-inside, picked-inside, placed-inside, read-inside, select-stays, stay-both, tag-stays}
+use Rattle.run_made.proofs.Staying.{AllStay, DoStay, cells-inside, ends-inside, for-all-stays, loop-stays, own-inside, picked-inside, placed-inside, read-inside, select-stays, stay-both, tag-stays}
 use Rattle.run_made.specs.Laws.{IsCodeInside}
 use Rattle.run_made.specs.Plans.{All, CanLay, IsInner, IsKindRight, IsRightPlan, Lie, Weighing, end_of, laid_as}
 

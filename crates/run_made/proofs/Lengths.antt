@@ -1,13 +1,13 @@
 -- As many lines are made as the tables say.
-use Rattle.std.proofs.Common.{◌≡◌, ℕ, zero, suc, ◌+◌, true, false, List, [], ◌∷◌, ◌++◌, length, map, drop, get_or, refl, sym, ap, ◌∙◌, arith}
+use Rattle.std.proofs.Common.{◌≡◌, ℕ, zero, suc, ◌+◌, true, false, List, [], ◌∷◌, ◌++◌, length, map, drop, refl, sym, ap, ◌∙◌, arith}
 use Rattle.std.proofs.lemmas.List.{length-append}
 use Rattle.graph_meaning.specs.Forms as form
 use Rattle.graph_meaning.specs.Demand.{Kind, Plain, Whole, Vertex, Network, EachNode}
-use Rattle.run_code.specs.Cells.{Operand, At, Lit, cells_at, picked, own_cells}
+use Rattle.run_code.specs.Cells.{Operand, At, cells_at, picked, own_cells}
 use Rattle.run_code.specs.Coded.{Places, operand}
-use Rattle.run_code.specs.Made.{Plan, Line, line, OfResults, OfRows, OfNothing, Makes, IsSized, arm_code, arms_at, arms_code, arms_size, end_at, ends_at, for_all_code, graph_code, kind_code, kind_size, loop_code, loop_size, nodes_code, nodes_size, parts_code, placed, select_code, stand, tag_code}
-use Rattle.run_code.specs.Steps.{Step, Add, Branch, Count, Each, Keep, Move, Spread, Tag, Test}
-use Rattle.run_made.specs.Plans.{All, CanLay, IsInner, IsKindRight, IsLoopRight, Weighing}
+use Rattle.run_code.specs.Made.{Plan, Line, line, OfResults, OfRows, OfNothing, Makes, IsSized, arm_code, arms_at, arms_code, arms_size, end_at, ends_at, for_all_code, graph_code, kind_code, kind_size, loop_code, loop_size, nodes_code, nodes_size, placed, select_code, stand}
+use Rattle.run_code.specs.Steps.{Add, Branch, Count, Each, Keep, Move, Spread, Test}
+use Rattle.run_made.specs.Plans.{All, CanLay, IsInner, IsKindRight, Weighing}
 
 module _ (P : Plan) where
   -- what is made of a graph is as long as the table says

@@ -7,3 +7,4 @@ pub mod Staying
 pub mod Inside
 pub mod Decided
 pub mod Orders
+pub mod Tables

@@ -1,12 +1,9 @@
 -- Lines that lie in code, where outputs stand, and how many lines are made.
-use Rattle.std.proofs.Common.{◌≡◌, ◌≢◌, ℕ, zero, suc, ◌+◌, ◌-◌, ◌<◌, ◌≤◌, eqb, ltb, T, if◌then◌else◌, Bool, true, false, List, [], ◌∷◌, ◌++◌, length, map, drop, get_or, inl, inr, refl, sym, ap, ◌∙◌, subst, arith}
+use Rattle.std.proofs.Common.{◌≡◌, ◌≢◌, ℕ, zero, suc, ◌+◌, ◌-◌, ◌<◌, ◌≤◌, eqb, ltb, T, if◌then◌else◌, Bool, true, false, List, [], ◌∷◌, ◌++◌, length, map, get_or, inl, inr, refl, sym, ap, ◌∙◌, subst, arith}
 use Rattle.std.proofs.lemmas.Bool.{eq-eqb, lt-ltb}
-use Rattle.std.proofs.lemmas.List.{length-append}
 use Rattle.std.proofs.Math.Facts.{eqb_yes}
-use Rattle.graph_meaning.specs.Carried.{Carried, Unfilled}
-use Rattle.graph_meaning.specs.Entered.{IsIn}
-use Rattle.graph_meaning.specs.Forms as form
-use Rattle.graph_meaning.specs.Demand.{Source, Kind, Plain, Whole, Vertex, Network, IsLabel, LabelsOnce, EachNode}
+use Rattle.graph_meaning.specs.Carried.{Unfilled}
+use Rattle.graph_meaning.specs.Demand.{Source, Vertex, IsLabel, LabelsOnce, EachNode}
 use Rattle.run_code.specs.Cells.{Operand, At, Lit, cells_at, picked, own_cells}
 use Rattle.run_code.specs.Coded.{Places, Puts, operand, AreOf, AreAt}
 use Rattle.run_code.specs.Collections.{Collect, Sifts, Final}
@@ -14,7 +11,7 @@ use Rattle.run_code.specs.Known.{IsReadable}
 use Rattle.run_code.specs.Machine.{Weigh}
 use Rattle.run_code.specs.Made.{Plan, Line, placed, put, stand}
 use Rattle.run_code.specs.Steps.{Code}
-use Rattle.run_made.specs.Plans.{Weighing, Lie, adds, code_at, last_line, weigh_at}
+use Rattle.run_made.specs.Plans.{Weighing, Lie, code_at, weigh_at}
 
 -- ---- what lies where
 

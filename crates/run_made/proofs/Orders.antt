@@ -1,6 +1,6 @@
 -- In an order along data edges nodes read what was given before.
-use Rattle.std.proofs.Common.{◌≡◌, ◌≢◌, ℕ, zero, suc, ◌≤◌, ◌<◌, ◌+◌, ◌⊎◌, inl, inr, List, [], ◌∷◌, ◌++◌, Some, refl, sym, ap, ◌∙◌, subst, arith}
-use Rattle.graph_meaning.specs.Demand.{EachNode, Fixed, IsLabel, LabelsOnce, Net, Port, Source, Vertex, at_label, data_labels, waits}
+use Rattle.std.proofs.Common.{◌≡◌, ◌≢◌, ℕ, zero, suc, ◌≤◌, ◌⊎◌, inl, inr, List, [], ◌∷◌, Some, refl, ap, ◌∙◌, subst, arith}
+use Rattle.graph_meaning.specs.Demand.{EachNode, Fixed, IsLabel, LabelsOnce, Net, Port, Source, Vertex, at_label, data_labels}
 use Rattle.graph_meaning.specs.Entered.{IsIn}
 use Rattle.ordered_meaning.proofs.Bound.{in-left, label-after, labels_after}
 use Rattle.ordered_meaning.specs.Orders.{IsAlong}

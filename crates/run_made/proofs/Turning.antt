@@ -1,18 +1,17 @@
 -- The parts of loops and ForAlls that are made do them.
-use Rattle.std.proofs.Common.{◌≡◌, ℕ, zero, suc, ◌+◌, ◌≤◌, max, Bool, true, false, List, [], ◌∷◌, ◌++◌, length, map, drop, get_or, refl, sym, ap, ◌∙◌, subst, arith}
-use Rattle.std.proofs.lemmas.List.{length-append, length-map}
+use Rattle.std.proofs.Common.{◌≡◌, ℕ, suc, ◌+◌, ◌≤◌, max, Bool, true, false, List, [], ◌∷◌, ◌++◌, length, refl, ◌∙◌, subst, arith}
+use Rattle.std.proofs.lemmas.List.{length-map}
 use Rattle.std.proofs.Math.Nat.{le-max_left, le-max_right}
 use Rattle.graph_meaning.specs.Carried.{Carried}
 use Rattle.graph_meaning.specs.Demand.{Vertex, Network}
-use Rattle.run_code.specs.Cells.{Operand, At, Lit, cells_at, picked, own_cells}
+use Rattle.run_code.specs.Cells.{Operand, cells_at, own_cells}
 use Rattle.run_code.specs.Coded.{ForAllIs, GoesIn, Layout, LoopIs, PartIs, Starts, operand, the_for_all, the_loop}
 use Rattle.run_code.specs.Machine.{Weigh}
 use Rattle.run_code.specs.Made.{Plan, Line, line, OfNothing, OfResults, OfRows, Makes, arm_code, end_at, ends_at, for_all_code, greatest_extent, loop_code, loop_extent, placed, stand}
-use Rattle.run_code.specs.Refolds.{Refolds}
 use Rattle.run_code.specs.Steps.{Add, Code, Each, Keep, Spread, Test}
 use Rattle.run_made.proofs.Arms.{X, Does, arm-made, as-planned}
 use Rattle.run_made.proofs.Lengths.{IsLong}
-use Rattle.run_made.proofs.Lying.{lies-first, lies-from, lies-rest, one-result, own-are, stand-at}
+use Rattle.run_made.proofs.Lying.{lies-first, lies-rest, one-result, own-are, stand-at}
 use Rattle.run_made.specs.Plans.{IsChoice, IsInner, IsRefolded, Lie, Weighing}
 
 module _ (P : Plan) (W : Weighing) (u : Network) (order : ℕ → List Vertex) (functions : List ℕ) (code : Code) (weigh : Weigh) (room : ℕ) (make : Makes P) (lays : ℕ → Type 0)

@@ -1,5 +1,5 @@
 -- Plans that are right: what is asked of a plan, graph by graph, so that the code that is made of it does the graphs.
-use Rattle.std.specs.Prelude.{◌≡◌, ℕ, zero, suc, ◌+◌, ◌<◌, ◌≤◌, List, [], ◌∷◌, length, get_or}
+use Rattle.std.specs.Prelude.{◌≡◌, ℕ, zero, suc, ◌+◌, ◌≤◌, List, [], ◌∷◌, length, get_or}
 use Rattle.graph_meaning.specs.Carried.{Carried}
 use Rattle.graph_meaning.specs.Entered.{IsIn}
 use Rattle.graph_meaning.specs.Forms as form
@@ -10,7 +10,7 @@ use Rattle.run_code.specs.Coded.{Layout}
 use Rattle.run_code.specs.Collections.{AreWithin}
 use Rattle.run_code.specs.Known.{AreReadable}
 use Rattle.run_code.specs.Machine.{Weigh}
-use Rattle.run_code.specs.Made.{Plan, Origin, OfNode, OfInputs, OfResults, OfRows, OfNothing, Line, line, IsSized, room_of, functions_lines, functions_size, entry_from}
+use Rattle.run_code.specs.Made.{Plan, Origin, OfNode, OfInputs, OfResults, OfRows, OfNothing, Line, line, IsSized, room_of, functions_lines, entry_from}
 use Rattle.run_code.specs.Refolds.{Refolds}
 use Rattle.run_code.specs.Steps.{Code, Return}
 

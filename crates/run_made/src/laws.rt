@@ -1,6 +1,7 @@
 //! The laws of code that is made of a plan.
 ghost use Rattle.run_made.specs.Laws.{AreMadeRunsDecided, DoLinesLie, IsCodeInside, IsCodeOfGraphs};
 ghost use Rattle.run_made.specs.Orders.{AreOrdersReadable};
+ghost use Rattle.run_made.specs.Tables.{AreLevelsEnough, AreTablesThere};
 
 /// Where the lines of a right plan lie, the steps of each function do its graph.
 pub fn code_that_is_made_does_its_graphs()
@@ -27,4 +28,14 @@ pub fn runs_of_what_is_made_are_decided()
 /// once.
 pub fn orders_are_readable()
     ensures { AreOrdersReadable }
+{}
+
+/// Where the graphs inside a graph have greater numbers, tables of steps and cells are there.
+pub fn tables_of_plans_are_there()
+    ensures { AreTablesThere }
+{}
+
+/// And graphs can be laid with as many levels as there are numbers.
+pub fn levels_by_numbers_are_enough()
+    ensures { AreLevelsEnough }
 {}

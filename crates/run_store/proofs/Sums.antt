@@ -1,27 +1,26 @@
 -- Sums by other weights of the machine whose cells own their values are sums of record.
-use Rattle.std.proofs.Common.{◌≡◌, ℕ, suc, ◌+◌, Bool, true, false, List, [], ◌∷◌, ◌++◌, length, map, take, refl, sym, ap, ◌∙◌, subst, arith}
+use Rattle.std.proofs.Common.{◌≡◌, ℕ, ◌+◌, Bool, true, false, List, [], length, map, refl, sym, ap, ◌∙◌, subst, arith}
 use Rattle.graph_meaning.proofs.Units.{units-orderly}
 use Rattle.graph_meaning.specs.Carried.{Carried}
 use Rattle.graph_meaning.specs.Demand.{AreOrderly}
 use Rattle.graph_meaning.specs.Networks.{network}
-use Rattle.graph_meaning.specs.NodeValues.{op}
 use Rattle.graph_meaning.specs.Storage.{GraphAdds, writing}
 use Rattle.graph_meaning.specs.StorageUnits.{storage_of}
 use Rattle.if1_marks.proofs.Taken.{sound-in-order}
 use Rattle.ordered_meaning.specs.Orders.{AreInOrder}
 use Rattle.run_code.specs.Cells.{Cells, cells_at, look}
-use Rattle.run_code.specs.Machine.{State, Weigh, added, Goes, Reaches, stays, goes_on, step}
+use Rattle.run_code.specs.Machine.{State, Weigh, added, Reaches, stays, goes_on}
 use Rattle.run_code.specs.Steps.{Add, Branch, Call, Code, Count, Each, Fire, Keep, Move, Return, Spread, Step, Tag, Test}
 use Rattle.run_laws.proofs.Backward.{ends-recorded}
 use Rattle.run_laws.proofs.Weighing.{same-totals}
-use Rattle.run_laws.specs.Facts.{AllOf, Fact, IsTrue, Preserves}
+use Rattle.run_laws.specs.Facts.{Fact, Preserves}
 use Rattle.run_store.proofs.Effects.{all-read, first-read}
 use Rattle.run_store.proofs.Refining.{all-seen}
 use Rattle.run_store.proofs.Whole.{Alike, alike, end-valued, ends-in, known-here, one-sum, start, step-valued}
 use Rattle.run_store.specs.Effects.{reads_of}
 use Rattle.run_store.specs.Lively.{IsLively, Live}
 use Rattle.run_store.specs.Refines.{IsHandled}
-use Rattle.run_store.specs.Stored.{Finished, Handling, Onward, Stored, StoredOutcome, Stuck, are_ready, seen_all, step_stored, where_ready}
+use Rattle.run_store.specs.Stored.{Finished, Handling, Onward, Stored, StoredOutcome, Stuck, are_ready, where_ready}
 use Rattle.run_store.specs.Sums.{AreStoreSumsRecorded, AreUnitWritesRecorded, HaveEndsSums, ReachesAdding, added_by, added_stored, comes, has_come, weighed_as}
 use Rattle.run_store.specs.Whole.{ReachesStored, entered_stored, rests, walks}
 
