@@ -1,5 +1,5 @@
 -- Who is to blame that an edge may not take, by the users of its port.
-use Rattle.std.proofs.Common.{◌≡◌, ◌≢◌, ◌∙◌, ℕ, ◌+◌, ◌<◌, suc, Bool, true, false, ◌&&◌, cond, List, [], ◌∷◌, ◌++◌, length, map, filter, take, get_or, slice_index, Option, Some, None, ◌⊎◌, inl, inr, Contains, All, arith, refl, sym, ap, subst, ◌==◌}
+use Rattle.std.proofs.Common.{◌≡◌, ◌≢◌, ◌∙◌, ℕ, ◌+◌, ◌<◌, suc, Bool, true, false, cond, List, [], ◌∷◌, ◌++◌, length, map, filter, take, get_or, slice_index, Option, Some, None, ◌⊎◌, inl, inr, Contains, All, arith, refl, sym, ap, subst, ◌==◌}
 use Rattle.std.proofs.lemmas.Bool.{and_parts, and_from, eq-eqb}
 use Rattle.std.proofs.lemmas.List.{get_or-map}
 use Rattle.std.proofs.lemmas.List.Elements.{All-weaker, All-more}
@@ -11,7 +11,6 @@ use Rattle.if1_graph.specs.declared.graph.Origin.TheVariants.{Port, Lit}
 use Rattle.if1_graph.specs.declared.graph.Unit1.{Unit1}
 use Rattle.if1_graph.specs.Ports.{leaves}
 use Rattle.if1_graph.specs.Units.{Home, Place}
-use Rattle.if1_order.specs.Orders.{node_labels}
 use Rattle.if1_order.specs.Walks.{Lists, Leads}
 use Rattle.if1_marks.specs.Given.{is_consuming}
 use Rattle.if1_marks.specs.Owned.{leaving, is_owned}
@@ -25,11 +24,10 @@ use Rattle.marks_made.proofs.Lists.{from-mapped, passed}
 use Rattle.marks_made.specs.Units.{is_candidate}
 use Rattle.if1_reach.specs.declared.users.PortUsers.{PortUsers}
 use Rattle.if1_reach.specs.Users.{users_in}
-use Rattle.mark_check.specs.Entries.{IsNetOf, IsFirst}
+use Rattle.mark_check.specs.Entries.{IsNetOf}
 use Rattle.mark_check.specs.Late.{IsInOrder, IsAfter}
-use Rattle.mark_check.specs.Least.{IsLeast, IsLeastOf, IsAmong, lesser_of}
+use Rattle.mark_check.specs.Least.{IsLeast, IsAmong, lesser_of}
 use Rattle.mark_check.specs.Takers.{IsWrongTaker, IsReaderAt, IsReader, IsOwnFault, IsLookedAt, IsFirstTaker, taking}
-use Rattle.mark_check.specs.declared.takers.BadTaker.{BadTaker}
 use Rattle.mark_check.proofs.Lesser.{least-same, least-both}
 use Rattle.mark_check.proofs.Wrong.{first-here, by-labels}
 

@@ -1,12 +1,12 @@
 -- Which users come before a taker, by places and by labels.
-use Rattle.std.proofs.Common.{◌≡◌, ◌≢◌, ◌∙◌, ◌↔◌, ℕ, ◌+◌, ◌<◌, ◌≤◌, Bool, true, List, [], ◌∷◌, suc, replicate, length, set, get_or, slice_index, take, Option, Some, None, IsSome, ◌⊎◌, inl, inr, Contains, arith, refl, sym, ap, subst, ◌==◌}
+use Rattle.std.proofs.Common.{◌≡◌, ◌≢◌, ◌∙◌, ◌↔◌, ℕ, ◌+◌, ◌<◌, ◌≤◌, Bool, true, List, [], suc, replicate, length, set, slice_index, take, Option, Some, None, IsSome, inl, inr, Contains, arith, refl, sym, ap, subst, ◌==◌}
 use Rattle.std.specs.List.Sorted.{IsStrictlyIncreasing}
 use Rattle.std.proofs.lemmas.Bool.{cases_eq, cases_lt}
 use Rattle.std.proofs.lemmas.List.{get_or-set_same, get_or-set_other, get_or_past, get_or-replicate, take_more, take_all, length-set, length-replicate}
 use Rattle.std.proofs.lemmas.List.Elements.{Contains-push_cases}
 use Rattle.if1_graph.specs.declared.graph.Graph.{Graph}
 use Rattle.if1_graph.specs.declared.graph.Graph.TheViews.{out-Graph}
-use Rattle.if1_graph.specs.declared.graph.Node.{Node, out-Node}
+use Rattle.if1_graph.specs.declared.graph.Node.{Node}
 use Rattle.if1_graph.specs.Units.{label_of, node_at}
 use Rattle.if1_order.specs.Orders.{node_labels}
 use Rattle.if1_order.specs.Walks.{Lists, Leads, step, feeders_of}

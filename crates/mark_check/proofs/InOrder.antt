@@ -1,5 +1,5 @@
 -- A graph of a ready unit without a wrong label on an ordering list is in order.
-use Rattle.std.proofs.Common.{◌≡◌, ◌≢◌, ◌∙◌, ℕ, List, [], ◌∷◌, ◌++◌, map, Option, Some, None, IsSome, ◌⊎◌, inl, inr, Contains, All, arith, refl, sym, ap, subst, ◌==◌}
+use Rattle.std.proofs.Common.{◌≡◌, ◌∙◌, ℕ, List, [], ◌∷◌, map, Option, Some, None, IsSome, ◌⊎◌, inl, inr, Contains, All, arith, refl, sym, ap, subst, ◌==◌}
 use Rattle.std.proofs.lemmas.List.Elements.{All-contains, Contains-append_left, Contains-append_right}
 use Rattle.if1_graph.specs.declared.graph.Graph.{Graph}
 use Rattle.if1_graph.specs.declared.graph.Graph.TheViews.{out-Graph}
@@ -10,10 +10,10 @@ use Rattle.if1_graph.specs.Formed.{IsNode, IsGraph}
 use Rattle.if1_graph.specs.Normal.{IsNormal}
 use Rattle.if1_graph.specs.Ready.{IsReady}
 use Rattle.if1_graph.specs.Units.{label_of, node_at, Place, places}
-use Rattle.if1_order.specs.Orders.{node_labels, IsLinked}
+use Rattle.if1_order.specs.Orders.{IsLinked}
 use Rattle.if1_order.proofs.Units.{ports_linked}
 use Rattle.if1_marks.specs.Orders.{Precedes, fed, listed, between}
-use Rattle.if1_marks.proofs.Lists.{here, there, here-or-there, in-none, in-mapped, found-in}
+use Rattle.if1_marks.proofs.Lists.{here-or-there, in-none, in-mapped, found-in}
 use Rattle.if1_marks.proofs.Tests.{same-number}
 use Rattle.if1_marks.proofs.Unlisted.{joined}
 use Rattle.marks_made.proofs.Lists.{from-mapped}

@@ -1,11 +1,11 @@
 -- The least number of a list, as the list grows.
-use Rattle.std.proofs.Common.{◌≡◌, ◌≢◌, ◌∙◌, ℕ, ◌+◌, ◌<◌, ◌≤◌, min, Bool, true, false, if◌then◌else◌, List, [], ◌∷◌, ◌++◌, length, take, get_or, slice_index, Option, Some, None, ◌⊎◌, inl, inr, Contains, arith, refl, sym, ap, subst}
+use Rattle.std.proofs.Common.{◌≡◌, ℕ, ◌+◌, ◌<◌, ◌≤◌, min, Bool, true, false, if◌then◌else◌, List, [], ◌∷◌, ◌++◌, length, take, slice_index, Option, Some, None, ◌⊎◌, inl, inr, Contains, arith, refl, sym, subst}
 use Rattle.std.proofs.Math.Nat.{min-le_left, min-le_right, le-min}
 use Rattle.std.proofs.lemmas.Bool.{cases_lt}
 use Rattle.std.proofs.lemmas.List.{take_more, take_all}
 use Rattle.std.proofs.lemmas.List.Elements.{Contains-push, Contains-push_cases, Contains-append_left}
 use Rattle.if1_marks.proofs.Tests.{no-both}
-use Rattle.mark_check.specs.Least.{IsLeast, IsLeastOf, IsAmong, lesser_of}
+use Rattle.mark_check.specs.Least.{IsLeast, IsAmong, lesser_of}
 
 pub least-same : (P Q : ℕ → Type 0) → ((l : ℕ) → P l → Q l) → ((l : ℕ) → Q l → P l) → (r : Option ℕ) → IsLeast P r → IsLeast Q r
 least-same P Q to from None none = λ l q. none l (from l q)

@@ -1,5 +1,5 @@
 -- The graphs of a unit, one after another.
-use Rattle.std.proofs.Common.{◌≡◌, ◌∙◌, ℕ, zero, suc, ◌+◌, ◌<◌, ◌≤◌, max, List, [], ◌∷◌, ◌++◌, length, map, take, get_or, All, Bor, arith, refl, sym, ap, subst, append_assoc}
+use Rattle.std.proofs.Common.{◌≡◌, ◌∙◌, ℕ, zero, suc, ◌+◌, ◌<◌, ◌≤◌, List, [], ◌∷◌, ◌++◌, length, map, take, get_or, All, Bor, arith, refl, sym, ap, append_assoc}
 use Rattle.std.specs.List.{flat_map}
 use Rattle.std.proofs.lemmas.Grind.{flat_map-append}
 use Rattle.std.proofs.lemmas.List.{take_more, take_all, map-append}
@@ -8,7 +8,7 @@ use Rattle.if1_graph.specs.declared.graph.Graph.TheViews.{out-Graph}
 use Rattle.if1_graph.specs.declared.graph.Graph.TheFolds.{fold_out-Node}
 use Rattle.if1_graph.specs.declared.graph.Node.{Node, out-Node}
 use Rattle.if1_graph.specs.declared.graph.Unit1.{Unit1}
-use Rattle.if1_graph.specs.Units.{Home, Function, Inside, Place, greatest, level_below, levels, most_levels, each_from, places_of, places}
+use Rattle.if1_graph.specs.Units.{Home, Function, Inside, Place, greatest, level_below, levels, most_levels, each_from, places_of}
 use Rattle.if1_order.proofs.Within.{node_levels, levels_out}
 use Rattle.mark_check.specs.Graphs.{graphs_of, graphs_in, graphs_below, unit_graphs, lent}
 

@@ -1,8 +1,7 @@
 -- The marks of a unit, graph by graph.
-use Rattle.std.proofs.Common.{◌≡◌, ◌≢◌, ◌∙◌, ℕ, ◌+◌, ◌<◌, ◌≤◌, Bool, false, List, [], ◌∷◌, ◌++◌, length, map, take, get_or, Option, Some, None, ◌⊎◌, inl, inr, Contains, All, Bor, Result, Ok, Err, IfErr, IsErrAnd, arith, refl, sym, ap, subst}
+use Rattle.std.proofs.Common.{◌≡◌, ◌∙◌, ℕ, ◌+◌, ◌<◌, ◌≤◌, Bool, false, List, [], ◌∷◌, length, map, take, get_or, Option, Some, None, ◌⊎◌, inl, inr, Contains, All, Bor, Result, Ok, Err, IfErr, IsErrAnd, arith, refl, sym, ap, subst}
 use Rattle.std.proofs.lemmas.List.{length-map, get_or-map, take_all}
 use Rattle.std.proofs.lemmas.List.Elements.{All-contains, All-contains_itself, All-weaker, All-more, Contains-append_right, Contains-append_cases}
-use Rattle.if1_graph.specs.declared.graph.Edge.{Edge}
 use Rattle.if1_graph.specs.declared.graph.Graph.{Graph}
 use Rattle.if1_graph.specs.declared.graph.Graph.TheViews.{out-Graph}
 use Rattle.if1_graph.specs.declared.graph.Node.{Node, out-Node}
@@ -10,10 +9,10 @@ use Rattle.if1_graph.specs.declared.graph.Unit1.{Unit1}
 use Rattle.if1_graph.specs.Formed.{IsGraph}
 use Rattle.if1_graph.specs.Normal.{IsNormal}
 use Rattle.if1_graph.specs.Ready.{IsReady}
-use Rattle.if1_graph.specs.Units.{label_of, Home, Function, Place, places, number_of}
+use Rattle.if1_graph.specs.Units.{label_of, Home, Function, Place, places}
 use Rattle.if1_order.specs.Orders.{IsLinked}
 use Rattle.if1_order.proofs.Units.{ports_linked}
-use Rattle.if1_marks.specs.Faults.{IsWrongOnList, absent, itself, behind, IsToBlame}
+use Rattle.if1_marks.specs.Faults.{IsWrongOnList, absent, itself, behind}
 use Rattle.if1_marks.specs.Laws.{IsFaultless}
 use Rattle.if1_marks.specs.Orders.{listed}
 use Rattle.if1_marks.specs.Sound.{IsSound}

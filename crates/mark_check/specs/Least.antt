@@ -1,5 +1,5 @@
 -- The least number that has a property, if there is one.
-use Rattle.std.specs.Prelude.{◌≡◌, ◌≢◌, ℕ, ◌≤◌, min, List, Option, Some, None, MatchOption, Contains}
+use Rattle.std.specs.Prelude.{ℕ, ◌≤◌, min, List, Option, Some, None, MatchOption, Contains}
 
 pub record IsLeastOf (P : ℕ → Type 0) (l : ℕ) : Type 0 where
   pub holds : P l

@@ -1,5 +1,5 @@
 -- Which taking edge of a graph is the first that may not take, and who is to blame.
-use Rattle.std.specs.Prelude.{◌≡◌, ◌≢◌, ℕ, ◌⊎◌, Bool, true, false, List, length, filter, ◌==◌, Option, MatchOption, All, Contains}
+use Rattle.std.specs.Prelude.{◌≡◌, ◌≢◌, ℕ, ◌⊎◌, Bool, true, false, List, length, filter, ◌==◌, Option, MatchOption, All}
 use Rattle.if1_graph.specs.declared.graph.Edge.{Edge}
 use Rattle.if1_graph.specs.declared.graph.Graph.{Graph}
 use Rattle.if1_graph.specs.declared.graph.Graph.TheViews.{out-Graph}
@@ -9,7 +9,6 @@ use Rattle.if1_order.specs.Walks.{Lists}
 use Rattle.if1_marks.specs.Faults.{IsToBlame}
 use Rattle.if1_reach.specs.declared.users.PortUsers.{PortUsers}
 use Rattle.if1_reach.specs.Users.{HasUsers}
-use Rattle.marks_made.specs.Units.{is_candidate}
 use Rattle.mark_check.specs.declared.takers.BadTaker.{BadTaker}
 use Rattle.mark_check.specs.Entries.{IsNetOf, IsFirst}
 use Rattle.mark_check.specs.Late.{IsInOrder, IsAfter}

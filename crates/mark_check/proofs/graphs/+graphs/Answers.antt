@@ -1,4 +1,4 @@
-use Rattle.std.proofs.Common.{◌≤◌, ◌∙◌, ◌++◌, ℕ, suc, List, map, Contains, arith, refl, sym, ap}
+use Rattle.std.proofs.Common.{◌≤◌, ◌∙◌, ◌++◌, suc, List, map, Contains, arith, refl, sym, ap}
 use Rattle.if1_graph.specs.declared.graph.Graph.{Graph}
 use Rattle.if1_graph.specs.declared.graph.Node.{out-Node}
 use Rattle.if1_graph.specs.Units.{levels, level_below}

@@ -1,4 +1,4 @@
-use Rattle.std.proofs.Common.{◌≡◌, ◌∙◌, ◌++◌, List, map, subst, sym, ap, All, ◌≤◌}
+use Rattle.std.proofs.Common.{◌∙◌, ◌++◌, subst, sym, ap, All, ◌≤◌}
 use Rattle.if1_graph.specs.Units.{levels, most_levels}
 use Rattle.mark_check.specs.Graphs.{graphs_in, lent}
 use Rattle.mark_check.proofs.Listed.{unit-listed, unit-flat}

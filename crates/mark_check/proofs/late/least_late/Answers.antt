@@ -1,4 +1,3 @@
-use Rattle.std.proofs.Common.{slice_index}
 use Rattle.mark_check.specs.Late.{IsLate}
 use Rattle.mark_check.proofs.Lesser.{among-step, among-all}
 use Rattle.mark_check.proofs.late.least_late.Goals as goal

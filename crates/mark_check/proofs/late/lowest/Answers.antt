@@ -1,4 +1,4 @@
-use Rattle.std.proofs.Common.{◌≤◌, arith, slice_index}
+use Rattle.std.proofs.Common.{arith}
 use Rattle.std.proofs.Math.Nat.{min-le_left, min-le_right}
 use Rattle.mark_check.proofs.Early.{low-more, low-all}
 use Rattle.mark_check.proofs.late.lowest.Goals as goal

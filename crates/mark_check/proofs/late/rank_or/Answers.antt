@@ -1,4 +1,3 @@
-use Rattle.std.proofs.Common.{slice_index}
 use Rattle.mark_check.proofs.Early.{rank-there}
 use Rattle.mark_check.proofs.late.rank_or.Goals as goal
 

@@ -1,7 +1,6 @@
-use Rattle.std.proofs.Common.{◌≡◌, ◌∙◌, ◌<◌, length, slice_index, Contains, sym, ap, subst}
+use Rattle.std.proofs.Common.{◌∙◌, length, slice_index, Contains, sym, ap, subst}
 use Rattle.std.proofs.lemmas.List.{length-set}
 use Rattle.std.proofs.lemmas.List.Elements.{Contains-get_or}
-use Rattle.if1_order.specs.Walks.{feeders_of}
 use Rattle.if1_reach.proofs.Searches.{items-of}
 use Rattle.if1_reach.proofs.Sinking.{fed-inside}
 use Rattle.mark_check.proofs.Early.{stamped-more}

@@ -1,4 +1,4 @@
-use Rattle.std.proofs.Common.{◌≢◌, slice_index}
+use Rattle.std.proofs.Common.{◌≢◌}
 use Rattle.mark_check.proofs.Lesser.{among-step, among-all}
 use Rattle.mark_check.proofs.least.least_other.Goals as goal
 

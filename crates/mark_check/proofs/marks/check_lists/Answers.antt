@@ -1,4 +1,3 @@
-use Rattle.if1_graph.specs.Units.{places}
 use Rattle.mark_check.specs.Marks.{HasWrongEntry}
 use Rattle.mark_check.proofs.Whole.{graph-linked, entry-wrong, entries-right, all-places}
 use Rattle.mark_check.proofs.marks.check_lists.Goals as goal

@@ -1,6 +1,6 @@
 use Rattle.if1_graph.specs.declared.graph.Graph.TheViews.{out-Graph}
 use Rattle.mark_check.specs.Takers.{taking}
-use Rattle.mark_check.proofs.Blamed.{reader-found, none-taken}
+use Rattle.mark_check.proofs.Blamed.{reader-found}
 use Rattle.mark_check.proofs.takers.reader_at.Goals as goal
 
 pub returns-clause-reader : goal.returns-clause-reader
