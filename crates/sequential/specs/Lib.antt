@@ -1,0 +1,5 @@
+pub mod Inside
+pub mod Hops
+pub mod Firing
+pub mod Bringing
+pub mod Agrees
