@@ -32,11 +32,14 @@ pub fn brought(
     ensures size { length cells.new.items ≡ length cells.old.items }
     ensures copies { OnOk result (copies.new ≡ capped (copies.old + stored.copied_as (mode_in code.now from) (stored.seen (heap_of cells.old.items) base (mode_in code.now from) (operand_in code.now from)))) }
 {
+    let _in_range = *copies;
     match from {
         Operand::Takes(cell) => Ok(mem::replace(&mut cells[base + cell as usize], Cell::Empty)),
         Operand::Copies(_) => counted(alloc, sight(code, cells.as_slice(), base, from), copies),
         Operand::CopiesOf(_) => counted(alloc, sight(code, cells.as_slice(), base, from), copies),
-        _ => copied(alloc, sight(code, cells.as_slice(), base, from)),
+        Operand::Literal(_) => copied(alloc, sight(code, cells.as_slice(), base, from)),
+        Operand::Looks(_) => copied(alloc, sight(code, cells.as_slice(), base, from)),
+        Operand::LooksAt(_) => copied(alloc, sight(code, cells.as_slice(), base, from)),
     }
 }
 

@@ -2,10 +2,17 @@
 #![tactic(auto)]
 
 mod bringing;
+mod choices;
+mod choosing;
+mod laws;
+mod leaving;
+mod loading;
 mod machine;
+mod moving;
 mod numbers;
 mod scalar;
 mod sights;
 mod steps;
 
+pub use laws::steps_are_for_all;
 pub use machine::{Machine, OpenCall, Turn};

@@ -18,7 +18,7 @@ pub struct Machine {
     /// The leaves that were copied so far, or the greatest number.
     pub copies: u64,
     /// The results, once it has ended.
-    pub results: Seq<Cell>,
+    pub results: Vec<Cell>,
 }
 
 /// A call that has not returned.
