@@ -1,4 +1,4 @@
-use Rattle.std.proofs.Common.{◌≡◌, ◌<◌, ◌≤◌, ◌+◌, ◌-◌, drop, length, [], ◌∷◌, ◌∙◌, subst, sym, arith}
+use Rattle.std.proofs.Common.{◌<◌, ◌≤◌, ◌+◌, ◌-◌, drop, length, ◌∙◌, subst, sym, arith}
 use Rattle.run_store.specs.Stored as stored
 use Rattle.run_cells.specs.Held.{heap_of}
 use Rattle.step_code.specs.Reading.{operand_in, mode_in}
