@@ -1,9 +1,8 @@
 -- What is taken by the marks of a unit is owned.
-use Rattle.std.proofs.Common.{◌≡◌, ◌==◌, ℕ, eqb, if◌then◌else◌, Bool, true, false, List, [], ◌∷◌, map, find, Contains, All, Option, Some, None, refl, sym, ap, ◌∙◌, subst}
+use Rattle.std.proofs.Common.{◌≡◌, ◌==◌, ℕ, eqb, if◌then◌else◌, Bool, true, false, List, [], ◌∷◌, map, find, Contains, Option, Some, None, refl, sym, ap, ◌∙◌, subst}
 use Rattle.std.proofs.lemmas.List.Elements.{All-contains}
 use Rattle.if1_graph.specs.declared.graph.Graph.TheViews.{out-Graph}
 use Rattle.if1_graph.specs.declared.graph.Node.{Node}
-use Rattle.if1_graph.specs.declared.graph.Origin.TheVariants as origin
 use Rattle.if1_graph.specs.declared.graph.Unit1.{Unit1}
 use Rattle.if1_graph.specs.Units.{Place, edge_into, label_of, number_of, places, results}
 use Rattle.if1_marks.specs.Owned.{is_input_owned, is_owned}
