@@ -2,8 +2,14 @@
 use Rattle.std.proofs.Common.{◌≡◌, ℕ, suc, ◌+◌, max, List, [], ◌∷◌, ◌++◌, map, length, refl, ap, ◌∙◌, arith}
 use Rattle.std.proofs.lemmas.List.{length-append, length-map}
 use Rattle.if1_graph.specs.declared.op.Compound.{Compound}
-use Rattle.lowering.specs.Feeds.{Carried, One, Wire}
-use Rattle.lowering.specs.Graphs.{Action, LoweredNode, LoweredGraph, Lowered, Lowering, only as only_wires, joined as joined_graphs, andthen, ports, a_node as a_lowered_node, inputs, closed_nodes, closed_graphs, size, whole as whole_node, tag_case_on, new_graph, new_graphs}
+use Rattle.lowering.specs.declared.feed.Carried.{Carried}
+use Rattle.lowering.specs.declared.feed.Carried.TheVariants.{One}
+use Rattle.lowering.specs.declared.feed.Wire.{Wire}
+use Rattle.lowering.specs.declared.graph.Action.{Action}
+use Rattle.lowering.specs.declared.graph.LoweredNode.{LoweredNode}
+use Rattle.lowering.specs.declared.graph.LoweredGraph.{LoweredGraph}
+use Rattle.lowering.specs.declared.graph.Lowered.{Lowered}
+use Rattle.lowering.specs.Graphs.{Lowering, only as only_wires, joined as joined_graphs, andthen, ports, a_node as a_lowered_node, inputs, closed_nodes, closed_graphs, size, whole as whole_node, tag_case_on, new_graph, new_graphs}
 use Rattle.lowering.specs.TooMany.{node_ports}
 use Rattle.lowered_units.proofs.Kept.{weight, inner, inner-is, weight-joined}
 use Rattle.lowered_sizes.specs.declared.sizes.Sizes.{Sizes}

@@ -16,8 +16,12 @@ use Rattle.typed_tree.specs.declared.expr.Case.{Case}
 use Rattle.typed_tree.specs.Types.{IsNumber, AreNumbers}
 use Rattle.value_ops.specs.declared.operation.Operation.{Operation}
 use Rattle.value_ops.specs.declared.operation.Operation.TheVariants as operation
-use Rattle.lowering.specs.Feeds.{Literal, Port, One, Wire, wire, into}
-use Rattle.lowering.specs.Graphs.{Row, Call, Lowering, only as only_wires, andthen, a_node as a_lowered_node, size, new_graph, new_graphs}
+use Rattle.lowering.specs.declared.feed.Feed.TheVariants.{Literal, Port}
+use Rattle.lowering.specs.declared.feed.Carried.TheVariants.{One}
+use Rattle.lowering.specs.declared.feed.Wire.{Wire}
+use Rattle.lowering.specs.Feeds.{wire, into}
+use Rattle.lowering.specs.declared.graph.Action.TheVariants.{Row, Call}
+use Rattle.lowering.specs.Graphs.{Lowering, only as only_wires, andthen, a_node as a_lowered_node, size, new_graph, new_graphs}
 use Rattle.lowering.specs.Operations.{Lowers, boolean, character, integer, one, all_lowered, defs_lowered, body_lowered, wire_at, row_lowered, constant_lowered, absents, reversed, changed}
 use Rattle.lowering.specs.Choices.{tag_count, type_of, content_of, first_tag, selector_lowered, if_lowered, arms_of, arm_names, arms_from, case_lowered, two_arms, truth, is_tag_lowered, applied}
 use Rattle.lowering.specs.Phrases.{call_lowered}

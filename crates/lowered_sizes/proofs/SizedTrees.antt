@@ -20,8 +20,10 @@ use Rattle.typed_tree.specs.Types.{constant_type, IsNumber, AreNumbers}
 use Rattle.typed_tree.specs.Types as number
 use Rattle.fitting_trees.specs.Fitting.{Header, Fits, AllFit, DefsFit, ArmsFit, BodyFits, FunctionsFit}
 use Rattle.fitting_trees.specs.Fitting as is
-use Rattle.lowering.specs.Feeds.{One}
-use Rattle.lowering.specs.Graphs.{LoweredGraph, Lowered, size, closed_graphs, new_graph, new_graphs}
+use Rattle.lowering.specs.declared.feed.Carried.TheVariants.{One}
+use Rattle.lowering.specs.declared.graph.LoweredGraph.{LoweredGraph}
+use Rattle.lowering.specs.declared.graph.Lowered.{Lowered}
+use Rattle.lowering.specs.Graphs.{size, closed_graphs, new_graph, new_graphs}
 use Rattle.lowering.specs.Operations.{Lowers, integer, all_lowered, wire_at}
 use Rattle.lowering.specs.Choices.{type_of, applied, case_lowered}
 use Rattle.lowering.specs.Loops.{Phrase, own_inputs, product_lowered}

@@ -18,7 +18,11 @@ use Rattle.typed_tree.specs.Types.{Member, IsNumber, AreMembers, AreNumbers}
 use Rattle.typed_tree.specs.Types as number
 use Rattle.meaning.specs.Meaning.{arm_place}
 use Rattle.fitting_trees.specs.Fitting.{IsChosen, TagsFit, Renews}
-use Rattle.lowering.specs.Feeds.{Literal, Carried, One, Many, Callee, Wire, wire, into}
+use Rattle.lowering.specs.declared.feed.Feed.TheVariants.{Literal}
+use Rattle.lowering.specs.declared.feed.Carried.{Carried}
+use Rattle.lowering.specs.declared.feed.Carried.TheVariants.{One, Many, Callee}
+use Rattle.lowering.specs.declared.feed.Wire.{Wire}
+use Rattle.lowering.specs.Feeds.{wire, into}
 use Rattle.lowering.specs.Graphs.{ports}
 use Rattle.lowering.specs.Operations.{wire_at}
 use Rattle.lowering.specs.Choices.{element_in, element_of, is_array, is_array_form, type_in, content_of, tag_named, first_tag}

@@ -10,12 +10,15 @@ use Rattle.if1_graph.specs.Formed.{function_named, most, IsNode, IsOnce, IsEdge}
 use Rattle.if1_graph.specs.Ports.{count_from}
 use Rattle.if1_graph.specs.Units.{label_of, most_levels, Place, places}
 use Rattle.typed_tree.specs.declared.program.Program.{Program}
-use Rattle.lowering.specs.Feeds.{Carried, Wire}
-use Rattle.lowering.specs.Graphs.{LoweredNode, LoweredGraph, graph_lines}
+use Rattle.lowering.specs.declared.feed.Carried.{Carried}
+use Rattle.lowering.specs.declared.feed.Wire.{Wire}
+use Rattle.lowering.specs.declared.graph.LoweredNode.{LoweredNode}
+use Rattle.lowering.specs.declared.graph.LoweredGraph.{LoweredGraph}
+use Rattle.lowering.specs.Graphs.{graph_lines}
 use Rattle.lowering.specs.Programs.{function_lowered, functions_lowered, graphs, graph_at}
 use Rattle.lowering.specs.TooMany.{most_nodes, most_graphs, types_over, program_over, too_many, member_ports, header_ports}
 use Rattle.lowering.specs.Types.{basics, needs}
-use Rattle.lowered_units.specs.Fitting.{IsFitting}
+use Rattle.lowered_units.specs.Fitting.{HaveMembers, IsFitting}
 use Rattle.lowered_units.specs.Listed.{all_of}
 use Rattle.lowered_units.specs.Small.{AreSmall, IsSmallGraph, HasSmallPorts}
 use Rattle.lowered_units.specs.Units.{called_name, edges_into, node_edges, edges_of, IsTranslated}
@@ -104,7 +107,7 @@ below-length [] i x e = absurd cc
 below-length (y ∷ xs) zero x e = omega arith
 below-length (y ∷ xs) (suc i) x e = omega (arith, below-length xs i x e)
 
-module _ (p : Program) (u : Unit1) (fit : IsFitting p) (t : IsTranslated p u) (within : too_many p ≡ None) (small : HasSmallPorts p) (nests : AreNested u) where
+module _ (p : Program) (u : Unit1) (fit : IsFitting p) (members : HaveMembers p.types) (t : IsTranslated p u) (within : too_many p ≡ None) (small : HasSmallPorts p) (nests : AreNested u) where
   abbrev count : ℕ
   count = functions p fit
 
@@ -165,8 +168,8 @@ module _ (p : Program) (u : Unit1) (fit : IsFitting p) (t : IsTranslated p u) (w
             (λ i v k.
             let n = node-beside 1 ns d.nodes m i v k in
             let c = nodes-in-at (graph_lines (functions_lowered p)) d.nodes lined.0 i v k in
-            node-edges-formed p u fit t within named g n.0 (1 + i) v.action v.ins (standing 1 ns d.nodes m i n.0 v n.1 k) (omega (arith, below-length d.nodes i v k, most)) (right-node d.nodes i v right.0 k) c.0 c.1 (all-at (λ (v : LoweredNode). AreSmall v.ins) d.nodes s.nodes i v k))
-            (block-formed p u fit t within named g 0 1 d.results (omega arith) (omega arith) (omega (arith, s.results.few)) (built.good-filled p.types count d.results right.1) lined.1 s.results.feeds
+            node-edges-formed p u fit members t within named g n.0 (1 + i) v.action v.ins (standing 1 ns d.nodes m i n.0 v n.1 k) (omega (arith, below-length d.nodes i v k, most)) (right-node d.nodes i v right.0 k) c.0 c.1 (all-at (λ (v : LoweredNode). AreSmall v.ins) d.nodes s.nodes i v k))
+            (block-formed p u fit members t within named g 0 1 d.results (omega arith) (omega arith) (omega (arith, s.results.few)) (built.good-filled p.types count d.results right.1) lined.1 s.results.feeds
             (λ j i. subst IsValueWant (sym (boundary-wants p u t.types count g (none-before 1 ns d.nodes m 0 (omega arith)) j)) tt)));
       }
     where

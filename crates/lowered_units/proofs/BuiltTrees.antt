@@ -30,8 +30,12 @@ use Rattle.typed_tree.specs.Types.{Member, IsNumber, AreNumbers, constant_type}
 use Rattle.typed_tree.specs.Types as number
 use Rattle.fitting_trees.specs.Fitting.{Row, Header, AreMade, IsLiteral, AreFields, TagsFit, Fits, AllFit, DefsFit, ArmsFit}
 use Rattle.fitting_trees.specs.Fitting as is
-use Rattle.lowering.specs.Feeds.{Literal, One, Wire, wire}
-use Rattle.lowering.specs.Graphs.{Call, only, a_node}
+use Rattle.lowering.specs.declared.feed.Feed.TheVariants.{Literal}
+use Rattle.lowering.specs.declared.feed.Carried.TheVariants.{One}
+use Rattle.lowering.specs.declared.feed.Wire.{Wire}
+use Rattle.lowering.specs.Feeds.{wire}
+use Rattle.lowering.specs.declared.graph.Action.TheVariants.{Call}
+use Rattle.lowering.specs.Graphs.{only, a_node}
 use Rattle.lowering.specs.Operations.{Lowers, all_lowered, wire_at, constant_lowered, operation_lowered}
 use Rattle.lowering.specs.Choices.{applied, case_lowered, arms_from_tag, arms_of, tag_count, type_of}
 use Rattle.lowering.specs.Loops.{Phrase, product_lowered}

@@ -24,13 +24,23 @@ use Rattle.if1_graph.specs.Formed.{function_named, want_at, IsOpcode, IsNode, Is
 use Rattle.if1_graph.specs.Rows.{operand_of}
 use Rattle.typed_tree.specs.declared.program.Function.{Function}
 use Rattle.typed_tree.specs.declared.program.Program.{Program}
-use Rattle.lowering.specs.Feeds.{Feed, Literal, Named, Absent, Port, Carried, One, Many, Callee, Wire, wire}
-use Rattle.lowering.specs.Graphs.{Action, Row, Call, Whole, LoweredNode, LoweredGraph, Lowered, node, size, closed_graphs, graph_lines}
+use Rattle.lowering.specs.declared.feed.Feed.{Feed}
+use Rattle.lowering.specs.declared.feed.Feed.TheVariants.{Literal, Named, Absent, Port}
+use Rattle.lowering.specs.declared.feed.Carried.{Carried}
+use Rattle.lowering.specs.declared.feed.Carried.TheVariants.{One, Many, Callee}
+use Rattle.lowering.specs.declared.feed.Wire.{Wire}
+use Rattle.lowering.specs.Feeds.{wire}
+use Rattle.lowering.specs.declared.graph.Action.{Action}
+use Rattle.lowering.specs.declared.graph.Action.TheVariants.{Row, Call, Whole}
+use Rattle.lowering.specs.declared.graph.LoweredNode.{LoweredNode}
+use Rattle.lowering.specs.declared.graph.LoweredGraph.{LoweredGraph}
+use Rattle.lowering.specs.declared.graph.Lowered.{Lowered}
+use Rattle.lowering.specs.Graphs.{node, size, closed_graphs, graph_lines}
 use Rattle.lowering.specs.Operations.{integer}
 use Rattle.lowering.specs.Programs.{functions_lowered, graph_at}
 use Rattle.lowering.specs.TooMany.{most_nodes, most_graphs, most_ports, is_large, graph_ports, graphs_over, or_else, too_many}
 use Rattle.lowering.specs.Types.{label_of as type_label_of}
-use Rattle.lowered_units.specs.Fitting.{IsFitting}
+use Rattle.lowered_units.specs.Fitting.{HaveMembers, IsFitting}
 use Rattle.lowered_units.specs.Listed.{ListedNode}
 use Rattle.lowered_units.specs.Small.{IsSmallFeed, AreSmall}
 use Rattle.lowered_units.specs.Units.{constant_text, simple_code, compound_code, edge, edge_if, edges_into, node_edges, called_name, listed_node, origin_of, IsTranslated}
@@ -199,7 +209,7 @@ nodes-formed label (n ∷ ns) (v ∷ vs) m one few s =
 
 -- ---- edges
 
-module _ (p : Program) (u : Unit1) (fit : IsFitting p) (t : IsTranslated p u) (within : too_many p ≡ None)
+module _ (p : Program) (u : Unit1) (fit : IsFitting p) (members : HaveMembers p.types) (t : IsTranslated p u) (within : too_many p ≡ None)
     (found : (f : ℕ) → f < functions p fit → IsSome (function_named u.graphs (called_name p (slice_get p.functions f)))) where
   abbrev count : ℕ
   count = functions p fit
@@ -208,7 +218,7 @@ module _ (p : Program) (u : Unit1) (fit : IsFitting p) (t : IsTranslated p u) (w
   lines = graph_lines (functions_lowered p)
 
   whole : (c : Carried) → In c lines → IsWholeType u.types (type_label_of p c)
-  whole c i = subst (λ ts. IsWholeType ts (type_label_of p c)) (sym t.types) (whole-line p fit within c i)
+  whole c i = subst (λ ts. IsWholeType ts (type_label_of p c)) (sym t.types) (whole-line p fit members within c i)
 
   module _ (g : Graph) where
     abbrev IsFormedEdge : Edge → Type 0

@@ -5,8 +5,18 @@ use Rattle.std.proofs.lemmas.List.{length-append, length-map}
 use Rattle.std.proofs.lemmas.List.Elements.{All-nil, All-cons}
 use Rattle.if1_graph.specs.declared.op.Compound.{Compound}
 use Rattle.if1_graph.specs.declared.op.Compound.TheVariants as compound
-use Rattle.lowering.specs.Feeds.{Feed, Literal, Named, Absent, Port, Carried, One, Wire, is_port, outside, outsides, has, with_new, distinct, place}
-use Rattle.lowering.specs.Graphs.{Action, Row, Call, Whole, LoweredNode, LoweredGraph, Lowered, Lowering, only, joined, andthen, ports, a_node, used_by, used, uses, resolved, closed_wire, closed_wires, closed_nodes, closed_graphs, all_uses, inputs, numbers, size, whole, tag_case_on, new_graph, new_graphs}
+use Rattle.lowering.specs.declared.feed.Feed.{Feed}
+use Rattle.lowering.specs.declared.feed.Feed.TheVariants.{Literal, Named, Absent, Port}
+use Rattle.lowering.specs.declared.feed.Carried.{Carried}
+use Rattle.lowering.specs.declared.feed.Carried.TheVariants.{One}
+use Rattle.lowering.specs.declared.feed.Wire.{Wire}
+use Rattle.lowering.specs.Feeds.{is_port, outside, outsides, has, with_new, distinct, place}
+use Rattle.lowering.specs.declared.graph.Action.{Action}
+use Rattle.lowering.specs.declared.graph.Action.TheVariants.{Row, Call, Whole}
+use Rattle.lowering.specs.declared.graph.LoweredNode.{LoweredNode}
+use Rattle.lowering.specs.declared.graph.LoweredGraph.{LoweredGraph}
+use Rattle.lowering.specs.declared.graph.Lowered.{Lowered}
+use Rattle.lowering.specs.Graphs.{Lowering, only, joined, andthen, ports, a_node, used_by, used, uses, resolved, closed_wire, closed_wires, closed_nodes, closed_graphs, all_uses, inputs, numbers, size, whole, tag_case_on, new_graph, new_graphs}
 use Rattle.lowering.specs.TooMany.{node_ports, all_node_ports, graph_ports}
 use Rattle.lowered_units.specs.Small.{IsSmallFeed, AreSmall, IsSmallGraph}
 

@@ -22,8 +22,14 @@ use Rattle.typed_tree.specs.declared.expr.Source.TheVariants as source
 use Rattle.typed_tree.specs.declared.expr.ClauseForm.{ClauseForm}
 use Rattle.value_ops.specs.declared.operation.Operation.{Operation}
 use Rattle.value_ops.specs.declared.operation.Operation.TheVariants as operation
-use Rattle.lowering.specs.Feeds.{Feed, Literal, Named, Absent, Port, Carried, One, Many, Wire, wire, inside, into}
-use Rattle.lowering.specs.Graphs.{Row, Call, Lowering, only, andthen, a_node, size, new_graph, new_graphs}
+use Rattle.lowering.specs.declared.feed.Feed.{Feed}
+use Rattle.lowering.specs.declared.feed.Feed.TheVariants.{Literal, Named, Absent, Port}
+use Rattle.lowering.specs.declared.feed.Carried.{Carried}
+use Rattle.lowering.specs.declared.feed.Carried.TheVariants.{One, Many}
+use Rattle.lowering.specs.declared.feed.Wire.{Wire}
+use Rattle.lowering.specs.Feeds.{wire, inside, into}
+use Rattle.lowering.specs.declared.graph.Action.TheVariants.{Row, Call}
+use Rattle.lowering.specs.Graphs.{Lowering, only, andthen, a_node, size, new_graph, new_graphs}
 use Rattle.lowering.specs.Operations.{Lowers, boolean, character, integer, one, all_lowered, defs_lowered, body_lowered, wire_at, row_lowered, constant_lowered, absents, reversed, at_place, changed, operation_lowered}
 use Rattle.lowering.specs.Choices.{is_array, content_of, tag_count, type_of, first_tag, selector_lowered, if_lowered, tag_case, arms_of, arm_names, arms_from, case_lowered, two_arms, truth, is_tag_lowered, applied}
 use Rattle.lowering.specs.Loops.{own_inputs, many, single, types, take_up, with_not, unless_places, clauses_lowered, reducer_name, grouping_of, span, Bound, Wired, Limit, fold_lowered, returns_lowered, width, elements_in, generator_lowered, generators_lowered, bound_of, product_lowered, Phrase, loop_lowered, loop_kind, loop_name, extra, extras, collected, renew, renew_one, test_lowered, row_of_turn, initial_lowered}

@@ -5,8 +5,13 @@ use Rattle.type_table.specs.declared.form.Form.{Form}
 use Rattle.type_table.specs.Forms.{members_of}
 use Rattle.typed_tree.specs.declared.program.Function.{Function}
 use Rattle.typed_tree.specs.declared.program.Program.{Program}
-use Rattle.lowering.specs.Feeds.{Wire}
-use Rattle.lowering.specs.Graphs.{Action, Whole, LoweredNode, LoweredGraph, Lowered, size, closed_graphs}
+use Rattle.lowering.specs.declared.feed.Wire.{Wire}
+use Rattle.lowering.specs.declared.graph.Action.{Action}
+use Rattle.lowering.specs.declared.graph.Action.TheVariants.{Whole}
+use Rattle.lowering.specs.declared.graph.LoweredNode.{LoweredNode}
+use Rattle.lowering.specs.declared.graph.LoweredGraph.{LoweredGraph}
+use Rattle.lowering.specs.declared.graph.Lowered.{Lowered}
+use Rattle.lowering.specs.Graphs.{size, closed_graphs}
 use Rattle.lowering.specs.Programs.{functions_lowered}
 use Rattle.lowering.specs.Types.{Table, Need, basics, needs}
 

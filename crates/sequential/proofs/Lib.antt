@@ -1,0 +1,10 @@
+pub mod Reading
+pub mod Putting
+pub mod Scalars
+pub mod Doing
+pub mod Stepping
+pub mod Deciding
+pub mod LoadSteps
+pub mod MoveSteps
+pub mod LeaveSteps
+pub mod Same

@@ -1,0 +1,4 @@
+pub mod Blocks
+pub mod Nesting
+pub mod Functions
+pub mod Readiness
