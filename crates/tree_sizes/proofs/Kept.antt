@@ -58,3 +58,6 @@ beside-both a b c = same-sizes _ _ _ _ _ _ _ _ _ _ (omega arith) (omega arith) (
 
 pub beside-none : (a : Sizes) → beside (only 0) a ≡ a
 beside-none a = same-sizes _ _ _ _ _ _ _ _ _ _ (omega arith) (omega arith) (omega arith) (omega arith) (omega arith)
+
+pub none-beside : (a : Sizes) → beside a (only 0) ≡ a
+none-beside a = same-sizes _ _ _ _ _ _ _ _ _ _ (omega arith) (omega arith) (omega arith) (omega arith) (omega arith)

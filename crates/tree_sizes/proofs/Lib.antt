@@ -1,2 +1,3 @@
 mod Kept
 mod Folds
+mod LoopClauses

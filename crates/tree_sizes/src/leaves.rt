@@ -1,5 +1,5 @@
 //! Sizes of constants, operations and clauses.
-ghost use Rattle.std.specs.Prelude.{◌≡◌, ℕ, min, length};
+ghost use Rattle.std.specs.Prelude.{◌≡◌, ℕ, ◌+◌, min, nat_lt, length, if◌then◌else◌};
 ghost use Rattle.if1_graph.specs.Units.{greatest};
 ghost use Rattle.lowering.specs.Loops.{span};
 ghost use Rattle.lowered_sizes.specs.Forms.{constant_sized, filled, applied_sized, fold_sized};
@@ -9,6 +9,7 @@ use crate::sums::{joined, node, only, part};
 use loop_folds::{Folding, Masking};
 use lowered_sizes::Sizes;
 use sisal_tree::Constant;
+use typed_tree::Case;
 use value_ops::Operation;
 
 /// A constant with so many types.
@@ -61,6 +62,17 @@ pub fn applied(op: &Operation, operands: u128, values: u128) -> Sizes
     match op {
         Operation::IsTag(_) => two_arms(values),
         _ => node(filled(op, operands), values),
+    }
+}
+
+/// How many names are in force in an arm of a `tagcase`.
+pub fn within(case: &Case, arm: usize, names: u128) -> u128
+    ensures { (n : ℕ) → Keeps names n → Keeps result (if nat_lt arm case.now.named then n + 1 else n) }
+{
+    if arm < case.named as usize {
+        names.saturating_add(1)
+    } else {
+        names
     }
 }
 

@@ -2,6 +2,7 @@
 #![tactic(auto)]
 
 mod leaves;
+mod loops;
 mod sums;
 mod walk;
 

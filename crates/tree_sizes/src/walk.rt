@@ -8,8 +8,8 @@ ghost use Rattle.lowered_sizes.specs.Forms.{
 ghost use Rattle.tree_sizes.specs.Capped.{Keeps, KeepsSizes};
 ghost use Rattle.tree_sizes.specs.Phrases.{phrases, lists};
 
-use crate::leaves::{applied, constant};
-use crate::sums::{beside, joined, node, only, part, valued};
+use crate::leaves::{applied, constant, within};
+use crate::sums::{beside, joined, node, only, part};
 use flow_value::Seq;
 use lowered_sizes::Sizes;
 use type_table::Types;
@@ -42,8 +42,7 @@ fn kind(types: &Types, names: u128, values: u128, kind: &TypedKind) -> Sizes
         }
         TypedKind::Let(parts, body) => {
             let first = defs(types, names, parts.as_slice());
-            let inside = names.saturating_add(first.values);
-            joined(first, exprs(types, inside, body.as_slice()))
+            follow(types, names, first, body.as_slice())
         }
         TypedKind::If(test, yes, no) => {
             let tested = exprs(types, names, test.as_slice());
@@ -89,6 +88,15 @@ fn defs(types: &Types, names: u128, definitions: &[Seq<TypedExpr>]) -> Sizes
     all
 }
 
+/// How much definitions that become so much, and the expressions that see them, become.
+#[cycle(sizes)]
+fn follow(types: &Types, names: u128, first: Sizes, parts: &[TypedExpr]) -> Sizes
+    ensures { (n : ℕ) (a : Sizes) → Keeps names n → KeepsSizes first a → KeepsSizes result (joined a (all_sized (phrases types.now parts.now) (n + a.values))) }
+{
+    let inside = names.saturating_add(first.values);
+    joined(first, exprs(types, inside, parts))
+}
+
 /// How much the arms of a `tagcase` become, as graphs inside of a node.
 #[cycle(sizes)]
 fn arms(types: &Types, names: u128, case: &Case, bodies: &[Seq<TypedExpr>]) -> Sizes
@@ -98,11 +106,7 @@ fn arms(types: &Types, names: u128, case: &Case, bodies: &[Seq<TypedExpr>]) -> S
     let mut at = bodies.len();
     while at > 0 {
         at -= 1;
-        let inside = if at < case.named as usize {
-            names.saturating_add(1)
-        } else {
-            names
-        };
+        let inside = within(case, at, names);
         all = joined(part(exprs(types, inside, bodies[at].as_slice())), all);
     }
     all

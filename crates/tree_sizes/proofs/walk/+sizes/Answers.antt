@@ -1,5 +1,5 @@
 use Rattle.std.proofs.Common.{rules, ◌≡◌, ◌∙◌, ℕ, suc, ◌+◌, ◌-◌, ◌<◌, List, length, drop, map, sym, ap, subst, refl, arith}
-use Rattle.std.specs.Prelude.{◌^◌, get_or}
+use Rattle.std.specs.Prelude.{◌^◌, get_or, nat_lt, if◌then◌else◌}
 use Rattle.std.proofs.Math.Seq.{drop-cons}
 use Rattle.typed_tree.specs.declared.expr.TypedKind.TheOpen.{TypedKind-F}
 use Rattle.typed_tree.specs.declared.expr.TypedKind.TheVariants as typed
@@ -7,7 +7,7 @@ use Rattle.lowered_sizes.specs.Counting.{joined, beside, a_node, part, parts, on
 use Rattle.lowered_sizes.specs.Forms.{all_sized, defs_sized, arms_sized, applied_sized, sizes}
 use Rattle.tree_sizes.specs.Capped.{Keeps, KeepsSizes}
 use Rattle.tree_sizes.specs.Phrases.{phrases, lists}
-use Rattle.tree_sizes.proofs.Kept.{sum-kept, values-kept, beside-none}
+use Rattle.tree_sizes.proofs.Kept.{sum-kept, values-kept, beside-none, beside-both}
 use Rattle.tree_sizes.proofs.Folds.{expr-is, kind-is, length-kept}
 use Rattle.tree_sizes.proofs.walk.+sizes.Goals as goal
 
@@ -29,13 +29,56 @@ arms-returns t c = λ n h.
     subst (λ i. KeepsSizes c.loop-at.all (parts (arms_sized c.args.case.now i (lists c.args.types.now (drop i c.args.bodies.now)) n))) none (c.loop-at.invariant.1 n h)
 
 pub arms-loop-at-preserved : goal.arms-loop-at-preserved
-arms-loop-at-preserved t c = ?
+arms-loop-at-preserved t c =
+    let forms = c.args.types.now in
+    let case = c.args.case.now in
+    let us = c.args.bodies.now in
+    let u = c.index-bodies-at.result in
+    let at = c.loop-at.at in
+    let some = c.loop-at-test.true in
+    let inv = c.loop-at.invariant in
+    let inside = inv.0 in
+    let next : at ≡ suc (at - 1) = omega (arith, some) in
+    let cons = drop-cons us (at - 1) u (omega (arith, some, inside)) in
+    let same : get_or us (at - 1) u ≡ u = search rules in (
+      omega (arith, inside),
+      λ n h.
+          let m = if nat_lt (at - 1) case.named then n + 1 else n in
+          let left = parts (arms_sized case (suc (at - 1)) (lists forms (drop (suc (at - 1)) us)) n) in
+          let rest = subst (λ i. KeepsSizes c.loop-at.all (parts (arms_sized case i (lists forms (drop i us)) n))) next (inv.1 n h) in
+          let one = c.exprs.ensures m (c.within-inside.ensures n h) ∙ ap (λ es. capped_sizes (all_sized (phrases forms es) m)) c.as_slice.ensures in
+          c.joined-all.ensures (part (all_sized (phrases forms u) m)) left (c.part.ensures (all_sized (phrases forms u) m) one) rest
+          ∙ ap (λ x. capped_sizes (joined (part (all_sized (phrases forms x) m)) left)) (sym same)
+          ∙ ap (λ l. capped_sizes (parts (arms_sized case (at - 1) (lists forms l) n))) (sym cons),
+    )
 
 pub defs-loop-list-init : goal.defs-loop-list-init
 defs-loop-list-init t c = λ n h. (only 0, c.only-all.ensures 0 refl, ap (defs_sized (lists c.args.types.now c.args.definitions.now)) (omega arith) ∙ sym (beside-none (defs_sized (lists c.args.types.now c.args.definitions.now) (n + 0))))
 
 pub defs-loop-list-preserved : goal.defs-loop-list-preserved
-defs-loop-list-preserved t c = ?
+defs-loop-list-preserved t c = λ n h.
+    let forms = c.args.types.now in
+    let ds = c.args.definitions.now in
+    let d = c.list-item.result in
+    let i = c.loop-list.list-index in
+    let inv = c.loop-list.invariant n h in
+    let s = inv.0 in
+    let names = n + s.values in
+    let a = all_sized (phrases forms d) names in
+    let inside = c.saturating_add-inside.ensures ∙ sum-kept c.args.names c.loop-list.all.values n s.values h (values-kept c.loop-list.all s inv.1) in
+    let one = c.exprs.ensures names inside ∙ ap (λ es. capped_sizes (all_sized (phrases forms es) names)) c.as_slice.ensures in
+    let here : d ≡ get_or ds i d = search rules in
+    let cons = drop-cons ds i d c.loop-list-test.true in
+    let rest = defs_sized (lists forms (drop (suc i) ds)) in
+    let step : defs_sized (lists forms (drop i ds)) names ≡ beside a (rest (names + a.values)) =
+        ap (λ us. defs_sized (lists forms us) names) cons ∙ ap (λ x. beside (all_sized (phrases forms x) names) (rest (names + (all_sized (phrases forms x) names).values))) (sym here) in
+    let deeper : names + a.values ≡ n + (s.values + a.values) = omega arith in
+    let further : suc i ≡ i + 1 = omega arith in
+    (
+      beside s a,
+      c.beside-all.ensures s a inv.1 one,
+      inv.2 ∙ ap (beside s) step ∙ sym (beside-both s a (rest (names + a.values))) ∙ ap (λ m. beside (beside s a) (rest m)) deeper ∙ ap (λ j. beside (beside s a) (defs_sized (lists forms (drop j ds)) (n + (s.values + a.values)))) further,
+    )
 
 pub exprs-loop-at-preserved : goal.exprs-loop-at-preserved
 exprs-loop-at-preserved t c =
@@ -56,9 +99,6 @@ exprs-loop-at-preserved t c =
           ∙ ap (λ x. capped_sizes (beside (sizes forms x n) (all_sized (phrases forms (drop (suc (at - 1)) es)) n))) (sym same)
           ∙ ap (λ l. capped_sizes (all_sized (phrases forms l) n)) (sym cons),
     )
-
-pub kind-exprs-requires-in-Let : goal.kind-exprs-requires-in-Let
-kind-exprs-requires-in-Let t c = ?
 
 pub kind-returns-in-Group : goal.kind-returns-in-Group
 kind-returns-in-Group t c = λ n ts h k.
@@ -91,12 +131,16 @@ kind-returns-in-Let t c = λ n ts h k.
     let forms = c.args.types.now in
     let ds = c.in-Let.parts in
     let es = c.in-Let.body in
-    let first = c.defs-first.ensures n h ∙ ap (λ us. capped_sizes (defs_sized (lists forms us) n)) c.as_slice-in-Let.ensures in
     let s = defs_sized (lists forms ds) n in
-    let inside = c.saturating_add-inside.ensures ∙ sum-kept c.args.names c.defs-first.result.values n s.values h (values-kept c.defs-first.result s first) in
-    let rest = c.exprs-in-Let.ensures (n + s.values) inside ∙ ap (λ us. capped_sizes (all_sized (phrases forms us) (n + s.values))) c.as_slice-in-Let-2.ensures in
-    c.joined-in-Let.ensures s (all_sized (phrases forms es) (n + s.values)) first rest
+    let first = c.defs-first.ensures n h ∙ ap (λ us. capped_sizes (defs_sized (lists forms us) n)) c.as_slice-in-Let.ensures in
+    c.follow.ensures n s h first
+    ∙ ap (λ us. capped_sizes (joined s (all_sized (phrases forms us) (n + s.values)))) c.as_slice-in-Let-2.ensures
     ∙ ap capped_sizes (sym (kind-is forms (TypedKind-F.Let ds es) c.args.kind.now (c.in-Let.is ∙ sym (typed.rolls-Let ds es)) ts n))
+
+pub follow-returns : goal.follow-returns
+follow-returns t c = λ n a h f.
+    let inside = c.saturating_add-inside.ensures ∙ sum-kept c.args.names c.args.first.values n a.values h (values-kept c.args.first a f) in
+    c.joined.ensures a (all_sized (phrases c.args.types.now c.args.parts.now) (n + a.values)) f (c.exprs.ensures (n + a.values) inside)
 
 pub kind-returns-in-If : goal.kind-returns-in-If
 kind-returns-in-If t c = λ n ts h k.

@@ -18,6 +18,9 @@ decreases-exprs l = 4 * goal.size-exprs l + 2
 abbrev pub decreases-defs : goal.decreases-defs
 decreases-defs l = 4 * goal.size-defs l + 3
 
+abbrev pub decreases-follow : goal.decreases-follow
+decreases-follow l = 4 * goal.size-follow l + 3
+
 abbrev pub decreases-arms : goal.decreases-arms
 decreases-arms l = 4 * goal.size-arms l + 3
 
