@@ -8,7 +8,7 @@ use Rattle.typed_tree.specs.declared.expr.ClauseForm.{ClauseForm}
 use Rattle.lowering.specs.Loops.{span}
 use Rattle.lowered_sizes.specs.declared.sizes.Sizes.{Sizes}
 use Rattle.lowered_sizes.specs.Counting.{only, beside, capped}
-use Rattle.lowered_sizes.specs.Forms.{returns_sized}
+use Rattle.lowered_sizes.specs.Forms.{returns_sized, fold_sized}
 use Rattle.tree_sizes.specs.Clauses.{clause_sized}
 use Rattle.tree_sizes.proofs.Kept.{beside-none, none-beside, beside-both}
 
@@ -19,7 +19,9 @@ none-left b (c ∷ cs) m = refl
 pub clause-first : (b : Bool) (c : ClauseForm) (cs : List ClauseForm) (m k : ℕ)
     → returns_sized b (c ∷ cs) m k ≡ beside (clause_sized b c m k) (returns_sized b cs (m - span c.masking) (k - 1))
 clause-first b c cs m zero = sym (beside-none (only 0)) ∙ ap (beside (only 0)) (sym (none-left b cs (m - span c.masking)))
-clause-first b c cs m (suc k) = refl
+clause-first b c cs m (suc k) =
+    let less : k ≡ suc k - 1 = omega arith in
+    ap (λ j. beside (fold_sized b c.folding (min (span c.masking) m)) (returns_sized b cs (m - span c.masking) j)) less
 
 pub span-small : (m : Masking) → span m ≤ 2
 span-small masking.All = omega arith
@@ -49,12 +51,13 @@ pub less-more : (a x b n : ℕ) → a ≡ x - b → a - n ≡ x - (b + n)
 less-more a x b n e = omega (arith, e)
 
 -- one clause further
-pub returns-next : (lim : Bool) (cs : List ClauseForm) (i : ℕ) (c : ClauseForm) (m k b : ℕ) (s : Sizes) → i < length cs → c ≡ get_or cs i c
+pub returns-next : (lim : Bool) (cs : List ClauseForm) (i : ℕ) (x : ClauseForm) (m k b : ℕ) (s : Sizes) → i < length cs
     → returns_sized lim cs m k ≡ beside s (returns_sized lim (drop i cs) (m - b) (k - i))
-    → returns_sized lim cs m k ≡ beside (beside s (clause_sized lim c (m - b) (k - i))) (returns_sized lim (drop (i + 1) cs) (m - (b + span c.masking)) (k - (i + 1)))
-returns-next lim cs i c m k b s lt here h =
+    → returns_sized lim cs m k ≡ beside (beside s (clause_sized lim (get_or cs i x) (m - b) (k - i))) (returns_sized lim (drop (i + 1) cs) (m - (b + span (get_or cs i x).masking)) (k - (i + 1)))
+returns-next lim cs i x m k b s lt h =
+    let c = get_or cs i x in
     let a = clause_sized lim c (m - b) (k - i) in
-    let cons : drop i cs ≡ c ∷ drop (suc i) cs = drop-cons cs i c lt ∙ ap (λ x. x ∷ drop (suc i) cs) (sym here) in
+    let cons : drop i cs ≡ c ∷ drop (suc i) cs = drop-cons cs i x lt in
     let step = ap (λ l. returns_sized lim l (m - b) (k - i)) cons ∙ clause-first lim c (drop (suc i) cs) (m - b) (k - i) in
     let p : suc i ≡ i + 1 = omega arith in
     let q : m - b - span c.masking ≡ m - (b + span c.masking) = omega arith in
@@ -68,4 +71,22 @@ returns-next lim cs i c m k b s lt here h =
 pub returns-done : (lim : Bool) (cs : List ClauseForm) (i m k b : ℕ) (s : Sizes) → length cs ≤ i
     → returns_sized lim cs m k ≡ beside s (returns_sized lim (drop i cs) (m - b) (k - i)) → s ≡ returns_sized lim cs m k
 returns-done lim cs i m k b s ge h =
-    sym (h ∙ ap (λ l. beside s (returns_sized lim l (m - b) (k - i))) (drop_of_length-le cs i ge) ∙ none-beside s)
+    sym (h ∙ ap (λ l. beside s (returns_sized lim l (m - b) (k - i))) (drop_of_length-le cs ge) ∙ none-beside s)
+
+none-of : (a k : ℕ) → a ≡ 0 → min 1 a ≡ min 1 k → k ≡ 0
+none-of a k e f = omega (arith, e, f)
+
+more-of : (a k : ℕ) → 0 < a → min 1 a ≡ min 1 k → k ≡ suc (k - 1)
+more-of a k e f = omega (arith, e, f)
+
+pub no-type : (b : Bool) (c : ClauseForm) (a m k : ℕ) → a ≡ 0 → min 1 a ≡ min 1 k → only 0 ≡ clause_sized b c m k
+no-type b c a m k e f = sym (ap (clause_sized b c m) (none-of a k e f))
+
+pub one-type : (b : Bool) (c : ClauseForm) (a m k : ℕ) → 0 < a → min 1 a ≡ min 1 k → fold_sized b c.folding (min (span c.masking) m) ≡ clause_sized b c m k
+one-type b c a m k e f = sym (ap (clause_sized b c m) (more-of a k e f))
+
+taken-of : (M n a m : ℕ) → n ≤ 2 → 2 ≤ M → min 2 a ≡ min 2 m → min n a ≡ min (min n m) M
+taken-of M n a m e g f = omega (arith, e, f, g)
+
+pub taken-kept : (n a m : ℕ) → n ≤ 2 → min 2 a ≡ min 2 m → min n a ≡ capped (min n m)
+taken-kept n a m e f = taken-of (2 ^ 128 - 1) n a m e (omega arith) f

@@ -4,6 +4,7 @@ use Rattle.loop_folds.specs.declared.masking.Masking.{Masking}
 use Rattle.loop_folds.specs.declared.masking.Masking.TheVariants as masking
 use Rattle.typed_tree.specs.declared.expr.ClauseForm.{ClauseForm}
 use Rattle.lowering.specs.Loops.{span, unless_places}
+use Rattle.tree_sizes.specs.declared.places.Place.{Place}
 use Rattle.lowered_sizes.specs.declared.sizes.Sizes.{Sizes}
 use Rattle.lowered_sizes.specs.Counting.{Sizing, only}
 use Rattle.lowered_sizes.specs.Forms.{SizedPhrase, fold_sized, not_sized, extra_sized}
@@ -12,3 +13,28 @@ use Rattle.lowered_sizes.specs.Forms.{SizedPhrase, fold_sized, not_sized, extra_
 abbrev pub clause_sized : Bool → ClauseForm → (multiples types : ℕ) → Sizes
 clause_sized is_limit c m zero = only 0
 clause_sized is_limit c m (suc k) = fold_sized is_limit c.folding (min (span c.masking) m)
+
+-- ---- places among the values of clauses
+
+abbrev pub is_unless : Masking → Bool
+is_unless masking.Unless = true
+is_unless m = false
+
+-- which of the values of clauses are masks of `unless`, from the value or the mask of the first clause on
+abbrev pub unless_from : Bool → List ClauseForm → List Bool
+unless_from is_mask [] = []
+unless_from false (c ∷ cs) = unless_places (c ∷ cs)
+unless_from true (c ∷ cs) = is_unless c.masking ∷ unless_places cs
+
+abbrev pub places_left : List ClauseForm → Place → List Bool
+places_left cs p = unless_from p.is_mask (drop p.at cs)
+
+abbrev pub first_place : List Bool → Option Bool
+first_place [] = None
+first_place (b ∷ bs) = Some b
+
+-- what stands at a place among the values of clauses, besides the loop names
+abbrev pub extra_at : (Option ℕ → Option ℕ) → Option Bool → SizedPhrase → List Sizing
+extra_at loop None p = []
+extra_at loop (Some true) p = not_sized p.sizes ∷ []
+extra_at loop (Some false) p = extra_sized (loop p.name) p.sizes

@@ -3,7 +3,9 @@
 
 mod leaves;
 mod loops;
+mod places;
 mod sums;
+mod turns;
 mod walk;
 
 pub use walk::expr;

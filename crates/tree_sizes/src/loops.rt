@@ -8,7 +8,7 @@ ghost use Rattle.tree_sizes.specs.Capped.{Keeps, KeepsSizes};
 ghost use Rattle.tree_sizes.specs.Clauses.{clause_sized};
 
 use crate::leaves::{fold, span};
-use crate::sums::{beside, node, only};
+use crate::sums::{beside, node, only, smaller};
 use flow_value::item_at;
 use lowered_sizes::Sizes;
 use type_table::{Form, Types};
@@ -45,9 +45,7 @@ fn clause(is_limit: bool, form: ClauseForm, multiples: u128, types: u128) -> Siz
     if types == 0 {
         return only(0);
     }
-    let own = span(form.masking);
-    let taken = if multiples < own { multiples } else { own };
-    fold(is_limit, form.folding, taken)
+    fold(is_limit, form.folding, smaller(span(form.masking), multiples))
 }
 
 /// A node for each clause that has a type, on so many multiples.

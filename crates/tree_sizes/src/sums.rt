@@ -1,6 +1,6 @@
 //! Sizes of phrases that stand one behind the other or inside of nodes.
-ghost use Rattle.std.specs.Prelude.{◌≡◌, ℕ, max};
-ghost use Rattle.lowered_sizes.specs.Counting.{only, valued, joined, beside, a_node, part};
+ghost use Rattle.std.specs.Prelude.{◌≡◌, ℕ, ◌+◌, max, min, List, ◌∷◌, if◌then◌else◌};
+ghost use Rattle.lowered_sizes.specs.Counting.{only, valued, joined, beside, a_node, part, parts, whole};
 ghost use Rattle.tree_sizes.specs.Capped.{Keeps, KeepsSizes};
 
 use lowered_sizes::Sizes;
@@ -10,6 +10,13 @@ fn greater(a: u128, b: u128) -> u128
     ensures { result ≡ max a b }
 {
     if a < b { b } else { a }
+}
+
+/// The smaller of two numbers.
+pub fn smaller(a: u128, b: u128) -> u128
+    ensures { result ≡ min a b }
+{
+    if b < a { b } else { a }
 }
 
 /// Values, and no node.
@@ -82,4 +89,36 @@ pub fn part(sizes: Sizes) -> Sizes
         ports: sizes.ports.saturating_add(sizes.values),
         values: 0,
     }
+}
+
+/// So many names, and more behind them.
+pub fn deeper(names: u128, more: u128) -> u128
+    ensures { (n k : ℕ) → Keeps names n → Keeps more k → Keeps result (n + k) }
+{
+    names.saturating_add(more)
+}
+
+/// The Not of a value, where it is of a mask of `unless` or of a test of `until`.
+pub fn negated(is_not: bool, sizes: Sizes) -> Sizes
+    ensures { (s : Sizes) → KeepsSizes sizes s → KeepsSizes result (if is_not then joined s (a_node s.values 1) else s) }
+{
+    if is_not {
+        joined(sizes, node(sizes.values, 1))
+    } else {
+        sizes
+    }
+}
+
+/// A graph inside of a node, before others.
+pub fn inside(graph: Sizes, others: Sizes) -> Sizes
+    ensures { (s : Sizes) (ss : List Sizes) → KeepsSizes graph s → KeepsSizes others (parts ss) → KeepsSizes result (parts (s ∷ ss)) }
+{
+    joined(part(graph), others)
+}
+
+/// A node with these graphs inside.
+pub fn whole(graphs: Sizes, values: u128) -> Sizes
+    ensures { (ss : List Sizes) (k : ℕ) → KeepsSizes graphs (parts ss) → Keeps values k → KeepsSizes result (whole ss k) }
+{
+    joined(graphs, node(values, values))
 }

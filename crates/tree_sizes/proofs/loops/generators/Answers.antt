@@ -1,6 +1,7 @@
 use Rattle.std.proofs.Common.{rules, ◌≡◌, ◌∙◌, suc, ◌-◌, drop, sym, ap, subst, arith}
 use Rattle.std.specs.Prelude.{get_or}
 use Rattle.std.proofs.Math.Seq.{drop-cons}
+use Rattle.typed_tree.specs.declared.expr.Source.TheVariants as source
 use Rattle.lowered_sizes.specs.Counting.{beside, capped_sizes}
 use Rattle.lowered_sizes.specs.Forms.{generator_sized, generators_sized}
 use Rattle.tree_sizes.specs.Capped.{KeepsSizes}
@@ -14,18 +15,16 @@ returns c =
 pub loop-at-preserved : goal.loop-at-preserved
 loop-at-preserved c =
     let ss = c.args.sources.now in
-    let s = c.index-sources-at.result in
     let at = c.loop-at.at in
     let some = c.loop-at-test.true in
     let inv = c.loop-at.invariant in
     let inside = inv.0 in
     let next : at ≡ suc (at - 1) = omega (arith, some) in
-    let cons = drop-cons ss (at - 1) s (omega (arith, some, inside)) in
-    let same : get_or ss (at - 1) s ≡ s = search rules in
+    let cons = drop-cons ss (at - 1) source.Range (omega (arith, some, inside)) in
+    let s = get_or ss (at - 1) source.Range in
     let left = generators_sized (drop (suc (at - 1)) ss) in
     let rest = subst (λ i. KeepsSizes c.loop-at.all (generators_sized (drop i ss))) next inv.1 in (
       omega (arith, inside),
       c.beside-all.ensures (generator_sized s) left c.generator.ensures rest
-      ∙ ap (λ x. capped_sizes (beside (generator_sized x) left)) (sym same)
       ∙ ap (λ l. capped_sizes (generators_sized l)) (sym cons),
     )
