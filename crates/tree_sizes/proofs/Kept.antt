@@ -61,3 +61,9 @@ beside-none a = same-sizes _ _ _ _ _ _ _ _ _ _ (omega arith) (omega arith) (omeg
 
 pub none-beside : (a : Sizes) → beside a (only 0) ≡ a
 none-beside a = same-sizes _ _ _ _ _ _ _ _ _ _ (omega arith) (omega arith) (omega arith) (omega arith) (omega arith)
+
+smaller-of : (m a b x y : ℕ) → a ≡ min x m → b ≡ min y m → min a b ≡ min (min x y) m
+smaller-of m a b x y e f = omega (arith, e, f)
+
+pub smaller-kept : (a b x y : ℕ) → a ≡ capped x → b ≡ capped y → min a b ≡ capped (min x y)
+smaller-kept a b x y e f = smaller-of (2 ^ 128 - 1) a b x y e f

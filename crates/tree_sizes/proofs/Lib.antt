@@ -1,3 +1,5 @@
 mod Kept
 mod Folds
 mod LoopClauses
+mod Steps
+mod Told

@@ -1,13 +1,13 @@
 -- Clauses of loops, one after another.
-use Rattle.std.specs.Prelude.{ℕ, zero, suc, min, Bool, true, false, List, [], ◌∷◌, drop, if◌then◌else◌, Option, Some, None}
+use Rattle.std.specs.Prelude.{ℕ, zero, suc, min, Bool, true, false, not, List, [], ◌∷◌, drop, if◌then◌else◌, Option, Some, None}
 use Rattle.loop_folds.specs.declared.masking.Masking.{Masking}
 use Rattle.loop_folds.specs.declared.masking.Masking.TheVariants as masking
 use Rattle.typed_tree.specs.declared.expr.ClauseForm.{ClauseForm}
 use Rattle.lowering.specs.Loops.{span, unless_places}
 use Rattle.tree_sizes.specs.declared.places.Place.{Place}
 use Rattle.lowered_sizes.specs.declared.sizes.Sizes.{Sizes}
-use Rattle.lowered_sizes.specs.Counting.{Sizing, only}
-use Rattle.lowered_sizes.specs.Forms.{SizedPhrase, fold_sized, not_sized, extra_sized}
+use Rattle.lowered_sizes.specs.Counting.{only, joined, a_node}
+use Rattle.lowered_sizes.specs.Forms.{fold_sized}
 
 -- the node of a clause, where it has a type
 abbrev pub clause_sized : Bool → ClauseForm → (multiples types : ℕ) → Sizes
@@ -33,8 +33,23 @@ abbrev pub first_place : List Bool → Option Bool
 first_place [] = None
 first_place (b ∷ bs) = Some b
 
--- what stands at a place among the values of clauses, besides the loop names
-abbrev pub extra_at : (Option ℕ → Option ℕ) → Option Bool → SizedPhrase → List Sizing
-extra_at loop None p = []
-extra_at loop (Some true) p = not_sized p.sizes ∷ []
-extra_at loop (Some false) p = extra_sized (loop p.name) p.sizes
+abbrev pub is_true : Option Bool → Bool
+is_true (Some b) = b
+is_true None = false
+
+-- whether the mask of a clause stands behind its value or its mask
+abbrev pub is_masked : Masking → Bool → Bool
+is_masked masking.All is_mask = false
+is_masked m is_mask = not is_mask
+
+-- ---- what is collected besides the loop names
+
+abbrev pub is_name : Option ℕ → Bool
+is_name (Some x) = true
+is_name None = false
+
+-- how much is collected at a place
+abbrev pub extra_at : Option Bool → Bool → Sizes → Sizes
+extra_at None is_name s = only 0
+extra_at (Some true) is_name s = joined s (a_node s.values 1)
+extra_at (Some false) is_name s = if is_name then only 0 else s

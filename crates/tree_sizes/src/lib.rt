@@ -3,6 +3,7 @@
 
 mod leaves;
 mod loops;
+mod names;
 mod places;
 mod sums;
 mod turns;

@@ -1,8 +1,7 @@
 //! Places among the values of clauses.
 ghost use Rattle.std.specs.Prelude.{◌≡◌, drop};
-ghost use Rattle.tree_sizes.specs.Clauses.{first_place, places_left};
+ghost use Rattle.tree_sizes.specs.Clauses.{first_place, is_masked, is_true, places_left};
 
-use crate::leaves::span;
 use loop_folds::Masking;
 use typed_tree::ClauseForm;
 
@@ -28,6 +27,26 @@ pub fn is_unless(clauses: &[ClauseForm], place: Place) -> Option<bool>
     }
 }
 
+/// Whether it is a mask of `unless`.
+pub fn is_not(clauses: &[ClauseForm], place: Place) -> bool
+    ensures { result ≡ is_true (first_place (places_left clauses.now place)) }
+{
+    match is_unless(clauses, place) {
+        Some(is_not) => is_not,
+        None => false,
+    }
+}
+
+/// Whether a mask stands behind.
+fn is_masked(masking: Masking, is_mask: bool) -> bool
+    ensures { result ≡ is_masked masking is_mask }
+{
+    match masking {
+        Masking::All => false,
+        _ => !is_mask,
+    }
+}
+
 /// The place behind.
 pub fn next(clauses: &[ClauseForm], place: Place) -> Place
     ensures { places_left clauses.now result ≡ drop 1 (places_left clauses.now place) }
@@ -35,16 +54,16 @@ pub fn next(clauses: &[ClauseForm], place: Place) -> Place
     if place.at >= clauses.len() {
         return place;
     }
-    let is_last = place.is_mask || span(clauses[place.at].masking) == 1;
-    if is_last {
-        Place {
-            at: place.at + 1,
-            is_mask: false,
-        }
-    } else {
+    let is_before = is_masked(clauses[place.at].masking, place.is_mask);
+    if is_before {
         Place {
             at: place.at,
             is_mask: true,
+        }
+    } else {
+        Place {
+            at: place.at + 1,
+            is_mask: false,
         }
     }
 }

@@ -1,19 +1,23 @@
 //! The walk over a typed tree. Each phrase is met once.
 ghost use Rattle.std.specs.Prelude.{◌≡◌, ℕ, ◌+◌, List, length, map};
-ghost use Rattle.lowered_sizes.specs.Counting.{only, joined, parts};
+ghost use Rattle.lowering.specs.Loops.{loop_name, unless_places};
+ghost use Rattle.lowered_sizes.specs.Counting.{joined, parts};
 ghost use Rattle.lowered_sizes.specs.Forms.{
-    all_sized, arms_sized, body_sized, case_sized, defs_sized, each, if_sized, kind_sizes,
-    phrase_sized, selector_sized, sizes,
+    all_sized, arms_sized, clauses_sized, defs_sized, extras_sized, kind_sizes, phrase_sized, sizes,
 };
 ghost use Rattle.tree_sizes.specs.Capped.{Keeps, KeepsSizes};
 ghost use Rattle.tree_sizes.specs.Phrases.{phrases, lists};
 
 use crate::leaves::{applied, constant, within};
-use crate::sums::{beside, joined, node, only, part};
+use crate::loops::{generators, is_limited};
+use crate::names::{extra, is_loop_name};
+use crate::places::{Place, is_not, is_unless, next};
+use crate::sums::{beside, deeper, joined, negated, node, only, part};
+use crate::turns::{initial, product};
 use flow_value::Seq;
 use lowered_sizes::Sizes;
 use type_table::Types;
-use typed_tree::{Case, TypedExpr, TypedKind};
+use typed_tree::{Case, ClauseForm, TypedExpr, TypedKind};
 
 /// How much an expression becomes, where so many names are in force.
 #[cycle(sizes)]
@@ -57,7 +61,26 @@ fn kind(types: &Types, names: u128, values: u128, kind: &TypedKind) -> Sizes
             let inside = arms(types, names, case, bodies.as_slice());
             joined(union, joined(inside, node(values, values)))
         }
-        _ => only(0),
+        TypedKind::Product(form, bounds, definitions, results) => {
+            let ends = exprs(types, names, bounds.as_slice());
+            let inner = generators(form.sources.as_slice());
+            let inside = deeper(names, inner.values);
+            let first = defs(types, inside, definitions.as_slice());
+            let forms = form.clauses.as_slice();
+            let body = collect(types, inside, first, forms, results.as_slice());
+            let is_limit = is_limited(types, form.sources.as_slice(), bounds.as_slice());
+            joined(ends, product(is_limit, forms, inner, body, values))
+        }
+        TypedKind::Initial(turns, start, test, definitions, results) => {
+            let first = defs(types, names, start.as_slice());
+            let inside = deeper(names, first.values);
+            let tested = exprs(types, inside, test.as_slice());
+            let turn = defs(types, inside, definitions.as_slice());
+            let forms = turns.clauses.as_slice();
+            let parts = results.as_slice();
+            let kept = row(types, names, first.values, forms, parts);
+            initial(turns.is_until, forms, first, kept, tested, turn, parts.len(), values)
+        }
     }
 }
 
@@ -108,6 +131,54 @@ fn arms(types: &Types, names: u128, case: &Case, bodies: &[Seq<TypedExpr>]) -> S
         at -= 1;
         let inside = within(case, at, names);
         all = joined(part(exprs(types, inside, bodies[at].as_slice())), all);
+    }
+    all
+}
+
+/// How much the values of clauses become, each mask of `unless` with its Not.
+#[cycle(sizes)]
+fn clauses(types: &Types, names: u128, forms: &[ClauseForm], parts: &[TypedExpr]) -> Sizes
+    ensures { (n : ℕ) → Keeps names n → KeepsSizes result (all_sized (clauses_sized (unless_places forms.now) (phrases types.now parts.now)) n) }
+{
+    let mut place = Place {
+        at: 0,
+        is_mask: false,
+    };
+    let mut all = only(0);
+    for e in parts {
+        let one = expr(types, names, e);
+        let is_not = is_not(forms, place);
+        all = beside(all, negated(is_not, one));
+        place = next(forms, place);
+    }
+    all
+}
+
+/// How much definitions that become so much, and the values of the clauses that see them, become.
+#[cycle(sizes)]
+fn collect(types: &Types, names: u128, first: Sizes, forms: &[ClauseForm], parts: &[TypedExpr]) -> Sizes
+    ensures { (n : ℕ) (a : Sizes) → Keeps names n → KeepsSizes first a → KeepsSizes result (joined a (all_sized (clauses_sized (unless_places forms.now) (phrases types.now parts.now)) (n + a.values))) }
+{
+    let inside = deeper(names, first.values);
+    joined(first, clauses(types, inside, forms, parts))
+}
+
+/// How much what is collected besides so many loop names becomes, with so many names around.
+#[cycle(sizes)]
+fn row(types: &Types, around: u128, count: u128, forms: &[ClauseForm], parts: &[TypedExpr]) -> Sizes
+    ensures { (n k : ℕ) → Keeps around n → Keeps count k → KeepsSizes result (all_sized (extras_sized (loop_name n k) (unless_places forms.now) (map (phrase_sized types.now) parts.now)) (n + k)) }
+{
+    let inside = deeper(around, count);
+    let mut place = Place {
+        at: 0,
+        is_mask: false,
+    };
+    let mut all = only(0);
+    for e in parts {
+        let one = expr(types, inside, e);
+        let is_name = is_loop_name(around, count, e);
+        all = beside(all, extra(is_unless(forms, place), is_name, one));
+        place = next(forms, place);
     }
     all
 }

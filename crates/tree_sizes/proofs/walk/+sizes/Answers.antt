@@ -1,13 +1,16 @@
-use Rattle.std.proofs.Common.{rules, ◌≡◌, ◌∙◌, ℕ, suc, ◌+◌, ◌-◌, ◌<◌, List, length, drop, map, sym, ap, subst, refl, arith}
+use Rattle.std.proofs.Common.{rules, ◌≡◌, ◌∙◌, ℕ, suc, ◌+◌, ◌-◌, ◌<◌, ◌≤◌, Bool, false, List, [], ◌∷◌, length, drop_of_length-le, drop, map, sym, ap, subst, refl, arith}
 use Rattle.std.specs.Prelude.{◌^◌, get_or, nat_lt, if◌then◌else◌}
 use Rattle.std.proofs.Math.Seq.{drop-cons}
 use Rattle.typed_tree.specs.declared.expr.TypedKind.TheOpen.{TypedKind-F}
 use Rattle.typed_tree.specs.declared.expr.TypedKind.TheVariants as typed
-use Rattle.lowered_sizes.specs.Counting.{joined, beside, a_node, part, parts, only, capped_sizes}
-use Rattle.lowered_sizes.specs.Forms.{all_sized, defs_sized, arms_sized, applied_sized, sizes}
+use Rattle.lowered_sizes.specs.Counting.{joined, beside, a_node, part, parts, whole, only, valued, capped_sizes}
+use Rattle.lowered_sizes.specs.Forms.{all_sized, defs_sized, arms_sized, applied_sized, sizes, clauses_sized, extras_sized, generators_sized, returns_sized, is_limited, types_of, phrase_sized}
+use Rattle.lowering.specs.Loops.{loop_name, unless_places}
+use Rattle.tree_sizes.specs.Clauses.{places_left, unless_from, first_place, is_true, is_name, extra_at}
+use Rattle.tree_sizes.proofs.Steps.{all-from, clause_at, clause-step, extra-step}
 use Rattle.tree_sizes.specs.Capped.{Keeps, KeepsSizes}
 use Rattle.tree_sizes.specs.Phrases.{phrases, lists}
-use Rattle.tree_sizes.proofs.Kept.{sum-kept, values-kept, beside-none, beside-both}
+use Rattle.tree_sizes.proofs.Kept.{sum-kept, values-kept, beside-none, none-beside, beside-both}
 use Rattle.tree_sizes.proofs.Folds.{expr-is, kind-is, length-kept}
 use Rattle.tree_sizes.proofs.walk.+sizes.Goals as goal
 
@@ -175,5 +178,126 @@ kind-returns-in-Case t c = λ n ts h k.
     c.joined-in-Case-2.ensures u (joined z (a_node (length ts) (length ts))) union whole
     ∙ ap capped_sizes (sym (kind-is forms (TypedKind-F.Case case us bodies) c.args.kind.now (c.in-Case.is ∙ sym (typed.rolls-Case case us bodies)) ts n))
 
-pub kind-returns-in_default : goal.kind-returns-in_default
-kind-returns-in_default t c = ?
+pub kind-returns-in-Product : goal.kind-returns-in-Product
+kind-returns-in-Product t c = λ n ts h k.
+    let forms = c.args.types.now in
+    let p = c.in-Product.form in
+    let bs = c.in-Product.bounds in
+    let ds = c.in-Product.definitions in
+    let gs = c.in-Product.results in
+    let e = all_sized (phrases forms bs) n in
+    let ends = c.exprs-ends.ensures n h ∙ ap (λ es. capped_sizes (all_sized (phrases forms es) n)) c.as_slice-in-Product.ensures in
+    let g = generators_sized p.sources in
+    let inner = c.generators-inner.ensures ∙ ap (λ us. capped_sizes (generators_sized us)) c.as_slice-in-Product-2.ensures in
+    let m = n + g.values in
+    let inside = c.deeper-inside.ensures n g.values h (values-kept c.generators-inner.result g inner) in
+    let d = defs_sized (lists forms ds) m in
+    let first = c.defs-first-in-Product.ensures m inside ∙ ap (λ us. capped_sizes (defs_sized (lists forms us) m)) c.as_slice-in-Product-3.ensures in
+    let places = unless_places p.clauses in
+    let b = joined d (all_sized (clauses_sized places (phrases forms gs)) (m + d.values)) in
+    let body = c.collect-body.ensures m d inside first
+        ∙ ap (λ cs. capped_sizes (joined d (all_sized (clauses_sized (unless_places cs) (phrases forms c.as_slice-in-Product-5.result.now)) (m + d.values)))) c.as_slice-forms.ensures
+        ∙ ap (λ us. capped_sizes (joined d (all_sized (clauses_sized places (phrases forms us)) (m + d.values)))) c.as_slice-in-Product-5.ensures in
+    let types = types_of (map (phrase_sized forms) bs) in
+    let limit = c.is_limited-is_limit.ensures ∙ ap (λ us. is_limited forms us (types_of (map (phrase_sized forms) c.as_slice-in-Product-7.result.now))) c.as_slice-in-Product-6.ensures
+        ∙ ap (λ us. is_limited forms p.sources (types_of (map (phrase_sized forms) us))) c.as_slice-in-Product-7.ensures in
+    let made = c.product.ensures g b (length ts) inner body k
+        ∙ ap (λ l. capped_sizes (whole (g ∷ b ∷ returns_sized l c.as_slice-forms.result.now b.values (length ts) ∷ []) (length ts))) limit
+        ∙ ap (λ cs. capped_sizes (whole (g ∷ b ∷ returns_sized (is_limited forms p.sources types) cs b.values (length ts) ∷ []) (length ts))) c.as_slice-forms.ensures in
+    c.joined-in-Product.ensures e (whole (g ∷ b ∷ returns_sized (is_limited forms p.sources types) p.clauses b.values (length ts) ∷ []) (length ts)) ends made
+    ∙ ap capped_sizes (sym (kind-is forms (TypedKind-F.Product p bs ds gs) c.args.kind.now (c.in-Product.is ∙ sym (typed.rolls-Product p bs ds gs)) ts n))
+
+pub kind-returns-in-Initial : goal.kind-returns-in-Initial
+kind-returns-in-Initial t c = λ n ts h k. ?
+
+pub collect-returns : goal.collect-returns
+collect-returns t c = λ n a h f.
+    let inside = c.deeper-inside.ensures n a.values h (values-kept c.args.first a f) in
+    c.joined.ensures a (all_sized (clauses_sized (unless_places c.args.forms.now) (phrases c.args.types.now c.args.parts.now)) (n + a.values)) f (c.clauses.ensures (n + a.values) inside)
+
+pub clauses-loop-e-init : goal.clauses-loop-e-init
+clauses-loop-e-init t c = λ n h.
+    let cs = c.args.forms.now in
+    let gs = phrases c.args.types.now c.args.parts.now in
+    (only 0, c.only-all.ensures 0 refl, ap (λ bs. all_sized (clauses_sized bs gs) n) (sym (all-from cs)) ∙ sym (beside-none (all_sized (clauses_sized (unless_from false cs) gs) n)))
+
+pub clauses-loop-e-preserved : goal.clauses-loop-e-preserved
+clauses-loop-e-preserved t c = λ n h.
+    let forms = c.args.types.now in
+    let es = c.args.parts.now in
+    let i = c.loop-e.e-index in
+    let e = c.e-item.result in
+    let bs = places_left c.args.forms.now c.loop-e.place in
+    let inv = c.loop-e.invariant n h in
+    let s = inv.0 in
+    let g = sizes forms e in
+    let a = clause_at (is_true (first_place bs)) (g n) in
+    let left = λ (ps : List Bool) (j : ℕ). all_sized (clauses_sized ps (phrases forms (drop j es))) n in
+    let one = c.negated.ensures (g n) (c.expr-one.ensures n h) ∙ ap (λ b. capped_sizes (clause_at b (g n))) c.is_not-is_not.ensures in
+    let cons : drop i es ≡ e ∷ drop (suc i) es = drop-cons es i e c.loop-e-test.true ∙ ap (λ x. x ∷ drop (suc i) es) (sym c.e-item.is) in
+    let step : left bs i ≡ beside a (left (drop 1 bs) (suc i)) = ap (λ l. all_sized (clauses_sized bs (phrases forms l)) n) cons ∙ clause-step bs g (phrases forms (drop (suc i) es)) n in
+    let further : suc i ≡ i + 1 = omega arith in
+    (
+      beside s a,
+      c.beside-all.ensures s a inv.1 one,
+      inv.2 ∙ ap (beside s) step ∙ sym (beside-both s a (left (drop 1 bs) (suc i))) ∙ ap (λ j. beside (beside s a) (left (drop 1 bs) j)) further
+      ∙ ap (λ ps. beside (beside s a) (left ps (i + 1))) (sym c.next-place.ensures),
+    )
+
+pub clauses-returns : goal.clauses-returns
+clauses-returns t c = λ n h.
+    let forms = c.args.types.now in
+    let es = c.args.parts.now in
+    let i = c.loop-e.e-index in
+    let bs = places_left c.args.forms.now c.loop-e.place in
+    let inv = c.loop-e.invariant n h in
+    let over : length es ≤ i = omega (arith, c.loop-e-test.false) in
+    inv.1 ∙ ap capped_sizes (sym (inv.2 ∙ ap (λ l. beside inv.0 (all_sized (clauses_sized bs (phrases forms l)) n)) (drop_of_length-le es over) ∙ none-beside inv.0))
+
+pub row-loop-e-init : goal.row-loop-e-init
+row-loop-e-init t c = λ n k h f.
+    let cs = c.args.forms.now in
+    let ps = map (phrase_sized c.args.types.now) c.args.parts.now in
+    (
+      only 0,
+      c.only-all.ensures 0 refl,
+      ap (λ bs. all_sized (extras_sized (loop_name n k) bs ps) (n + k)) (sym (all-from cs)) ∙ sym (beside-none (all_sized (extras_sized (loop_name n k) (unless_from false cs) ps) (n + k))),
+    )
+
+pub row-loop-e-preserved : goal.row-loop-e-preserved
+row-loop-e-preserved t c = λ n k h f.
+    let forms = c.args.types.now in
+    let es = c.args.parts.now in
+    let i = c.loop-e.e-index in
+    let e = c.e-item.result in
+    let bs = places_left c.args.forms.now c.loop-e.place in
+    let inv = c.loop-e.invariant n k h f in
+    let s = inv.0 in
+    let m = n + k in
+    let loop = loop_name n k in
+    let p = phrase_sized forms e in
+    let g = sizes forms e m in
+    let is = is_name (loop p.name) in
+    let a = extra_at (first_place bs) is g in
+    let left = λ (xs : List Bool) (j : ℕ). all_sized (extras_sized loop xs (map (phrase_sized forms) (drop j es))) m in
+    let own = c.expr-one.ensures m (c.deeper-inside.ensures n k h f) in
+    let one = c.extra.ensures g own ∙ ap (λ x. capped_sizes (extra_at x c.is_loop_name-is_name.result g)) c.is_unless.ensures ∙ ap (λ x. capped_sizes (extra_at (first_place bs) x g)) (c.is_loop_name-is_name.ensures forms n k h f) in
+    let cons : drop i es ≡ e ∷ drop (suc i) es = drop-cons es i e c.loop-e-test.true ∙ ap (λ x. x ∷ drop (suc i) es) (sym c.e-item.is) in
+    let step : left bs i ≡ beside a (left (drop 1 bs) (suc i)) = ap (λ l. all_sized (extras_sized loop bs (map (phrase_sized forms) l)) m) cons ∙ extra-step loop bs p (map (phrase_sized forms) (drop (suc i) es)) m in
+    let further : suc i ≡ i + 1 = omega arith in
+    (
+      beside s a,
+      c.beside-all.ensures s a inv.1 one,
+      inv.2 ∙ ap (beside s) step ∙ sym (beside-both s a (left (drop 1 bs) (suc i))) ∙ ap (λ j. beside (beside s a) (left (drop 1 bs) j)) further
+      ∙ ap (λ xs. beside (beside s a) (left xs (i + 1))) (sym c.next-place.ensures),
+    )
+
+pub row-returns : goal.row-returns
+row-returns t c = λ n k h f.
+    let forms = c.args.types.now in
+    let es = c.args.parts.now in
+    let i = c.loop-e.e-index in
+    let bs = places_left c.args.forms.now c.loop-e.place in
+    let inv = c.loop-e.invariant n k h f in
+    let over : length es ≤ i = omega (arith, c.loop-e-test.false) in
+    inv.1 ∙ ap capped_sizes (sym (inv.2 ∙ ap (λ l. beside inv.0 (all_sized (extras_sized (loop_name n k) bs (map (phrase_sized forms) l)) (n + k))) (drop_of_length-le es over) ∙ none-beside inv.0))
