@@ -1,6 +1,8 @@
 -- Sums of numbers that are kept up to a bound.
 use Rattle.std.proofs.Common.{◌≡◌, ℕ, suc, ◌+◌, max, refl, sym, ap, subst, ◌∙◌, arith}
-use Rattle.std.specs.Prelude.{min, ◌^◌, ◌-◌}
+use Rattle.std.specs.Prelude.{min, ◌^◌, ◌-◌, ◌&&◌, nat_lt, nat_le}
+use Rattle.std.proofs.Common.{◌<◌, ◌≤◌, Bool, true, false, not, lt-ltb, le-ltb}
+use Rattle.std.proofs.lemmas.Bool.{ltb-true, ltb-false}
 use Rattle.lowered_sizes.specs.declared.sizes.Sizes.{Sizes}
 use Rattle.lowered_sizes.specs.Counting.{only, valued, joined, beside, a_node, part, capped, capped_sizes}
 use Rattle.lowered_sizes.specs.Forms.{filled, applied_sized}
@@ -67,3 +69,16 @@ smaller-of m a b x y e f = omega (arith, e, f)
 
 pub smaller-kept : (a b x y : ℕ) → a ≡ capped x → b ≡ capped y → min a b ≡ capped (min x y)
 smaller-kept a b x y e f = smaller-of (2 ^ 128 - 1) a b x y e f
+
+less-of : (m l a n : ℕ) → l < m → a ≡ min n m → nat_lt l a ≡ nat_lt l n
+less-of m l a n small e = by (nat_lt l n) refl
+  where
+    by : (b : Bool) → nat_lt l n ≡ b → nat_lt l a ≡ nat_lt l n
+    by true t = let less : l < n = ltb-true l n t in lt-ltb l a (omega (arith, less, small, e)) ∙ sym t
+    by false f = let more : n ≤ l = ltb-false l n f in le-ltb l a (omega (arith, more, small, e)) ∙ sym f
+
+narrow : (l : ℕ) → l < 2 ^ 32 → l < 2 ^ 128 - 1
+narrow l h = omega (arith, h)
+
+pub less-kept : (l a n : ℕ) → l < 2 ^ 32 → a ≡ capped n → nat_lt l a ≡ nat_lt l n
+less-kept l a n h e = less-of (2 ^ 128 - 1) l a n (narrow l h) e

@@ -12,7 +12,7 @@ use crate::sums::{beside, node, only, smaller};
 use flow_value::item_at;
 use lowered_sizes::Sizes;
 use type_table::{Form, Types};
-use typed_tree::{ClauseForm, Source, TypedExpr};
+use typed_tree::{ClauseForm, Product, Source, TypedExpr};
 
 /// A node for a generator.
 fn generator(source: Source) -> Sizes
@@ -26,7 +26,7 @@ fn generator(source: Source) -> Sizes
 }
 
 /// How much generators become, one behind another.
-pub fn generators(sources: &[Source]) -> Sizes
+fn generators(sources: &[Source]) -> Sizes
     ensures { KeepsSizes result (generators_sized sources.now) }
 {
     let mut all = only(0);
@@ -36,6 +36,13 @@ pub fn generators(sources: &[Source]) -> Sizes
         all = beside(generator(sources[at]), all);
     }
     all
+}
+
+/// How much the generators of a `for` become.
+pub fn inputs(form: &Product) -> Sizes
+    ensures { KeepsSizes result (generators_sized form.now.sources) }
+{
+    generators(form.sources.as_slice())
 }
 
 /// A node for a clause, of which so many multiples are left, and so many types.

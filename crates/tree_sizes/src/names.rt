@@ -8,7 +8,7 @@ ghost use Rattle.lowered_sizes.specs.Forms.{phrase_sized};
 ghost use Rattle.tree_sizes.specs.Capped.{Keeps, KeepsSizes};
 ghost use Rattle.tree_sizes.specs.Clauses.{extra_at, is_name};
 
-use crate::sums::{deeper, negated, only};
+use crate::sums::{deeper, is_greater, negated, only};
 use lowered_sizes::Sizes;
 use typed_tree::{TypedExpr, TypedKind};
 
@@ -16,11 +16,9 @@ use typed_tree::{TypedExpr, TypedKind};
 fn is_between(level: u32, around: u128, count: u128) -> bool
     ensures { (n k : ℕ) → Keeps around n → Keeps count k → result ≡ (nat_le n level && nat_lt level (n + k)) }
 {
-    let level = u128::from(level);
-    if level < around {
-        return false;
-    }
-    level < deeper(around, count)
+    let is_before = is_greater(around, level);
+    let is_inside = is_greater(deeper(around, count), level);
+    !is_before && is_inside
 }
 
 /// Whether an expression is the name of a loop of so many names, with so many names around it.

@@ -1,5 +1,5 @@
 //! Sizes of phrases that stand one behind the other or inside of nodes.
-ghost use Rattle.std.specs.Prelude.{◌≡◌, ℕ, ◌+◌, max, min, List, ◌∷◌, if◌then◌else◌};
+ghost use Rattle.std.specs.Prelude.{◌≡◌, ℕ, ◌+◌, max, min, nat_lt, List, ◌∷◌, if◌then◌else◌};
 ghost use Rattle.lowered_sizes.specs.Counting.{only, valued, joined, beside, a_node, part, parts, whole};
 ghost use Rattle.tree_sizes.specs.Capped.{Keeps, KeepsSizes};
 
@@ -10,6 +10,13 @@ fn greater(a: u128, b: u128) -> u128
     ensures { result ≡ max a b }
 {
     if a < b { b } else { a }
+}
+
+/// Whether a number is greater than another one.
+pub fn is_greater(number: u128, than: u32) -> bool
+    ensures { (n : ℕ) → Keeps number n → result ≡ nat_lt than n }
+{
+    u128::from(than) < number
 }
 
 /// The smaller of two numbers.

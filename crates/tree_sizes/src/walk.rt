@@ -9,7 +9,7 @@ ghost use Rattle.tree_sizes.specs.Capped.{Keeps, KeepsSizes};
 ghost use Rattle.tree_sizes.specs.Phrases.{phrases, lists};
 
 use crate::leaves::{applied, constant, within};
-use crate::loops::{generators, is_limited};
+use crate::loops::{inputs, is_limited};
 use crate::names::{extra, is_loop_name};
 use crate::places::{Place, is_not, is_unless, next};
 use crate::sums::{beside, deeper, joined, negated, node, only, part};
@@ -63,7 +63,7 @@ fn kind(types: &Types, names: u128, values: u128, kind: &TypedKind) -> Sizes
         }
         TypedKind::Product(form, bounds, definitions, results) => {
             let ends = exprs(types, names, bounds.as_slice());
-            let inner = generators(form.sources.as_slice());
+            let inner = inputs(form);
             let inside = deeper(names, inner.values);
             let first = defs(types, inside, definitions.as_slice());
             let forms = form.clauses.as_slice();

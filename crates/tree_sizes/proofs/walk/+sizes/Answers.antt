@@ -1,5 +1,9 @@
 use Rattle.std.proofs.Common.{rules, ◌≡◌, ◌∙◌, ℕ, suc, ◌+◌, ◌-◌, ◌<◌, ◌≤◌, Bool, false, List, [], ◌∷◌, length, drop_of_length-le, drop, map, sym, ap, subst, refl, arith}
-use Rattle.std.specs.Prelude.{◌^◌, get_or, nat_lt, if◌then◌else◌}
+use Rattle.std.specs.Prelude.{◌^◌, min, get_or, nat_lt, if◌then◌else◌}
+use Rattle.std.proofs.Math.Seq.{length-map}
+use Rattle.typed_tree.specs.declared.expr.TypedExpr.{TypedExpr}
+use Rattle.typed_tree.specs.declared.expr.ClauseForm.{ClauseForm}
+use Rattle.lowered_sizes.specs.declared.sizes.Sizes.{Sizes}
 use Rattle.std.proofs.Math.Seq.{drop-cons}
 use Rattle.typed_tree.specs.declared.expr.TypedKind.TheOpen.{TypedKind-F}
 use Rattle.typed_tree.specs.declared.expr.TypedKind.TheVariants as typed
@@ -188,19 +192,19 @@ kind-returns-in-Product t c = λ n ts h k.
     let e = all_sized (phrases forms bs) n in
     let ends = c.exprs-ends.ensures n h ∙ ap (λ es. capped_sizes (all_sized (phrases forms es) n)) c.as_slice-in-Product.ensures in
     let g = generators_sized p.sources in
-    let inner = c.generators-inner.ensures ∙ ap (λ us. capped_sizes (generators_sized us)) c.as_slice-in-Product-2.ensures in
+    let inner = c.inputs-inner.ensures in
     let m = n + g.values in
-    let inside = c.deeper-inside.ensures n g.values h (values-kept c.generators-inner.result g inner) in
+    let inside = c.deeper-inside.ensures n g.values h (values-kept c.inputs-inner.result g inner) in
     let d = defs_sized (lists forms ds) m in
-    let first = c.defs-first-in-Product.ensures m inside ∙ ap (λ us. capped_sizes (defs_sized (lists forms us) m)) c.as_slice-in-Product-3.ensures in
+    let first = c.defs-first-in-Product.ensures m inside ∙ ap (λ us. capped_sizes (defs_sized (lists forms us) m)) c.as_slice-in-Product-2.ensures in
     let places = unless_places p.clauses in
     let b = joined d (all_sized (clauses_sized places (phrases forms gs)) (m + d.values)) in
     let body = c.collect-body.ensures m d inside first
-        ∙ ap (λ cs. capped_sizes (joined d (all_sized (clauses_sized (unless_places cs) (phrases forms c.as_slice-in-Product-5.result.now)) (m + d.values)))) c.as_slice-forms.ensures
-        ∙ ap (λ us. capped_sizes (joined d (all_sized (clauses_sized places (phrases forms us)) (m + d.values)))) c.as_slice-in-Product-5.ensures in
+        ∙ ap (λ cs. capped_sizes (joined d (all_sized (clauses_sized (unless_places cs) (phrases forms c.as_slice-in-Product-3.result.now)) (m + d.values)))) c.as_slice-forms.ensures
+        ∙ ap (λ us. capped_sizes (joined d (all_sized (clauses_sized places (phrases forms us)) (m + d.values)))) c.as_slice-in-Product-3.ensures in
     let types = types_of (map (phrase_sized forms) bs) in
-    let limit = c.is_limited-is_limit.ensures ∙ ap (λ us. is_limited forms us (types_of (map (phrase_sized forms) c.as_slice-in-Product-7.result.now))) c.as_slice-in-Product-6.ensures
-        ∙ ap (λ us. is_limited forms p.sources (types_of (map (phrase_sized forms) us))) c.as_slice-in-Product-7.ensures in
+    let limit = c.is_limited-is_limit.ensures ∙ ap (λ us. is_limited forms us (types_of (map (phrase_sized forms) c.as_slice-in-Product-5.result.now))) c.as_slice-in-Product-4.ensures
+        ∙ ap (λ us. is_limited forms p.sources (types_of (map (phrase_sized forms) us))) c.as_slice-in-Product-5.ensures in
     let made = c.product.ensures g b (length ts) inner body k
         ∙ ap (λ l. capped_sizes (whole (g ∷ b ∷ returns_sized l c.as_slice-forms.result.now b.values (length ts) ∷ []) (length ts))) limit
         ∙ ap (λ cs. capped_sizes (whole (g ∷ b ∷ returns_sized (is_limited forms p.sources types) cs b.values (length ts) ∷ []) (length ts))) c.as_slice-forms.ensures in
@@ -208,7 +212,35 @@ kind-returns-in-Product t c = λ n ts h k.
     ∙ ap capped_sizes (sym (kind-is forms (TypedKind-F.Product p bs ds gs) c.args.kind.now (c.in-Product.is ∙ sym (typed.rolls-Product p bs ds gs)) ts n))
 
 pub kind-returns-in-Initial : goal.kind-returns-in-Initial
-kind-returns-in-Initial t c = λ n ts h k. ?
+kind-returns-in-Initial t c = λ n ts h k.
+    let forms = c.args.types.now in
+    let x = c.in-Initial.turns in
+    let fs = c.in-Initial.start in
+    let us = c.in-Initial.test in
+    let ds = c.in-Initial.definitions in
+    let gs = c.in-Initial.results in
+    let cs = c.as_slice-forms-in-Initial.result.now in
+    let ps = c.as_slice-parts.result.now in
+    let f = defs_sized (lists forms fs) n in
+    let first = c.defs-first-in-Initial.ensures n h ∙ ap (λ l. capped_sizes (defs_sized (lists forms l) n)) c.as_slice-in-Initial.ensures in
+    let some = values-kept c.defs-first-in-Initial.result f first in
+    let m = n + f.values in
+    let inside = c.deeper-inside-in-Initial.ensures n f.values h some in
+    let u = all_sized (phrases forms us) m in
+    let tested = c.exprs-tested-in-Initial.ensures m inside ∙ ap (λ l. capped_sizes (all_sized (phrases forms l) m)) c.as_slice-in-Initial-2.ensures in
+    let d = defs_sized (lists forms ds) m in
+    let turn = c.defs-turn.ensures m inside ∙ ap (λ l. capped_sizes (defs_sized (lists forms l) m)) c.as_slice-in-Initial-3.ensures in
+    let row = λ (cs : List ClauseForm) (ps : List TypedExpr). all_sized (extras_sized (loop_name n f.values) (unless_places cs) (map (phrase_sized forms) ps)) m in
+    let r = row cs ps in
+    let kept = c.row-kept.ensures n f.values h some in
+    let node = λ (cs : List ClauseForm) (r : Sizes) (i : ℕ).
+        whole (beside f r ∷ (if x.is_until then joined u (a_node u.values 1) else u) ∷ beside (valued f.values d) r ∷ returns_sized false cs (min (length (unless_places cs)) i) (length ts) ∷ []) (length ts) in
+    let made = c.initial.ensures f r u d (length ts) first kept tested turn k in
+    let count : c.len.result ≡ length (map (phrase_sized forms) ps) = c.len.ensures ∙ sym (length-map (phrase_sized forms) ps) in
+    made ∙ ap (λ i. capped_sizes (node cs r i)) count
+    ∙ ap (λ l. capped_sizes (node cs (row cs l) (length (map (phrase_sized forms) l)))) c.as_slice-parts.ensures
+    ∙ ap (λ l. capped_sizes (node l (row l gs) (length (map (phrase_sized forms) gs)))) c.as_slice-forms-in-Initial.ensures
+    ∙ ap capped_sizes (sym (kind-is forms (TypedKind-F.Initial x fs us ds gs) c.args.kind.now (c.in-Initial.is ∙ sym (typed.rolls-Initial x fs us ds gs)) ts n))
 
 pub collect-returns : goal.collect-returns
 collect-returns t c = λ n a h f.
