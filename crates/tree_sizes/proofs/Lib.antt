@@ -3,3 +3,4 @@ mod Folds
 mod LoopClauses
 mod Steps
 mod Told
+mod Whole

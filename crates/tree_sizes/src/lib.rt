@@ -5,8 +5,9 @@ mod leaves;
 mod loops;
 mod names;
 mod places;
+mod program;
 mod sums;
 mod turns;
 mod walk;
 
-pub use walk::expr;
+pub use program::graphs_over;

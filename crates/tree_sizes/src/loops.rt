@@ -1,5 +1,6 @@
 //! Sizes of generators and of the nodes of clauses.
 ghost use Rattle.std.specs.Prelude.{◌≡◌, ℕ, min, map};
+ghost use Rattle.lowered_sizes.specs.declared.sizes.Sizes.{Sizes};
 ghost use Rattle.lowered_sizes.specs.Forms.{
     first_array, generator_sized, generators_sized, is_limited, phrase_sized, returns_sized, types_of,
 };
@@ -40,7 +41,7 @@ fn generators(sources: &[Source]) -> Sizes
 
 /// How much the generators of a `for` become.
 pub fn inputs(form: &Product) -> Sizes
-    ensures { KeepsSizes result (generators_sized form.now.sources) }
+    ensures { (s : Sizes) → s ≡ generators_sized form.now.sources → KeepsSizes result s }
 {
     generators(form.sources.as_slice())
 }

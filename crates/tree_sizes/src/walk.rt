@@ -21,7 +21,7 @@ use typed_tree::{Case, ClauseForm, TypedExpr, TypedKind};
 
 /// How much an expression becomes, where so many names are in force.
 #[cycle(sizes)]
-pub fn expr(types: &Types, names: u128, e: &TypedExpr) -> Sizes
+fn expr(types: &Types, names: u128, e: &TypedExpr) -> Sizes
     ensures { (n : ℕ) → Keeps names n → KeepsSizes result (sizes types.now e.now n) }
 {
     kind(types, names, e.types.len() as u128, &e.kind)
@@ -86,7 +86,7 @@ fn kind(types: &Types, names: u128, values: u128, kind: &TypedKind) -> Sizes
 
 /// How much some expressions become, one behind another.
 #[cycle(sizes)]
-fn exprs(types: &Types, names: u128, parts: &[TypedExpr]) -> Sizes
+pub fn exprs(types: &Types, names: u128, parts: &[TypedExpr]) -> Sizes
     ensures { (n : ℕ) → Keeps names n → KeepsSizes result (all_sized (phrases types.now parts.now) n) }
 {
     let mut all = only(0);

@@ -1,6 +1,6 @@
 use Rattle.std.proofs.Common.{rules, ◌≡◌, ◌∙◌, ℕ, suc, ◌+◌, ◌-◌, ◌<◌, ◌≤◌, Bool, false, List, [], ◌∷◌, length, drop_of_length-le, drop, map, sym, ap, subst, refl, arith}
 use Rattle.std.specs.Prelude.{◌^◌, min, get_or, nat_lt, if◌then◌else◌}
-use Rattle.std.proofs.Math.Seq.{length-map}
+use Rattle.std.proofs.lemmas.List.{length-map}
 use Rattle.typed_tree.specs.declared.expr.TypedExpr.{TypedExpr}
 use Rattle.typed_tree.specs.declared.expr.ClauseForm.{ClauseForm}
 use Rattle.lowered_sizes.specs.declared.sizes.Sizes.{Sizes}
@@ -192,7 +192,7 @@ kind-returns-in-Product t c = λ n ts h k.
     let e = all_sized (phrases forms bs) n in
     let ends = c.exprs-ends.ensures n h ∙ ap (λ es. capped_sizes (all_sized (phrases forms es) n)) c.as_slice-in-Product.ensures in
     let g = generators_sized p.sources in
-    let inner = c.inputs-inner.ensures in
+    let inner = c.inputs-inner.ensures g refl in
     let m = n + g.values in
     let inside = c.deeper-inside.ensures n g.values h (values-kept c.inputs-inner.result g inner) in
     let d = defs_sized (lists forms ds) m in
@@ -236,7 +236,7 @@ kind-returns-in-Initial t c = λ n ts h k.
     let node = λ (cs : List ClauseForm) (r : Sizes) (i : ℕ).
         whole (beside f r ∷ (if x.is_until then joined u (a_node u.values 1) else u) ∷ beside (valued f.values d) r ∷ returns_sized false cs (min (length (unless_places cs)) i) (length ts) ∷ []) (length ts) in
     let made = c.initial.ensures f r u d (length ts) first kept tested turn k in
-    let count : c.len.result ≡ length (map (phrase_sized forms) ps) = c.len.ensures ∙ sym (length-map (phrase_sized forms) ps) in
+    let count : length ps ≡ length (map (phrase_sized forms) ps) = sym (length-map ps (phrase_sized forms)) in
     made ∙ ap (λ i. capped_sizes (node cs r i)) count
     ∙ ap (λ l. capped_sizes (node cs (row cs l) (length (map (phrase_sized forms) l)))) c.as_slice-parts.ensures
     ∙ ap (λ l. capped_sizes (node l (row l gs) (length (map (phrase_sized forms) gs)))) c.as_slice-forms-in-Initial.ensures
