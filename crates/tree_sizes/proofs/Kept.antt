@@ -1,10 +1,10 @@
 -- Sums of numbers that are kept up to a bound.
-use Rattle.std.proofs.Common.{◌≡◌, ℕ, suc, ◌+◌, max, refl, sym, ap, subst, ◌∙◌, arith}
-use Rattle.std.specs.Prelude.{min, ◌^◌, ◌-◌, ◌&&◌, nat_lt, nat_le}
-use Rattle.std.proofs.Common.{◌<◌, ◌≤◌, Bool, true, false, not, lt-ltb, le-ltb}
+use Rattle.std.proofs.Common.{◌≡◌, ℕ, suc, ◌+◌, max, refl, sym, ap, ◌∙◌, arith}
+use Rattle.std.specs.Prelude.{min, ◌^◌, ◌-◌, nat_lt}
+use Rattle.std.proofs.Common.{◌<◌, ◌≤◌, Bool, true, false, lt-ltb, le-ltb}
 use Rattle.std.proofs.lemmas.Bool.{ltb-true, ltb-false}
 use Rattle.lowered_sizes.specs.declared.sizes.Sizes.{Sizes}
-use Rattle.lowered_sizes.specs.Counting.{only, valued, joined, beside, a_node, part, capped, capped_sizes}
+use Rattle.lowered_sizes.specs.Counting.{only, beside, a_node, capped, capped_sizes}
 use Rattle.lowered_sizes.specs.Forms.{filled, applied_sized}
 use Rattle.value_ops.specs.declared.operation.Operation.{Operation}
 use Rattle.value_ops.specs.declared.operation.Operation.TheVariants as operation

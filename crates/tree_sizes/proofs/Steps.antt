@@ -1,5 +1,5 @@
 -- Places among the values of clauses.
-use Rattle.std.proofs.Common.{◌≡◌, ◌∙◌, ℕ, suc, ◌+◌, ◌<◌, Bool, true, false, not, true≢false, List, [], ◌∷◌, ◌++◌, map, length, drop, get_or, Option, Some, None, sym, ap, refl, arith}
+use Rattle.std.proofs.Common.{◌≡◌, ◌∙◌, ℕ, suc, ◌+◌, ◌<◌, Bool, true, false, true≢false, List, [], ◌∷◌, ◌++◌, length, drop, get_or, Option, Some, None, sym, ap, refl, arith}
 use Rattle.std.specs.Prelude.{if◌then◌else◌}
 use Rattle.std.proofs.Math.Seq.{drop-cons}
 use Rattle.loop_folds.specs.declared.masking.Masking.{Masking}
@@ -10,7 +10,7 @@ use Rattle.lowered_sizes.specs.declared.sizes.Sizes.{Sizes}
 use Rattle.lowered_sizes.specs.Counting.{Sizing, only, beside, joined, a_node}
 use Rattle.lowered_sizes.specs.Forms.{SizedPhrase, all_sized, clauses_sized, extra_sized, extras_sized}
 use Rattle.tree_sizes.specs.Clauses.{is_unless, unless_from, is_masked, first_place, is_true, is_name, extra_at}
-use Rattle.tree_sizes.proofs.Kept.{beside-none, none-beside}
+use Rattle.tree_sizes.proofs.Kept.{beside-none}
 
 pub all-from : (cs : List ClauseForm) → unless_from false cs ≡ unless_places cs
 all-from [] = refl

@@ -1,11 +1,11 @@
 -- Sizes of functions, one after another.
-use Rattle.std.proofs.Common.{◌≡◌, ◌∙◌, ℕ, suc, ◌+◌, ◌<◌, Bool, true, false, List, [], ◌∷◌, map, length, drop, get_or, Option, Some, None, sym, ap, refl, arith, max}
-use Rattle.std.specs.Prelude.{◌^◌, ◌||◌, nat_lt, if◌then◌else◌}
+use Rattle.std.proofs.Common.{◌≡◌, ◌∙◌, ℕ, suc, ◌+◌, ◌<◌, Bool, List, [], ◌∷◌, map, length, drop, get_or, Option, Some, sym, ap, refl, arith, max}
+use Rattle.std.specs.Prelude.{◌||◌, nat_lt, if◌then◌else◌}
 use Rattle.std.proofs.Math.Seq.{drop-cons}
 use Rattle.type_table.specs.declared.form.Form.{Form}
 use Rattle.typed_tree.specs.declared.expr.TypedExpr.{TypedExpr}
 use Rattle.typed_tree.specs.declared.program.Function.{Function}
-use Rattle.lowering.specs.TooMany.{most_nodes, most_graphs, most_ports, header_ports}
+use Rattle.lowering.specs.TooMany.{most_nodes, most_graphs, most_ports}
 use Rattle.lowered_sizes.specs.declared.sizes.Sizes.{Sizes}
 use Rattle.lowered_sizes.specs.Counting.{beside, a_node, capped, capped_sizes}
 use Rattle.lowered_sizes.specs.Forms.{all_sized, sizes}
@@ -36,7 +36,7 @@ line_if b line others = if b then Some line else others
 
 pub over-step : (forms : List Form) (fs : List Function) (i : ℕ) (f : Function) (g p : ℕ) → i < length fs → f ≡ get_or fs i f
     → sizes_over forms (drop i fs) g p
-      ≡ line_if (exceeds (function_sized forms f) g p) f.line (sizes_over forms (drop (i + 1) fs) (g + (function_sized forms f).graphs) (p + (function_sized forms f).ports))
+    ≡ line_if (exceeds (function_sized forms f) g p) f.line (sizes_over forms (drop (i + 1) fs) (g + (function_sized forms f).graphs) (p + (function_sized forms f).ports))
 over-step forms fs i f g p lt here =
     let cons : drop i fs ≡ f ∷ drop (suc i) fs = drop-cons fs i f lt ∙ ap (λ x. x ∷ drop (suc i) fs) (sym here) in
     let s = function_sized forms f in

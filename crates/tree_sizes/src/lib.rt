@@ -1,4 +1,6 @@
-//! Sizes of what a typed program becomes, told by one walk over its tree before anything is made.
+//! Sizes of what a typed program becomes, by one walk over its tree before anything is made: the
+//! function in which its graphs show to be too large or too many (`graphs_over`). Numbers are kept up
+//! to the greatest of 128 bits.
 #![tactic(auto)]
 
 mod leaves;

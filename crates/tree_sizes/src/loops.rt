@@ -2,7 +2,13 @@
 ghost use Rattle.std.specs.Prelude.{◌≡◌, ℕ, min, map};
 ghost use Rattle.lowered_sizes.specs.declared.sizes.Sizes.{Sizes};
 ghost use Rattle.lowered_sizes.specs.Forms.{
-    first_array, generator_sized, generators_sized, is_limited, phrase_sized, returns_sized, types_of,
+  first_array,
+  generator_sized,
+  generators_sized,
+  is_limited,
+  phrase_sized,
+  returns_sized,
+  types_of,
 };
 ghost use Rattle.lowering.specs.Choices.{is_array};
 ghost use Rattle.tree_sizes.specs.Capped.{Keeps, KeepsSizes};
@@ -53,7 +59,11 @@ fn clause(is_limit: bool, form: ClauseForm, multiples: u128, types: u128) -> Siz
     if types == 0 {
         return only(0);
     }
-    fold(is_limit, form.folding, smaller(span(form.masking), multiples))
+    fold(
+        is_limit,
+        form.folding,
+        smaller(span(form.masking), multiples),
+    )
 }
 
 /// A node for each clause that has a type, on so many multiples.

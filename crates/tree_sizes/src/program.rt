@@ -97,5 +97,9 @@ pub fn graphs_over(program: &Program, members: u128) -> Option<u32>
 {
     sizes_are_exact();
     let functions = program.functions.as_slice();
-    over(&program.types, functions, deeper(members, headers(functions)))
+    over(
+        &program.types,
+        functions,
+        deeper(members, headers(functions)),
+    )
 }

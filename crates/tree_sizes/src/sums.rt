@@ -69,7 +69,10 @@ pub fn joined(first: Sizes, next: Sizes) -> Sizes
 pub fn beside(first: Sizes, next: Sizes) -> Sizes
     ensures { (a b : Sizes) → KeepsSizes first a → KeepsSizes next b → KeepsSizes result (beside a b) }
 {
-    valued(first.values.saturating_add(next.values), joined(first, next))
+    valued(
+        first.values.saturating_add(next.values),
+        joined(first, next),
+    )
 }
 
 /// A node without graphs inside.

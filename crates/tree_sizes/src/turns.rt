@@ -25,7 +25,13 @@ fn places(clauses: &[ClauseForm]) -> u128
 }
 
 /// The node of a `for` over generators.
-pub fn product(is_limit: bool, clauses: &[ClauseForm], inner: Sizes, body: Sizes, values: u128) -> Sizes
+pub fn product(
+    is_limit: bool,
+    clauses: &[ClauseForm],
+    inner: Sizes,
+    body: Sizes,
+    values: u128,
+) -> Sizes
     ensures { (g b : Sizes) (k : ℕ) → KeepsSizes inner g → KeepsSizes body b → Keeps values k → KeepsSizes result (whole (g ∷ b ∷ returns_sized is_limit clauses.now b.values k ∷ []) k) }
 {
     let folds = returns(is_limit, clauses, body.values, values);
@@ -33,13 +39,25 @@ pub fn product(is_limit: bool, clauses: &[ClauseForm], inner: Sizes, body: Sizes
 }
 
 /// The node of a `for initial`: what is collected is made anew with each turn.
-pub fn initial(is_until: bool, clauses: &[ClauseForm], first: Sizes, row: Sizes, test: Sizes, turn: Sizes, parts: usize, values: u128) -> Sizes
-    ensures {
-        (f r t d : Sizes) (k : ℕ) → KeepsSizes first f → KeepsSizes row r → KeepsSizes test t → KeepsSizes turn d → Keeps values k
-        → KeepsSizes result (whole (beside f r ∷ (if is_until then joined t (a_node t.values 1) else t) ∷ beside (valued f.values d) r ∷ returns_sized false clauses.now (min (length (unless_places clauses.now)) parts) k ∷ []) k)
-    }
+pub fn initial(
+    is_until: bool,
+    clauses: &[ClauseForm],
+    first: Sizes,
+    row: Sizes,
+    test: Sizes,
+    turn: Sizes,
+    parts: usize,
+    values: u128,
+) -> Sizes
+    ensures { (f r t d : Sizes) (k : ℕ) → KeepsSizes first f → KeepsSizes row r → KeepsSizes test t → KeepsSizes turn d → Keeps values k
+        → KeepsSizes result (whole (beside f r ∷ (if is_until then joined t (a_node t.values 1) else t) ∷ beside (valued f.values d) r ∷ returns_sized false clauses.now (min (length (unless_places clauses.now)) parts) k ∷ []) k) }
 {
-    let folds = returns(false, clauses, smaller(places(clauses), parts as u128), values);
+    let folds = returns(
+        false,
+        clauses,
+        smaller(places(clauses), parts as u128),
+        values,
+    );
     let anew = beside(valued(first.values, turn), row);
     let tested = negated(is_until, test);
     let last = inside(tested, inside(anew, inside(folds, only(0))));

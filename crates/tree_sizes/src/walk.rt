@@ -3,7 +3,14 @@ ghost use Rattle.std.specs.Prelude.{◌≡◌, ℕ, ◌+◌, List, length, map};
 ghost use Rattle.lowering.specs.Loops.{loop_name, unless_places};
 ghost use Rattle.lowered_sizes.specs.Counting.{joined, parts};
 ghost use Rattle.lowered_sizes.specs.Forms.{
-    all_sized, arms_sized, clauses_sized, defs_sized, extras_sized, kind_sizes, phrase_sized, sizes,
+  all_sized,
+  arms_sized,
+  clauses_sized,
+  defs_sized,
+  extras_sized,
+  kind_sizes,
+  phrase_sized,
+  sizes,
 };
 ghost use Rattle.tree_sizes.specs.Capped.{Keeps, KeepsSizes};
 ghost use Rattle.tree_sizes.specs.Phrases.{phrases, lists};
@@ -53,7 +60,10 @@ fn kind(types: &Types, names: u128, values: u128, kind: &TypedKind) -> Sizes
             let chosen = joined(tested, node(tested.values, 1));
             let other = exprs(types, names, no.as_slice());
             let arm = exprs(types, names, yes.as_slice());
-            let inside = joined(part(chosen), joined(part(other), joined(part(arm), only(0))));
+            let inside = joined(
+                part(chosen),
+                joined(part(other), joined(part(arm), only(0))),
+            );
             joined(inside, node(values, values))
         }
         TypedKind::Case(case, subject, bodies) => {
@@ -79,7 +89,16 @@ fn kind(types: &Types, names: u128, values: u128, kind: &TypedKind) -> Sizes
             let forms = turns.clauses.as_slice();
             let parts = results.as_slice();
             let kept = row(types, names, first.values, forms, parts);
-            initial(turns.is_until, forms, first, kept, tested, turn, parts.len(), values)
+            initial(
+                turns.is_until,
+                forms,
+                first,
+                kept,
+                tested,
+                turn,
+                parts.len(),
+                values,
+            )
         }
     }
 }
@@ -156,7 +175,13 @@ fn clauses(types: &Types, names: u128, forms: &[ClauseForm], parts: &[TypedExpr]
 
 /// How much definitions that become so much, and the values of the clauses that see them, become.
 #[cycle(sizes)]
-fn collect(types: &Types, names: u128, first: Sizes, forms: &[ClauseForm], parts: &[TypedExpr]) -> Sizes
+fn collect(
+    types: &Types,
+    names: u128,
+    first: Sizes,
+    forms: &[ClauseForm],
+    parts: &[TypedExpr],
+) -> Sizes
     ensures { (n : ℕ) (a : Sizes) → Keeps names n → KeepsSizes first a → KeepsSizes result (joined a (all_sized (clauses_sized (unless_places forms.now) (phrases types.now parts.now)) (n + a.values))) }
 {
     let inside = deeper(names, first.values);

@@ -1,4 +1,4 @@
-use Rattle.std.proofs.Common.{◌≡◌, ◌∙◌, suc, true, refl, sym, ap}
+use Rattle.std.proofs.Common.{◌≡◌, ◌∙◌, suc, refl, sym, ap}
 use Rattle.loop_folds.specs.declared.folding.Folding.TheVariants as folding
 use Rattle.lowered_sizes.specs.Counting.{joined, a_node, capped_sizes}
 use Rattle.lowered_sizes.specs.Forms.{fold_sized}

@@ -1,4 +1,4 @@
-use Rattle.std.proofs.Common.{rules, ◌≡◌, ◌∙◌, ◌<◌, sym, ap, arith}
+use Rattle.std.proofs.Common.{rules, ◌∙◌, ◌<◌, ap}
 use Rattle.std.specs.Prelude.{min}
 use Rattle.lowering.specs.Loops.{span}
 use Rattle.lowered_sizes.specs.Counting.{capped_sizes}

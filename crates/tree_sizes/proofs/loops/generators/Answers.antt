@@ -1,8 +1,8 @@
-use Rattle.std.proofs.Common.{rules, ◌≡◌, ◌∙◌, suc, ◌-◌, drop, sym, ap, subst, arith}
+use Rattle.std.proofs.Common.{◌≡◌, ◌∙◌, suc, ◌-◌, drop, sym, ap, subst, arith}
 use Rattle.std.specs.Prelude.{get_or}
 use Rattle.std.proofs.Math.Seq.{drop-cons}
 use Rattle.typed_tree.specs.declared.expr.Source.TheVariants as source
-use Rattle.lowered_sizes.specs.Counting.{beside, capped_sizes}
+use Rattle.lowered_sizes.specs.Counting.{capped_sizes}
 use Rattle.lowered_sizes.specs.Forms.{generator_sized, generators_sized}
 use Rattle.tree_sizes.specs.Capped.{KeepsSizes}
 use Rattle.tree_sizes.proofs.loops.generators.Goals as goal
@@ -26,5 +26,5 @@ loop-at-preserved c =
     let rest = subst (λ i. KeepsSizes c.loop-at.all (generators_sized (drop i ss))) next inv.1 in (
       omega (arith, inside),
       c.beside-all.ensures (generator_sized s) left c.generator.ensures rest
-      ∙ ap (λ l. capped_sizes (generators_sized l)) (sym cons),
+          ∙ ap (λ l. capped_sizes (generators_sized l)) (sym cons),
     )

@@ -1,4 +1,4 @@
-use Rattle.std.proofs.Common.{ℕ, ◌≤◌, length, drop}
+use Rattle.std.proofs.Common.{◌≤◌, length, drop}
 use Rattle.lowered_sizes.specs.Forms.{generators_sized}
 use Rattle.tree_sizes.specs.Capped.{KeepsSizes}
 use Rattle.tree_sizes.proofs.loops.generators.Given as goal

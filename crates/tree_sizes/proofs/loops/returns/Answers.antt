@@ -1,4 +1,4 @@
-use Rattle.std.proofs.Common.{rules, ◌≡◌, ◌∙◌, ℕ, suc, ◌+◌, ◌-◌, ◌*◌, ◌≤◌, ◌<◌, length, drop, sym, ap, subst, refl, arith}
+use Rattle.std.proofs.Common.{rules, ◌∙◌, ◌+◌, ◌-◌, ◌*◌, ◌≤◌, ◌<◌, length, ap, refl, arith}
 use Rattle.std.specs.Prelude.{◌^◌, get_or}
 use Rattle.loop_folds.specs.declared.folding.Folding.TheVariants as folding
 use Rattle.loop_folds.specs.declared.masking.Masking.TheVariants as masking
@@ -6,7 +6,6 @@ use Rattle.sisal_tree.specs.declared.expr.Direction.TheVariants as direction
 use Rattle.typed_tree.specs.declared.expr.ClauseForm.{ClauseForm}
 use Rattle.lowering.specs.Loops.{span}
 use Rattle.lowered_sizes.specs.Counting.{beside, only, capped, capped_sizes}
-use Rattle.lowered_sizes.specs.Forms.{returns_sized}
 use Rattle.tree_sizes.specs.Clauses.{clause_sized}
 use Rattle.tree_sizes.proofs.LoopClauses.{returns-start, returns-next, returns-done, less-none, less-more, left-kept, span-small}
 use Rattle.tree_sizes.proofs.loops.returns.Goals as goal
@@ -36,8 +35,7 @@ loop-form-preserved c = λ m k e f.
     let own = left-kept m b c.loop-form.left i 2 inv.3 bound (omega arith) inv.4 in
     let ty = left-kept k i c.loop-form.others i 1 twice bound (omega arith) inv.5 in
     let small = span-small form.masking in
-    let one = c.clause.ensures (m - b) (k - i) own ty in
-    (
+    let one = c.clause.ensures (m - b) (k - i) own ty in (
       beside s (clause_sized lim form (m - b) (k - i)),
       b + span form.masking,
       c.beside-all.ensures s (clause_sized lim form (m - b) (k - i)) inv.2 one,

@@ -10,4 +10,4 @@ abbrev pub invariant-loop-form : goal.invariant-loop-form
 invariant-loop-form l =
     (m k : ℕ) → Keeps l.multiples m → Keeps l.types k
     → (s : Sizes) × (b : ℕ) × KeepsSizes l.all s × (b ≤ 2 * l.form-index) × (l.left ≡ capped m - b) × (l.others ≡ capped k - l.form-index)
-      × (returns_sized l.is_limit l.clauses m k ≡ beside s (returns_sized l.is_limit (drop l.form-index l.clauses) (m - b) (k - l.form-index)))
+    × (returns_sized l.is_limit l.clauses m k ≡ beside s (returns_sized l.is_limit (drop l.form-index l.clauses) (m - b) (k - l.form-index)))

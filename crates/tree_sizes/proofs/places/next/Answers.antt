@@ -1,4 +1,4 @@
-use Rattle.std.proofs.Common.{rules, ◌≡◌, ◌∙◌, ◌<◌, true, false, sym, length, drop}
+use Rattle.std.proofs.Common.{rules, ◌∙◌, ◌<◌, sym, length}
 use Rattle.loop_folds.specs.declared.folding.Folding.TheVariants as folding
 use Rattle.loop_folds.specs.declared.masking.Masking.TheVariants as masking
 use Rattle.sisal_tree.specs.declared.expr.Direction.TheVariants as direction

@@ -1,4 +1,4 @@
-use Rattle.std.proofs.Common.{rules, ◌≡◌, ◌∙◌, ◌+◌, ap}
+use Rattle.std.proofs.Common.{◌∙◌, ◌+◌, ap}
 use Rattle.lowering.specs.TooMany.{header_ports, member_ports}
 use Rattle.lowered_sizes.specs.Counting.{capped}
 use Rattle.lowered_sizes.specs.Programs.{sizes_over}

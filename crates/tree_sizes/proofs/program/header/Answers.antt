@@ -1,4 +1,4 @@
-use Rattle.std.proofs.Common.{rules, ◌≡◌, ◌<◌, length}
+use Rattle.std.proofs.Common.{rules, ◌<◌, length}
 use Rattle.std.specs.Prelude.{◌^◌}
 use Rattle.tree_sizes.proofs.Folds.{length-kept}
 use Rattle.tree_sizes.proofs.program.header.Goals as goal

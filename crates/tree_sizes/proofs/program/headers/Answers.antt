@@ -26,6 +26,6 @@ loop-at-preserved c =
     let rest = subst (λ i. Keeps c.loop-at.sum (header_ports (drop i fs))) next inv.1 in (
       omega (arith, inside),
       c.deeper-sum.ensures (length f.params + length f.results) left c.header.ensures rest
-      ∙ ap (λ x. capped (length x.params + length x.results + left)) (sym same)
-      ∙ ap (λ l. capped (header_ports l)) (sym cons),
+          ∙ ap (λ x. capped (length x.params + length x.results + left)) (sym same)
+          ∙ ap (λ l. capped (header_ports l)) (sym cons),
     )

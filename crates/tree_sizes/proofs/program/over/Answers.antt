@@ -1,4 +1,4 @@
-use Rattle.std.proofs.Common.{rules, ◌≡◌, ◌∙◌, ◌+◌, ◌≤◌, true, false, length, drop, drop_of_length-le, sym, ap, arith}
+use Rattle.std.proofs.Common.{◌≡◌, ◌∙◌, ◌+◌, ◌≤◌, true, false, length, drop, drop_of_length-le, sym, ap, arith}
 use Rattle.lowered_sizes.specs.Programs.{function_sized, sizes_over}
 use Rattle.tree_sizes.proofs.Kept.{graphs-kept, largest-kept, ports-kept}
 use Rattle.tree_sizes.proofs.Whole.{exceeds, line_if, over-step}
@@ -18,14 +18,13 @@ loop-function-preserved c = λ p h.
     let kept = c.sizes_of-sizes.ensures in
     let graphs = c.deeper-graphs.ensures g s.graphs inv.2 (graphs-kept r s kept) in
     let ports = c.deeper-all.ensures q s.ports inv.3 (ports-kept r s kept) in
-    let no : exceeds s g q ≡ false = sym (c.is_over.ensures s.largest (g + s.graphs) (q + s.ports) (largest-kept r s kept) graphs ports) ∙ c.if-is_over.false in
-    (
+    let no : exceeds s g q ≡ false = sym (c.is_over.ensures s.largest (g + s.graphs) (q + s.ports) (largest-kept r s kept) graphs ports) ∙ c.if-is_over.false in (
       g + s.graphs,
       q + s.ports,
       graphs,
       ports,
       inv.4 ∙ over-step forms fs i f g q c.loop-function-test.true c.function-item.is
-      ∙ ap (λ b. line_if b f.line (sizes_over forms (drop (i + 1) fs) (g + s.graphs) (q + s.ports))) no,
+          ∙ ap (λ b. line_if b f.line (sizes_over forms (drop (i + 1) fs) (g + s.graphs) (q + s.ports))) no,
     )
 
 pub returns-then-is_over : goal.returns-then-is_over
@@ -44,8 +43,8 @@ returns-then-is_over c = λ p h.
     let ports = c.deeper-all.ensures q s.ports inv.3 (ports-kept r s kept) in
     let yes : exceeds s g q ≡ true = sym (c.is_over.ensures s.largest (g + s.graphs) (q + s.ports) (largest-kept r s kept) graphs ports) ∙ c.if-is_over.true in
     sym (
-      inv.4 ∙ over-step forms fs i f g q c.loop-function-test.true c.function-item.is
-      ∙ ap (λ b. line_if b f.line (sizes_over forms (drop (i + 1) fs) (g + s.graphs) (q + s.ports))) yes
+    inv.4 ∙ over-step forms fs i f g q c.loop-function-test.true c.function-item.is
+    ∙ ap (λ b. line_if b f.line (sizes_over forms (drop (i + 1) fs) (g + s.graphs) (q + s.ports))) yes
     )
 
 pub returns : goal.returns

@@ -1,4 +1,4 @@
-use Rattle.std.proofs.Common.{rules, ◌≡◌, ◌∙◌, ◌<◌, length, map, sym, ap}
+use Rattle.std.proofs.Common.{rules, ◌∙◌, ◌<◌, length, map, sym, ap}
 use Rattle.std.specs.Prelude.{◌^◌}
 use Rattle.lowered_sizes.specs.Counting.{part, capped_sizes}
 use Rattle.lowered_sizes.specs.Forms.{all_sized}

@@ -1,4 +1,4 @@
-use Rattle.std.proofs.Common.{rules, ◌≡◌, ◌∙◌, ◌<◌, length, sym, ap}
+use Rattle.std.proofs.Common.{rules, ◌∙◌, ◌<◌, length, sym, ap}
 use Rattle.std.specs.Prelude.{◌^◌}
 use Rattle.lowered_sizes.specs.Counting.{capped_sizes}
 use Rattle.tree_sizes.proofs.Folds.{length-kept}

@@ -1,4 +1,4 @@
-use Rattle.std.proofs.Common.{rules, ◌≡◌, ◌∙◌, ◌<◌, ap}
+use Rattle.std.proofs.Common.{rules, ◌∙◌, ◌<◌, ap}
 use Rattle.std.specs.Prelude.{◌^◌, nat_lt}
 use Rattle.tree_sizes.proofs.Kept.{less-kept}
 use Rattle.tree_sizes.proofs.sums.is_greater.Goals as goal

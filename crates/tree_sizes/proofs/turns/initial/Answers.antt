@@ -1,4 +1,4 @@
-use Rattle.std.proofs.Common.{rules, ◌≡◌, ◌∙◌, ◌<◌, false, [], ◌∷◌, length, refl}
+use Rattle.std.proofs.Common.{rules, ◌∙◌, ◌<◌, false, [], ◌∷◌, length, refl}
 use Rattle.std.specs.Prelude.{◌^◌, min, if◌then◌else◌}
 use Rattle.lowering.specs.Loops.{unless_places}
 use Rattle.lowered_sizes.specs.Counting.{beside, joined, a_node, valued}

@@ -1,4 +1,4 @@
-use Rattle.std.proofs.Common.{ℕ, ◌≤◌, length, drop}
+use Rattle.std.proofs.Common.{◌≤◌, length, drop}
 use Rattle.lowering.specs.Loops.{unless_places}
 use Rattle.tree_sizes.specs.Capped.{Keeps}
 use Rattle.tree_sizes.proofs.turns.places.Given as goal

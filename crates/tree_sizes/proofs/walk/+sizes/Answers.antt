@@ -12,7 +12,7 @@ use Rattle.lowered_sizes.specs.Forms.{all_sized, defs_sized, arms_sized, applied
 use Rattle.lowering.specs.Loops.{loop_name, unless_places}
 use Rattle.tree_sizes.specs.Clauses.{places_left, unless_from, first_place, is_true, is_name, extra_at}
 use Rattle.tree_sizes.proofs.Steps.{all-from, clause_at, clause-step, extra-step}
-use Rattle.tree_sizes.specs.Capped.{Keeps, KeepsSizes}
+use Rattle.tree_sizes.specs.Capped.{KeepsSizes}
 use Rattle.tree_sizes.specs.Phrases.{phrases, lists}
 use Rattle.tree_sizes.proofs.Kept.{sum-kept, values-kept, beside-none, none-beside, beside-both}
 use Rattle.tree_sizes.proofs.Folds.{expr-is, kind-is, length-kept}
@@ -78,10 +78,9 @@ defs-loop-list-preserved t c = λ n h.
     let cons = drop-cons ds i d c.loop-list-test.true in
     let rest = defs_sized (lists forms (drop (suc i) ds)) in
     let step : defs_sized (lists forms (drop i ds)) names ≡ beside a (rest (names + a.values)) =
-        ap (λ us. defs_sized (lists forms us) names) cons ∙ ap (λ x. beside (all_sized (phrases forms x) names) (rest (names + (all_sized (phrases forms x) names).values))) (sym here) in
+    ap (λ us. defs_sized (lists forms us) names) cons ∙ ap (λ x. beside (all_sized (phrases forms x) names) (rest (names + (all_sized (phrases forms x) names).values))) (sym here) in
     let deeper : names + a.values ≡ n + (s.values + a.values) = omega arith in
-    let further : suc i ≡ i + 1 = omega arith in
-    (
+    let further : suc i ≡ i + 1 = omega arith in (
       beside s a,
       c.beside-all.ensures s a inv.1 one,
       inv.2 ∙ ap (beside s) step ∙ sym (beside-both s a (rest (names + a.values))) ∙ ap (λ m. beside (beside s a) (rest m)) deeper ∙ ap (λ j. beside (beside s a) (defs_sized (lists forms (drop j ds)) (n + (s.values + a.values)))) further,
@@ -200,14 +199,14 @@ kind-returns-in-Product t c = λ n ts h k.
     let places = unless_places p.clauses in
     let b = joined d (all_sized (clauses_sized places (phrases forms gs)) (m + d.values)) in
     let body = c.collect-body.ensures m d inside first
-        ∙ ap (λ cs. capped_sizes (joined d (all_sized (clauses_sized (unless_places cs) (phrases forms c.as_slice-in-Product-3.result.now)) (m + d.values)))) c.as_slice-forms.ensures
-        ∙ ap (λ us. capped_sizes (joined d (all_sized (clauses_sized places (phrases forms us)) (m + d.values)))) c.as_slice-in-Product-3.ensures in
+    ∙ ap (λ cs. capped_sizes (joined d (all_sized (clauses_sized (unless_places cs) (phrases forms c.as_slice-in-Product-3.result.now)) (m + d.values)))) c.as_slice-forms.ensures
+    ∙ ap (λ us. capped_sizes (joined d (all_sized (clauses_sized places (phrases forms us)) (m + d.values)))) c.as_slice-in-Product-3.ensures in
     let types = types_of (map (phrase_sized forms) bs) in
     let limit = c.is_limited-is_limit.ensures ∙ ap (λ us. is_limited forms us (types_of (map (phrase_sized forms) c.as_slice-in-Product-5.result.now))) c.as_slice-in-Product-4.ensures
-        ∙ ap (λ us. is_limited forms p.sources (types_of (map (phrase_sized forms) us))) c.as_slice-in-Product-5.ensures in
+    ∙ ap (λ us. is_limited forms p.sources (types_of (map (phrase_sized forms) us))) c.as_slice-in-Product-5.ensures in
     let made = c.product.ensures g b (length ts) inner body k
-        ∙ ap (λ l. capped_sizes (whole (g ∷ b ∷ returns_sized l c.as_slice-forms.result.now b.values (length ts) ∷ []) (length ts))) limit
-        ∙ ap (λ cs. capped_sizes (whole (g ∷ b ∷ returns_sized (is_limited forms p.sources types) cs b.values (length ts) ∷ []) (length ts))) c.as_slice-forms.ensures in
+    ∙ ap (λ l. capped_sizes (whole (g ∷ b ∷ returns_sized l c.as_slice-forms.result.now b.values (length ts) ∷ []) (length ts))) limit
+    ∙ ap (λ cs. capped_sizes (whole (g ∷ b ∷ returns_sized (is_limited forms p.sources types) cs b.values (length ts) ∷ []) (length ts))) c.as_slice-forms.ensures in
     c.joined-in-Product.ensures e (whole (g ∷ b ∷ returns_sized (is_limited forms p.sources types) p.clauses b.values (length ts) ∷ []) (length ts)) ends made
     ∙ ap capped_sizes (sym (kind-is forms (TypedKind-F.Product p bs ds gs) c.args.kind.now (c.in-Product.is ∙ sym (typed.rolls-Product p bs ds gs)) ts n))
 
@@ -234,7 +233,7 @@ kind-returns-in-Initial t c = λ n ts h k.
     let r = row cs ps in
     let kept = c.row-kept.ensures n f.values h some in
     let node = λ (cs : List ClauseForm) (r : Sizes) (i : ℕ).
-        whole (beside f r ∷ (if x.is_until then joined u (a_node u.values 1) else u) ∷ beside (valued f.values d) r ∷ returns_sized false cs (min (length (unless_places cs)) i) (length ts) ∷ []) (length ts) in
+    whole (beside f r ∷ (if x.is_until then joined u (a_node u.values 1) else u) ∷ beside (valued f.values d) r ∷ returns_sized false cs (min (length (unless_places cs)) i) (length ts) ∷ []) (length ts) in
     let made = c.initial.ensures f r u d (length ts) first kept tested turn k in
     let count : length ps ≡ length (map (phrase_sized forms) ps) = sym (length-map ps (phrase_sized forms)) in
     made ∙ ap (λ i. capped_sizes (node cs r i)) count
@@ -268,12 +267,11 @@ clauses-loop-e-preserved t c = λ n h.
     let one = c.negated.ensures (g n) (c.expr-one.ensures n h) ∙ ap (λ b. capped_sizes (clause_at b (g n))) c.is_not-is_not.ensures in
     let cons : drop i es ≡ e ∷ drop (suc i) es = drop-cons es i e c.loop-e-test.true ∙ ap (λ x. x ∷ drop (suc i) es) (sym c.e-item.is) in
     let step : left bs i ≡ beside a (left (drop 1 bs) (suc i)) = ap (λ l. all_sized (clauses_sized bs (phrases forms l)) n) cons ∙ clause-step bs g (phrases forms (drop (suc i) es)) n in
-    let further : suc i ≡ i + 1 = omega arith in
-    (
+    let further : suc i ≡ i + 1 = omega arith in (
       beside s a,
       c.beside-all.ensures s a inv.1 one,
       inv.2 ∙ ap (beside s) step ∙ sym (beside-both s a (left (drop 1 bs) (suc i))) ∙ ap (λ j. beside (beside s a) (left (drop 1 bs) j)) further
-      ∙ ap (λ ps. beside (beside s a) (left ps (i + 1))) (sym c.next-place.ensures),
+          ∙ ap (λ ps. beside (beside s a) (left ps (i + 1))) (sym c.next-place.ensures),
     )
 
 pub clauses-returns : goal.clauses-returns
@@ -289,8 +287,7 @@ clauses-returns t c = λ n h.
 pub row-loop-e-init : goal.row-loop-e-init
 row-loop-e-init t c = λ n k h f.
     let cs = c.args.forms.now in
-    let ps = map (phrase_sized c.args.types.now) c.args.parts.now in
-    (
+    let ps = map (phrase_sized c.args.types.now) c.args.parts.now in (
       only 0,
       c.only-all.ensures 0 refl,
       ap (λ bs. all_sized (extras_sized (loop_name n k) bs ps) (n + k)) (sym (all-from cs)) ∙ sym (beside-none (all_sized (extras_sized (loop_name n k) (unless_from false cs) ps) (n + k))),
@@ -316,12 +313,11 @@ row-loop-e-preserved t c = λ n k h f.
     let one = c.extra.ensures g own ∙ ap (λ x. capped_sizes (extra_at x c.is_loop_name-is_name.result g)) c.is_unless.ensures ∙ ap (λ x. capped_sizes (extra_at (first_place bs) x g)) (c.is_loop_name-is_name.ensures forms n k h f) in
     let cons : drop i es ≡ e ∷ drop (suc i) es = drop-cons es i e c.loop-e-test.true ∙ ap (λ x. x ∷ drop (suc i) es) (sym c.e-item.is) in
     let step : left bs i ≡ beside a (left (drop 1 bs) (suc i)) = ap (λ l. all_sized (extras_sized loop bs (map (phrase_sized forms) l)) m) cons ∙ extra-step loop bs p (map (phrase_sized forms) (drop (suc i) es)) m in
-    let further : suc i ≡ i + 1 = omega arith in
-    (
+    let further : suc i ≡ i + 1 = omega arith in (
       beside s a,
       c.beside-all.ensures s a inv.1 one,
       inv.2 ∙ ap (beside s) step ∙ sym (beside-both s a (left (drop 1 bs) (suc i))) ∙ ap (λ j. beside (beside s a) (left (drop 1 bs) j)) further
-      ∙ ap (λ xs. beside (beside s a) (left xs (i + 1))) (sym c.next-place.ensures),
+          ∙ ap (λ xs. beside (beside s a) (left xs (i + 1))) (sym c.next-place.ensures),
     )
 
 pub row-returns : goal.row-returns

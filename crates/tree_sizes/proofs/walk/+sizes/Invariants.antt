@@ -60,12 +60,12 @@ abbrev pub invariant-clauses-loop-e : goal.invariant-clauses-loop-e
 invariant-clauses-loop-e l =
     (n : ℕ) → Keeps l.names n
     → (s : Sizes) × KeepsSizes l.all s
-      × (all_sized (clauses_sized (unless_places l.forms) (phrases l.types l.parts)) n ≡ beside s (all_sized (clauses_sized (places_left l.forms l.place) (phrases l.types (drop l.e-index l.parts))) n))
+    × (all_sized (clauses_sized (unless_places l.forms) (phrases l.types l.parts)) n ≡ beside s (all_sized (clauses_sized (places_left l.forms l.place) (phrases l.types (drop l.e-index l.parts))) n))
 
 -- what was collected so far has sizes, and what is left decides the whole
 abbrev pub invariant-row-loop-e : goal.invariant-row-loop-e
 invariant-row-loop-e l =
     (n k : ℕ) → Keeps l.around n → Keeps l.count k
     → (s : Sizes) × KeepsSizes l.all s
-      × (all_sized (extras_sized (loop_name n k) (unless_places l.forms) (map (phrase_sized l.types) l.parts)) (n + k)
-         ≡ beside s (all_sized (extras_sized (loop_name n k) (places_left l.forms l.place) (map (phrase_sized l.types) (drop l.e-index l.parts))) (n + k)))
+    × (all_sized (extras_sized (loop_name n k) (unless_places l.forms) (map (phrase_sized l.types) l.parts)) (n + k)
+    ≡ beside s (all_sized (extras_sized (loop_name n k) (places_left l.forms l.place) (map (phrase_sized l.types) (drop l.e-index l.parts))) (n + k)))
