@@ -1,5 +1,6 @@
 //! The function in which the graphs of a program show to be too large or too many.
 ghost use Rattle.std.specs.Prelude.{◌≡◌, ℕ, ◌+◌, ◌||◌, nat_lt, List, length, map};
+ghost use Rattle.type_table.specs.Tables.{members_at};
 ghost use Rattle.lowered_sizes.specs.Forms.{all_sized};
 ghost use Rattle.lowered_sizes.specs.Programs.{function_sized, sizes_over, stub_sized};
 ghost use Rattle.lowered_units.specs.Fitting.{IsFitting};
@@ -9,7 +10,7 @@ ghost use Rattle.tree_sizes.specs.Capped.{Keeps, KeepsSizes};
 use crate::sums::{deeper, is_greater, part};
 use crate::walk::exprs;
 use lowered_sizes::{Sizes, sizes_are_exact};
-use type_table::Types;
+use type_table::{Types, members_of};
 use typed_tree::{Function, Program};
 
 /// An error of a type for each of so many results.
@@ -37,6 +38,29 @@ fn sizes_of(types: &Types, function: &Function) -> Sizes
         }
         None => part(stubs(function.results.len())),
     }
+}
+
+/// The fields or tags of the type of a place.
+fn member_count(types: &Types, place: usize) -> u128
+    ensures { Keeps result (length (members_at types.now place)) }
+{
+    match types.form_at(place) {
+        Some(form) => members_of(form).len() as u128,
+        None => 0,
+    }
+}
+
+/// The fields and tags of types.
+fn members(types: &Types) -> u128
+    ensures { Keeps result (member_ports types.now) }
+{
+    let mut sum = 0;
+    let mut at = types.len();
+    while at > 0 {
+        at -= 1;
+        sum = deeper(member_count(types, at), sum);
+    }
+    sum
 }
 
 /// The parameters and results of a function.
@@ -88,18 +112,14 @@ fn over(types: &Types, functions: &[Function], ports: u128) -> Option<u32>
     None
 }
 
-/// The line of the function in which the graphs or ports of a program, with so many fields and tags
-/// of its types, show to be too large or too many; none where they are within the limits.
-pub fn graphs_over(program: &Program, members: u128) -> Option<u32>
+/// The line of the function in which the graphs or ports of a program show to be too large or too
+/// many; none where they are within the limits.
+pub fn graphs_over(program: &Program) -> Option<u32>
     requires fits { IsFitting program.now }
-    requires members { Keeps members (member_ports program.now.types) }
     ensures { result ≡ program_over program.now }
 {
     sizes_are_exact();
     let functions = program.functions.as_slice();
-    over(
-        &program.types,
-        functions,
-        deeper(members, headers(functions)),
-    )
+    let ports = deeper(members(&program.types), headers(functions));
+    over(&program.types, functions, ports)
 }

@@ -6,5 +6,5 @@ mod key;
 mod store;
 mod types;
 
-pub use form::{Form, Member};
+pub use form::{Form, Member, members_of};
 pub use types::{BOOLEAN, CHARACTER, INTEGER, NULL, TEXT, Types};

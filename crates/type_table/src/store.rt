@@ -67,7 +67,14 @@ impl Store {
     pub fn form(&self, number: u32) -> Option<&Form>
         ensures { option_copied result ≡ slice_get self.now number }
     {
-        match self.forms.get_index(number as usize) {
+        self.form_at(number as usize)
+    }
+
+    /// The form of a place among all forms.
+    pub fn form_at(&self, place: usize) -> Option<&Form>
+        ensures { option_copied result ≡ slice_get self.now place }
+    {
+        match self.forms.get_index(place) {
             Some((_, known)) => Some(&known.form),
             None => None,
         }

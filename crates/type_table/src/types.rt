@@ -69,6 +69,13 @@ impl Types {
         self.store.form(number)
     }
 
+    /// What the type of a place in the table is made of.
+    pub fn form_at(&self, place: usize) -> Option<&Form>
+        ensures { option_copied result ≡ slice_get self.now place }
+    {
+        self.store.form_at(place)
+    }
+
     /// The depth of a type, from 1 to 64.
     pub fn depth(&self, number: u32) -> Option<u32>
         ensures { result ≡ slice_get (depths self.now) number }

@@ -8,7 +8,7 @@ pub returns : goal.returns
 returns c =
     let p = c.args.program.now in
     let headers = c.headers.ensures ∙ ap (λ l. capped (header_ports l)) c.as_slice-functions.ensures in
-    let ports = c.deeper.ensures (member_ports p.types) (header_ports p.functions) c.requires.members headers in
+    let ports = c.deeper-ports.ensures (member_ports p.types) (header_ports p.functions) c.members.ensures headers in
     c.over.ensures (member_ports p.types + header_ports p.functions) ports
     ∙ ap (λ l. sizes_over p.types l 0 (member_ports p.types + header_ports p.functions)) c.as_slice-functions.ensures
     ∙ c.sizes_are_exact.ensures p c.requires.fits
