@@ -1,5 +1,5 @@
 //! Sizes of phrases that stand one behind the other or inside of nodes.
-ghost use Rattle.std.specs.Prelude.{◌≡◌, ℕ, ◌+◌, max, min, nat_lt, List, ◌∷◌, if◌then◌else◌};
+ghost use Rattle.std.specs.Prelude.{◌≡◌, ℕ, ◌+◌, max, min, nat_lt, List, [], ◌∷◌, if◌then◌else◌};
 ghost use Rattle.lowered_sizes.specs.Counting.{only, valued, joined, beside, a_node, part, parts, whole};
 ghost use Rattle.tree_sizes.specs.Capped.{Keeps, KeepsSizes};
 
@@ -131,4 +131,12 @@ pub fn whole(graphs: Sizes, values: u128) -> Sizes
     ensures { (ss : List Sizes) (k : ℕ) → KeepsSizes graphs (parts ss) → Keeps values k → KeepsSizes result (whole ss k) }
 {
     joined(graphs, node(values, values))
+}
+
+/// The node of an `if`.
+pub fn choice(test: Sizes, arm: Sizes, other: Sizes, values: u128) -> Sizes
+    ensures { (z y x : Sizes) (k : ℕ) → KeepsSizes test z → KeepsSizes arm y → KeepsSizes other x → Keeps values k → KeepsSizes result (whole (joined z (a_node z.values 1) ∷ x ∷ y ∷ []) k) }
+{
+    let selector = negated(true, test);
+    whole(inside(selector, inside(other, inside(arm, only(0)))), values)
 }

@@ -9,7 +9,7 @@ use crate::leaves::span;
 use crate::loops::returns;
 use crate::sums::{beside, deeper, inside, negated, only, smaller, valued, whole};
 use lowered_sizes::Sizes;
-use typed_tree::ClauseForm;
+use typed_tree::{ClauseForm, Turns};
 
 /// How many values clauses have, masks among them.
 fn places(clauses: &[ClauseForm]) -> u128
@@ -39,27 +39,16 @@ pub fn product(
 }
 
 /// The node of a `for initial`: what is collected is made anew with each turn.
-pub fn initial(
-    is_until: bool,
-    clauses: &[ClauseForm],
-    first: Sizes,
-    row: Sizes,
-    test: Sizes,
-    turn: Sizes,
-    parts: usize,
-    values: u128,
-) -> Sizes
-    ensures { (f r t d : Sizes) (k : ℕ) → KeepsSizes first f → KeepsSizes row r → KeepsSizes test t → KeepsSizes turn d → Keeps values k
-        → KeepsSizes result (whole (beside f r ∷ (if is_until then joined t (a_node t.values 1) else t) ∷ beside (valued f.values d) r ∷ returns_sized false clauses.now (min (length (unless_places clauses.now)) parts) k ∷ []) k) }
+pub fn initial(turns: &Turns, first: Sizes, row: Sizes, test: Sizes, turn: Sizes, parts: usize, values: u128) -> Sizes
+    ensures {
+        (f r t d : Sizes) (k : ℕ) → KeepsSizes first f → KeepsSizes row r → KeepsSizes test t → KeepsSizes turn d → Keeps values k
+        → KeepsSizes result (whole (beside f r ∷ (if turns.now.is_until then joined t (a_node t.values 1) else t) ∷ beside (valued f.values d) r ∷ returns_sized false turns.now.clauses (min (length (unless_places turns.now.clauses)) parts) k ∷ []) k)
+    }
 {
-    let folds = returns(
-        false,
-        clauses,
-        smaller(places(clauses), parts as u128),
-        values,
-    );
+    let clauses = turns.clauses.as_slice();
+    let folds = returns(false, clauses, smaller(places(clauses), parts as u128), values);
     let anew = beside(valued(first.values, turn), row);
-    let tested = negated(is_until, test);
+    let tested = negated(turns.is_until, test);
     let last = inside(tested, inside(anew, inside(folds, only(0))));
     whole(inside(beside(first, row), last), values)
 }

@@ -19,7 +19,7 @@ use crate::leaves::{applied, constant, within};
 use crate::loops::{inputs, is_limited};
 use crate::names::{extra, is_loop_name};
 use crate::places::{Place, is_not, is_unless, next};
-use crate::sums::{beside, deeper, joined, negated, node, only, part};
+use crate::sums::{beside, choice, deeper, joined, negated, node, only, part};
 use crate::turns::{initial, product};
 use flow_value::Seq;
 use lowered_sizes::Sizes;
@@ -57,14 +57,9 @@ fn kind(types: &Types, names: u128, values: u128, kind: &TypedKind) -> Sizes
         }
         TypedKind::If(test, yes, no) => {
             let tested = exprs(types, names, test.as_slice());
-            let chosen = joined(tested, node(tested.values, 1));
-            let other = exprs(types, names, no.as_slice());
             let arm = exprs(types, names, yes.as_slice());
-            let inside = joined(
-                part(chosen),
-                joined(part(other), joined(part(arm), only(0))),
-            );
-            joined(inside, node(values, values))
+            let other = exprs(types, names, no.as_slice());
+            choice(tested, arm, other, values)
         }
         TypedKind::Case(case, subject, bodies) => {
             let union = exprs(types, names, subject.as_slice());
@@ -89,16 +84,7 @@ fn kind(types: &Types, names: u128, values: u128, kind: &TypedKind) -> Sizes
             let forms = turns.clauses.as_slice();
             let parts = results.as_slice();
             let kept = row(types, names, first.values, forms, parts);
-            initial(
-                turns.is_until,
-                forms,
-                first,
-                kept,
-                tested,
-                turn,
-                parts.len(),
-                values,
-            )
+            initial(turns, first, kept, tested, turn, parts.len(), values)
         }
     }
 }

@@ -155,16 +155,12 @@ kind-returns-in-If t c = λ n ts h k.
     let yes = c.in-If.yes in
     let no = c.in-If.no in
     let z = all_sized (phrases forms test) n in
-    let x = all_sized (phrases forms no) n in
     let y = all_sized (phrases forms yes) n in
+    let x = all_sized (phrases forms no) n in
     let tested = c.exprs-tested.ensures n h ∙ ap (λ es. capped_sizes (all_sized (phrases forms es) n)) c.as_slice-in-If.ensures in
-    let chosen = c.joined-chosen.ensures z (a_node z.values 1) tested (c.node-in-If.ensures z.values 1 (values-kept c.exprs-tested.result z tested) refl) in
-    let other = c.exprs-other.ensures n h ∙ ap (λ es. capped_sizes (all_sized (phrases forms es) n)) c.as_slice-in-If-2.ensures in
-    let arm = c.exprs-arm.ensures n h ∙ ap (λ es. capped_sizes (all_sized (phrases forms es) n)) c.as_slice-in-If-3.ensures in
-    let last = c.joined-in-If.ensures (part y) (only 0) (c.part-in-If-2.ensures y arm) (c.only-in-If.ensures 0 refl) in
-    let two = c.joined-in-If-2.ensures (part x) (joined (part y) (only 0)) (c.part-in-If.ensures x other) last in
-    let inside = c.joined-inside.ensures (part (joined z (a_node z.values 1))) (joined (part x) (joined (part y) (only 0))) (c.part.ensures (joined z (a_node z.values 1)) chosen) two in
-    c.joined-in-If-3.ensures (joined (part (joined z (a_node z.values 1))) (joined (part x) (joined (part y) (only 0)))) (a_node (length ts) (length ts)) inside (c.node-in-If-2.ensures (length ts) (length ts) k k)
+    let arm = c.exprs-arm.ensures n h ∙ ap (λ es. capped_sizes (all_sized (phrases forms es) n)) c.as_slice-in-If-2.ensures in
+    let other = c.exprs-other.ensures n h ∙ ap (λ es. capped_sizes (all_sized (phrases forms es) n)) c.as_slice-in-If-3.ensures in
+    c.choice.ensures z y x (length ts) tested arm other k
     ∙ ap capped_sizes (sym (kind-is forms (TypedKind-F.If test yes no) c.args.kind.now (c.in-If.is ∙ sym (typed.rolls-If test yes no)) ts n))
 
 pub kind-returns-in-Case : goal.kind-returns-in-Case
@@ -232,13 +228,13 @@ kind-returns-in-Initial t c = λ n ts h k.
     let row = λ (cs : List ClauseForm) (ps : List TypedExpr). all_sized (extras_sized (loop_name n f.values) (unless_places cs) (map (phrase_sized forms) ps)) m in
     let r = row cs ps in
     let kept = c.row-kept.ensures n f.values h some in
-    let node = λ (cs : List ClauseForm) (r : Sizes) (i : ℕ).
-    whole (beside f r ∷ (if x.is_until then joined u (a_node u.values 1) else u) ∷ beside (valued f.values d) r ∷ returns_sized false cs (min (length (unless_places cs)) i) (length ts) ∷ []) (length ts) in
+    let node = λ (r : Sizes) (i : ℕ).
+        whole (beside f r ∷ (if x.is_until then joined u (a_node u.values 1) else u) ∷ beside (valued f.values d) r ∷ returns_sized false x.clauses (min (length (unless_places x.clauses)) i) (length ts) ∷ []) (length ts) in
     let made = c.initial.ensures f r u d (length ts) first kept tested turn k in
     let count : length ps ≡ length (map (phrase_sized forms) ps) = sym (length-map ps (phrase_sized forms)) in
-    made ∙ ap (λ i. capped_sizes (node cs r i)) count
-    ∙ ap (λ l. capped_sizes (node cs (row cs l) (length (map (phrase_sized forms) l)))) c.as_slice-parts.ensures
-    ∙ ap (λ l. capped_sizes (node l (row l gs) (length (map (phrase_sized forms) gs)))) c.as_slice-forms-in-Initial.ensures
+    made ∙ ap (λ i. capped_sizes (node r i)) count
+    ∙ ap (λ l. capped_sizes (node (row cs l) (length (map (phrase_sized forms) l)))) c.as_slice-parts.ensures
+    ∙ ap (λ l. capped_sizes (node (row l gs) (length (map (phrase_sized forms) gs)))) c.as_slice-forms-in-Initial.ensures
     ∙ ap capped_sizes (sym (kind-is forms (TypedKind-F.Initial x fs us ds gs) c.args.kind.now (c.in-Initial.is ∙ sym (typed.rolls-Initial x fs us ds gs)) ts n))
 
 pub collect-returns : goal.collect-returns
