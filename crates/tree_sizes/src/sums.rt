@@ -138,5 +138,8 @@ pub fn choice(test: Sizes, arm: Sizes, other: Sizes, values: u128) -> Sizes
     ensures { (z y x : Sizes) (k : ℕ) → KeepsSizes test z → KeepsSizes arm y → KeepsSizes other x → Keeps values k → KeepsSizes result (whole (joined z (a_node z.values 1) ∷ x ∷ y ∷ []) k) }
 {
     let selector = negated(true, test);
-    whole(inside(selector, inside(other, inside(arm, only(0)))), values)
+    whole(
+        inside(selector, inside(other, inside(arm, only(0)))),
+        values,
+    )
 }

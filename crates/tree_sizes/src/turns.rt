@@ -39,14 +39,25 @@ pub fn product(
 }
 
 /// The node of a `for initial`: what is collected is made anew with each turn.
-pub fn initial(turns: &Turns, first: Sizes, row: Sizes, test: Sizes, turn: Sizes, parts: usize, values: u128) -> Sizes
-    ensures {
-        (f r t d : Sizes) (k : ℕ) → KeepsSizes first f → KeepsSizes row r → KeepsSizes test t → KeepsSizes turn d → Keeps values k
-        → KeepsSizes result (whole (beside f r ∷ (if turns.now.is_until then joined t (a_node t.values 1) else t) ∷ beside (valued f.values d) r ∷ returns_sized false turns.now.clauses (min (length (unless_places turns.now.clauses)) parts) k ∷ []) k)
-    }
+pub fn initial(
+    turns: &Turns,
+    first: Sizes,
+    row: Sizes,
+    test: Sizes,
+    turn: Sizes,
+    parts: usize,
+    values: u128,
+) -> Sizes
+    ensures { (f r t d : Sizes) (k : ℕ) → KeepsSizes first f → KeepsSizes row r → KeepsSizes test t → KeepsSizes turn d → Keeps values k
+        → KeepsSizes result (whole (beside f r ∷ (if turns.now.is_until then joined t (a_node t.values 1) else t) ∷ beside (valued f.values d) r ∷ returns_sized false turns.now.clauses (min (length (unless_places turns.now.clauses)) parts) k ∷ []) k) }
 {
     let clauses = turns.clauses.as_slice();
-    let folds = returns(false, clauses, smaller(places(clauses), parts as u128), values);
+    let folds = returns(
+        false,
+        clauses,
+        smaller(places(clauses), parts as u128),
+        values,
+    );
     let anew = beside(valued(first.values, turn), row);
     let tested = negated(turns.is_until, test);
     let last = inside(tested, inside(anew, inside(folds, only(0))));

@@ -1,4 +1,4 @@
-use Rattle.std.proofs.Common.{rules, ◌≡◌, ◌∙◌, ◌<◌, Some, length, sym, ap}
+use Rattle.std.proofs.Common.{rules, ◌∙◌, ◌<◌, length, sym, ap}
 use Rattle.std.specs.Prelude.{◌^◌}
 use Rattle.std.specs.Option.{option_copied}
 use Rattle.type_table.specs.Tables.{members_if, members_at}

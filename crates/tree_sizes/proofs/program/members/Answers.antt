@@ -23,5 +23,5 @@ loop-at-preserved c =
     let rest = subst (λ i. Keeps c.loop-at.sum (member_ports (drop i fs))) next inv.1 in (
       omega (arith, inside),
       c.deeper-sum.ensures (length (members_at fs (at - 1))) left c.member_count.ensures rest
-      ∙ ap capped (sym (members-step fs (at - 1) (omega (arith, some, inside)))),
+          ∙ ap capped (sym (members-step fs (at - 1) (omega (arith, some, inside)))),
     )

@@ -1,4 +1,4 @@
-use Rattle.std.proofs.Common.{ℕ, ◌≤◌, length, drop}
+use Rattle.std.proofs.Common.{◌≤◌, length, drop}
 use Rattle.lowering.specs.TooMany.{member_ports}
 use Rattle.tree_sizes.specs.Capped.{Keeps}
 use Rattle.tree_sizes.proofs.program.members.Given as goal

@@ -229,7 +229,7 @@ kind-returns-in-Initial t c = λ n ts h k.
     let r = row cs ps in
     let kept = c.row-kept.ensures n f.values h some in
     let node = λ (r : Sizes) (i : ℕ).
-        whole (beside f r ∷ (if x.is_until then joined u (a_node u.values 1) else u) ∷ beside (valued f.values d) r ∷ returns_sized false x.clauses (min (length (unless_places x.clauses)) i) (length ts) ∷ []) (length ts) in
+    whole (beside f r ∷ (if x.is_until then joined u (a_node u.values 1) else u) ∷ beside (valued f.values d) r ∷ returns_sized false x.clauses (min (length (unless_places x.clauses)) i) (length ts) ∷ []) (length ts) in
     let made = c.initial.ensures f r u d (length ts) first kept tested turn k in
     let count : length ps ≡ length (map (phrase_sized forms) ps) = sym (length-map ps (phrase_sized forms)) in
     made ∙ ap (λ i. capped_sizes (node r i)) count
