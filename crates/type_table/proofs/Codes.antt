@@ -1,11 +1,12 @@
 -- The key of a form tells the form.
-use Rattle.std.proofs.Common.{◌≡◌, ℕ, true, false, nat_eq, List, [], ◌∷◌, ◌++◌, slice_get, Some, None, refl, sym, ap, ◌∙◌, position, true≢false, if◌then◌else◌}
+use Rattle.std.proofs.Common.{◌≡◌, ℕ, Bool, true, false, nat_eq, List, [], ◌∷◌, ◌++◌, slice_get, Option, Some, None, refl, sym, ap, ◌∙◌, subst, position, bytes_eq, true≢false, if◌then◌else◌}
+use Rattle.std.specs.List.{list_any}
 use Rattle.std.proofs.lemmas.Slice.Eq.{bytes_eq-Decides}
 use Rattle.type_table.specs.declared.form.Form.{Form}
 use Rattle.type_table.specs.declared.form.Form.TheVariants.{Boolean, Character, Integer, Null, Array, Stream, Record, Union}
 use Rattle.type_table.specs.declared.form.Member.{Member}
-use Rattle.type_table.specs.Keys.{members_key, key_of, has_key, with_form}
-use Rattle.type_table.proofs.Lists.{found, none_found, not_among}
+use Rattle.type_table.specs.Keys.{kind_of, members_key, parts_key, key_of, has_key, with_form}
+use Rattle.type_table.proofs.Lists.{IsFound, found, none_found, not_among}
 
 abbrev members_from : List ℕ → List Member
 members_from [] = []

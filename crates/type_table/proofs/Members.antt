@@ -1,11 +1,13 @@
 -- The first member of a name.
-use Rattle.std.proofs.Common.{◌≡◌, ℕ, ◌+◌, ◌<◌, ◌≢◌, length, get_or, drop, drop-cons, add-one, zero, suc, true, false, ◌&&◌, cond, nat_eq, ◌⊎◌, inl, inr, List, [], ◌∷◌, slice_get, Option, Some, None, IfSome, refl, sym, ap, ◌∙◌, subst, arith, if◌then◌else◌}
+use Rattle.std.proofs.Common.{◌≡◌, ℕ, ◌+◌, ◌<◌, ◌≢◌, length, get_or, drop, drop-cons, add-one, zero, suc, Bool, true, false, ◌&&◌, cond, nat_eq, ◌⊎◌, inl, inr, List, [], ◌∷◌, slice_get, Option, Some, None, IfSome, refl, sym, ap, ◌∙◌, subst, arith, if◌then◌else◌}
 use Rattle.std.proofs.lemmas.Bool.Decides.{eqb_tells}
 use Rattle.std.proofs.lemmas.Bool.{eq-eqb}
 use Rattle.std.proofs.lemmas.Option.{same_Some, none-some}
 use Rattle.std.specs.HashMap.{HashMap, Updates}
+use Rattle.type_table.specs.declared.form.Form.{Form}
 use Rattle.type_table.specs.declared.form.Member.{Member}
-use Rattle.type_table.specs.Forms.{first_member}
+use Rattle.type_table.specs.Forms.{first_member, members_of}
+use Rattle.type_table.specs.Tables.{members_at, member_at}
 use Rattle.type_table.specs.Kept.{place_of, pair_eq, named_at}
 
 -- the first member of a name has it, at the place that is told

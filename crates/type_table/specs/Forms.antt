@@ -1,7 +1,7 @@
 -- What a type is made of (SISAL Language Reference Manual 1.2, types).
 use Rattle.std.specs.Prelude.{ℕ, ◌+◌, List, [], ◌∷◌, map, max, Option, Some, None, nat_eq, if◌then◌else◌, get_or}
 use Rattle.type_table.specs.declared.form.Form.{Form}
-use Rattle.type_table.specs.declared.form.Form.TheVariants.{Array, Stream, Record, Union}
+use Rattle.type_table.specs.declared.form.Form.TheVariants.{Boolean, Character, Integer, Null, Array, Stream, Record, Union}
 use Rattle.type_table.specs.declared.form.Member.{Member}
 
 -- the fields of a record, the tags of a union

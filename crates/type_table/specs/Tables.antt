@@ -1,5 +1,5 @@
 -- The types of a program, by number: each once, after its parts, at most 64 deep.
-use Rattle.std.specs.Prelude.{◌≡◌, ℕ, ◌<◌, ◌≤◌, List, [], ◌∷◌, ◌++◌, All, slice_get, Option, Some, None, ◌⊎◌}
+use Rattle.std.specs.Prelude.{◌≡◌, ℕ, ◌<◌, ◌≤◌, List, [], ◌∷◌, ◌++◌, All, length, slice_get, Option, Some, None, ◌⊎◌}
 use Rattle.type_table.specs.declared.form.Form.{Form}
 use Rattle.type_table.specs.declared.form.Form.TheVariants.{Boolean, Character, Integer, Null, Array}
 use Rattle.type_table.specs.declared.form.Member.{Member}

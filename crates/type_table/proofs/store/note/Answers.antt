@@ -1,4 +1,4 @@
-use Rattle.std.proofs.Common.{◌∙◌, arith}
+use Rattle.std.proofs.Common.{◌≡◌, ◌∙◌, arith}
 use Rattle.type_table.proofs.Members.{noted_step, noted_elsewhere}
 use Rattle.type_table.proofs.store.note.Goals as goal
 

@@ -1,4 +1,4 @@
-use Rattle.std.proofs.Common.{◌∙◌, vec_items}
+use Rattle.std.proofs.Common.{◌≡◌, ◌∙◌, vec_items}
 use Rattle.type_table.proofs.Stores.{IsMore, kept_after}
 use Rattle.type_table.specs.declared.store.Known.{Known}
 use Rattle.type_table.proofs.store.Store.add.Goals as goal

@@ -1,4 +1,4 @@
-use Rattle.std.proofs.Common.{sym, ap, ◌∙◌, slice_get}
+use Rattle.std.proofs.Common.{◌≡◌, sym, ap, ◌∙◌, subst, slice_get, None, Some}
 use Rattle.std.specs.Option.{option_map}
 use Rattle.type_table.specs.Tables.{depths}
 use Rattle.type_table.proofs.Stores.{depth_place, depth_small}

@@ -1,4 +1,4 @@
-use Rattle.std.proofs.Common.{◌≡◌, ◌≤◌, sym, ap, ◌∙◌, subst, arith, position, slice_get, None, [], ◌∷◌, ◌++◌}
+use Rattle.std.proofs.Common.{◌≡◌, ◌≤◌, sym, ap, ◌∙◌, subst, arith, position, slice_get, Some, None, length, [], ◌∷◌, ◌++◌}
 use Rattle.type_table.specs.Forms.{form_depth}
 use Rattle.type_table.specs.Tables.{depths, IsWell}
 use Rattle.type_table.specs.Keys.{key_of, has_key}

@@ -1,4 +1,4 @@
-use Rattle.std.proofs.Common.{ap, ◌∙◌, position}
+use Rattle.std.proofs.Common.{◌≡◌, sym, ap, ◌∙◌, position}
 use Rattle.type_table.specs.Keys.{has_key}
 use Rattle.type_table.proofs.Stores.{key_place}
 use Rattle.type_table.proofs.store.Store.place.Goals as goal
