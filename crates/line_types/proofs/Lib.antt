@@ -1,6 +1,6 @@
-mod Tables
-mod Stable
-mod Same
+pub mod Tables
+pub mod Stable
+pub mod Same
 mod Wires
 mod Made
 mod Forms
