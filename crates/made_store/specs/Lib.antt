@@ -1,0 +1,6 @@
+pub mod Settings
+pub mod Shared
+pub mod Settled
+pub mod Weights
+pub mod Marks
+pub mod Laws
