@@ -2,9 +2,8 @@
 -- of one around it.
 use Rattle.std.specs.Prelude.{ℕ, suc, Bool, true, false, nat_eq, List, [], ◌∷◌, ◌++◌, if◌then◌else◌}
 use Rattle.lowering.specs.declared.feed.Feed.{Feed}
-use Rattle.lowering.specs.declared.feed.Feed.TheVariants.{Literal, Named, Absent, Port}
+use Rattle.lowering.specs.declared.feed.Feed.TheVariants.{Absent, Port}
 use Rattle.lowering.specs.declared.feed.Carried.{Carried}
-use Rattle.lowering.specs.declared.feed.Carried.TheVariants.{One, Many, Callee}
 use Rattle.lowering.specs.declared.feed.Wire.{Wire}
 
 abbrev pub wire : Feed → Carried → Wire

@@ -10,7 +10,7 @@ use Rattle.lowering.specs.declared.feed.Carried.TheVariants.{One, Callee}
 use Rattle.lowering.specs.declared.feed.Wire.{Wire}
 use Rattle.lowering.specs.Feeds.{wire, outsides, carried, distinct, place}
 use Rattle.lowering.specs.declared.graph.Action.{Action}
-use Rattle.lowering.specs.declared.graph.Action.TheVariants.{Row, Call, Whole}
+use Rattle.lowering.specs.declared.graph.Action.TheVariants.{Call, Whole}
 use Rattle.lowering.specs.declared.graph.LoweredNode.{LoweredNode}
 use Rattle.lowering.specs.declared.graph.LoweredGraph.{LoweredGraph}
 use Rattle.lowering.specs.declared.graph.Lowered.{Lowered}
