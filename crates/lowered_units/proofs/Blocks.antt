@@ -12,8 +12,14 @@ use Rattle.if1_graph.specs.Ports.{count_from}
 use Rattle.graph_meaning.specs.Demand.{Source, Fixed}
 use Rattle.graph_meaning.specs.Networks.{source_by}
 use Rattle.typed_tree.specs.declared.program.Program.{Program}
-use Rattle.lowering.specs.Feeds.{Feed, Literal, Named, Absent, Port, Carried, One, Many, Callee, Wire}
-use Rattle.lowering.specs.Graphs.{Action, Row, Call, Whole, LoweredNode}
+use Rattle.lowering.specs.declared.feed.Feed.{Feed}
+use Rattle.lowering.specs.declared.feed.Feed.TheVariants.{Literal, Named, Absent, Port}
+use Rattle.lowering.specs.declared.feed.Carried.{Carried}
+use Rattle.lowering.specs.declared.feed.Carried.TheVariants.{One, Many, Callee}
+use Rattle.lowering.specs.declared.feed.Wire.{Wire}
+use Rattle.lowering.specs.declared.graph.Action.{Action}
+use Rattle.lowering.specs.declared.graph.Action.TheVariants.{Row, Call, Whole}
+use Rattle.lowering.specs.declared.graph.LoweredNode.{LoweredNode}
 use Rattle.lowering.specs.Types.{table, label_of}
 use Rattle.lowered_units.specs.Networks.{source_of, sources_of}
 use Rattle.lowered_units.specs.Units.{constant_text, origin_of, edge, edge_if, edges_into, node_edges, edges_of, entries_from}

@@ -18,8 +18,12 @@ use Rattle.type_table.specs.declared.form.Form.TheVariants as form
 use Rattle.typed_tree.specs.declared.expr.Case.{Case}
 use Rattle.value_ops.specs.declared.operation.Operation.{Operation}
 use Rattle.value_ops.specs.declared.operation.Operation.TheVariants as operation
-use Rattle.lowering.specs.Feeds.{Literal, Port, One, Wire, wire, into}
-use Rattle.lowering.specs.Graphs.{Row, Lowering, only, andthen, size, new_graph, new_graphs}
+use Rattle.lowering.specs.declared.feed.Feed.TheVariants.{Literal, Port}
+use Rattle.lowering.specs.declared.feed.Carried.TheVariants.{One}
+use Rattle.lowering.specs.declared.feed.Wire.{Wire}
+use Rattle.lowering.specs.Feeds.{wire, into}
+use Rattle.lowering.specs.declared.graph.Action.TheVariants.{Row}
+use Rattle.lowering.specs.Graphs.{Lowering, only, andthen, size, new_graph, new_graphs}
 use Rattle.lowering.specs.Operations.{Lowers, boolean, character, integer, one, all_lowered, defs_lowered, body_lowered, wire_at, row_lowered, constant_lowered, absents, reversed, field_lowered, at_place, changed, operation_lowered}
 use Rattle.lowering.specs.Choices.{element_of, content_of, type_of, tag_count, selector_lowered, if_lowered, tag_case, arms_of, arm_names, arms_from, case_lowered, first_tag, two_arms, truth, is_tag_lowered}
 use Rattle.lowered_units.proofs.Built.{IsConstantOf, IsPlainRow, counts, AreParts, IsValueType, AreTypes, IsGoodFeed, IsGood, AreGood, IsGap, AreFilled, Fills, fills_row, fills_reduction, fills_call, Built, b_whole, b_tag, AllBuilt, no_graph, a_graph, Gives, To, AllTo, to_none, to_more}

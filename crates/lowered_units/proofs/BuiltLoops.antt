@@ -17,8 +17,13 @@ use Rattle.typed_tree.specs.declared.expr.Turns.{Turns}
 use Rattle.typed_tree.specs.declared.expr.Source.{Source}
 use Rattle.typed_tree.specs.declared.expr.Source.TheVariants as source
 use Rattle.typed_tree.specs.declared.expr.ClauseForm.{ClauseForm}
-use Rattle.lowering.specs.Feeds.{Named, Carried, One, Many, Callee, Wire, wire, into}
-use Rattle.lowering.specs.Graphs.{Row, Lowering, only, andthen, a_node, size, new_graph}
+use Rattle.lowering.specs.declared.feed.Feed.TheVariants.{Named}
+use Rattle.lowering.specs.declared.feed.Carried.{Carried}
+use Rattle.lowering.specs.declared.feed.Carried.TheVariants.{One, Many, Callee}
+use Rattle.lowering.specs.declared.feed.Wire.{Wire}
+use Rattle.lowering.specs.Feeds.{wire, into}
+use Rattle.lowering.specs.declared.graph.Action.TheVariants.{Row}
+use Rattle.lowering.specs.Graphs.{Lowering, only, andthen, a_node, size, new_graph}
 use Rattle.lowering.specs.Operations.{Lowers, boolean, integer, one, all_lowered, defs_lowered, body_lowered, wire_at, row_lowered}
 use Rattle.lowering.specs.Choices.{is_array, type_of}
 use Rattle.lowering.specs.Loops.{own_inputs, many, single, types, take_up, with_not, unless_places, clauses_lowered, reducer_name, grouping_of, span, Bound, Wired, Limit, fold_lowered, returns_lowered, width, elements_in, generator_lowered, generators_lowered, bound_of, forall_lowered, product_lowered, Phrase, loop_lowered, loop_kind, loop_name, extra, extras, collected, renew, test_lowered, row_of_turn, initial_lowered}

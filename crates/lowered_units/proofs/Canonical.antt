@@ -24,7 +24,7 @@ use Rattle.if1_graph.specs.Kinds.{kind_at, basic_at}
 use Rattle.if1_graph.specs.Literals.{literal, scalar_text}
 use Rattle.if1_graph.specs.Normal.{text_for, canonical, canonical_as}
 use Rattle.if1_graph.specs.Types.{entry_at}
-use Rattle.lowering.specs.Feeds.{One, Callee}
+use Rattle.lowering.specs.declared.feed.Carried.TheVariants.{One, Callee}
 use Rattle.lowering.specs.Operations.{integer}
 use Rattle.lowering.specs.Types.{Entry, entry, is_entry, Table, label_from, or_new, enter, basics, tuple_label, callee_label, table, label_of}
 use Rattle.lowered_units.specs.Units.{constant_text, entries_from}

@@ -26,7 +26,7 @@ use Rattle.type_table.specs.declared.form.Form.{Form}
 use Rattle.type_table.specs.declared.form.Form.TheVariants as form
 use Rattle.typed_tree.specs.declared.program.Function.{Function}
 use Rattle.typed_tree.specs.declared.program.Program.{Program}
-use Rattle.lowering.specs.Feeds.{One, Callee}
+use Rattle.lowering.specs.declared.feed.Carried.TheVariants.{One, Callee}
 use Rattle.lowering.specs.Operations.{integer}
 use Rattle.lowering.specs.Types.{basics, table, label_of}
 use Rattle.lowered_units.specs.Units.{constant_text, entries_from, called_name}

@@ -3,7 +3,9 @@ use Rattle.std.proofs.Common.{◌≡◌, ℕ, zero, suc, ◌+◌, inl, inr, fals
 use Rattle.std.proofs.lemmas.List.{length-map}
 use Rattle.typed_tree.specs.declared.program.Function.{Function}
 use Rattle.typed_tree.specs.declared.program.Program.{Program}
-use Rattle.lowering.specs.Graphs.{LoweredGraph, Lowered, Lowering, size, closed, closed_graphs, new_graph, new_graphs}
+use Rattle.lowering.specs.declared.graph.LoweredGraph.{LoweredGraph}
+use Rattle.lowering.specs.declared.graph.Lowered.{Lowered}
+use Rattle.lowering.specs.Graphs.{Lowering, size, closed, closed_graphs, new_graph, new_graphs}
 use Rattle.lowering.specs.Programs.{function_lowered, functions_lowered, graphs, graph_at}
 use Rattle.lowered_units.specs.Listed.{ListedGraph, Listing, all_of}
 use Rattle.lowered_units.specs.Units.{listed_nodes, edges_of, inner_graph, inner_graphs, function_listings}

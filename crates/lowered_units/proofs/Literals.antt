@@ -28,7 +28,7 @@ use Rattle.if1_graph.specs.Types.{entry_at}
 use Rattle.if1_graph.specs.Literals.{digits_value, whole, signed, integer, character, item_text}
 use Rattle.graph_meaning.specs.Carried.{Value}
 use Rattle.graph_meaning.specs.Networks.{fixed, of_basic, or_explicit}
-use Rattle.lowering.specs.Feeds.{One}
+use Rattle.lowering.specs.declared.feed.Carried.TheVariants.{One}
 use Rattle.lowering.specs.Types.{basics, form_label, label_within, table, label_of}
 use Rattle.lowered_units.specs.Networks.{constant_value}
 use Rattle.lowered_units.specs.Units.{constant_text, entries_from}

@@ -9,7 +9,11 @@ use Rattle.if1_graph.specs.declared.graph.Node.{Node}
 use Rattle.if1_graph.specs.Units.{label_of, node_at}
 use Rattle.typed_tree.specs.declared.program.Function.{Function}
 use Rattle.typed_tree.specs.declared.program.Program.{Program}
-use Rattle.lowering.specs.Graphs.{Action, Row, Call, Whole, LoweredNode, Lowered, size, numbers, closed}
+use Rattle.lowering.specs.declared.graph.Action.{Action}
+use Rattle.lowering.specs.declared.graph.Action.TheVariants.{Row, Call, Whole}
+use Rattle.lowering.specs.declared.graph.LoweredNode.{LoweredNode}
+use Rattle.lowering.specs.declared.graph.Lowered.{Lowered}
+use Rattle.lowering.specs.Graphs.{size, numbers, closed}
 use Rattle.lowered_units.specs.Listed.{ListedNode, ListedGraph, NodeListing, listing, node_listing}
 use Rattle.lowered_units.specs.Units.{listed_node, listed_nodes, inner_graphs, name_of, function_graph, function_listings}
 use Rattle.lowered_units.proofs.OneUnit.{node-listing-at, nodes_in, head_of, inside_in, nil-is-no-cons, heads, tails}

@@ -12,8 +12,13 @@ use Rattle.if1_graph.specs.declared.op.Compound.TheVariants as compound
 use Rattle.if1_graph.specs.declared.graph.Unit1.{Unit1}
 use Rattle.if1_graph.specs.Units.{greatest, level_below, levels, most_levels}
 use Rattle.typed_tree.specs.declared.program.Program.{Program}
-use Rattle.lowering.specs.Feeds.{Carried, Wire}
-use Rattle.lowering.specs.Graphs.{Action, Row, Call, Whole, LoweredNode, Lowered, Lowering, only, joined, andthen, a_node, closed, closed_nodes, numbers, closed_graphs, size, whole, inputs, tag_case_on, new_graph, new_graphs}
+use Rattle.lowering.specs.declared.feed.Carried.{Carried}
+use Rattle.lowering.specs.declared.feed.Wire.{Wire}
+use Rattle.lowering.specs.declared.graph.Action.{Action}
+use Rattle.lowering.specs.declared.graph.Action.TheVariants.{Row, Call, Whole}
+use Rattle.lowering.specs.declared.graph.LoweredNode.{LoweredNode}
+use Rattle.lowering.specs.declared.graph.Lowered.{Lowered}
+use Rattle.lowering.specs.Graphs.{Lowering, only, joined, andthen, a_node, closed, closed_nodes, numbers, closed_graphs, size, whole, inputs, tag_case_on, new_graph, new_graphs}
 use Rattle.lowered_units.specs.Listed.{ListedNode, ListedGraph, Listing, NodeListing, first_number, all_of, list_graph, list_node, listing, node_listing}
 use Rattle.lowered_units.specs.Units.{listed_node, listed_nodes, edges_of, inner_graphs}
 use Rattle.lowered_units.proofs.Entries.{inner-both}

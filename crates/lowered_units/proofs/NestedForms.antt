@@ -20,8 +20,13 @@ use Rattle.typed_tree.specs.declared.expr.ClauseForm.{ClauseForm}
 use Rattle.typed_tree.specs.declared.program.Program.{Program}
 use Rattle.value_ops.specs.declared.operation.Operation.{Operation}
 use Rattle.value_ops.specs.declared.operation.Operation.TheVariants as operation
-use Rattle.lowering.specs.Feeds.{Literal, Carried, One, Many, Wire, wire, into}
-use Rattle.lowering.specs.Graphs.{Row, Call, Lowering, only, andthen, a_node, size, new_graph, new_graphs}
+use Rattle.lowering.specs.declared.feed.Feed.TheVariants.{Literal}
+use Rattle.lowering.specs.declared.feed.Carried.{Carried}
+use Rattle.lowering.specs.declared.feed.Carried.TheVariants.{One, Many}
+use Rattle.lowering.specs.declared.feed.Wire.{Wire}
+use Rattle.lowering.specs.Feeds.{wire, into}
+use Rattle.lowering.specs.declared.graph.Action.TheVariants.{Row, Call}
+use Rattle.lowering.specs.Graphs.{Lowering, only, andthen, a_node, size, new_graph, new_graphs}
 use Rattle.lowering.specs.Operations.{Lowers, boolean, integer, one, all_lowered, defs_lowered, body_lowered, wire_at, row_lowered, constant_lowered, operation_lowered}
 use Rattle.lowering.specs.Choices.{tag_count, type_of, selector_lowered, if_lowered, tag_case, arms_of, arm_names, arms_from, case_lowered, two_arms, truth, is_tag_lowered}
 use Rattle.lowering.specs.Loops.{own_inputs, many, single, types, take_up, with_not, unless_places, clauses_lowered, span, Bound, Wired, Limit, fold_lowered, returns_lowered, width, elements_in, generator_lowered, generators_lowered, bound_of, product_lowered, Phrase, loop_lowered, loop_kind, loop_name, extra, extras, collected, renew, test_lowered, row_of_turn, initial_lowered}

@@ -25,8 +25,10 @@ use Rattle.typed_tree.specs.Types.{AreNumbers}
 use Rattle.bound_trees.specs.Depths.{typed_depth, deepest, in_kind, AreWithin}
 use Rattle.fitting_trees.specs.Fitting.{Header, Fits, AllFit, DefsFit, ArmsFit, BodyFits, FunctionsFit}
 use Rattle.fitting_trees.specs.Fitting as is
-use Rattle.lowering.specs.Feeds.{One, Wire}
-use Rattle.lowering.specs.Graphs.{Lowered, closed, size, new_graph, new_graphs}
+use Rattle.lowering.specs.declared.feed.Carried.TheVariants.{One}
+use Rattle.lowering.specs.declared.feed.Wire.{Wire}
+use Rattle.lowering.specs.declared.graph.Lowered.{Lowered}
+use Rattle.lowering.specs.Graphs.{closed, size, new_graph, new_graphs}
 use Rattle.lowering.specs.Operations.{Lowers, all_lowered, wire_at, operation_lowered}
 use Rattle.lowering.specs.Choices.{applied, case_lowered}
 use Rattle.lowering.specs.Loops.{Phrase, own_inputs, product_lowered}
@@ -178,7 +180,7 @@ module _ (p : Program) (forms : List Form) (names : List (List ℕ)) (hs : List 
       same [] = refl
       same (e ∷ es) = ap (λ l. lowers forms e ∷ l) (same es)
 
-  functions-nested : (k q : ℕ) (gs : List Header) (fs : List Function) → FunctionsFit (AreNumbers forms names) hs gs fs → All (λ f. AreWithin k f.body) fs → AllNested p k q (new_graphs q (map (function_lowered forms) fs))
+  pub functions-nested : (k q : ℕ) (gs : List Header) (fs : List Function) → FunctionsFit (AreNumbers forms names) hs gs fs → All (λ f. AreWithin k f.body) fs → AllNested p k q (new_graphs q (map (function_lowered forms) fs))
   functions-nested k q [] [] h d = tt
   functions-nested k q [] (f ∷ fs) h d = absurd h
   functions-nested k q (g ∷ gs) [] h d = absurd h

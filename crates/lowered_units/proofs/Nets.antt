@@ -26,9 +26,16 @@ use Rattle.graph_meaning.specs.Forms as form
 use Rattle.graph_meaning.specs.Networks as net
 use Rattle.graph_meaning.specs.Networks.{source_by, source_at, shape_of, number_or_zero, callee_number, simple_kind, kind_as, ins_of, vertex_of}
 use Rattle.typed_tree.specs.declared.program.Program.{Program}
-use Rattle.lowering.specs.Feeds.{Named, One, Callee, Wire, wire}
-use Rattle.lowering.specs.Graphs.{Action, Row, Call, LoweredNode, LoweredGraph, node}
-use Rattle.lowering.specs.Graphs as lowered
+use Rattle.lowering.specs.declared.feed.Feed.TheVariants.{Named}
+use Rattle.lowering.specs.declared.feed.Carried.TheVariants.{One, Callee}
+use Rattle.lowering.specs.declared.feed.Wire.{Wire}
+use Rattle.lowering.specs.Feeds.{wire}
+use Rattle.lowering.specs.declared.graph.Action.{Action}
+use Rattle.lowering.specs.declared.graph.Action.TheVariants.{Row, Call}
+use Rattle.lowering.specs.declared.graph.LoweredNode.{LoweredNode}
+use Rattle.lowering.specs.declared.graph.LoweredGraph.{LoweredGraph}
+use Rattle.lowering.specs.Graphs.{node}
+use Rattle.lowering.specs.declared.graph.Action.TheVariants as lowered
 use Rattle.lowering.specs.Operations.{integer}
 use Rattle.lowering.specs.Programs.{graph_at, number_of}
 use Rattle.lowering.specs.Types.{table, label_of as type_label_of}

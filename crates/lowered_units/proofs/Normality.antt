@@ -18,8 +18,16 @@ use Rattle.if1_graph.specs.Rows.{operand_of}
 use Rattle.if1_graph.specs.Types.{entry_at}
 use Rattle.if1_graph.specs.Units.{most_levels, Place, places}
 use Rattle.typed_tree.specs.declared.program.Program.{Program}
-use Rattle.lowering.specs.Feeds.{Feed, Literal, Named, Absent, Port, Carried, One, Many, Callee, Wire}
-use Rattle.lowering.specs.Graphs.{Action, Row, Call, Whole, LoweredNode, LoweredGraph, node}
+use Rattle.lowering.specs.declared.feed.Feed.{Feed}
+use Rattle.lowering.specs.declared.feed.Feed.TheVariants.{Literal, Named, Absent, Port}
+use Rattle.lowering.specs.declared.feed.Carried.{Carried}
+use Rattle.lowering.specs.declared.feed.Carried.TheVariants.{One, Many, Callee}
+use Rattle.lowering.specs.declared.feed.Wire.{Wire}
+use Rattle.lowering.specs.declared.graph.Action.{Action}
+use Rattle.lowering.specs.declared.graph.Action.TheVariants.{Row, Call, Whole}
+use Rattle.lowering.specs.declared.graph.LoweredNode.{LoweredNode}
+use Rattle.lowering.specs.declared.graph.LoweredGraph.{LoweredGraph}
+use Rattle.lowering.specs.Graphs.{node}
 use Rattle.lowering.specs.Operations.{integer}
 use Rattle.lowering.specs.Programs.{graph_at}
 use Rattle.lowering.specs.Types.{label_of as type_label_of}

@@ -12,8 +12,11 @@ use Rattle.if1_graph.specs.Normal.{Precedes}
 use Rattle.if1_graph.specs.Ports.{count_from}
 use Rattle.if1_graph.specs.Units.{label_of}
 use Rattle.typed_tree.specs.declared.program.Program.{Program}
-use Rattle.lowering.specs.Feeds.{Wire, Callee}
-use Rattle.lowering.specs.Graphs.{Action, Row, Call, Whole, LoweredNode}
+use Rattle.lowering.specs.declared.feed.Carried.TheVariants.{Callee}
+use Rattle.lowering.specs.declared.feed.Wire.{Wire}
+use Rattle.lowering.specs.declared.graph.Action.{Action}
+use Rattle.lowering.specs.declared.graph.Action.TheVariants.{Row, Call, Whole}
+use Rattle.lowering.specs.declared.graph.LoweredNode.{LoweredNode}
 use Rattle.lowering.specs.Types.{label_of as type_label_of}
 use Rattle.lowered_units.specs.Units.{called_name, origin_of, edge, edge_if, edges_into, node_edges, edges_of}
 use Rattle.lowered_units.proofs.Named.{Match, label-at}

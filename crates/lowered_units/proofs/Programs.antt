@@ -14,8 +14,9 @@ use Rattle.typed_tree.specs.declared.program.Function.{Function}
 use Rattle.typed_tree.specs.declared.program.Program.{Program}
 use Rattle.typed_tree.specs.Types.{AreNumbers}
 use Rattle.fitting_trees.specs.Fitting.{Header, BodyFits, FunctionFits, FunctionsFit}
-use Rattle.lowering.specs.Feeds.{One}
-use Rattle.lowering.specs.Graphs.{LoweredGraph, size, new_graph, new_graphs}
+use Rattle.lowering.specs.declared.feed.Carried.TheVariants.{One}
+use Rattle.lowering.specs.declared.graph.LoweredGraph.{LoweredGraph}
+use Rattle.lowering.specs.Graphs.{size, new_graph, new_graphs}
 use Rattle.lowering.specs.Operations.{all_lowered}
 use Rattle.lowering.specs.Choices.{element_in, type_in}
 use Rattle.lowering.specs.Loops.{own_inputs}

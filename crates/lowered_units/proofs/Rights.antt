@@ -4,8 +4,17 @@ use Rattle.std.specs.Prelude.{if◌then◌else◌}
 use Rattle.std.proofs.lemmas.List.{length-map}
 use Rattle.if1_graph.specs.declared.op.Compound.TheVariants as compound
 use Rattle.type_table.specs.declared.form.Form.{Form}
-use Rattle.lowering.specs.Feeds.{Feed, Literal, Named, Absent, Port, Carried, Wire, outside, outsides, has, with_new, distinct}
-use Rattle.lowering.specs.Graphs.{Action, Row, Call, Whole, LoweredNode, LoweredGraph, Lowered, used_by, used, uses, all_uses, inputs, size, numbers, resolved, closed_wire, closed_wires, closed_nodes, closed_graphs}
+use Rattle.lowering.specs.declared.feed.Feed.{Feed}
+use Rattle.lowering.specs.declared.feed.Feed.TheVariants.{Literal, Named, Absent, Port}
+use Rattle.lowering.specs.declared.feed.Carried.{Carried}
+use Rattle.lowering.specs.declared.feed.Wire.{Wire}
+use Rattle.lowering.specs.Feeds.{outside, outsides, has, with_new, distinct}
+use Rattle.lowering.specs.declared.graph.Action.{Action}
+use Rattle.lowering.specs.declared.graph.Action.TheVariants.{Row, Call, Whole}
+use Rattle.lowering.specs.declared.graph.LoweredNode.{LoweredNode}
+use Rattle.lowering.specs.declared.graph.LoweredGraph.{LoweredGraph}
+use Rattle.lowering.specs.declared.graph.Lowered.{Lowered}
+use Rattle.lowering.specs.Graphs.{used_by, used, uses, all_uses, inputs, size, numbers, resolved, closed_wire, closed_wires, closed_nodes, closed_graphs}
 use Rattle.lowered_units.proofs.Built.{AreParts, counts, IsGap, IsGoodFeed, IsGood, AreGood, AreFilled, Fills, fills_row, fills_reduction, fills_call, Built, b_only, b_then, b_node, b_whole, b_tag, AllBuilt, no_graph, a_graph}
 use Rattle.lowered_units.proofs.Built as built
 

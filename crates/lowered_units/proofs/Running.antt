@@ -12,7 +12,7 @@ use Rattle.graph_meaning.specs.Networks as net
 use Rattle.graph_meaning.specs.Networks.{network, number_or_zero, shape_of}
 use Rattle.typed_tree.specs.declared.program.Function.{Function}
 use Rattle.typed_tree.specs.declared.program.Program.{Program}
-use Rattle.lowering.specs.Graphs.{LoweredGraph}
+use Rattle.lowering.specs.declared.graph.LoweredGraph.{LoweredGraph}
 use Rattle.lowering.specs.Programs.{function_lowered, functions_lowered, graph_at, number_of}
 use Rattle.lowered_units.specs.Fitting.{HasName, IsFitting}
 use Rattle.lowered_units.specs.Listed.{ListedGraph, all_of}

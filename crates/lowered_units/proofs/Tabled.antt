@@ -11,7 +11,8 @@ use Rattle.type_table.specs.declared.form.Member.{Member}
 use Rattle.type_table.specs.Forms.{deepest, form_depth}
 use Rattle.type_table.specs.Tables.{depths, IsTable}
 use Rattle.typed_tree.specs.declared.program.Function.{Function}
-use Rattle.lowering.specs.Feeds.{Carried, One, Many, Callee}
+use Rattle.lowering.specs.declared.feed.Carried.{Carried}
+use Rattle.lowering.specs.declared.feed.Carried.TheVariants.{One, Many, Callee}
 use Rattle.lowering.specs.Types.{Entry, entry, Table, label_from, Labelled, or_new, enter, basics, Part, members, named, over, form_label, label_within, type_label, tuple_label, function_label, callee_label, carried_label, with_types}
 use Rattle.lowered_units.proofs.Canonical.{HasCode, found-code}
 use Rattle.lowered_units.proofs.Built.{IsLineType}

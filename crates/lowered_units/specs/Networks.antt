@@ -18,8 +18,13 @@ use Rattle.graph_meaning.specs.Forms as form
 use Rattle.graph_meaning.specs.Demand.{Source, Fixed, Kind, Plain, Vertex, Net}
 use Rattle.graph_meaning.specs.Demand as demand
 use Rattle.graph_meaning.specs.Networks.{shape_of}
-use Rattle.lowering.specs.Feeds.{Feed, Literal, Named, Absent, Port, Wire}
-use Rattle.lowering.specs.Graphs.{Action, Row, Call, Whole, LoweredNode, LoweredGraph}
+use Rattle.lowering.specs.declared.feed.Feed.{Feed}
+use Rattle.lowering.specs.declared.feed.Feed.TheVariants.{Literal, Named, Absent, Port}
+use Rattle.lowering.specs.declared.feed.Wire.{Wire}
+use Rattle.lowering.specs.declared.graph.Action.{Action}
+use Rattle.lowering.specs.declared.graph.Action.TheVariants.{Row, Call, Whole}
+use Rattle.lowering.specs.declared.graph.LoweredNode.{LoweredNode}
+use Rattle.lowering.specs.declared.graph.LoweredGraph.{LoweredGraph}
 
 -- the value of a constant; a text is the array of its characters from 1
 abbrev pub constant_value : Constant → Val

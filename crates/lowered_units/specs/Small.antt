@@ -1,8 +1,10 @@
 -- That ports, and the labels of nodes that they are of, fit 32 bits (IF1 manual M-170, text form).
 use Rattle.std.specs.Prelude.{suc, ◌<◌, ◌^◌, List, All, length}
 use Rattle.typed_tree.specs.declared.program.Program.{Program}
-use Rattle.lowering.specs.Feeds.{Feed, Port, Wire}
-use Rattle.lowering.specs.Graphs.{LoweredGraph}
+use Rattle.lowering.specs.declared.feed.Feed.{Feed}
+use Rattle.lowering.specs.declared.feed.Feed.TheVariants.{Port}
+use Rattle.lowering.specs.declared.feed.Wire.{Wire}
+use Rattle.lowering.specs.declared.graph.LoweredGraph.{LoweredGraph}
 use Rattle.lowering.specs.Programs.{graphs}
 
 abbrev pub IsSmallFeed : Feed → Type 0

@@ -13,8 +13,10 @@ use Rattle.loop_folds.specs.declared.folding.Folding.TheVariants as folding
 use Rattle.loop_folds.specs.declared.masking.Masking.TheVariants as masking
 use Rattle.typed_tree.specs.declared.expr.Source.TheVariants as source
 use Rattle.typed_tree.specs.declared.expr.TypedKind.TheOpen.{TypedKind-F}
-use Rattle.lowering.specs.Feeds.{Named, One, Many}
-use Rattle.lowering.specs.Graphs.{Whole, node}
+use Rattle.lowering.specs.declared.feed.Feed.TheVariants.{Named}
+use Rattle.lowering.specs.declared.feed.Carried.TheVariants.{One, Many}
+use Rattle.lowering.specs.declared.graph.Action.TheVariants.{Whole}
+use Rattle.lowering.specs.Graphs.{node}
 use Rattle.lowering.specs.Loops.{Phrase}
 use Rattle.lowering.proofs.Words.{own, out, value, values, int, ints, truth, truths, number, row, graph, clause, masked, at, num, name, var, apply, graphs_of, lines_of}
 

@@ -6,8 +6,10 @@ use Rattle.if1_graph.specs.declared.op.Simple.TheVariants as simple
 use Rattle.sisal_tree.specs.declared.expr.Constant.TheVariants as constants
 use Rattle.value_ops.specs.declared.operation.Operation.TheVariants as operation
 use Rattle.typed_tree.specs.declared.expr.TypedKind.TheOpen.{TypedKind-F}
-use Rattle.lowering.specs.Feeds.{Literal, One, Callee}
-use Rattle.lowering.specs.Graphs.{Call, node}
+use Rattle.lowering.specs.declared.feed.Feed.TheVariants.{Literal}
+use Rattle.lowering.specs.declared.feed.Carried.TheVariants.{One, Callee}
+use Rattle.lowering.specs.declared.graph.Action.TheVariants.{Call}
+use Rattle.lowering.specs.Graphs.{node}
 use Rattle.lowering.specs.Operations.{absent}
 use Rattle.lowering.specs.Loops.{Phrase}
 use Rattle.lowering.proofs.Words.{own, out, value, int, truth, number, letter, row, graph, at, constant, num, name, var, apply, call, graphs_of, lines_of}

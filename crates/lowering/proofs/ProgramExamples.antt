@@ -6,7 +6,7 @@ use Rattle.value_ops.specs.declared.operation.Operation.TheVariants as operation
 use Rattle.loop_folds.specs.declared.folding.Folding.TheVariants as folding
 use Rattle.typed_tree.specs.declared.expr.Source.TheVariants as source
 use Rattle.typed_tree.specs.declared.expr.TypedKind.TheOpen.{TypedKind-F}
-use Rattle.lowering.specs.Feeds.{One, Callee}
+use Rattle.lowering.specs.declared.feed.Carried.TheVariants.{One, Callee}
 use Rattle.typed_tree.specs.declared.program.Function.{Function}
 use Rattle.typed_tree.specs.declared.program.Program.{Program}
 use Rattle.lowering.specs.Loops.{Phrase}

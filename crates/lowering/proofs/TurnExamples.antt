@@ -13,8 +13,10 @@ use Rattle.value_ops.specs.declared.operation.Operation.TheVariants as operation
 use Rattle.loop_folds.specs.declared.folding.Folding.TheVariants as folding
 use Rattle.loop_folds.specs.declared.masking.Masking.TheVariants as masking
 use Rattle.typed_tree.specs.declared.expr.TypedKind.TheOpen.{TypedKind-F}
-use Rattle.lowering.specs.Feeds.{Literal, Named, One, Many}
-use Rattle.lowering.specs.Graphs.{Call, Whole, node}
+use Rattle.lowering.specs.declared.feed.Feed.TheVariants.{Literal, Named}
+use Rattle.lowering.specs.declared.feed.Carried.TheVariants.{One, Many}
+use Rattle.lowering.specs.declared.graph.Action.TheVariants.{Call, Whole}
+use Rattle.lowering.specs.Graphs.{node}
 use Rattle.lowering.specs.Loops.{Phrase}
 use Rattle.lowering.proofs.Words.{own, out, value, int, ints, truth, truths, number, row, graph, clause, masked, at, constant, num, name, var, apply, call, graphs_of, lines_of}
 

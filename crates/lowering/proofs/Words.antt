@@ -16,8 +16,17 @@ use Rattle.typed_tree.specs.declared.expr.Case.{Case}
 use Rattle.typed_tree.specs.declared.expr.Choice.{Choice}
 use Rattle.typed_tree.specs.declared.expr.ClauseForm.{ClauseForm}
 use Rattle.typed_tree.specs.declared.expr.TypedKind.TheOpen.{TypedKind-F}
-use Rattle.lowering.specs.Feeds.{Feed, Literal, Port, Carried, One, Many, Wire, wire}
-use Rattle.lowering.specs.Graphs.{Row, LoweredNode, LoweredGraph, Lowered, node, new_graphs, closed_graphs, graph_lines}
+use Rattle.lowering.specs.declared.feed.Feed.{Feed}
+use Rattle.lowering.specs.declared.feed.Feed.TheVariants.{Literal, Port}
+use Rattle.lowering.specs.declared.feed.Carried.{Carried}
+use Rattle.lowering.specs.declared.feed.Carried.TheVariants.{One, Many}
+use Rattle.lowering.specs.declared.feed.Wire.{Wire}
+use Rattle.lowering.specs.Feeds.{wire}
+use Rattle.lowering.specs.declared.graph.Action.TheVariants.{Row}
+use Rattle.lowering.specs.declared.graph.LoweredNode.{LoweredNode}
+use Rattle.lowering.specs.declared.graph.LoweredGraph.{LoweredGraph}
+use Rattle.lowering.specs.declared.graph.Lowered.{Lowered}
+use Rattle.lowering.specs.Graphs.{node, new_graphs, closed_graphs, graph_lines}
 use Rattle.lowering.specs.Operations.{all_lowered}
 use Rattle.lowering.specs.Loops.{Phrase, own_inputs}
 use Rattle.lowering.specs.Phrases.{Kind, each, expr_lowered, kind_lowered}

@@ -15,7 +15,11 @@ use Rattle.typed_tree.specs.declared.expr.Choice.{Choice}
 use Rattle.meaning.specs.Meaning.{arm_place}
 use Rattle.value_ops.specs.declared.operation.Operation.{Operation}
 use Rattle.value_ops.specs.declared.operation.Operation.TheVariants as operation
-use Rattle.lowering.specs.Feeds.{Literal, Port, Carried, One, Many, Callee, Wire, wire, into}
+use Rattle.lowering.specs.declared.feed.Feed.TheVariants.{Literal, Port}
+use Rattle.lowering.specs.declared.feed.Carried.{Carried}
+use Rattle.lowering.specs.declared.feed.Carried.TheVariants.{One, Many, Callee}
+use Rattle.lowering.specs.declared.feed.Wire.{Wire}
+use Rattle.lowering.specs.Feeds.{wire, into}
 use Rattle.lowering.specs.Graphs.{Lowering, only, andthen, whole, tag_case_on, new_graph, new_graphs, size}
 use Rattle.lowering.specs.Operations.{Lowers, boolean, integer, all_lowered, wire_at, row_lowered, operation_lowered}
 

@@ -1,28 +1,10 @@
 -- What fills the ports of nodes while a graph is made (IF1 manual M-170, edges and literals): a literal, or a port of this graph or
 -- of one around it.
 use Rattle.std.specs.Prelude.{ℕ, suc, Bool, true, false, nat_eq, List, [], ◌∷◌, ◌++◌, if◌then◌else◌}
-use Rattle.sisal_tree.specs.declared.expr.Constant.{Constant}
-
--- A port stands by how many graphs around this one the graph is in which it is (0: this one), its node (0: the graph's own
--- inputs; in a part of a compound node those after the inputs of that node), and its number from 1.
-pub data Feed : Type 0 where
-  Literal : (constant : Constant) → Feed
-  -- the name of a reduction
-  Named : (text : List ℕ) → Feed
-  -- a port that is not filled
-  Absent : Feed
-  Port : (up node port : ℕ) → Feed
-
--- the type of what an edge carries: a value or a multiple of a type, by its number in the table of the program, or the name of a
--- function, by its number in the list of the program
-pub data Carried : Type 0 where
-  One : (type : ℕ) → Carried
-  Many : (type : ℕ) → Carried
-  Callee : (function : ℕ) → Carried
-
-pub record Wire : Type 0 where
-  pub feed : Feed
-  pub ty : Carried
+use Rattle.lowering.specs.declared.feed.Feed.{Feed}
+use Rattle.lowering.specs.declared.feed.Feed.TheVariants.{Absent, Port}
+use Rattle.lowering.specs.declared.feed.Carried.{Carried}
+use Rattle.lowering.specs.declared.feed.Wire.{Wire}
 
 abbrev pub wire : Feed → Carried → Wire
 wire f t = record { feed = f; ty = t }

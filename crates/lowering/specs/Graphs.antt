@@ -1,38 +1,22 @@
 -- Graphs as they are made: nodes in the order of their labels, with what fills their ports, and the graphs inside of them (IF1
 -- manual M-170, compound nodes).
 use Rattle.std.specs.Prelude.{ℕ, zero, suc, ◌+◌, List, [], ◌∷◌, ◌++◌, map, length}
-use Rattle.if1_graph.specs.declared.op.Simple.{Simple}
 use Rattle.if1_graph.specs.declared.op.Compound.{Compound}
 use Rattle.if1_graph.specs.declared.op.Compound.TheVariants as compound
-use Rattle.lowering.specs.Feeds.{Feed, Port, Carried, One, Callee, Wire, wire, outsides, carried, distinct, place}
-
--- What a node does: a row of the table, a call of a function by its number, or a compound node on graphs by their numbers, with
--- its association list, and how many results its body and it have.
-pub data Action : Type 0 where
-  Row : (op : Simple) → Action
-  Call : (function : ℕ) → Action
-  Whole : (compound : Compound) (graphs arms : List ℕ) (given outputs : ℕ) → Action
-
--- a node, with what fills its ports from 1 on; those of a call stand behind the name of the function
-pub record LoweredNode : Type 0 where
-  pub action : Action
-  pub ins : List Wire
+use Rattle.lowering.specs.declared.feed.Feed.{Feed}
+use Rattle.lowering.specs.declared.feed.Feed.TheVariants.{Port}
+use Rattle.lowering.specs.declared.feed.Carried.{Carried}
+use Rattle.lowering.specs.declared.feed.Carried.TheVariants.{One, Callee}
+use Rattle.lowering.specs.declared.feed.Wire.{Wire}
+use Rattle.lowering.specs.Feeds.{wire, outsides, carried, distinct, place}
+use Rattle.lowering.specs.declared.graph.Action.{Action}
+use Rattle.lowering.specs.declared.graph.Action.TheVariants.{Call, Whole}
+use Rattle.lowering.specs.declared.graph.LoweredNode.{LoweredNode}
+use Rattle.lowering.specs.declared.graph.LoweredGraph.{LoweredGraph}
+use Rattle.lowering.specs.declared.graph.Lowered.{Lowered}
 
 abbrev pub node : Action → List Wire → LoweredNode
 node a ins = record { action = a; ins = ins }
-
--- a graph, whose ports are its own
-pub record LoweredGraph : Type 0 where
-  pub nodes : List LoweredNode
-  pub results : List Wire
-
--- What a phrase becomes: nodes behind those that stand in the graph, the graphs inside of them in the order of their numbers, what
--- the lines of these nodes carry in the order of the text, and what the values of the phrase are.
-pub record Lowered : Type 0 where
-  pub nodes : List LoweredNode
-  pub graphs : List LoweredGraph
-  pub lines : List Carried
-  pub values : List Wire
 
 -- behind so many nodes of the graph, where the next graph inside has this number
 abbrev pub Lowering : Type 0

@@ -19,8 +19,13 @@ use Rattle.typed_tree.specs.declared.expr.Turns.{Turns}
 use Rattle.typed_tree.specs.declared.expr.Source.{Source}
 use Rattle.typed_tree.specs.declared.expr.Source.TheVariants as source
 use Rattle.typed_tree.specs.declared.expr.ClauseForm.{ClauseForm}
-use Rattle.lowering.specs.Feeds.{Named, Carried, One, Many, Wire, wire, into}
-use Rattle.lowering.specs.Graphs.{Row, Lowering, only, andthen, ports, a_node, whole, new_graph, size}
+use Rattle.lowering.specs.declared.feed.Feed.TheVariants.{Named}
+use Rattle.lowering.specs.declared.feed.Carried.{Carried}
+use Rattle.lowering.specs.declared.feed.Carried.TheVariants.{One, Many}
+use Rattle.lowering.specs.declared.feed.Wire.{Wire}
+use Rattle.lowering.specs.Feeds.{wire, into}
+use Rattle.lowering.specs.declared.graph.Action.TheVariants.{Row}
+use Rattle.lowering.specs.Graphs.{Lowering, only, andthen, ports, a_node, whole, new_graph, size}
 use Rattle.lowering.specs.Operations.{Lowers, boolean, integer, one, all_lowered, defs_lowered, body_lowered, wire_at, row_lowered}
 use Rattle.lowering.specs.Choices.{element_of, is_array, type_of}
 

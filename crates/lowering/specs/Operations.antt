@@ -8,8 +8,12 @@ use Rattle.sisal_tree.specs.declared.expr.Constant.{Constant}
 use Rattle.sisal_tree.specs.declared.expr.Constant.TheVariants as constant
 use Rattle.value_ops.specs.declared.operation.Operation.{Operation}
 use Rattle.value_ops.specs.declared.operation.Operation.TheVariants as operation
-use Rattle.lowering.specs.Feeds.{Literal, Absent, One, Wire, wire}
-use Rattle.lowering.specs.Graphs.{Row, Lowering, only, andthen, a_node}
+use Rattle.lowering.specs.declared.feed.Feed.TheVariants.{Literal, Absent}
+use Rattle.lowering.specs.declared.feed.Carried.TheVariants.{One}
+use Rattle.lowering.specs.declared.feed.Wire.{Wire}
+use Rattle.lowering.specs.Feeds.{wire}
+use Rattle.lowering.specs.declared.graph.Action.TheVariants.{Row}
+use Rattle.lowering.specs.Graphs.{Lowering, only, andthen, a_node}
 
 -- what a phrase becomes, by what the names in force stand for
 abbrev pub Lowers : Type 0

@@ -6,8 +6,9 @@ use Rattle.typed_tree.specs.declared.expr.TypedExpr.{TypedExpr}
 use Rattle.typed_tree.specs.declared.expr.TypedKind.{TypedKind}
 use Rattle.typed_tree.specs.declared.expr.TypedKind.TheOpen.{TypedKind-F, TypedExpr-F}
 use Rattle.typed_tree.specs.declared.expr.TypedKind.TheFolds.{fold-TypedExpr, fold-TypedKind}
-use Rattle.lowering.specs.Feeds.{One}
-use Rattle.lowering.specs.Graphs.{Call, only, andthen, a_node}
+use Rattle.lowering.specs.declared.feed.Carried.TheVariants.{One}
+use Rattle.lowering.specs.declared.graph.Action.TheVariants.{Call}
+use Rattle.lowering.specs.Graphs.{only, andthen, a_node}
 use Rattle.lowering.specs.Operations.{Lowers, all_lowered, body_lowered, wire_at, constant_lowered}
 use Rattle.lowering.specs.Choices.{if_lowered, case_lowered, applied}
 use Rattle.lowering.specs.Loops.{Phrase, product_lowered, initial_lowered}

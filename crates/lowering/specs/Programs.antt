@@ -6,8 +6,10 @@ use Rattle.type_table.specs.declared.form.Form.{Form}
 use Rattle.typed_tree.specs.declared.expr.TypedExpr.{TypedExpr}
 use Rattle.typed_tree.specs.declared.program.Function.{Function}
 use Rattle.typed_tree.specs.declared.program.Program.{Program}
-use Rattle.lowering.specs.Feeds.{One}
-use Rattle.lowering.specs.Graphs.{Lowered, LoweredGraph, Lowering, new_graphs, numbers, closed_graphs}
+use Rattle.lowering.specs.declared.feed.Carried.TheVariants.{One}
+use Rattle.lowering.specs.declared.graph.LoweredGraph.{LoweredGraph}
+use Rattle.lowering.specs.declared.graph.Lowered.{Lowered}
+use Rattle.lowering.specs.Graphs.{Lowering, new_graphs, numbers, closed_graphs}
 use Rattle.lowering.specs.Operations.{Lowers, all_lowered, row_lowered}
 use Rattle.lowering.specs.Loops.{own_inputs}
 use Rattle.lowering.specs.Phrases.{lowers}

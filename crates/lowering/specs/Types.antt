@@ -6,8 +6,10 @@ use Rattle.type_table.specs.declared.form.Form.TheVariants.{Boolean, Character, 
 use Rattle.type_table.specs.declared.form.Member.{Member}
 use Rattle.typed_tree.specs.declared.program.Function.{Function}
 use Rattle.typed_tree.specs.declared.program.Program.{Program}
-use Rattle.lowering.specs.Feeds.{Carried, One, Many, Callee}
-use Rattle.lowering.specs.Graphs.{Lowered, graph_lines}
+use Rattle.lowering.specs.declared.feed.Carried.{Carried}
+use Rattle.lowering.specs.declared.feed.Carried.TheVariants.{One, Many, Callee}
+use Rattle.lowering.specs.declared.graph.Lowered.{Lowered}
+use Rattle.lowering.specs.Graphs.{graph_lines}
 use Rattle.lowering.specs.Programs.{functions_lowered}
 
 -- an entry, whose label is its place, from 1; 0 stands for a number that its line does not have

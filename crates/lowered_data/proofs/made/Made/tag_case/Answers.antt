@@ -1,0 +1,19 @@
+use Rattle.std.proofs.Common.{◌≡◌, ◌∙◌, List, ap, map}
+use Rattle.std.proofs.lemmas.Result.{IfOk-weaker}
+use Rattle.lowering.specs.declared.feed.Carried.TheVariants.{One}
+use Rattle.lowering.specs.declared.feed.Wire.{Wire}
+use Rattle.lowering.specs.Choices.{tag_case}
+use Rattle.lowering.specs.Graphs.{ports}
+use Rattle.lowered_data.specs.States.{IsMade}
+use Rattle.lowered_data.proofs.Parts.{tag_case_made}
+use Rattle.lowered_data.proofs.made.Made.tag_case.Goals as goal
+
+pub returns : goal.returns
+returns c = λ before fs parts places.
+    let after = c.add_tag_case.new.self in
+    let ts = c.args.types.now in
+    IfOk-weaker c.ports.result (λ (ws : List Wire). ws ≡ ports c.len.result 1 (map One ts))
+    (λ (ws : List Wire). IsMade (tag_case c.args.union fs c.args.arms c.args.types.now) before after ws)
+    (λ ws e. tag_case_made c.args.union fs c.args.arms c.args.types.now before c.args.self.now after c.args.places.now ws parts places
+    c.in_ok-add_tag_case.ensures (e ∙ ap (λ n. ports n 1 (map One ts)) c.len.ensures))
+    c.ports.ensures

@@ -1,0 +1,4 @@
+pub mod Keyed
+pub mod Parts
+pub mod Scopes
+pub mod States
