@@ -1,5 +1,5 @@
 -- Types that have members, one by one.
-use Rattle.std.proofs.Common.{◌≡◌, ◌≤◌, ◌<◌, ◌⊎◌, inl, inr, ℕ, List, [], ◌∷◌, Some, slice_get, length, arith, Bool, true, false, not, IsTrue, refl}
+use Rattle.std.proofs.Common.{◌≡◌, ◌≤◌, ◌<◌, inl, inr, ℕ, List, [], ◌∷◌, Some, slice_get, length, arith, true}
 use Rattle.std.proofs.lemmas.Option.{slice_get_within}
 use Rattle.type_table.specs.declared.form.Form.{Form}
 use Rattle.type_table.specs.declared.form.Form.TheVariants.{Record, Union}
@@ -14,7 +14,3 @@ at_least (m ∷ ms) h = omega arith
 pub each_has : (forms : List Form) → ((k : ℕ) (f : Form) → k < length forms → slice_get forms k ≡ Some f → has_member f ≡ true) → HaveMembers forms
 each_has forms h t ms (inl e) = at_least ms (h t (Record ms) (slice_get_within forms t (Record ms) e) e)
 each_has forms h t ms (inr e) = at_least ms (h t (Union ms) (slice_get_within forms t (Union ms) e) e)
-
-pub told : (b : Bool) → not b ≡ false → IsTrue b
-told true h = refl
-told false h = cc

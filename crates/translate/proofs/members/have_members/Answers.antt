@@ -1,4 +1,4 @@
-use Rattle.std.proofs.Common.{◌≡◌, ℕ, ◌<◌, length, arith}
+use Rattle.std.proofs.Common.{arith}
 use Rattle.translate.proofs.Having.{each_has}
 use Rattle.translate.proofs.members.have_members.Goals as goal
 
