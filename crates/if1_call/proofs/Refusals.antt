@@ -8,7 +8,7 @@ use Rattle.if1_marks.specs.Sound.{IsSound}
 use Rattle.mark_check.specs.declared.marks.MarkFault.{MarkFault}
 use Rattle.mark_check.specs.declared.marks.MarkFault.TheVariants.{BadMark, NoMemory}
 use Rattle.mark_check.specs.Marks.{IsFirstFault, IsBad, as_fault}
-use Rattle.if1_call.specs.Calls.{IsRefusedFor, HasBadMark}
+use Rattle.if1_call.specs.Calls.{IsRefusedFor}
 
 -- the unit as it was read, and as it was found ready
 pub unsound_text : (text : List ℕ) (u v : Unit1) (f : MarkFault) (e : If1Fault) → ReadsIf1 text u → (v ≡ u) × IsReady u → IsFirstFault v f → (IsBad f → ¬ IsSound v) → e ≡ as_fault f → IsRefusedFor text e

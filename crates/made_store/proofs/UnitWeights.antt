@@ -1,5 +1,5 @@
 -- Weights by the marks of a unit.
-use Rattle.std.proofs.Common.{◌≡◌, ℕ, zero, suc, ◌+◌, ◌<◌, ◌≤◌, ◌&&◌, not, cond, Bool, true, false, List, [], ◌∷◌, map, filter, find, drop, length, Option, Some, None, ◌==◌, refl, sym, ap, ◌∙◌, subst, arith}
+use Rattle.std.proofs.Common.{◌≡◌, ℕ, zero, suc, ◌+◌, ◌<◌, ◌≤◌, ◌&&◌, ◌||◌, not, cond, Bool, true, false, List, [], ◌∷◌, map, filter, find, drop, length, Option, Some, None, ◌==◌, refl, sym, ap, ◌∙◌, subst, arith}
 use Rattle.if1_graph.specs.declared.graph.Edge.{Edge}
 use Rattle.if1_graph.specs.declared.graph.Graph.{Graph}
 use Rattle.if1_graph.specs.declared.graph.Graph.TheViews.{out-Graph}
@@ -55,17 +55,19 @@ and-none : (a c : Bool) → a && (false && c) ≡ false
 and-none true c = refl
 and-none false c = refl
 
-and-grouped : (a b c : Bool) → a && (b && c) ≡ (a && b) && c
-and-grouped true b c = refl
-and-grouped false b c = refl
+-- more is taken only where nothing is copied
+copies-same : (a b c m : Bool) → (b ≡ true → m ≡ false) → a && (b && not c) ≡ (a && b) && not (m || c)
+copies-same false b c m h = refl
+copies-same true false c m h = refl
+copies-same true true c m h = ap (λ x. not (x || c)) (sym (h refl))
 
-module _ (u : Unit1) (P : Plan) (owns has : (graph port : ℕ) → Bool) (puts : (returns : ℕ) → List Bool)
+module _ (u : Unit1) (P : Plan) (more : (graph node port : ℕ) → Bool) (owns has : (graph port : ℕ) → Bool) (puts : (returns : ℕ) → List Bool) (apart : (g l p : ℕ) → (storage_of u).is_aggregate g l p ≡ true → more g l p ≡ false)
     (picks : (g : ℕ) (v : Vertex) → P.picks g v ≡ picks_of (λ p. (storage_of u).is_given g v.label p && is_left (storage_of u) g v.label p) 1 v.ins) where
   abbrev s : Storage
   s = storage_of u
 
   abbrev S : Shares
-  S = marked_shares s owns has puts
+  S = marked_shares s more owns has puts
 
   module _ (g : ℕ) (q : Place) (e : find (λ p. number_of p == g) (places u) ≡ Some q) where
     none-past : (l p : ℕ) → width q.graph l < p → is_copied P S s g l p ≡ false
@@ -100,7 +102,7 @@ module _ (u : Unit1) (P : Plan) (owns has : (graph port : ℕ) → Bool) (puts :
     kind-marked : (v : Vertex) (k : Kind) → v.kind ≡ k → v.ins ≡ ins_of u q.graph v.label v.kind → IsNodeMarked P S s g v k
     kind-marked v (Plain row shape) is ins = tt
     kind-marked v (Whole (form.Call f)) is ins = (
-      (λ p. and-grouped (s.is_given g v.label p) (s.is_aggregate g v.label p) (not (s.is_taken g v.label p))),
+      (λ p. copies-same (s.is_given g v.label p) (s.is_aggregate g v.label p) (s.is_taken g v.label p) (more g v.label p) (apart g v.label p)),
       (λ p le. none-past v.label p (past-ins v (Whole (form.Call f)) is ins p le)),
       ap first_port is,
     )
@@ -122,13 +124,13 @@ module _ (u : Unit1) (P : Plan) (owns has : (graph port : ℕ) → Bool) (puts :
       go (Some q) e = subst (λ n. EachNode (λ v. IsNodeMarked P S s g v v.kind) n.nodes) (sym (ap (net_at u) e)) (nodes-marked g q e (out-Graph q.graph).nodes)
 
 -- the boundary consumes all its results
-results-marked : (u : Unit1) (o : Option Place) (p : ℕ)
+results-marked : (u : Unit1) (o : Option Place) (p : ℕ) (m : Bool) → (test_in o (λ h. carries_aggregate u (edge_into h 0 p)) ≡ true → m ≡ false)
     → test_in o (λ h. carries_aggregate u (edge_into h 0 p)) && not (test_in o (λ h. takes (edge_into h 0 p)))
-    ≡ (test_in o (λ h. consumes u h 0 p) && test_in o (λ h. carries_aggregate u (edge_into h 0 p))) && not (test_in o (λ h. takes (edge_into h 0 p)))
-results-marked u None p = refl
-results-marked u (Some q) p = refl
+    ≡ (test_in o (λ h. consumes u h 0 p) && test_in o (λ h. carries_aggregate u (edge_into h 0 p))) && not (m || test_in o (λ h. takes (edge_into h 0 p)))
+results-marked u None p m h = refl
+results-marked u (Some q) p m h = copies-same true (carries_aggregate u (edge_into q.graph 0 p)) (takes (edge_into q.graph 0 p)) m h
 
 pub unit-weights : AreUnitWeights
-unit-weights u P owns has puts picks as_many =
-    modes-weights P (marked_shares (storage_of u) owns has puts) (storage_of u) (network u)
-    (record { nodes = unit-marked u P owns has puts picks; results = λ g p. results-marked u (find (λ q. number_of q == g) (places u)) p; as_many = as_many })
+unit-weights u P more owns has puts apart picks as_many =
+    modes-weights P (marked_shares (storage_of u) more owns has puts) (storage_of u) (network u)
+    (record { nodes = unit-marked u P more owns has puts apart picks; results = λ g p. results-marked u (find (λ q. number_of q == g) (places u)) p (more g 0 p) (apart g 0 p); as_many = as_many })

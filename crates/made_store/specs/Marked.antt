@@ -1,5 +1,5 @@
 -- Runs of code that is made of a plan that takes and copies by the marks of its unit.
-use Rattle.std.specs.Prelude.{◌≡◌, ◌<◌, ◌≤◌, ◌⊎◌, ℕ, ◌&&◌, Bool, List, [], length}
+use Rattle.std.specs.Prelude.{◌≡◌, ◌<◌, ◌≤◌, ◌⊎◌, ℕ, ◌&&◌, Bool, List, [], length, false, true}
 use Rattle.if1_graph.specs.declared.graph.Unit1.{Unit1}
 use Rattle.if1_graph.specs.Ready.{IsReady}
 use Rattle.if1_marks.specs.Sound.{IsSound}
@@ -31,8 +31,9 @@ pub record IsMarkedPlan (u : Unit1) (P : Plan) (S : Shares) (W : Weighing) (orde
 
 -- so nothing is asked of weights
 abbrev pub AreMarkedRunsDecided : Type 0
-AreMarkedRunsDecided = (u : Unit1) (P : Plan) (owns has : (graph port : ℕ) → Bool) (puts : (returns : ℕ) → List Bool) (order : ℕ → List Vertex) (functions : List ℕ) (levels limit : ℕ) → IsReady u → IsSound u → AreInOrder (network u) order
-    → (let S = marked_shares (storage_of u) owns has puts in
+AreMarkedRunsDecided = (u : Unit1) (P : Plan) (more : (graph node port : ℕ) → Bool) (owns has : (graph port : ℕ) → Bool) (puts : (returns : ℕ) → List Bool) (order : ℕ → List Vertex) (functions : List ℕ) (levels limit : ℕ) → IsReady u → IsSound u → AreInOrder (network u) order
+    → ((g l p : ℕ) → (storage_of u).is_aggregate g l p ≡ true → more g l p ≡ false)
+    → (let S = marked_shares (storage_of u) more owns has puts in
     let W = by_modes P S (storage_of u) in
     let X = laid P W (network u) order functions levels in
     let handling = handling_of (functions_settings P S levels functions) in

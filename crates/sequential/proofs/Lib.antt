@@ -8,3 +8,5 @@ pub mod LoadSteps
 pub mod MoveSteps
 pub mod LeaveSteps
 pub mod Same
+pub mod Rows
+pub mod FireSteps

@@ -4,4 +4,5 @@ pub mod Firing
 pub mod Bringing
 pub mod Loading
 pub mod Choices
+pub mod Valued
 pub mod Agrees

@@ -4,6 +4,7 @@
 mod bringing;
 mod choices;
 mod choosing;
+mod firing;
 mod laws;
 mod leaving;
 mod loading;

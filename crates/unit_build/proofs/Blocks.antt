@@ -8,7 +8,9 @@ use Rattle.std.proofs.Math.ListN.{get_or-eq_default}
 use Rattle.typed_tree.specs.declared.program.Program.{Program}
 use Rattle.lowering.specs.declared.feed.Wire.{Wire}
 use Rattle.lowering.specs.declared.graph.LoweredNode.{LoweredNode}
-use Rattle.lowered_units.specs.Units.{edges_into, node_edges, edges_of}
+use Rattle.lowering.specs.Types.{Table}
+use Rattle.lowered_units.specs.Units.{edges_into, node_edges, edges_of, entries_from}
+use Rattle.type_labels.specs.Lines.{line_of, lines_from}
 
 pub block-more : {A : Type 0} (xs more block all rest left whole : List A) → xs ++ all ≡ whole → all ≡ block ++ rest → more ≡ xs ++ block → left ≡ rest → more ++ left ≡ whole
 block-more xs more block all rest left whole e a m r =
@@ -38,3 +40,8 @@ all-left P xs ys h = subst (All P) (take_at xs ys (length xs) refl) (All-take P 
 
 pub all-right : {A : Type 0} (P : A → Type 0) (xs ys : List A) → All P (xs ++ ys) → All P ys
 all-right P xs ys h = subst (All P) (drop_at xs ys (length xs) refl) (All-drop P (length xs) (xs ++ ys) h)
+
+-- the lines of a table are those of the unit
+pub lines-entries : (p : Program) (label : ℕ) (es : Table) → lines_from label es ≡ entries_from p label es
+lines-entries p label [] = refl
+lines-entries p label (e ∷ es) = ap (λ l. line_of label e ∷ l) (lines-entries p (suc label) es)

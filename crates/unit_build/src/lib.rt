@@ -5,11 +5,9 @@
 mod codes;
 mod edges;
 mod graphs;
-mod labels;
 mod literals;
 mod maker;
 mod nodes;
 mod unit;
 
-pub use labels::Labels;
 pub use unit::unit_of;

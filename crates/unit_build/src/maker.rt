@@ -1,7 +1,7 @@
 //! What the unit of a program is made from.
 ghost use Rattle.unit_build.specs.Labels.{AreLabelsOf};
 
-use crate::labels::Labels;
+use line_labels::Labels;
 use std::alloc::Global;
 use typed_tree::Program;
 

@@ -4,17 +4,16 @@ ghost use Rattle.std.specs.List.{list_any};
 ghost use Rattle.lowering.specs.Graphs.{closed, size};
 ghost use Rattle.lowering.specs.Programs.{functions_lowered};
 ghost use Rattle.lowering.specs.TooMany.{too_many};
-ghost use Rattle.lowering.specs.Types.{table};
 ghost use Rattle.lowered_units.specs.Fitting.{IsFitting};
 ghost use Rattle.lowered_units.specs.Listed.{listing};
-ghost use Rattle.lowered_units.specs.Units.{function_listings, import_if, imports_of, entries_from, IsTranslated};
+ghost use Rattle.lowered_units.specs.Units.{function_listings, import_if, imports_of, IsTranslated};
 ghost use Rattle.unit_build.specs.Labels.{AreLabelsOf};
 ghost use Rattle.unit_build.specs.Readiness.{IsReadyFunction, AreReady};
 
-use crate::labels::Labels;
 use crate::maker::Maker;
 use flow_value::{NoMemory, Seq};
-use if1_graph::{GraphList, Imports, TypeTable, Unit1};
+use if1_graph::{GraphList, Imports, Unit1};
+use line_labels::Labels;
 use lowering::Lowered;
 use std::alloc::Global;
 use typed_tree::{Function, Program};
@@ -125,20 +124,17 @@ impl Maker<'_> {
     }
 }
 
-/// The unit of a program within the limits, of its lowered functions, the labels of what their edges
-/// carry, and the table of its types.
+/// The unit of a program within the limits, of its lowered functions and its labels.
 pub fn unit_of(
     alloc: Global,
     program: &Program,
     lowered: Seq<Lowered>,
     labels: &Labels,
-    types: TypeTable,
 ) -> Result<Unit1, NoMemory>
     requires fits { IsFitting program.now }
     requires within { too_many program.now ≡ None }
     requires functions { lowered ≡ functions_lowered program.now }
     requires labels { AreLabelsOf program.now labels.now }
-    requires types { types ≡ entries_from program.now 1 (table program.now) }
     ensures { IfOk result (λ unit. IsTranslated program.now unit) }
 {
     let maker = Maker {
@@ -147,6 +143,7 @@ pub fn unit_of(
         labels,
     };
     let exports = exports(alloc, program.functions.len(), program.defines.as_slice())?;
+    let types = labels.table.lines()?;
     let imports = maker.imports()?;
     let graphs = maker.graphs_of(lowered, exports.as_slice())?;
     Ok(Unit1 {

@@ -30,6 +30,6 @@ pub returns-clause-standing : goal.returns-clause-standing
 returns-clause-standing c = λ text.
     let u = c.args.unit in
     let d = c.in_ok-types.field-0 in
-    stands_of c.functions.new.walk.types u d.types d.named d.numbers d.functions d.defines
+    stands_of c.functions.new.walk.types c.as_slice-4.result.now c.in_ok-functions.functions (c.in_ok-functions.ensures.typed c.new.ensures) u d.types d.named d.numbers d.functions d.defines
     (record { tokens = c.as_slice.ensures; spellings = c.as_slice-2.ensures; named_by = refl; functions = c.as_slice-3.ensures; numbers_by = refl })
     (c.in_ok-types.ensures.declares text.spelled) text c.in_ok-types.ensures.numbers c.in_ok-types.ensures.own.distinct c.in_ok-functions.ensures.used
