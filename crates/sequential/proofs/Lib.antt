@@ -6,6 +6,9 @@ pub mod Stepping
 pub mod Deciding
 pub mod LoadSteps
 pub mod MoveSteps
+pub mod LendSteps
+pub mod HandSteps
+pub mod CallSteps
 pub mod LeaveSteps
 pub mod Same
 pub mod Rows

@@ -2,11 +2,14 @@
 #![tactic(auto)]
 
 mod bringing;
+mod calling;
 mod choices;
 mod choosing;
 mod firing;
+mod handing;
 mod laws;
 mod leaving;
+mod lending;
 mod loading;
 mod machine;
 mod moving;
