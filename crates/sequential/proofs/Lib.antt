@@ -13,3 +13,4 @@ pub mod LeaveSteps
 pub mod Same
 pub mod Rows
 pub mod FireSteps
+pub mod TagSteps

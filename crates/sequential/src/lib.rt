@@ -17,6 +17,7 @@ mod numbers;
 mod scalar;
 mod sights;
 mod steps;
+mod tagging;
 
 pub use laws::steps_are_for_all;
 pub use machine::{Machine, OpenCall, Turn};
