@@ -55,5 +55,5 @@ pub enum Part {
     /// The content of a union.
     Content,
     /// The element of a multiple at a place, counted from 0.
-    Place(u32),
+    Place(usize),
 }

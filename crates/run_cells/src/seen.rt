@@ -116,7 +116,7 @@ fn one_part(seen: Seen<'_>, part: Part) -> Seen<'_>
     match part {
         Part::Elements => elements(seen),
         Part::Content => content(seen),
-        Part::Place(place) => element(seen, place as usize),
+        Part::Place(place) => element(seen, place),
     }
 }
 

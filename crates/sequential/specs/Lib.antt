@@ -3,6 +3,7 @@ pub mod Hops
 pub mod Firing
 pub mod Bringing
 pub mod Loading
+pub mod Handing
 pub mod Choices
 pub mod Valued
 pub mod Agrees

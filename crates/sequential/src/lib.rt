@@ -2,11 +2,14 @@
 #![tactic(auto)]
 
 mod bringing;
+mod calling;
 mod choices;
 mod choosing;
 mod firing;
+mod handing;
 mod laws;
 mod leaving;
+mod lending;
 mod loading;
 mod machine;
 mod moving;
@@ -14,6 +17,7 @@ mod numbers;
 mod scalar;
 mod sights;
 mod steps;
+mod tagging;
 
 pub use laws::steps_are_for_all;
 pub use machine::{Machine, OpenCall, Turn};

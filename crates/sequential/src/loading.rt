@@ -34,7 +34,8 @@ pub fn load(
     Ok(())
 }
 
-fn operand_at(operands: &[Operand], place: usize) -> Operand
+/// The operand at a place.
+pub fn operand_at(operands: &[Operand], place: usize) -> Operand
     requires { place < length operands.now }
     ensures { slice_get operands.now place ≡ Some result }
 {

@@ -19,6 +19,6 @@ loop-place-preserved c =
       size = length-set l.cells.items (c.args.from + l.place) cell ∙ l.invariant.size;
       long = c.taken_out-cell.ensures.long ∙ l.invariant.long;
       others = c.taken_out-cell.ensures.others ∙ same-behind l.loaded.items c.args.loaded.now.items l.place l.invariant.others;
-      heap = λ rs e. l.invariant.heap rs e ∙ unload-more n l.place c.args.from rs cell l.cells.items lt inside
-          (ap held (c.taken_out-cell.ensures.value ∙ same-place l.loaded.items c.args.loaded.now.items l.place l.invariant.others) ∙ held-at c.args.loaded.now.items rs e l.place lt);
+      heap = λ hands rs e. l.invariant.heap hands rs e ∙ unload-more n l.place c.args.from hands rs cell l.cells.items lt inside
+          (ap held (c.taken_out-cell.ensures.value ∙ same-place l.loaded.items c.args.loaded.now.items l.place l.invariant.others) ∙ held-at c.args.loaded.now.items hands rs e l.place lt);
     }
