@@ -1,0 +1,6 @@
+mod Forms
+mod Names
+mod Steps
+mod Forks
+mod Turning
+mod Arms
