@@ -4,3 +4,4 @@ mod Steps
 mod Forks
 mod Turning
 mod Arms
+mod Initials
