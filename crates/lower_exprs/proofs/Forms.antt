@@ -11,11 +11,12 @@ use Rattle.typed_tree.specs.declared.expr.TypedKind.TheOpen.{TypedKind-F}
 use Rattle.typed_tree.specs.declared.expr.TypedKind.TheFolds.{map-TypedKind, fold-roll-TypedKind, fold-roll-TypedExpr}
 use Rattle.typed_tree.specs.declared.expr.Case.{Case}
 use Rattle.typed_tree.specs.declared.expr.Product.{Product}
+use Rattle.typed_tree.specs.declared.expr.Turns.{Turns}
 use Rattle.lowering.specs.declared.feed.Wire.{Wire}
 use Rattle.lowering.specs.Graphs.{Lowering, only, andthen}
 use Rattle.lowering.specs.Operations.{all_lowered, body_lowered, wire_at, constant_lowered}
 use Rattle.lowering.specs.Choices.{if_lowered, case_lowered}
-use Rattle.lowering.specs.Loops.{Phrase, product_lowered}
+use Rattle.lowering.specs.Loops.{Phrase, product_lowered, initial_lowered}
 use Rattle.lowering.specs.Phrases.{Kind, each, phrase, phrase_kind, kind_lowered, expr_lowered, lowers}
 use Rattle.lower_exprs.specs.Phrased.{kind_of, phrases, alls, lists, call_of, apply_of}
 
@@ -58,3 +59,7 @@ module _ (forms : List Form) where
     pub product_is : (p : Product) (bs : List TypedExpr) (ds : List (List TypedExpr)) (es : List TypedExpr) → k ≡ typed.Product p bs ds es
         → kind_of forms k ts env ≡ andthen (alls forms bs env) (λ ws. product_lowered forms p (lists forms ds) (each (phrases forms es)) ts ws env)
     product_is p bs ds es h = ap (λ y. kind_of forms y ts env) (h ∙ sym (typed.rolls-Product p bs ds es)) ∙ layer_is (TypedKind-F.Product p bs ds es) ts env
+
+    pub initial_is : (t : Turns) (fs : List (List TypedExpr)) (test : List TypedExpr) (ds : List (List TypedExpr)) (es : List TypedExpr) → k ≡ typed.Initial t fs test ds es
+        → kind_of forms k ts env ≡ initial_lowered t (lists forms fs) (each (phrases forms test)) (lists forms ds) (phrases forms es) ts env
+    initial_is t fs test ds es h = ap (λ y. kind_of forms y ts env) (h ∙ sym (typed.rolls-Initial t fs test ds es)) ∙ layer_is (TypedKind-F.Initial t fs test ds es) ts env

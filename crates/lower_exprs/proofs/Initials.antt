@@ -1,7 +1,7 @@
 -- Loops of turns: what they collect, and their four graphs.
-use Rattle.std.proofs.Common.{◌≡◌, ◌≤◌, ◌<◌, ◌+◌, ◌⊎◌, inl, inr, ℕ, zero, suc, min, Bool, true, false, List, [], ◌∷◌, ◌++◌, map, take, drop, length, All, Option, Some, None, refl, sym, ap, ap₂, subst, ◌∙◌, append-nil, append_assoc, arith}
+use Rattle.std.proofs.Common.{◌≡◌, ◌≤◌, ◌<◌, ◌+◌, ◌⊎◌, inl, inr, ℕ, zero, suc, min, Bool, true, false, List, [], ◌∷◌, ◌++◌, map, take, drop, length, get_or, All, Option, Some, None, refl, sym, ap, ap₂, subst, ◌∙◌, append-nil, append_assoc, arith}
 use Rattle.std.specs.Prelude.{Result, IfOk}
-use Rattle.std.proofs.lemmas.List.{length-map, length-append, drop_all, take_at}
+use Rattle.std.proofs.lemmas.List.{length-map, length-append, drop_all, drop_more, take_at}
 use Rattle.std.proofs.lemmas.List.Elements.{All-nil, All-cons}
 use Rattle.std.proofs.lemmas.Result.{IfOk-weaker}
 use mathlib.Core.Logic.{dite}
@@ -18,16 +18,20 @@ use Rattle.lowering.specs.Graphs.{Lowering, only, andthen, new_graph, size, whol
 use Rattle.lowering.specs.Operations.{Lowers, one, wire_at, all_lowered, defs_lowered}
 use Rattle.lowering.specs.Loops.{Phrase, Bound, Wired, types, many, own_inputs, take_up, returns_lowered, unless_places, loop_lowered, loop_kind, loop_name, extra, extras, place_of, collected, renew, test_lowered, row_of_turn, initial_lowered}
 use Rattle.lowered_data.specs.declared.made.Made.{Made}
+use Rattle.lowered_data.specs.declared.made.Around.{Around}
 use Rattle.lowered_data.specs.Scopes.{Scopes, scopes, with_names, entered, first_names}
-use Rattle.lowered_data.specs.States.{lowered_in, with_lowered, next_graph, unclosed, opened, IsMade, IsPart, AreParts, new_parts, places_in}
+use Rattle.lowered_data.specs.States.{lowered_in, with_lowered, next_graph, unclosed, opened, around_of, IsMade, IsPart, AreParts, new_parts, places_in}
 use Rattle.lowered_data.specs.Parts.{blank}
+use Rattle.lowering.specs.Phrases.{phrase, lowers}
+use Rattle.lowered_data.proofs.Lists.{rest_is}
 use Rattle.lowered_data.proofs.Laws.{only_made, andthen_made}
 use Rattle.lowered_data.proofs.Parts.{no_parts, first_part, first_place}
 use Rattle.lower_nodes.specs.declared.loops.Placed.{Placed}
 use Rattle.lower_nodes.specs.Placing.{IsPlaced}
-use Rattle.lower_nodes.proofs.Walks.{Going, with_values, goes_on, ended_only}
+use Rattle.lower_nodes.proofs.Walks.{Going, with_values, goes_on, ended}
 use Rattle.lower_exprs.specs.Phrased.{Grows, maybe_not, phrases}
 use Rattle.typed_tree.specs.declared.expr.TypedExpr.{TypedExpr}
+use Rattle.lower_exprs.proofs.Steps.{in_open, more_inside}
 use Rattle.lower_exprs.specs.Turned.{kept, place_at, next_after, extra_lowered, StandIn}
 
 -- ---- what is collected
@@ -243,3 +247,104 @@ module _ (forms : List Form) (loop : Option ℕ → Option ℕ) where
 
   pub extras_over : (bs : List Bool) (es : List TypedExpr) (i : ℕ) → min (length bs) (length es) ≤ i → extras loop (drop i bs) (phrases forms (drop i es)) ≡ []
   extras_over bs es i le = no_extras loop (drop i bs) (phrases forms (drop i es)) (none_left (drop i bs) (drop i es) (one_over bs es i le))
+
+pub turned_names : (s n u : Scopes) (more own : List Wire) (around : ℕ) → around ≡ length s.here → n ≡ with_names (entered s) more → u ≡ with_names (first_names around n) own → u ≡ with_names (entered s) own
+turned_names s n u more own around l e f = f ∙ ap (λ (k : Scopes). with_names k own) (around_left s n more around l e)
+
+pub test_is : (b : Bool) (gs : List Lowers) (env : List Wire) → maybe_not b (all_lowered gs) env ≡ test_lowered b gs env
+test_is true gs env = refl
+test_is false gs env = refl
+
+-- ---- the parts that see the loop values
+
+rows_are : (t : Turns) (ps : List Phrase) (s n : Scopes) (more loop own : List Wire) (around count : ℕ) (flags : List Bool) (b c : Made) (vs : List Wire)
+    → around ≡ length s.here → count ≡ length loop → flags ≡ unless_places t.clauses → n ≡ with_names (entered s) more
+    → IsMade (row_of_turn (extras (loop_name around count) flags ps) (take around n.here) own) b c vs
+    → IsMade (row_of_turn (es_of t ps s.here loop) (map into s.here) own) b c vs
+unfolding es_of
+rows_are t ps s n more loop own around count flags b c vs la lc fl e p =
+    let taken : take around n.here ≡ map into s.here = ap (λ (k : Scopes). k.here) (around_left s n more around la e) in
+    subst (λ (i : ℕ). IsMade (row_of_turn (extras (loop_name i (length loop)) (unless_places t.clauses) ps) (map into s.here) own) b c vs) la
+    (subst (λ (i : ℕ). IsMade (row_of_turn (extras (loop_name around i) (unless_places t.clauses) ps) (map into s.here) own) b c vs) lc
+    (subst (λ (bs : List Bool). IsMade (row_of_turn (extras (loop_name around count) bs ps) (map into s.here) own) b c vs) fl
+    (subst (λ (k : List Wire). IsMade (row_of_turn (extras (loop_name around count) flags ps) k own) b c vs) taken p)))
+
+pub first_defs : (fs : List (List Lowers)) (s n : Scopes) (o b : Made) (all : List Wire) → n ≡ with_names (entered s) [] → IsMade (defs_lowered fs n.here) o b all → IsMade (defs_lowered fs (map into s.here)) o b all
+first_defs fs s n o b all e p = subst (λ (k : List Wire). IsMade (defs_lowered fs k) o b all) (ap (λ (k : Scopes). k.here) e ∙ append-nil (map into s.here)) p
+
+pub first_placed : (t : Turns) (fs : List (List Lowers)) (ps : List Phrase) (s n1 n2 : Scopes) (around count : ℕ) (flags : List Bool) (held vs : List Wire) (a o b c d : Made) (w : Around) (x : Placed)
+    → around ≡ length s.here → count ≡ length held → flags ≡ unless_places t.clauses
+    → n1 ≡ with_names (entered s) [] → Grows n1 n2 → o ≡ opened a → w ≡ around_of a
+    → IsMade (defs_lowered fs n1.here) o b n2.here → held ≡ drop around n2.here
+    → IsMade (row_of_turn (extras (loop_name around count) flags ps) (take around n2.here) held) b c vs
+    → ((f : Lowering) (before : Made) → w ≡ around_of before → IsMade f (opened before) c vs → IsPlaced f before d x)
+    → IsPlaced (first_of t fs ps s.here held (map into s.here)) a d x
+first_placed t fs ps s n1 n2 around count flags held vs a o b c d w x la lc fl e1 g oo ww p h q shut =
+    let names = more_inside s n1 n2 [] g.more e1 g.is in
+    let f = first_of t fs ps s.here held (map into s.here) in
+    let drops : held ≡ drop (length s.here) n2.here = h ∙ ap (λ (i : ℕ). drop i n2.here) la in
+    shut f a ww (in_open f a o c vs oo (first_made t fs ps s.here held n2.here o b c vs (first_defs fs s n1 o b n2.here e1 p) drops
+    (rows_are t ps s n2 g.more held held around count flags b c vs la lc fl names q)))
+
+pub turn_placed : (t : Turns) (ds : List (List Lowers)) (ps : List Phrase) (s n1 n2 : Scopes) (around count start : ℕ) (flags : List Bool) (loop own next vs : List Wire) (a o b c d : Made) (w : Around) (x : Placed)
+    → around ≡ length s.here → count ≡ length loop → flags ≡ unless_places t.clauses
+    → n1 ≡ with_names (entered s) own → Grows n1 n2 → start ≡ length n1.here → o ≡ opened a → w ≡ around_of a
+    → IsMade (defs_lowered ds n1.here) o b n2.here → next ≡ renew t.renewed (drop start n2.here) own
+    → IsMade (row_of_turn (extras (loop_name around count) flags ps) (take around n2.here) next) b c vs
+    → ((f : Lowering) (before : Made) → w ≡ around_of before → IsMade f (opened before) c vs → IsPlaced f before d x)
+    → IsPlaced (turn_of t ds ps s.here loop (map into s.here ++ own)) a d x
+turn_placed t ds ps s n1 n2 around count start flags loop own next vs a o b c d w x la lc fl e1 g ls oo ww p h q shut =
+    let names = more_inside s n1 n2 own g.more e1 g.is in
+    let inside = map into s.here ++ own in
+    let f = turn_of t ds ps s.here loop inside in
+    let here : n1.here ≡ inside = ap (λ (k : Scopes). k.here) e1 in
+    let p' : IsMade (defs_lowered ds inside) o b n2.here = subst (λ (k : List Wire). IsMade (defs_lowered ds k) o b n2.here) here p in
+    let later : drop start n2.here ≡ drop (length inside) n2.here = ap (λ (i : ℕ). drop i n2.here) (ls ∙ ap (λ (k : List Wire). length k) here) in
+    shut f a ww (in_open f a o c vs oo (turn_made t ds ps s.here loop own (drop start n2.here) next n2.here o b c vs p' later h
+    (rows_are t ps s n2 (own ++ g.more) loop next around count flags b c vs la lc fl names q)))
+
+-- the loop, by its parts
+pub initial_ends : {E : Type 0} (answer : Result (List Wire) E) (t : Turns) (fs : List (List Lowers)) (test : List Lowers) (ds : List (List Lowers)) (ps : List Phrase) (ts : List ℕ) (s n1 n2 : Scopes)
+    (around count : ℕ) (flags : List Bool) (places : List ℕ) (held : List Wire) (a o b m : Made)
+    → around ≡ length s.here → count ≡ length held → flags ≡ unless_places t.clauses
+    → n1 ≡ with_names (entered s) [] → o ≡ opened a → IsMade (defs_lowered fs n1.here) o b n2.here → held ≡ drop around n2.here
+    → places ≡ collected (loop_name around count) count flags ps
+    → IfOk answer (λ ws. IsMade (loop_lowered (loop_kind t.is_first) (first_of t fs ps s.here held) (test_lowered t.is_until test) (turn_of t ds ps s.here held) (types held) places t.clauses ts s.here) a m ws)
+    → IfOk answer (λ ws. IsMade (initial_lowered t fs test ds ps ts s.here) a m ws)
+unfolding loop_by
+initial_ends answer t fs test ds ps ts s n1 n2 around count flags places held a o b m la lc fl e1 oo p h pl go =
+    let drops : held ≡ drop (length s.here) n2.here = h ∙ ap (λ (i : ℕ). drop i n2.here) la in
+    let at : places ≡ collected (loop_name (length s.here) (length held)) (length held) (unless_places t.clauses) ps =
+    pl ∙ ap (λ (bs : List Bool). collected (loop_name around count) count bs ps) fl ∙ ap₂ (λ (i j : ℕ). collected (loop_name i j) j (unless_places t.clauses) ps) la lc in
+    initial_made answer t fs test ds ps ts s.here held a m (loop_values fs s.here a o b n2.here held oo (first_defs fs s n1 o b n2.here e1 p) drops)
+    (subst (λ (k : List ℕ). IfOk answer (λ (ws : List Wire). IsMade (loop_lowered (loop_kind t.is_first) (first_of t fs ps s.here held) (test_lowered t.is_until test) (turn_of t ds ps s.here held) (types held) k t.clauses ts s.here) a m ws)) at go)
+
+same_item : {X : Type 0} (xs : List X) (i : ℕ) (x y : X) → i < length xs → x ≡ get_or xs i x → y ≡ get_or xs i y → x ≡ y
+same_item xs i x y lt p q = ap (λ l. get_or l 0 x) (sym (rest_is xs i x lt p) ∙ rest_is xs i y lt q)
+
+pub extras_go_on : (forms : List Form) (loop : Option ℕ → Option ℕ) (bs : List Bool) (es : List TypedExpr) (i : ℕ) (x y : TypedExpr) (place : Option ℕ) (f : Lowering) (env : List Wire)
+    (a b c : Made) (values vs all : List Wire)
+    → i < length bs → i < length es → x ≡ get_or es i x → y ≡ get_or es i y
+    → place ≡ kept loop (get_or bs i false) (phrase forms x).name
+    → Going f (all_lowered (extras loop (drop i bs) (phrases forms (drop i es))) env) a b values
+    → IsMade (extra_lowered place (maybe_not (get_or bs i false) (lowers forms y)) env) b c vs → all ≡ values ++ vs
+    → Going f (all_lowered (extras loop (drop (i + 1) bs) (phrases forms (drop (i + 1) es))) env) a c all
+extras_go_on forms loop bs es i x y place f env a b c values vs all lb le xx yy pl h p e =
+    let n = get_or bs i false in
+    let o = kept loop n (phrase forms x).name in
+    let g = maybe_not n (lowers forms x) in
+    let rest = extras loop (drop (i + 1) bs) (phrases forms (drop (i + 1) es)) in
+    let step : extras loop (drop i bs) (phrases forms (drop i es)) ≡ extra o g ++ rest =
+    ap₂ (λ (k : List Bool) (u : List TypedExpr). extras loop k (phrases forms u)) (drop_more bs i false lb) (rest_is es i x le xx)
+    ∙ extras_step loop n (drop (i + 1) bs) (phrase forms x) (phrases forms (drop (i + 1) es)) in
+    let begun : Going f (all_lowered (extra o g ++ rest) env) a b values = subst (λ (k : List Lowers). Going f (all_lowered k env) a b values) step h in
+    let one : IsMade (extra_lowered o g env) b c vs =
+    subst (λ (k : Option ℕ). IsMade (extra_lowered k g env) b c vs) pl
+    (subst (λ (u : TypedExpr). IsMade (extra_lowered place (maybe_not n (lowers forms u)) env) b c vs) (same_item es i y x le yy xx) p) in
+    goes_on_extra f o g rest env a b c values vs all begun one e
+
+pub extras_ended : (forms : List Form) (loop : Option ℕ → Option ℕ) (bs : List Bool) (es : List TypedExpr) (i : ℕ) (f : Lowering) (env : List Wire) (a b : Made) (values : List Wire)
+    → min (length bs) (length es) ≤ i
+    → Going f (all_lowered (extras loop (drop i bs) (phrases forms (drop i es))) env) a b values → IsMade f a b values
+extras_ended forms loop bs es i f env a b values le h =
+    ended f env a b values (subst (λ (k : List Lowers). Going f (all_lowered k env) a b values) (extras_over forms loop bs es i le) h)

@@ -4,7 +4,7 @@ ghost use Rattle.type_table.specs.declared.form.Form.{Form};
 ghost use Rattle.lowering.specs.declared.feed.Wire.{Wire};
 ghost use Rattle.lowering.specs.Feeds.{into};
 ghost use Rattle.lowering.specs.Operations.{Lowers, wire_at};
-ghost use Rattle.lowering.specs.Loops.{many, own_inputs, loop_name, loop_kind, loop_lowered, collected, renew, renew_one};
+ghost use Rattle.lowering.specs.Loops.{many, own_inputs, loop_name, loop_kind, loop_lowered, collected, renew, renew_one, types};
 ghost use Rattle.lowering.specs.Phrases.{phrase};
 ghost use Rattle.lowered_data.specs.declared.made.Made.{Made};
 ghost use Rattle.lowered_data.specs.States.{IsMade};
@@ -14,8 +14,8 @@ ghost use Rattle.lower_exprs.specs.Turned.{kept, place_at, next_after, StandIn};
 
 use flow_value::{NoMemory, Seq};
 use if1_graph::Compound;
-use lower_nodes::{Bound, Placed, many_inputs, one, returns_part, wire_at};
-use lowered_data::{Made, Names, copy_wire};
+use lower_nodes::{Bound, Placed, many_inputs, one, returns_part, types_of, wire_at};
+use lowered_data::{Made, Names, carried_ports, copy_wire};
 use lowering::{Carried, Wire};
 use std::alloc::Global;
 use typed_tree::{Turns, TypedExpr, TypedKind};
@@ -224,4 +224,27 @@ pub fn loop_node(
         0,
         types,
     )
+}
+
+/// The inputs of a turn for loop names that have these values at first.
+pub fn turn_inputs(alloc: Global, wires: &[Wire]) -> Result<Seq<Wire>, NoMemory>
+    ensures { IfOk result (λ ws. ws ≡ own_inputs 1 (types wires.now)) }
+{
+    let carried = types_of(alloc, wires)?;
+    carried_ports(alloc, 0, 1, carried.as_slice())
+}
+
+/// The loop names after a turn, whose definitions are the names from a level on.
+pub fn renewed(
+    alloc: Global,
+    names: &Names,
+    from: usize,
+    turns: &Turns,
+    own: Seq<Wire>,
+) -> Result<Seq<Wire>, NoMemory>
+    ensures { IfOk result (λ ws. ws ≡ renew turns.now.renewed (drop from names.now.here) own) }
+{
+    let later = names_from(alloc, names, from)?;
+    let places = turns.renewed.as_slice();
+    renew(alloc, places, later.as_slice(), own)
 }

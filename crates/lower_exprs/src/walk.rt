@@ -1,11 +1,13 @@
 //! Expressions are lowered, by their parts.
-ghost use Rattle.std.specs.Prelude.{◌≡◌, ◌∷◌, ◌<◌, [], length, map, slice_index, IfOk, OnOk};
+ghost use Rattle.std.specs.Prelude.{◌≡◌, ◌∷◌, ◌++◌, ◌<◌, [], length, map, take, slice_index, IfOk, OnOk};
 ghost use Rattle.lowering.specs.Feeds.{into};
 ghost use Rattle.lowering.specs.Operations.{all_lowered, wire_at};
-ghost use Rattle.lowering.specs.Loops.{clauses_lowered};
+ghost use Rattle.lowering.specs.Loops.{clauses_lowered, loop_name, extras, row_of_turn};
 ghost use Rattle.lowering.specs.Phrases.{each, lowers};
-ghost use Rattle.lowered_data.specs.Scopes.{scopes};
+ghost use Rattle.lowered_data.specs.Scopes.{scopes, with_names, first_names};
 ghost use Rattle.lowered_data.specs.States.{IsMade, IsPart, AreParts, places_in};
+ghost use Rattle.lower_nodes.specs.Placing.{IsPlaced};
+ghost use Rattle.lower_exprs.specs.Turned.{extra_lowered};
 ghost use Rattle.lower_exprs.specs.Phrased.{
   kind_of,
   alls,
@@ -21,14 +23,16 @@ ghost use Rattle.lower_exprs.specs.Phrased.{
   IsIf,
   IsCase,
   IsProduct,
+  IsInitial,
   maybe_not,
   phrases,
 };
 
+use crate::turns::{collected, kept, loop_node, names_from, renewed, turn_inputs};
 use flow_value::{NoMemory, Numbers, Scalar1, Seq};
 use if1_graph::{Compound, Simple};
 use lower_nodes::{
-    BOOLEAN, INTEGER, append, applied, arms_of, begin, bound_of, constant, content_of, first_tags,
+    BOOLEAN, INTEGER, Placed, append, applied, arms_of, begin, bound_of, constant, content_of, first_tags,
     flag_at, generator_part, inside, many_inputs, nil, returns_part, row, shut_part, single_inputs,
     tag_count, type_of, unless_places, wire_at,
 };
@@ -89,7 +93,7 @@ fn kind(
         TypedKind::If(_, _, _) => if_else(alloc, forms, names, made, kind, types),
         TypedKind::Case(_, _, _) => tag_case(alloc, forms, names, made, kind, types),
         TypedKind::Product(_, _, _, _) => product(alloc, forms, names, made, kind, types),
-        TypedKind::Initial(_, _, _, _, _) => Err(NoMemory),
+        TypedKind::Initial(_, _, _, _, _) => initial(alloc, forms, names, made, kind, types),
     }
 }
 
@@ -459,4 +463,163 @@ fn product(
         columns.len(),
         types,
     )
+}
+
+/// A value or mask of a clause, unless it is the loop name of a place.
+#[cycle(lowered)]
+fn extra(
+    alloc: Global,
+    forms: &[Form],
+    names: &mut Names,
+    made: &mut Made,
+    place: Option<usize>,
+    is_negated: bool,
+    e: &TypedExpr,
+) -> Result<Seq<Wire>, NoMemory>
+    ensures made { IfOk result (λ ws. IsMade (extra_lowered place (maybe_not is_negated (lowers forms.now e.now)) names.old.here) made.old made.new ws) }
+    ensures names { OnOk result (names.new ≡ names.old) }
+{
+    match place {
+        Some(_) => Ok(Seq::new(alloc)),
+        None => value(alloc, forms, names, made, is_negated, e),
+    }
+}
+
+/// What a loop of turns collects besides its loop names.
+#[cycle(lowered)]
+fn extras(
+    alloc: Global,
+    forms: &[Form],
+    names: &mut Names,
+    made: &mut Made,
+    around: usize,
+    count: usize,
+    negated: &[bool],
+    parts: &[TypedExpr],
+) -> Result<Seq<Wire>, NoMemory>
+    ensures made { IfOk result (λ ws. IsMade (all_lowered (extras (loop_name around count) negated.now (phrases forms.now parts.now)) names.old.here) made.old made.new ws) }
+    ensures names { OnOk result (names.new ≡ names.old) }
+{
+    let mut values = Seq::new(alloc);
+    let flags = negated.len().min(parts.len());
+    for at in 0..flags {
+        let is_negated = negated[at];
+        let place = kept(around, count, is_negated, &parts[at]);
+        let more = extra(alloc, forms, names, made, place, is_negated, &parts[at])?;
+        append(&mut values, more)?;
+    }
+    Ok(values)
+}
+
+/// The loop names, which come into force behind the names around, and what is collected besides.
+#[cycle(lowered)]
+fn turned(
+    alloc: Global,
+    forms: &[Form],
+    names: &mut Names,
+    made: &mut Made,
+    around: usize,
+    count: usize,
+    negated: &[bool],
+    own: Seq<Wire>,
+    parts: &[TypedExpr],
+) -> Result<Seq<Wire>, NoMemory>
+    ensures made { IfOk result (λ ws. IsMade (row_of_turn (extras (loop_name around count) negated.now (phrases forms.now parts.now)) (take around names.old.here) own) made.old made.new ws) }
+    ensures names { OnOk result (names.new ≡ with_names (first_names around names.old) own) }
+{
+    names.truncate(around);
+    names.define(alloc, own.as_slice())?;
+    let mut values = own;
+    let more = extras(alloc, forms, names, made, around, count, negated, parts)?;
+    append(&mut values, more)?;
+    Ok(values)
+}
+
+/// Expressions, or the Not of their value.
+#[cycle(lowered)]
+fn tested(
+    alloc: Global,
+    forms: &[Form],
+    names: &mut Names,
+    made: &mut Made,
+    is_until: bool,
+    parts: &[TypedExpr],
+) -> Result<Seq<Wire>, NoMemory>
+    ensures made { IfOk result (λ ws. IsMade (maybe_not is_until (alls forms.now parts.now) names.old.here) made.old made.new ws) }
+    ensures names { OnOk result (names.new ≡ names.old) }
+{
+    let values = all(alloc, forms, names, made, parts)?;
+    if is_until {
+        row(alloc, made, Simple::One(Scalar1::Not), values, &[BOOLEAN])
+    } else {
+        Ok(values)
+    }
+}
+
+/// The test of a loop of turns, in a part in which these are names too.
+#[cycle(lowered)]
+fn test_part(
+    alloc: Global,
+    forms: &[Form],
+    names: &mut Names,
+    made: &mut Made,
+    own: &[Wire],
+    is_until: bool,
+    parts: &[TypedExpr],
+) -> Result<Placed, NoMemory>
+    ensures part { IfOk result (λ p. IsPlaced (maybe_not is_until (alls forms.now parts.now) (map into names.old.here ++ own.now)) made.old made.new p) }
+    ensures names { OnOk result (names.new ≡ names.old) }
+{
+    let around = begin(alloc, names, made, own)?;
+    let values = tested(alloc, forms, names, made, is_until, parts)?;
+    names.leave();
+    shut_part(alloc, made, around, values)
+}
+
+/// `for initial .. end for`
+#[cycle(lowered)]
+fn initial(
+    alloc: Global,
+    forms: &[Form],
+    names: &mut Names,
+    made: &mut Made,
+    kind: &TypedKind,
+    types: &[u32],
+) -> Result<Seq<Wire>, NoMemory>
+    requires { IsInitial kind.now }
+    ensures made { IfOk result (λ ws. IsMade (kind_of forms.now kind.now types.now names.old.here) made.old made.new ws) }
+    ensures names { OnOk result (names.new ≡ names.old) }
+{
+    let TypedKind::Initial(turns, firsts, test, defs, parts) = kind else {
+        unreachable!()
+    };
+    let around = names.len();
+    let clauses = turns.clauses.as_slice();
+    let negated = unless_places(alloc, clauses)?;
+    let flags = negated.as_slice();
+    let results = parts.as_slice();
+    let begun = begin(alloc, names, made, &[])?;
+    let lets = firsts.as_slice();
+    defined(alloc, forms, names, made, lets)?;
+    let held = names_from(alloc, names, around)?;
+    let count = held.len();
+    let loops = held.as_slice();
+    let own = turn_inputs(alloc, loops)?;
+    let values = turned(alloc, forms, names, made, around, count, flags, held, results)?;
+    names.leave();
+    let first = shut_part(alloc, made, begun, values)?;
+    let named = own.as_slice();
+    let tests = test.as_slice();
+    let second = test_part(alloc, forms, names, made, named, turns.is_until, tests)?;
+    let opened = begin(alloc, names, made, named)?;
+    let start = names.len();
+    let turn = defs.as_slice();
+    defined(alloc, forms, names, made, turn)?;
+    let next = renewed(alloc, names, start, turns, own)?;
+    let sums = turned(alloc, forms, names, made, around, count, flags, next, results)?;
+    names.leave();
+    let third = shut_part(alloc, made, opened, sums)?;
+    let collects = collected(alloc, around, count, flags, results)?;
+    let places = collects.as_slice();
+    loop_node(alloc, made, turns, &first, &second, &third, places, types)
 }

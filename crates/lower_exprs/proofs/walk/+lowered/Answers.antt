@@ -1,4 +1,4 @@
-use Rattle.std.proofs.Common.{rules, ◌≡◌, ◌∙◌, ◌≤◌, ◌<◌, ◌+◌, ◌++◌, ◌∷◌, [], ℕ, List, map, drop, length, refl, sym, ap, ap₂, subst, append-nil, arith, suc, get_or, Bool, true, false, All}
+use Rattle.std.proofs.Common.{rules, ◌≡◌, ◌∙◌, ◌≤◌, ◌<◌, ◌+◌, ◌++◌, ◌∷◌, [], ℕ, List, map, drop, length, refl, sym, ap, ap₂, subst, append-nil, arith, suc, min, take, get_or, Bool, true, false, All, Option}
 use Rattle.std.specs.Prelude.{IfOk, OnOk}
 use Rattle.std.proofs.lemmas.List.{drop_all, get_or-drop, drop-drop}
 use Rattle.std.proofs.lemmas.Result.{IfOk-weaker, on_ok_weaker}
@@ -9,7 +9,7 @@ use Rattle.lowering.specs.declared.feed.Carried.TheVariants.{One}
 use Rattle.lowering.specs.declared.graph.Action.TheVariants.{Call}
 use Rattle.lowering.specs.Graphs.{Lowering, only, andthen, a_node, whole}
 use Rattle.lowering.specs.Choices.{applied, if_lowered, case_lowered, tag_case, tag_count, type_of, arms_of, arm_names, first_tag, tag_named}
-use Rattle.lowering.specs.Loops.{Bound, clauses_lowered, single, many, own_inputs, unless_places, generators_lowered, returns_lowered, bound_of, product_lowered}
+use Rattle.lowering.specs.Loops.{Bound, clauses_lowered, single, many, own_inputs, unless_places, renew, generators_lowered, returns_lowered, bound_of, product_lowered, initial_lowered, test_lowered, row_of_turn, loop_name, loop_kind, extras, types, collected}
 use Rattle.lowering.specs.Operations.{Lowers, integer, wire_at, all_lowered, body_lowered, defs_lowered, row_lowered}
 use Rattle.lowering.specs.Phrases.{each, lowers}
 use Rattle.flow_value.specs.declared.operation.Scalar1.TheVariants as unary
@@ -31,11 +31,13 @@ use Rattle.lowered_data.proofs.Lists.{rest_is}
 use Rattle.lowered_data.proofs.Parts.{opened_there, places_within}
 use Rattle.lower_nodes.proofs.Walks.{if_as, as_made, only_as, Going, begun, goes_on, ended, Defining, begun_defs, defs_go_on, ended_defs}
 use Rattle.lower_exprs.specs.Phrased.{kind_of, phrases, alls, lists, all_defs, call_of, apply_of, selector_of, arms_in, content_at, with_content, maybe_not}
-use Rattle.lower_exprs.proofs.Forms.{expr_is, constant_is, value_is, group_is, call_is, apply_is, let_is, if_is, case_is, product_is}
+use Rattle.lower_exprs.specs.Turned.{extra_lowered}
+use Rattle.lower_exprs.proofs.Forms.{expr_is, constant_is, value_is, group_is, call_is, apply_is, let_is, if_is, case_is, product_is, initial_is}
 use Rattle.lower_exprs.proofs.Names.{no_names, more_names, undone}
 use Rattle.lower_exprs.proofs.Steps.{then_as, inside_of, inside_with, as_entered, in_open, stands, three_parts, three_places, three_within, content_names, content_is, begun_with, more_inside, on_ok_always}
 use Rattle.lower_exprs.proofs.Arms.{Listing, goes_on as listing_goes_on, ended as listing_ended}
 use Rattle.lower_exprs.proofs.Forks.{clause_step, tags_length, tags_at, arm_is, forall_made}
+use Rattle.lower_exprs.proofs.Initials.{extras_go_on, extras_ended, turned_names, test_is, first_placed, turn_placed, first_of, turn_of, initial_ends, three_stand}
 use Rattle.lower_exprs.proofs.walk.+lowered.Goals as goal
 
 pub expr-returns-clause-made : goal.expr-returns-clause-made
@@ -568,3 +570,221 @@ product-returns-clause-made t c =
     (product_is forms c.args.kind.now ts env x c.in-Product.bounds c.in-Product.defs c.in-Product.parts c.in-Product.is)
     (then_as c.whole.result (alls forms c.in-Product.bounds env) (λ us. product_lowered forms x ds gs ts us env) a b w ws first
     (forall_made c.whole.result forms x.sources x.clauses body ts ws env b d e m w g r k p1 p2 p3 all))
+
+-- ---- `for initial`
+
+pub extras-loop-at-preserved : goal.extras-loop-at-preserved
+extras-loop-at-preserved t c =
+    let forms = c.args.forms.now in
+    let loop = loop_name c.args.around c.args.count in
+    let bs = c.args.negated.now in
+    let es = c.args.parts.now in
+    let i = c.loop-at.at in
+    let env = c.args.names.now.here in
+    let same = c.loop-at.invariant.names in
+    let least : c.min-flags.result ≡ min (length bs) (length es) = c.min-flags.ensures in
+    let lb : i < length bs = omega (arith, c.loop-at-test.true, least) in
+    let le : i < length es = omega (arith, c.loop-at-test.true, least) in
+    let e = c.index-parts-at-in-loop-at.result in
+    let place = c.kept-place.result in
+    let b = get_or bs i false in
+    let one : IsMade (extra_lowered place (maybe_not b (lowers forms e)) env) c.loop-at.made c.extra.new.made c.in_ok-more.more =
+    subst (λ (k : Scopes). IsMade (extra_lowered place (maybe_not b (lowers forms e)) k.here) c.loop-at.made c.extra.new.made c.in_ok-more.more) same c.in_ok-more.ensures.made in
+    record {
+      names = c.in_ok-more.ensures.names ∙ same;
+      going = extras_go_on forms loop bs es i c.index-parts-at.result e place (all_lowered (extras loop bs (phrases forms es)) env) env c.args.made.now c.loop-at.made c.extra.new.made c.loop-at.values c.in_ok-more.more c.append.new.wires
+          lb le c.index-parts-at.is c.index-parts-at-in-loop-at.is (c.kept-place.ensures forms) c.loop-at.invariant.going one c.in_ok-append.ensures;
+    }
+
+pub extras-returns-clause-made : goal.extras-returns-clause-made
+extras-returns-clause-made t c =
+    let forms = c.args.forms.now in
+    let loop = loop_name c.args.around c.args.count in
+    let bs = c.args.negated.now in
+    let es = c.args.parts.now in
+    let i = c.loop-at.at in
+    let env = c.args.names.now.here in
+    let least : c.min-flags.result ≡ min (length bs) (length es) = c.min-flags.ensures in
+    let past : min (length bs) (length es) ≤ i = omega (arith, c.loop-at-test.false, least) in
+    extras_ended forms loop bs es i (all_lowered (extras loop bs (phrases forms es)) env) env c.args.made.now c.loop-at.made c.loop-at.values past c.loop-at.invariant.going
+
+pub initial-leave-requires-2 : goal.initial-leave-requires-2
+initial-leave-requires-2 t c =
+    let forms = c.args.forms.now in
+    let s = c.args.names.now in
+    let env = s.here in
+    let a = c.args.made.now in
+    let x = c.in-Initial.turns in
+    let around = c.len-around.result in
+    let count = c.len-count.result in
+    let held = c.in_ok-held.held in
+    let own = own_inputs 1 (types held) in
+    let n1 = c.begin.new.names in
+    let n2 = c.defined.new.names in
+    let g1 = c.in_ok-defined.ensures.names in
+    let e1 : n1 ≡ with_names (entered s) [] = c.in_ok-begun.ensures.names in
+    let left : c.leave.new.self ≡ s = c.leave.ensures s held (turned_names s n2 c.turned.new.names g1.more held around c.len-around.ensures (more_inside s n1 n2 [] g1.more e1 g1.is) c.in_ok-values.ensures.names) in
+    let loops : c.in_ok-own.own ≡ own = c.in_ok-own.ensures ∙ ap (λ (k : List Wire). own_inputs 1 (types k)) c.as_slice-loops.ensures in
+    let named : c.as_slice-named.result.now ≡ own = c.as_slice-named.ensures ∙ loops in
+    let n3 = c.begin-2.new.names in
+    let e3 : n3 ≡ with_names (entered s) own = c.in_ok-opened.ensures.names ∙ ap₂ (λ (k : Scopes) (l : List Wire). with_names (entered k) l) (c.in_ok-second.ensures.names ∙ left) named in
+    let n4 = c.defined-2.new.names in
+    let g2 = c.in_ok-defined-2.ensures.names in
+    let next = c.in_ok-next.next in
+    let last : c.turned-2.new.names ≡ with_names (entered s) next =
+    turned_names s n4 c.turned-2.new.names (own ++ g2.more) next around c.len-around.ensures (more_inside s n3 n4 own g2.more e3 g2.is) c.in_ok-sums.ensures.names in
+    inside_with s c.turned-2.new.names next last
+
+pub initial-returns-clause-names : goal.initial-returns-clause-names
+initial-returns-clause-names t c =
+    let forms = c.args.forms.now in
+    let s = c.args.names.now in
+    let env = s.here in
+    let a = c.args.made.now in
+    let x = c.in-Initial.turns in
+    let around = c.len-around.result in
+    let count = c.len-count.result in
+    let held = c.in_ok-held.held in
+    let own = own_inputs 1 (types held) in
+    let n1 = c.begin.new.names in
+    let n2 = c.defined.new.names in
+    let g1 = c.in_ok-defined.ensures.names in
+    let e1 : n1 ≡ with_names (entered s) [] = c.in_ok-begun.ensures.names in
+    let left : c.leave.new.self ≡ s = c.leave.ensures s held (turned_names s n2 c.turned.new.names g1.more held around c.len-around.ensures (more_inside s n1 n2 [] g1.more e1 g1.is) c.in_ok-values.ensures.names) in
+    let loops : c.in_ok-own.own ≡ own = c.in_ok-own.ensures ∙ ap (λ (k : List Wire). own_inputs 1 (types k)) c.as_slice-loops.ensures in
+    let named : c.as_slice-named.result.now ≡ own = c.as_slice-named.ensures ∙ loops in
+    let n3 = c.begin-2.new.names in
+    let e3 : n3 ≡ with_names (entered s) own = c.in_ok-opened.ensures.names ∙ ap₂ (λ (k : Scopes) (l : List Wire). with_names (entered k) l) (c.in_ok-second.ensures.names ∙ left) named in
+    let n4 = c.defined-2.new.names in
+    let g2 = c.in_ok-defined-2.ensures.names in
+    let next = c.in_ok-next.next in
+    let last : c.turned-2.new.names ≡ with_names (entered s) next =
+    turned_names s n4 c.turned-2.new.names (own ++ g2.more) next around c.len-around.ensures (more_inside s n3 n4 own g2.more e3 g2.is) c.in_ok-sums.ensures.names in
+    on_ok_always c.loop_node.result (c.leave-2.new.self ≡ s) (c.leave-2.ensures s next last)
+
+pub initial-loop_node-requires : goal.initial-loop_node-requires
+initial-loop_node-requires t c =
+    let forms = c.args.forms.now in
+    let s = c.args.names.now in
+    let env = s.here in
+    let a = c.args.made.now in
+    let x = c.in-Initial.turns in
+    let around = c.len-around.result in
+    let count = c.len-count.result in
+    let held = c.in_ok-held.held in
+    let own = own_inputs 1 (types held) in
+    let n1 = c.begin.new.names in
+    let n2 = c.defined.new.names in
+    let g1 = c.in_ok-defined.ensures.names in
+    let e1 : n1 ≡ with_names (entered s) [] = c.in_ok-begun.ensures.names in
+    let left : c.leave.new.self ≡ s = c.leave.ensures s held (turned_names s n2 c.turned.new.names g1.more held around c.len-around.ensures (more_inside s n1 n2 [] g1.more e1 g1.is) c.in_ok-values.ensures.names) in
+    let loops : c.in_ok-own.own ≡ own = c.in_ok-own.ensures ∙ ap (λ (k : List Wire). own_inputs 1 (types k)) c.as_slice-loops.ensures in
+    let named : c.as_slice-named.result.now ≡ own = c.as_slice-named.ensures ∙ loops in
+    let n3 = c.begin-2.new.names in
+    let e3 : n3 ≡ with_names (entered s) own = c.in_ok-opened.ensures.names ∙ ap₂ (λ (k : Scopes) (l : List Wire). with_names (entered k) l) (c.in_ok-second.ensures.names ∙ left) named in
+    let n4 = c.defined-2.new.names in
+    let g2 = c.in_ok-defined-2.ensures.names in
+    let next = c.in_ok-next.next in
+    let last : c.turned-2.new.names ≡ with_names (entered s) next =
+    turned_names s n4 c.turned-2.new.names (own ++ g2.more) next around c.len-around.ensures (more_inside s n3 n4 own g2.more e3 g2.is) c.in_ok-sums.ensures.names in
+    let fs = lists forms c.in-Initial.firsts in
+    let ds = lists forms c.in-Initial.defs in
+    let ps = phrases forms c.in-Initial.parts in
+    let test = each (phrases forms c.in-Initial.test) in
+    let b1 = c.defined.new.made in
+    let d1 = c.shut_part.new.made in
+    let d2 = c.test_part.new.made in
+    let d3 = c.shut_part-2.new.made in
+    let flags = c.as_slice-flags.result.now in
+    let flags_are : flags ≡ unless_places x.clauses = c.as_slice-flags.ensures ∙ c.in_ok-negated.ensures ∙ ap unless_places c.as_slice-clauses.ensures in
+    let defs1 : IsMade (defs_lowered fs n1.here) c.begin.new.made b1 n2.here =
+    subst (λ (k : List (List TypedExpr)). IsMade (all_defs forms k n1.here) c.begin.new.made b1 n2.here) c.as_slice-lets.ensures c.in_ok-defined.ensures.made in
+    let rows1 : IsMade (row_of_turn (extras (loop_name around count) flags ps) (take around n2.here) held) b1 c.turned.new.made c.in_ok-values.values =
+    subst (λ (k : List TypedExpr). IsMade (row_of_turn (extras (loop_name around count) flags (phrases forms k)) (take around n2.here) held) b1 c.turned.new.made c.in_ok-values.values) c.as_slice-results.ensures c.in_ok-values.ensures.made in
+    let p1 : IsPlaced (first_of x fs ps env held (map into env)) a d1 c.in_ok-first.first =
+    first_placed x fs ps s n1 n2 around count flags held c.in_ok-values.values a c.begin.new.made b1 c.turned.new.made d1 c.in_ok-begun.begun c.in_ok-first.first
+    c.len-around.ensures c.len-count.ensures flags_are e1 g1 c.in_ok-begun.ensures.made c.in_ok-begun.ensures.around defs1 c.in_ok-held.ensures rows1 c.in_ok-first.ensures in
+    let inside = map into env ++ own in
+    let p2 : IsPlaced (test_lowered x.is_until test inside) d1 d2 c.in_ok-second.second =
+    subst (λ (f : Lowering). IsPlaced f d1 d2 c.in_ok-second.second) (test_is x.is_until test inside)
+    (subst (λ (k : Scopes). IsPlaced (maybe_not x.is_until (all_lowered test) (map into k.here ++ own)) d1 d2 c.in_ok-second.second) left
+    (subst (λ (l : List Wire). IsPlaced (maybe_not x.is_until (all_lowered test) (map into c.leave.new.self.here ++ l)) d1 d2 c.in_ok-second.second) named
+    (subst (λ (k : List TypedExpr). IsPlaced (maybe_not x.is_until (alls forms k) (map into c.leave.new.self.here ++ c.as_slice-named.result.now)) d1 d2 c.in_ok-second.second) c.as_slice-tests.ensures c.in_ok-second.ensures.part))) in
+    let b3 = c.defined-2.new.made in
+    let defs3 : IsMade (defs_lowered ds n3.here) c.begin-2.new.made b3 n4.here =
+    subst (λ (k : List (List TypedExpr)). IsMade (all_defs forms k n3.here) c.begin-2.new.made b3 n4.here) c.as_slice-turn.ensures c.in_ok-defined-2.ensures.made in
+    let rows3 : IsMade (row_of_turn (extras (loop_name around count) flags ps) (take around n4.here) next) b3 c.turned-2.new.made c.in_ok-sums.sums =
+    subst (λ (k : List TypedExpr). IsMade (row_of_turn (extras (loop_name around count) flags (phrases forms k)) (take around n4.here) next) b3 c.turned-2.new.made c.in_ok-sums.sums) c.as_slice-results.ensures c.in_ok-sums.ensures.made in
+    let next_is : next ≡ renew x.renewed (drop c.len-start.result n4.here) own = c.in_ok-next.ensures ∙ ap (renew x.renewed (drop c.len-start.result n4.here)) loops in
+    let p3 : IsPlaced (turn_of x ds ps env held inside) d2 d3 c.in_ok-third.third =
+    turn_placed x ds ps s n3 n4 around count c.len-start.result flags held own next c.in_ok-sums.sums d2 c.begin-2.new.made b3 c.turned-2.new.made d3 c.in_ok-opened.opened c.in_ok-third.third
+    c.len-around.ensures c.len-count.ensures flags_are e3 g2 c.len-start.ensures c.in_ok-opened.ensures.made c.in_ok-opened.ensures.around defs3 next_is rows3 c.in_ok-third.ensures in
+    three_stand (first_of x fs ps env held (map into env)) (test_lowered x.is_until test inside) (turn_of x ds ps env held inside) a d1 d2 d3 c.in_ok-first.first c.in_ok-second.second c.in_ok-third.third p1 p2 p3
+
+pub initial-returns-clause-made : goal.initial-returns-clause-made
+initial-returns-clause-made t c =
+    let forms = c.args.forms.now in
+    let s = c.args.names.now in
+    let env = s.here in
+    let a = c.args.made.now in
+    let x = c.in-Initial.turns in
+    let around = c.len-around.result in
+    let count = c.len-count.result in
+    let held = c.in_ok-held.held in
+    let own = own_inputs 1 (types held) in
+    let n1 = c.begin.new.names in
+    let n2 = c.defined.new.names in
+    let g1 = c.in_ok-defined.ensures.names in
+    let e1 : n1 ≡ with_names (entered s) [] = c.in_ok-begun.ensures.names in
+    let left : c.leave.new.self ≡ s = c.leave.ensures s held (turned_names s n2 c.turned.new.names g1.more held around c.len-around.ensures (more_inside s n1 n2 [] g1.more e1 g1.is) c.in_ok-values.ensures.names) in
+    let loops : c.in_ok-own.own ≡ own = c.in_ok-own.ensures ∙ ap (λ (k : List Wire). own_inputs 1 (types k)) c.as_slice-loops.ensures in
+    let named : c.as_slice-named.result.now ≡ own = c.as_slice-named.ensures ∙ loops in
+    let n3 = c.begin-2.new.names in
+    let e3 : n3 ≡ with_names (entered s) own = c.in_ok-opened.ensures.names ∙ ap₂ (λ (k : Scopes) (l : List Wire). with_names (entered k) l) (c.in_ok-second.ensures.names ∙ left) named in
+    let n4 = c.defined-2.new.names in
+    let g2 = c.in_ok-defined-2.ensures.names in
+    let next = c.in_ok-next.next in
+    let last : c.turned-2.new.names ≡ with_names (entered s) next =
+    turned_names s n4 c.turned-2.new.names (own ++ g2.more) next around c.len-around.ensures (more_inside s n3 n4 own g2.more e3 g2.is) c.in_ok-sums.ensures.names in
+    let fs = lists forms c.in-Initial.firsts in
+    let ds = lists forms c.in-Initial.defs in
+    let ps = phrases forms c.in-Initial.parts in
+    let test = each (phrases forms c.in-Initial.test) in
+    let b1 = c.defined.new.made in
+    let d1 = c.shut_part.new.made in
+    let d2 = c.test_part.new.made in
+    let d3 = c.shut_part-2.new.made in
+    let flags = c.as_slice-flags.result.now in
+    let flags_are : flags ≡ unless_places x.clauses = c.as_slice-flags.ensures ∙ c.in_ok-negated.ensures ∙ ap unless_places c.as_slice-clauses.ensures in
+    let defs1 : IsMade (defs_lowered fs n1.here) c.begin.new.made b1 n2.here =
+    subst (λ (k : List (List TypedExpr)). IsMade (all_defs forms k n1.here) c.begin.new.made b1 n2.here) c.as_slice-lets.ensures c.in_ok-defined.ensures.made in
+    let rows1 : IsMade (row_of_turn (extras (loop_name around count) flags ps) (take around n2.here) held) b1 c.turned.new.made c.in_ok-values.values =
+    subst (λ (k : List TypedExpr). IsMade (row_of_turn (extras (loop_name around count) flags (phrases forms k)) (take around n2.here) held) b1 c.turned.new.made c.in_ok-values.values) c.as_slice-results.ensures c.in_ok-values.ensures.made in
+    let p1 : IsPlaced (first_of x fs ps env held (map into env)) a d1 c.in_ok-first.first =
+    first_placed x fs ps s n1 n2 around count flags held c.in_ok-values.values a c.begin.new.made b1 c.turned.new.made d1 c.in_ok-begun.begun c.in_ok-first.first
+    c.len-around.ensures c.len-count.ensures flags_are e1 g1 c.in_ok-begun.ensures.made c.in_ok-begun.ensures.around defs1 c.in_ok-held.ensures rows1 c.in_ok-first.ensures in
+    let inside = map into env ++ own in
+    let p2 : IsPlaced (test_lowered x.is_until test inside) d1 d2 c.in_ok-second.second =
+    subst (λ (f : Lowering). IsPlaced f d1 d2 c.in_ok-second.second) (test_is x.is_until test inside)
+    (subst (λ (k : Scopes). IsPlaced (maybe_not x.is_until (all_lowered test) (map into k.here ++ own)) d1 d2 c.in_ok-second.second) left
+    (subst (λ (l : List Wire). IsPlaced (maybe_not x.is_until (all_lowered test) (map into c.leave.new.self.here ++ l)) d1 d2 c.in_ok-second.second) named
+    (subst (λ (k : List TypedExpr). IsPlaced (maybe_not x.is_until (alls forms k) (map into c.leave.new.self.here ++ c.as_slice-named.result.now)) d1 d2 c.in_ok-second.second) c.as_slice-tests.ensures c.in_ok-second.ensures.part))) in
+    let b3 = c.defined-2.new.made in
+    let defs3 : IsMade (defs_lowered ds n3.here) c.begin-2.new.made b3 n4.here =
+    subst (λ (k : List (List TypedExpr)). IsMade (all_defs forms k n3.here) c.begin-2.new.made b3 n4.here) c.as_slice-turn.ensures c.in_ok-defined-2.ensures.made in
+    let rows3 : IsMade (row_of_turn (extras (loop_name around count) flags ps) (take around n4.here) next) b3 c.turned-2.new.made c.in_ok-sums.sums =
+    subst (λ (k : List TypedExpr). IsMade (row_of_turn (extras (loop_name around count) flags (phrases forms k)) (take around n4.here) next) b3 c.turned-2.new.made c.in_ok-sums.sums) c.as_slice-results.ensures c.in_ok-sums.ensures.made in
+    let next_is : next ≡ renew x.renewed (drop c.len-start.result n4.here) own = c.in_ok-next.ensures ∙ ap (renew x.renewed (drop c.len-start.result n4.here)) loops in
+    let p3 : IsPlaced (turn_of x ds ps env held inside) d2 d3 c.in_ok-third.third =
+    turn_placed x ds ps s n3 n4 around count c.len-start.result flags held own next c.in_ok-sums.sums d2 c.begin-2.new.made b3 c.turned-2.new.made d3 c.in_ok-opened.opened c.in_ok-third.third
+    c.len-around.ensures c.len-count.ensures flags_are e3 g2 c.len-start.ensures c.in_ok-opened.ensures.made c.in_ok-opened.ensures.around defs3 next_is rows3 c.in_ok-third.ensures in
+    let ts = c.args.types.now in
+    let m = c.loop_node.new.made in
+    let places = c.as_slice-places.result.now in
+    let places_are : places ≡ collected (loop_name around count) count flags ps =
+    c.as_slice-places.ensures ∙ c.in_ok-collects.ensures forms ∙ ap (λ (k : List TypedExpr). collected (loop_name around count) count flags (phrases forms k)) c.as_slice-results.ensures in
+    if_as c.loop_node.result (kind_of forms c.args.kind.now ts env) (initial_lowered x fs test ds ps ts env) a m
+    (initial_is forms c.args.kind.now ts env x c.in-Initial.firsts c.in-Initial.test c.in-Initial.defs c.in-Initial.parts c.in-Initial.is)
+    (initial_ends c.loop_node.result x fs test ds ps ts s n1 n2 around count flags places held a c.begin.new.made b1 m
+    c.len-around.ensures c.len-count.ensures flags_are e1 c.in_ok-begun.ensures.made defs1 c.in_ok-held.ensures places_are
+    (c.loop_node.ensures a d1 d2 (first_of x fs ps env held) (test_lowered x.is_until test) (turn_of x ds ps env held) (types held) env p1 p2 p3))

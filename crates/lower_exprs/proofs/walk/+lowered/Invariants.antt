@@ -2,7 +2,7 @@ use Rattle.std.proofs.Common.{◌≡◌, ◌+◌, ◌*◌, ◌++◌, List, ℕ, 
 use Rattle.lowered_data.specs.declared.made.Made.{Made}
 use Rattle.lowered_data.specs.States.{AreParts, places_in}
 use Rattle.lowering.specs.Operations.{all_lowered}
-use Rattle.lowering.specs.Loops.{clauses_lowered}
+use Rattle.lowering.specs.Loops.{clauses_lowered, loop_name, extras}
 use Rattle.lowering.specs.Phrases.{each}
 use Rattle.lower_exprs.specs.Phrased.{phrases, alls, all_defs, arms_in, Grows}
 use Rattle.lower_nodes.proofs.Walks.{Going, Defining}
@@ -81,4 +81,29 @@ invariant-clause_values-loop-at l = record {
   names : l.names ≡ l.fn.names;
   going : Going (all_lowered (clauses_lowered l.negated (each (phrases l.forms l.parts))) l.fn.names.here)
       (all_lowered (clauses_lowered (drop l.at l.negated) (each (phrases l.forms (drop l.at l.parts)))) l.fn.names.here) l.fn.made l.made l.values;
+}
+
+abbrev pub decreases-extra : goal.decreases-extra
+decreases-extra l = 8 * goal.size-extra l + 4
+
+abbrev pub decreases-extras : goal.decreases-extras
+decreases-extras l = 8 * goal.size-extras l + 5
+
+abbrev pub decreases-turned : goal.decreases-turned
+decreases-turned l = 8 * goal.size-turned l + 6
+
+abbrev pub decreases-tested : goal.decreases-tested
+decreases-tested l = 8 * goal.size-tested l + 4
+
+abbrev pub decreases-test_part : goal.decreases-test_part
+decreases-test_part l = 8 * goal.size-test_part l + 5
+
+abbrev pub decreases-initial : goal.decreases-initial
+decreases-initial l = 8 * goal.size-initial l + 0
+
+abbrev pub invariant-extras-loop-at : goal.invariant-extras-loop-at
+invariant-extras-loop-at l = record {
+  names : l.names ≡ l.fn.names;
+  going : Going (all_lowered (extras (loop_name l.around l.count) l.negated (phrases l.forms l.parts)) l.fn.names.here)
+      (all_lowered (extras (loop_name l.around l.count) (drop l.at l.negated) (phrases l.forms (drop l.at l.parts))) l.fn.names.here) l.fn.made l.made l.values;
 }
