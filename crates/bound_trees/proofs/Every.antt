@@ -1,5 +1,5 @@
 -- What holds of each element of a list, by recursion on the list.
-use Rattle.std.proofs.Common.{ℕ, List, [], ◌∷◌, ◌++◌, All}
+use Rattle.std.proofs.Common.{List, [], ◌∷◌, ◌++◌, All}
 use Rattle.std.proofs.lemmas.List.Elements.{All-head, All-tail, All-nil, All-cons}
 
 abbrev pub Each : {A : Type 0} → (A → Type 0) → List A → Type 0

@@ -1,12 +1,15 @@
 pub mod Every
 pub mod Forms
 pub mod Literals
+pub mod Tokens
 pub mod Spelled
 pub mod Counts
 pub mod Levels
 pub mod Choices
+pub mod Written
 pub mod Bound
 pub mod Parts
+pub mod Fitted
 pub mod Told
 pub mod Units
 pub mod Shallow

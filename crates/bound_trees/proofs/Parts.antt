@@ -1,5 +1,5 @@
 -- What a bound expression consists of.
-use Rattle.std.proofs.Common.{◌≡◌, ℕ, List, [], ◌∷◌, All, refl, sym, subst, rules}
+use Rattle.std.proofs.Common.{◌≡◌, ℕ, List, sym, subst, rules}
 use Rattle.std.proofs.lemmas.List.Elements.{All-nil, All-cons}
 use Rattle.sisal_tree.specs.declared.expr.Constant.{Constant}
 use Rattle.value_ops.specs.declared.operation.Operation.{Operation}
@@ -55,10 +55,10 @@ bound_parts functions n _ (is.constant {c = c} h) = turned functions n (node.Con
 bound_parts functions n _ (is.value {level = level} h) = turned functions n (node.Value level) (TypedKind-F.Value level) (out_value level) h
 bound_parts functions n _ (is.group {ts = ts} p) = turned functions n (node.Group ts) (TypedKind-F.Group ts) (out_group ts) p
 bound_parts functions n _ (is.call {f = f} {ts = ts} h p) = turned functions n (node.Call f ts) (TypedKind-F.Call f ts) (out_call f ts) (h, p)
-bound_parts functions n _ (is.apply {op = op} {ts = ts} p) = turned functions n (node.Apply op ts) (TypedKind-F.Apply op ts) (out_apply op ts) p
+bound_parts functions n _ (is.apply {op = op} {ts = ts} p w) = turned functions n (node.Apply op ts) (TypedKind-F.Apply op ts) (out_apply op ts) (p, w)
 bound_parts functions n _ (is.let_in {us = us} {ts = ts} p q) = turned functions n (node.Let us ts) (TypedKind-F.Let us ts) (out_let us ts) (p, q)
 bound_parts functions n _ (is.if_else {ts = ts} {us = us} {vs = vs} p q r) = turned functions n (node.If ts us vs) (TypedKind-F.If ts us vs) (out_if ts us vs) (p, q, r)
-bound_parts functions n _ (is.tag_case {c = c} {ts = ts} {arms = arms} p q h) = turned functions n (node.Case c ts arms) (TypedKind-F.Case c ts arms) (out_case c ts arms) (p, q, h)
+bound_parts functions n _ (is.tag_case {c = c} {ts = ts} {arms = arms} p q h w) = turned functions n (node.Case c ts arms) (TypedKind-F.Case c ts arms) (out_case c ts arms) (p, q, h, w)
 bound_parts functions n _ (is.product {p = p} {bounds = bounds} {us = us} {ts = ts} a b c) =
     turned functions n (node.Product p bounds us ts) (TypedKind-F.Product p bounds us ts) (out_product p bounds us ts) (a, b, c)
 bound_parts functions n _ (is.initial {t = t} {us = us} {vs = vs} {test = test} {ts = ts} a b c d e f) =

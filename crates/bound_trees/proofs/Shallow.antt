@@ -1,24 +1,22 @@
 -- Typed trees nest no deeper than the expressions that they are of.
-use Rattle.std.proofs.Common.{◌≡◌, ℕ, suc, ◌+◌, ◌≤◌, max, Bool, List, [], ◌∷◌, ◌++◌, map, Option, Some, None, option_map, length, refl, sym, ap, subst, ◌∙◌, arith}
+use Rattle.std.proofs.Common.{◌≡◌, ℕ, ◌+◌, ◌≤◌, max, List, [], ◌∷◌, ◌++◌, map, Option, Some, None, option_map, length, sym, ap, ◌∙◌, arith}
 use Rattle.flow_value.specs.declared.ty.Ty.{Ty}
 use Rattle.flow_value.specs.declared.ty.Ty.TheVariants as ty
-use Rattle.sisal_tree.specs.declared.unit.Named.{Named}
 use Rattle.sisal_tree.specs.declared.unit.Written.{Written}
 use Rattle.sisal_tree.specs.declared.expr.Constant.{Constant}
 use Rattle.sisal_tree.specs.declared.expr.Expr.{Expr}
-use Rattle.sisal_tree.specs.declared.expr.ExprKind.TheVariants as tree
 use Rattle.sisal_tree.specs.declared.expr.FieldValue.{FieldValue}
 use Rattle.sisal_tree.specs.declared.expr.Elements.{roll-Elements}
-use Rattle.sisal_tree.specs.declared.expr.Def.{Def, roll-Def}
+use Rattle.sisal_tree.specs.declared.expr.Def.{Def}
 use Rattle.sisal_tree.specs.declared.expr.TagCase.{roll-TagCase}
-use Rattle.sisal_tree.specs.declared.expr.Arm.{Arm, roll-Arm}
+use Rattle.sisal_tree.specs.declared.expr.Arm.{Arm}
 use Rattle.sisal_tree.specs.declared.expr.Loop.TheVariants as loop
-use Rattle.sisal_tree.specs.declared.expr.Generator.{Generator, roll-Generator}
+use Rattle.sisal_tree.specs.declared.expr.Generator.{Generator}
 use Rattle.sisal_tree.specs.declared.expr.Turn.{roll-Turn}
-use Rattle.sisal_tree.specs.declared.expr.Clause.{Clause, roll-Clause}
+use Rattle.sisal_tree.specs.declared.expr.Clause.{Clause}
 use Rattle.sisal_tree.specs.declared.expr.Mask.{Mask}
-use Rattle.sisal_tree.specs.Depth.{depth, greatest, each_greatest, if_any, greatest_if_any}
-use Rattle.sisal_depth.proofs.Folds.{exprs_depth, values_depth, value_depth, defs_depth, def_depth, arms_depth, arm_depth, clauses_depth, clause_depth, generators_depth, generator_depth, groups_depth, mask_depth, turn_depth, case_depth, elements_depth, loop_depth, of_value, of_mask, of_arm, of_clause, of_def, of_elements, of_generator, of_case, of_turn, in_constant, in_name, in_old, in_group, in_call, in_convert, in_error_of, in_is_error, in_is_tag, in_prefix, in_binary, in_select, in_update, in_field, in_replace, in_array, in_stream, in_record, in_union, in_let, in_if, in_tag_case, in_for, in_product, in_initial}
+use Rattle.sisal_tree.specs.Depth.{depth, greatest, if_any, greatest_if_any}
+use Rattle.sisal_depth.proofs.Folds.{exprs_depth, values_depth, defs_depth, arms_depth, clauses_depth, generators_depth, groups_depth, mask_depth, of_value, of_mask, of_arm, of_clause, of_def, of_elements, of_generator, of_case, of_turn, in_constant, in_name, in_old, in_group, in_call, in_convert, in_error_of, in_is_error, in_is_tag, in_prefix, in_binary, in_select, in_update, in_field, in_replace, in_array, in_stream, in_record, in_union, in_let, in_if, in_tag_case, in_for, in_product, in_initial}
 use Rattle.value_ops.specs.declared.operation.Operation.{Operation}
 use Rattle.value_ops.specs.declared.operation.Operation.TheVariants as operation
 use Rattle.flow_value.specs.declared.operation.Scalar1.TheVariants as unary

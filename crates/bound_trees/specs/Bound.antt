@@ -1,7 +1,7 @@
 -- Where each name of a typed tree stands for a value that is in force, each call is that of a function of the program, and each
 -- constant is one that a text can spell (SISAL Language Reference Manual 1.2, scope and constants). Names are levels: where n names
 -- are in force these are 0 up to n - 1, and what comes into force takes the next ones.
-use Rattle.std.specs.Prelude.{ℕ, suc, ◌+◌, ◌<◌, ◌≡◌, List, [], ◌∷◌, All, length, Option, Some, None}
+use Rattle.std.specs.Prelude.{ℕ, suc, ◌+◌, ◌<◌, ◌≤◌, ◌≡◌, List, [], ◌∷◌, All, length, Option, Some, None}
 use Rattle.typed_tree.specs.declared.expr.TypedExpr.{TypedExpr}
 use Rattle.typed_tree.specs.declared.expr.TypedKind.TheVariants as typed
 use Rattle.typed_tree.specs.declared.expr.Case.{Case}
@@ -14,7 +14,8 @@ use Rattle.typed_tree.specs.declared.program.Program.{Program}
 use Rattle.typed_tree.specs.Typing.{with}
 use Rattle.sisal_tree.specs.declared.expr.Constant.{Constant}
 use Rattle.value_ops.specs.declared.operation.Operation.{Operation}
-use Rattle.bound_trees.specs.Constants.{IsLiteral}
+use Rattle.value_ops.specs.declared.operation.Operation.TheVariants as operation
+use Rattle.bound_trees.specs.Leaves.{IsLiteral, IsWritten, a_record, a_change, a_case}
 
 -- ---- how many names
 
@@ -35,6 +36,12 @@ levels_over (source.Range ∷ ss) = 1 + levels_over ss
 levels_over (source.Elements ∷ ss) = 1 + levels_over ss
 levels_over (source.Indexed ∷ ss) = 2 + levels_over ss
 
+-- an operation on so many operands that a text can write
+abbrev pub IsWrittenApply : Operation → ℕ → Type 0
+IsWrittenApply operation.Record n = IsWritten (a_record n)
+IsWrittenApply (operation.Change places) n = IsWritten (a_change (length places))
+IsWrittenApply _ n = Unit {0}
+
 -- the place among n loop names of the one that is renewed, where there is one
 abbrev pub IsRenewal : ℕ → Option ℕ → Type 0
 IsRenewal n None = Unit {0}
@@ -51,14 +58,14 @@ module _ (functions : ℕ) where
       value : {n l level : ℕ} {ns : List ℕ} → level < n → IsBound n (with l ns (typed.Value level))
       group : {n l : ℕ} {ns : List ℕ} {ts : List TypedExpr} → AreBound n ts → IsBound n (with l ns (typed.Group ts))
       call : {n l f : ℕ} {ns : List ℕ} {ts : List TypedExpr} → f < functions → AreBound n ts → IsBound n (with l ns (typed.Call f ts))
-      apply : {n l : ℕ} {ns : List ℕ} {op : Operation} {ts : List TypedExpr} → AreBound n ts → IsBound n (with l ns (typed.Apply op ts))
+      apply : {n l : ℕ} {ns : List ℕ} {op : Operation} {ts : List TypedExpr} → AreBound n ts → IsWrittenApply op (length ts) → IsBound n (with l ns (typed.Apply op ts))
       let_in : {n l : ℕ} {ns : List ℕ} {us : List (List TypedExpr)} {ts : List TypedExpr}
           → AreDefined n us → AreBound (n + levels_in us) ts → IsBound n (with l ns (typed.Let us ts))
       if_else : {n l : ℕ} {ns : List ℕ} {ts us vs : List TypedExpr}
           → AreBound n ts → AreBound n us → AreBound n vs → IsBound n (with l ns (typed.If ts us vs))
       -- the arm of each tag that is named is there
       tag_case : {n l : ℕ} {ns : List ℕ} {c : Case} {ts : List TypedExpr} {arms : List (List TypedExpr)}
-          → AreBound n ts → AreArms n c.named arms → All (λ x. x.arm < length arms) c.choices → IsBound n (with l ns (typed.Case c ts arms))
+          → AreBound n ts → AreArms n c.named arms → All (λ x. x.arm < length arms) c.choices → IsWritten (a_case (length arms)) → IsBound n (with l ns (typed.Case c ts arms))
       product : {n l : ℕ} {ns : List ℕ} {p : Product} {bounds : List TypedExpr} {us : List (List TypedExpr)} {ts : List TypedExpr}
           → AreBound n bounds → AreDefined (n + levels_over p.sources) us → AreBound (n + levels_over p.sources + levels_in us) ts
           → IsBound n (with l ns (typed.Product p bounds us ts))
@@ -96,7 +103,12 @@ IsBoundBody functions n (Some ts) = AreBound functions n ts
 abbrev pub IsBoundIn : ℕ → Function → Type 0
 IsBoundIn functions f = IsBoundBody functions (length f.parameters) f.body
 
+-- a function has a name that is spelled, and a result
+abbrev pub HasHeader : Program → Function → Type 0
+HasHeader p f = (f.name < length p.names) × (1 ≤ length f.results)
+
 -- each name of a program is bound
 pub record IsBoundProgram (p : Program) : Type 0 where
+  pub headers : All (HasHeader p) p.functions
   pub functions : All (IsBoundIn (length p.functions)) p.functions
   pub defines : All (λ n. n < length p.functions) p.defines

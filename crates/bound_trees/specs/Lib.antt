@@ -1,4 +1,5 @@
-pub mod Constants
+pub mod Tokens
+pub mod Leaves
 pub mod Bound
 pub mod Laws
 pub mod Depths

@@ -17,6 +17,7 @@ use Rattle.loop_folds.specs.declared.masking.Masking.TheVariants as masking
 use Rattle.typed_tree.specs.declared.expr.TypedExpr.{TypedExpr}
 use Rattle.typed_tree.specs.declared.expr.TypedKind.TheVariants as typed
 use Rattle.typed_tree.specs.declared.expr.Case.{Case}
+use Rattle.typed_tree.specs.declared.expr.Choice.{Choice}
 use Rattle.typed_tree.specs.declared.expr.Product.{Product}
 use Rattle.meaning.specs.Meaning.{arm_place}
 use Rattle.typed_tree.specs.declared.expr.Turns.{Turns}
@@ -159,6 +160,12 @@ TagsFit arms contents c tag (m ∷ ms) =
     let place = arm_place c.choices c.others tag in
     (place < arms) × ((a : Ty) → slice_get contents place ≡ Some a → a ≡ m.1) × TagsFit arms contents c (suc tag) ms
 
+-- a choice of one of so many tags, for one of so many arms; the tag has no other arm
+pub record IsChosen (c : Case) (arms tags : ℕ) (x : Choice) : Type 0 where
+  pub within : x.arm < arms
+  pub tag : x.tag < tags
+  pub own : arm_place c.choices c.others x.tag ≡ x.arm
+
 -- ---- trees
 
 -- the types of the parameters and of the results of a function
@@ -185,7 +192,7 @@ module _ (numbers : List ℕ → List Ty → Type 0) (fs : List Header) where
       -- there is an arm, each tag has one, and each arm that sees the content has a tag
       tag_case : {γ tys : List Ty} (ms : List Member) (contents : List Ty) {l : ℕ} {ns : List ℕ} {c : Case} {ts : List TypedExpr} {arms : List (List TypedExpr)}
           → AllFit γ ts (ty.Uni ms ∷ []) → ArmsFit γ c.named arms contents tys → TagsFit (length arms) contents c 0 ms
-          → ((k : ℕ) → k < c.named → Contains (map (λ x. x.arm) c.choices) k) → All (λ x. x.arm < length arms) c.choices → c.others ≤ length arms
+          → ((k : ℕ) → k < c.named → Contains (map (λ x. x.arm) c.choices) k) → All (IsChosen c (length arms) (length ms)) c.choices → c.others ≤ length arms
           → 1 ≤ length arms → numbers ns tys → Fits γ (with l ns (typed.Case c ts arms)) tys
       product : {γ tys names δ row made : List Ty} {l : ℕ} {ns : List ℕ} {p : Product} {bounds : List TypedExpr} {us : List (List TypedExpr)} {ts : List TypedExpr}
           → AllFit γ bounds tys → Goes p.sources tys names → DefsFit (γ ++ names) us δ → AllFit ((γ ++ names) ++ δ) ts row → AreMade p.clauses row made

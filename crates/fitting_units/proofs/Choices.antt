@@ -10,12 +10,12 @@ use Rattle.sisal_tree.specs.declared.expr.Expr.{Expr}
 use Rattle.sisal_tree.specs.declared.expr.Arm.{Arm}
 use Rattle.typed_tree.specs.declared.expr.Choice.{Choice}
 use Rattle.typed_tree.specs.declared.expr.TypedExpr.{TypedExpr}
-use Rattle.typed_tree.specs.Scopes.{Scope}
+use Rattle.typed_tree.specs.Scopes.{Scope, AreDistinct}
 use Rattle.typed_tree.specs.Types.{Member}
 use Rattle.typed_tree.specs.Typing as rule
 use Rattle.typed_tree.specs.Typing.{Known, IsSpelled, Has, IsTag, AreChoices, AreAllNamed, AreArms, IsOtherwise, tags_from, names_of, named_arms}
 use Rattle.meaning.specs.Meaning.{arm_place}
-use Rattle.fitting_trees.specs.Fitting.{TagsFit}
+use Rattle.fitting_trees.specs.Fitting.{TagsFit, IsChosen}
 use Rattle.fitting_units.proofs.Walk.{Contents}
 
 -- ---- elements
@@ -72,6 +72,40 @@ among_within from (names ∷ tags) x i m = elim (split from names (tags_from (su
   | inl p ↦ let e = p.0 in (omega (arith, e), omega (arith, e))
   | inr q ↦ let r = among_within (suc from) tags x i q in let l = r.0 in let h = r.1 in (omega (arith, l), omega (arith, h))
 ]
+
+-- ---- tags that stand once
+
+distinct_right : (xs ys : List ℕ) → AreDistinct (xs ++ ys) → AreDistinct ys
+distinct_right [] ys d = d
+distinct_right (x ∷ xs) ys d = distinct_right xs ys d.1
+
+distinct_apart : (xs ys : List ℕ) → AreDistinct (xs ++ ys) → (x : ℕ) → Contains xs x → Contains ys x → ⊥
+distinct_apart [] ys d x p q = nothing_in x p
+distinct_apart (y ∷ xs) ys d x p q = elim (Contains-append_cases (y ∷ []) xs x p) [
+  | inl l ↦ elim (Contains-push_cases [] y x l) [
+    | inl n ↦ nothing_in x n
+    | inr e ↦ d.0 (subst (λ z. Contains (xs ++ ys) z) (sym e) (Contains-append_right xs ys x q))
+  ]
+  | inr r ↦ distinct_apart xs ys d.1 x r q
+]
+
+among_contains : (from : ℕ) (tags : List (List ℕ)) (x i : ℕ) → Among (tags_from from tags) x i → Contains (flat_map (λ names. names) tags) x
+among_contains from [] x i m = elim m [ ]
+among_contains from (names ∷ tags) x i m = elim (split from names (tags_from (suc from) tags) x i m) [
+  | inl p ↦ Contains-append_left names (flat_map (λ names. names) tags) x p.1
+  | inr q ↦ Contains-append_right names (flat_map (λ names. names) tags) x (among_contains (suc from) tags x i q)
+]
+
+among_one : (from : ℕ) (tags : List (List ℕ)) → AreDistinct (flat_map (λ names. names) tags) → (x i j : ℕ) → Among (tags_from from tags) x i → Among (tags_from from tags) x j → i ≡ j
+among_one from [] d x i j m n = elim m [ ]
+among_one from (names ∷ tags) d x i j m n =
+    by (among_one (suc from) tags (distinct_right names (flat_map (λ names. names) tags) d) x i j) (split from names (tags_from (suc from) tags) x i m) (split from names (tags_from (suc from) tags) x j n)
+  where
+    by : (Among (tags_from (suc from) tags) x i → Among (tags_from (suc from) tags) x j → i ≡ j) → ((i ≡ from) × Contains names x) ⊎ Among (tags_from (suc from) tags) x i → ((j ≡ from) × Contains names x) ⊎ Among (tags_from (suc from) tags) x j → i ≡ j
+    by f (inl p) (inl q) = p.0 ∙ sym q.0
+    by f (inl p) (inr q) = absurd (distinct_apart names (flat_map (λ names. names) tags) d x p.1 (among_contains (suc from) tags x j q))
+    by f (inr p) (inl q) = absurd (distinct_apart names (flat_map (λ names. names) tags) d x q.1 (among_contains (suc from) tags x i p))
+    by f (inr p) (inr q) = f p q
 
 module _ (k : Known) (ms : List Member) where
   content_at : (y : ℕ) (from : ℕ) (tags : List (List ℕ)) (contents : List Ty) → Contents k (Some y) ms tags contents → (x i : ℕ) → Among (tags_from from tags) x i → (d : ℕ) → i ≡ from + d → (a : Ty) → slice_get contents d ≡ Some a → IsTag k ms x a
@@ -149,6 +183,35 @@ module _ (k : Known) (ms : List Member) where
                 differ s = let t = eq-eqb c.tag j s in absurd cc
             cases x g y i content (later m) h = f.none y i content m h
 
+    -- a tag that is named once has the arm that names it
+    module _ (spelled_once : (i j : ℕ) (s : List ℕ) → slice_get k.spellings i ≡ Some s → slice_get k.spellings j ≡ Some s → i ≡ j) (tags : List (List ℕ)) (distinct : AreDistinct (flat_map (λ names. names) tags)) (cs : List Choice) (chooses : AreChoices k ms (tags_from 0 tags) cs) (others : ℕ) where
+      own_arm : (y i tag : ℕ) (content : Ty) → Among (tags_from 0 tags) y i → Has k ms y tag content → arm_place cs others tag ≡ i
+      own_arm y i tag content a h = by (found (tags_from 0 tags) cs chooses others tag)
+        where
+          same_name : (x : ℕ) (b : Ty) → Has k ms x tag b → x ≡ y
+          same_name x b g =
+              let same : g.spelling ≡ h.spelling = ap (λ m. m.0) (same_Some (g.spelling, b) (h.spelling, content) (sym g.member ∙ h.member)) in
+              spelled_once x y h.spelling (g.spelled ∙ ap Some same) h.spelled
+
+          by : IsNamedAt (tags_from 0 tags) cs others tag ⊎ IsUnnamedAt (tags_from 0 tags) cs others tag → arm_place cs others tag ≡ i
+          by (inl f) = f.chosen ∙ among_one 0 tags distinct y f.place i (subst (λ z. Among (tags_from 0 tags) z f.place) (same_name f.name f.content f.has) f.among) a
+          by (inr f) = absurd (f.none y i content a h)
+
+      pub each_chosen : (named arms : ℕ) (xs : List (ℕ × ℕ)) (ds : List Choice) → AreChoices k ms xs ds → ((y i : ℕ) → Among xs y i → Among (tags_from 0 tags) y i) → All (λ x. x.1 < arms) xs
+          → All (IsChosen (record { named = named; choices = cs; others = others }) arms (length ms)) ds
+      each_chosen named arms [] [] p f w = All-nil (IsChosen (record { named = named; choices = cs; others = others }) arms (length ms))
+      each_chosen named arms [] (c ∷ ds) p f w = absurd p
+      each_chosen named arms (x ∷ xs) [] p f w = absurd p
+      each_chosen named arms (x ∷ xs) (c ∷ ds) p f w =
+          let h = p.0.0.1 in
+          All-cons (IsChosen (record { named = named; choices = cs; others = others }) arms (length ms)) c ds
+          (record {
+            within = subst (λ i. i < arms) (sym p.0.1) (All-head (λ x. x.1 < arms) x xs w);
+            tag = slice_get_within ms c.tag (h.spelling, p.0.0.0) h.member;
+            own = own_arm x.0 x.1 c.tag p.0.0.0 (f x.0 x.1 (this x.0 x.1)) h ∙ sym p.0.1;
+          })
+          (each_chosen named arms xs ds p.1 (λ y i m. f y i (later m)) (All-tail (λ x. x.1 < arms) x xs w))
+
 -- ---- arms
 
 placed_below : (i n : ℕ) (names : List ℕ) → i < n → (xs : List (ℕ × ℕ)) → All (λ x. x.1 < n) xs → All (λ x. x.1 < n) (map (λ x. (x, i)) names ++ xs)
@@ -158,13 +221,6 @@ placed_below i n (x ∷ names) lt xs p = All-cons (λ x. x.1 < n) (x, i) (map (�
 pub tags_below : (i n : ℕ) (tags : List (List ℕ)) → i + length tags ≤ n → All (λ x. x.1 < n) (tags_from i tags)
 tags_below i n [] e = All-nil (λ x. x.1 < n)
 tags_below i n (t ∷ tags) e = placed_below i n t (omega (arith, e)) (tags_from (suc i) tags) (tags_below (suc i) n tags (omega (arith, e)))
-
-pub choices_below : (k : Known) (ms : List Member) (n : ℕ) (xs : List (ℕ × ℕ)) (cs : List Choice) → AreChoices k ms xs cs → All (λ x. x.1 < n) xs → All (λ c. c.arm < n) cs
-choices_below k ms n [] [] p q = All-nil (λ c. c.arm < n)
-choices_below k ms n [] (c ∷ cs) p q = absurd p
-choices_below k ms n (x ∷ xs) [] p q = absurd p
-choices_below k ms n (x ∷ xs) (c ∷ cs) p q =
-    All-cons (λ c. c.arm < n) c cs (subst (λ i. i < n) (sym p.0.1) (All-head (λ x. x.1 < n) x xs q)) (choices_below k ms n xs cs p.1 (All-tail (λ x. x.1 < n) x xs q))
 
 module _ (k : Known) (denotes : Written → Ty → Type 0) where
   pub arms_counted : (s : Scope) (x : Option ℕ) (ms : List Member) (tys : List Ty) (arms : List Arm) (us : List (List TypedExpr)) (tags : List (List ℕ)) → AreArms k denotes s x ms tys arms us tags

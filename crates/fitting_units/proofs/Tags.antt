@@ -1,5 +1,5 @@
 -- In a union that stands in the table no tag stands twice, so what `tagcase` keeps of its tags fits.
-use Rattle.std.proofs.Common.{◌≡◌, ℕ, zero, suc, ◌+◌, ◌≤◌, List, [], ◌∷◌, ◌++◌, map, Contains, Option, Some, None, slice_get, length, refl, sym, ap, subst, ◌∙◌, arith, rules}
+use Rattle.std.proofs.Common.{◌≡◌, ℕ, zero, suc, ◌+◌, ◌≤◌, List, [], ◌∷◌, ◌++◌, map, Contains, All, Option, Some, None, slice_get, length, refl, sym, ap, subst, ◌∙◌, arith, rules}
 use Rattle.std.proofs.lemmas.Option.{same_Some, none-some}
 use Rattle.std.proofs.lemmas.List.{length-append}
 use Rattle.flow_value.specs.declared.ty.Ty.{Ty}
@@ -17,9 +17,9 @@ use Rattle.fitting_units.specs.Leaves.{AreTagsOnce, AreNamesOnce}
 use Rattle.sisal_tree.specs.declared.unit.Written.{Written}
 use Rattle.sisal_tree.specs.declared.expr.Arm.{Arm}
 use Rattle.typed_tree.specs.Typing.{Known, named_arms, tags_from}
-use Rattle.fitting_trees.specs.Fitting.{TagsFit}
+use Rattle.fitting_trees.specs.Fitting.{TagsFit, IsChosen}
 use Rattle.fitting_units.proofs.Walk.{AreTagsFit}
-use Rattle.fitting_units.proofs.Choices.{first, further, arms_counted, reach, last_counted, choices_below, tags_below, choice_for, each_fits}
+use Rattle.fitting_units.proofs.Choices.{first, further, arms_counted, reach, last_counted, each_chosen, tags_below, choice_for, each_fits}
 
 record UnionAt (forms : List Form) (spellings : List (List ℕ)) (n : ℕ) (ms : List Member) : Type 0 where
   members : List NumberedMember
@@ -78,7 +78,8 @@ module _ (k : Known) (denotes : Written → Ty → Type 0) (once : AreNamesOnce 
             (each_fits k denotes x ms one tags contents told choices c.each other (length (us ++ last)) (omega (arith, a, both))
             (λ es e. let l = last_counted k denotes s tys es other last o e in omega (arith, a, l, both)) (named_arms x arms) 0 ms (λ t j e. ap (slice_get ms) (same_index t j e)) all);
         reached = λ i h. let r = reach k denotes s x ms tys arms us tags q 0 i i (omega arith) (let l = named_within x arms in omega (arith, h, l, b)) in choice_for k ms (tags_from 0 tags) choices c.each r.0 i r.1;
-        there = choices_below k ms (length (us ++ last)) (tags_from 0 tags) choices c.each (tags_below 0 (length (us ++ last)) tags (omega (arith, a, both)));
+        there = subst (λ m. All (IsChosen (record { named = named_arms x arms; choices = choices; others = m }) (length (us ++ last)) (length ms)) choices) (sym b)
+            (each_chosen k ms one once tags d choices c.each (length tags) (named_arms x arms) (length (us ++ last)) (tags_from 0 tags) choices c.each (λ y i m. m) (tags_below 0 (length (us ++ last)) tags (omega (arith, a, both))));
         last = omega (arith, a, b, both);
       }
     where

@@ -36,7 +36,7 @@ use Rattle.typed_tree.specs.Types.{Member, AreNumbers, prefix_type}
 use Rattle.typed_tree.specs.Operations.{prefix_operation, binary_operation, convert_operation, built_in_operation, masking_of}
 use Rattle.typed_tree.specs.Typing as rule
 use Rattle.typed_tree.specs.Typing.{Signature, Known, Number, Has, IsTag, Chooses, AreAllNamed, with, names_in, names_of, loop_of, named_arms, with_content, AreTargets, Folds, Types, AreTyped, Replaces, HasFields, Defines, Crosses, Generates, AreClauses, IsMask, AreArms, IsOtherwise}
-use Rattle.fitting_trees.specs.Fitting.{Row, Header, Goes, AreAll, AreFields, AreMade, Fits, AllFit, DefsFit, ArmsFit, TagsFit}
+use Rattle.fitting_trees.specs.Fitting.{Row, Header, Goes, AreAll, AreFields, AreMade, Fits, AllFit, DefsFit, ArmsFit, TagsFit, IsChosen}
 use Rattle.fitting_trees.specs.Fitting as is
 use Rattle.fitting_units.specs.Leaves.{Leaf, AreWritten, all_in, in_apply, in_kind, leaves}
 use Rattle.fitting_units.specs.Laws.{header, headers}
@@ -125,7 +125,7 @@ module _ (k : Known) (denotes : Written → Ty → Type 0) where
   pub record FitsTags (x : Option ℕ) (ms : List Member) (contents : List Ty) (arms : List Arm) (all : List (List TypedExpr)) (choices : List Choice) : Type 0 where
     pub each : TagsFit (length all) contents (record { named = named_arms x arms; choices = choices; others = length arms }) 0 ms
     pub reached : (i : ℕ) → i < named_arms x arms → Contains (map (λ c. c.arm) choices) i
-    pub there : All (λ c. c.arm < length all) choices
+    pub there : All (IsChosen (record { named = named_arms x arms; choices = choices; others = length arms }) (length all) (length ms)) choices
     pub last : length arms ≤ length all
 
   abbrev pub AreTagsFit : Type 0

@@ -2,9 +2,5 @@
 #![tactic(auto)]
 
 mod canonical;
-mod fault;
-mod marks;
 
 pub use canonical::canonical_text;
-pub use fault::Refusal;
-pub use marks::is_unmarked;

@@ -13,4 +13,4 @@ pub use nets::{link_all, nets_of};
 pub use paths::{Path, path};
 pub use ranks::{Ranks, ranked};
 pub use search::way;
-pub use users::{PortUsers, port_users, users_of};
+pub use users::{PortUsers, note_edge, port_users, users_of};

@@ -44,7 +44,8 @@ fn note(alloc: Global, users: &mut PortUsers, node: u32, port: u32, to: u32) -> 
     Ok(())
 }
 
-fn note_edge(alloc: Global, users: &mut PortUsers, edge: &Edge) -> Result<(), NoMemory>
+/// Notes the node to which an edge leads as one that uses the port from which it comes.
+pub fn note_edge(alloc: Global, users: &mut PortUsers, edge: &Edge) -> Result<(), NoMemory>
     requires { AreGrouped users.old }
     ensures { OnOk
         result

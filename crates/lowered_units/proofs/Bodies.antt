@@ -16,9 +16,9 @@ use Rattle.lowering.specs.declared.graph.LoweredNode.{LoweredNode}
 use Rattle.lowering.specs.declared.graph.LoweredGraph.{LoweredGraph}
 use Rattle.lowering.specs.Graphs.{graph_lines}
 use Rattle.lowering.specs.Programs.{function_lowered, functions_lowered, graphs, graph_at}
-use Rattle.lowering.specs.TooMany.{most_nodes, most_graphs, types_over, graphs_over, too_many}
+use Rattle.lowering.specs.TooMany.{most_nodes, most_graphs, types_over, program_over, too_many, member_ports, header_ports}
 use Rattle.lowering.specs.Types.{basics, needs}
-use Rattle.lowered_units.specs.Fitting.{IsFitting}
+use Rattle.lowered_units.specs.Fitting.{HaveMembers, IsFitting}
 use Rattle.lowered_units.specs.Listed.{all_of}
 use Rattle.lowered_units.specs.Small.{AreSmall, IsSmallGraph, HasSmallPorts}
 use Rattle.lowered_units.specs.Units.{called_name, edges_into, node_edges, edges_of, IsTranslated}
@@ -107,7 +107,7 @@ below-length [] i x e = absurd cc
 below-length (y ∷ xs) zero x e = omega arith
 below-length (y ∷ xs) (suc i) x e = omega (arith, below-length xs i x e)
 
-module _ (p : Program) (u : Unit1) (fit : IsFitting p) (t : IsTranslated p u) (within : too_many p ≡ None) (small : HasSmallPorts p) (nests : AreNested u) where
+module _ (p : Program) (u : Unit1) (fit : IsFitting p) (members : HaveMembers p.types) (t : IsTranslated p u) (within : too_many p ≡ None) (small : HasSmallPorts p) (nests : AreNested u) where
   abbrev count : ℕ
   count = functions p fit
 
@@ -117,15 +117,18 @@ module _ (p : Program) (u : Unit1) (fit : IsFitting p) (t : IsTranslated p u) (w
   as-many : length p.functions ≡ length (functions_lowered p)
   as-many = sym (length-new p 1 (map (function_lowered p.types) p.functions) ∙ length-map p.functions (function_lowered p.types))
 
-  not-over : graphs_over p.functions (functions_lowered p) 0 ≡ None
-  not-over = or-right (types_over (needs p) basics) (graphs_over p.functions (functions_lowered p) 0) within
+  not-over : program_over p ≡ None
+  not-over = or-right (types_over (needs p) basics) (program_over p) within
+
+  abbrev headers : ℕ
+  headers = member_ports p.types + header_ports p.functions
 
   few : AreFew (graphs p)
-  few = few-graphs p.functions (functions_lowered p) 0 as-many not-over
+  few = few-graphs p.functions (functions_lowered p) 0 headers as-many not-over
 
   counts : All (IsGraphCounted most_graphs) (graphs p)
   counts =
-      let all = few-in-all p.functions (functions_lowered p) 0 as-many (omega arith) not-over in
+      let all = few-in-all p.functions (functions_lowered p) 0 headers as-many (omega arith) not-over in
       all-counted p.types count most_graphs [] 0 0 1 (functions_lowered p) (program-built p fit) (omega (arith, all))
 
   edges-join : (g : Graph) (label : ℕ) (vs : List LoweredNode) (results : List Wire) → ((i : ℕ) (v : LoweredNode) → slice_get vs i ≡ Some v → All (IsEdge u g) (node_edges p (label + i) v.action v.ins)) → All (IsEdge u g) (edges_into p 0 1 results) → All (IsEdge u g) (edges_of p label vs results)
@@ -165,8 +168,8 @@ module _ (p : Program) (u : Unit1) (fit : IsFitting p) (t : IsTranslated p u) (w
             (λ i v k.
             let n = node-beside 1 ns d.nodes m i v k in
             let c = nodes-in-at (graph_lines (functions_lowered p)) d.nodes lined.0 i v k in
-            node-edges-formed p u fit t within named g n.0 (1 + i) v.action v.ins (standing 1 ns d.nodes m i n.0 v n.1 k) (omega (arith, below-length d.nodes i v k, most)) (right-node d.nodes i v right.0 k) c.0 c.1 (all-at (λ (v : LoweredNode). AreSmall v.ins) d.nodes s.nodes i v k))
-            (block-formed p u fit t within named g 0 1 d.results (omega arith) (omega arith) (omega (arith, s.results.few)) (built.good-filled p.types count d.results right.1) lined.1 s.results.feeds
+            node-edges-formed p u fit members t within named g n.0 (1 + i) v.action v.ins (standing 1 ns d.nodes m i n.0 v n.1 k) (omega (arith, below-length d.nodes i v k, most)) (right-node d.nodes i v right.0 k) c.0 c.1 (all-at (λ (v : LoweredNode). AreSmall v.ins) d.nodes s.nodes i v k))
+            (block-formed p u fit members t within named g 0 1 d.results (omega arith) (omega arith) (omega (arith, s.results.few)) (built.good-filled p.types count d.results right.1) lined.1 s.results.feeds
             (λ j i. subst IsValueWant (sym (boundary-wants p u t.types count g (none-before 1 ns d.nodes m 0 (omega arith)) j)) tt)));
       }
     where

@@ -2,7 +2,7 @@
 use Rattle.std.proofs.Common.{◌≡◌, ℕ, zero, suc, ◌<◌, ◌≤◌, Bool, true, false, List, [], ◌∷◌, ◌++◌, map, length, slice_get, Option, Some, refl, sym, ap, subst, ◌∙◌, arith, rules}
 use Rattle.std.specs.Prelude.{All, nat_eq, if◌then◌else◌}
 use Rattle.std.proofs.lemmas.List.{length-map, length-append}
-use Rattle.std.proofs.lemmas.List.Elements.{All-nil, All-cons, All-head, All-tail}
+use Rattle.std.proofs.lemmas.List.Elements.{All-nil, All-cons, All-head, All-tail, All-weaker}
 use Rattle.std.proofs.lemmas.Option.{slice_get_within}
 use Rattle.flow_value.specs.declared.ty.Ty.{Ty}
 use Rattle.flow_value.specs.declared.ty.Ty.TheVariants as ty
@@ -48,28 +48,28 @@ use Rattle.lowered_units.proofs.BuiltLoops as loops
 
 -- ---- types by number
 
-out-bool : out-Ty ty.Bool ≡ Ty-F.Bool
+pub out-bool : out-Ty ty.Bool ≡ Ty-F.Bool
 out-bool = search (rules, types.the_lemmas)
 
-out-char : out-Ty ty.Char ≡ Ty-F.Char
+pub out-char : out-Ty ty.Char ≡ Ty-F.Char
 out-char = search (rules, types.the_lemmas)
 
-out-int : out-Ty ty.Int ≡ Ty-F.Int
+pub out-int : out-Ty ty.Int ≡ Ty-F.Int
 out-int = search (rules, types.the_lemmas)
 
-out-null : out-Ty ty.Null ≡ Ty-F.Null
+pub out-null : out-Ty ty.Null ≡ Ty-F.Null
 out-null = search (rules, types.the_lemmas)
 
-out-array : (t : Ty) → out-Ty (ty.Arr t) ≡ Ty-F.Arr t
+pub out-array : (t : Ty) → out-Ty (ty.Arr t) ≡ Ty-F.Arr t
 out-array t = search (rules, types.the_lemmas)
 
-out-stream : (t : Ty) → out-Ty (ty.Stream t) ≡ Ty-F.Stream t
+pub out-stream : (t : Ty) → out-Ty (ty.Stream t) ≡ Ty-F.Stream t
 out-stream t = search (rules, types.the_lemmas)
 
-out-record : (ms : List Member) → out-Ty (ty.Rec ms) ≡ Ty-F.Rec ms
+pub out-record : (ms : List Member) → out-Ty (ty.Rec ms) ≡ Ty-F.Rec ms
 out-record ms = search (rules, types.the_lemmas)
 
-out-union : (ms : List Member) → out-Ty (ty.Uni ms) ≡ Ty-F.Uni ms
+pub out-union : (ms : List Member) → out-Ty (ty.Uni ms) ≡ Ty-F.Uni ms
 out-union ms = search (rules, types.the_lemmas)
 
 -- the form of a basic type
@@ -241,7 +241,7 @@ module _ (forms : List Form) (names : List (List ℕ)) (hs : List Header) (basic
         seen (length tys) (TypedKind-F.Case c ts arms) (typed.Case c ts arms) l ns (sym (typed.rolls-Case c ts arms))
         (λ env g. built.then-gives forms functions 1 (length tys) (all_lowered (several ts) env) (λ ws. case_lowered forms c lists ns ws env) (forms_are.all-to forms functions basics (several ts) 1 (all-fit γ ts (ty.Uni ms ∷ []) h) env g)
         (λ ws gw lw. forms_are.gives-as forms functions basics (length ns) (length tys) (case_lowered forms c lists ns ws env) same
-        (forms_are.case-to forms functions basics c lists ns ws gw (subst (λ i. EachTo forms functions basics i (map all_lowered lists)) (sym same) (arms-fit γ c.named arms contents tys a)) (omega (arith, one, count)) (subst (λ i. All (λ k. k ≤ i) (arms_of c (tag_count forms (type_of (wire_at ws 0).ty)))) (sym count) (tags-within (length arms) c named others 0 (tag_count forms (type_of (wire_at ws 0).ty)))) (numbers-types forms names functions ns tys num) env g)))
+        (forms_are.case-to forms functions basics c lists ns ws gw (subst (λ i. EachTo forms functions basics i (map all_lowered lists)) (sym same) (arms-fit γ c.named arms contents tys a)) (omega (arith, one, count)) (subst (λ i. All (λ k. k ≤ i) (arms_of c (tag_count forms (type_of (wire_at ws 0).ty)))) (sym count) (tags-within (length arms) c (All-weaker (is.IsChosen c (length arms) (length ms)) (λ x. x.arm < length arms) (λ x h. h.within) c.choices named) others 0 (tag_count forms (type_of (wire_at ws 0).ty)))) (numbers-types forms names functions ns tys num) env g)))
     tree-to γ _ made (is.product {tys = tys} {names = xs} {δ = δ} {row = row} {l = l} {ns = ns} {p = q} {bounds = bounds} {us = us} {ts = ts} b g d h m num) =
         let same = numbers-length forms names ns made num in
         seen (length made) (TypedKind-F.Product q bounds us ts) (typed.Product q bounds us ts) l ns (sym (typed.rolls-Product q bounds us ts))

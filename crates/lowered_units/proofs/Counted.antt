@@ -1,7 +1,6 @@
 -- A compound node has no more graphs inside than the unit has graphs, and its association list names none but these.
-use Rattle.std.proofs.Common.{◌≡◌, ℕ, suc, ◌+◌, ◌<◌, ◌≤◌, Bool, true, false, List, [], ◌∷◌, ◌++◌, length, Some, None, refl, ap, arith}
-use Rattle.std.specs.Prelude.{All, ◌^◌, nat_lt, ◌||◌, if◌then◌else◌}
-use Rattle.std.proofs.lemmas.Bool.{ltb-false}
+use Rattle.std.proofs.Common.{◌≡◌, ℕ, suc, ◌+◌, ◌<◌, ◌≤◌, List, [], ◌∷◌, ◌++◌, length, None, refl, ap, arith}
+use Rattle.std.specs.Prelude.{All, ◌^◌}
 use Rattle.std.proofs.lemmas.List.{length-append}
 use Rattle.std.proofs.lemmas.List.Elements.{All-nil, All-cons, All-head, All-tail, All-append, All-weaker}
 use Rattle.type_table.specs.declared.form.Form.{Form}
@@ -13,9 +12,9 @@ use Rattle.lowering.specs.declared.graph.LoweredNode.{LoweredNode}
 use Rattle.lowering.specs.declared.graph.LoweredGraph.{LoweredGraph}
 use Rattle.lowering.specs.declared.graph.Lowered.{Lowered}
 use Rattle.lowering.specs.Graphs.{size, numbers, closed, closed_nodes, closed_graphs, inputs}
-use Rattle.lowering.specs.TooMany.{most_graphs, is_large, graphs_over}
+use Rattle.lowering.specs.TooMany.{most_graphs, graph_ports, graphs_over}
 use Rattle.lowered_units.proofs.Built.{Fills, fills_row, fills_reduction, fills_call, Built, b_only, b_then, b_node, b_whole, b_tag, AllBuilt, no_graph, a_graph}
-use Rattle.lowered_units.proofs.Forming.{IsSmallAction, HasSmallAction, or-false}
+use Rattle.lowered_units.proofs.Forming.{IsSmallAction, HasSmallAction, few-over}
 
 -- at most so many graphs inside, and arms among them
 abbrev pub IsCounted : ℕ → Action → Type 0
@@ -87,16 +86,12 @@ module _ (forms : List Form) (functions most : ℕ) where
         All-cons (IsGraphCounted most) (closed ks first own m) (m.graphs ++ closed_graphs ks first own ms) (closed-counted most ks first own m.nodes here.0)
         (All-append (IsGraphCounted most) m.graphs (closed_graphs ks first own ms) here.1 (all-counted ks first own (q + size m) ms r (omega (arith, few, both))))
 
-pub few-in-all : (fs : List Function) (ms : List Lowered) (before : ℕ) → length fs ≡ length ms → before ≤ most_graphs → graphs_over fs ms before ≡ None → before + length (closed_graphs [] 0 0 ms) ≤ most_graphs
-few-in-all [] [] before l k e = omega (arith, k)
-few-in-all [] (m ∷ ms) before l k e = absurd (omega (arith, l))
-few-in-all (f ∷ fs) [] before l k e = absurd (omega (arith, l))
-few-in-all (f ∷ fs) (m ∷ ms) before l k e = by (is_large m || nat_lt most_graphs (before + size m)) refl e (λ x y. few-in-all fs ms (before + size m) (omega (arith, l)) x y)
-  where
-    by : (b : Bool) → (is_large m || nat_lt most_graphs (before + size m)) ≡ b → (if b then Some f.line else graphs_over fs ms (before + size m)) ≡ None
-        → (before + size m ≤ most_graphs → graphs_over fs ms (before + size m) ≡ None → before + size m + length (closed_graphs [] 0 0 ms) ≤ most_graphs) → before + length (closed_graphs [] 0 0 (m ∷ ms)) ≤ most_graphs
-    by true b e r = absurd cc
-    by false b e r =
-        let both = length-append m.graphs (closed_graphs [] 0 0 ms) in
-        let all = r (ltb-false most_graphs (before + size m) (or-false (is_large m) (nat_lt most_graphs (before + size m)) b).1) e in
-        omega (arith, both, all)
+pub few-in-all : (fs : List Function) (ms : List Lowered) (before ports : ℕ) → length fs ≡ length ms → before ≤ most_graphs → graphs_over fs ms before ports ≡ None → before + length (closed_graphs [] 0 0 ms) ≤ most_graphs
+few-in-all [] [] before ports l k e = omega (arith, k)
+few-in-all [] (m ∷ ms) before ports l k e = absurd (omega (arith, l))
+few-in-all (f ∷ fs) [] before ports l k e = absurd (omega (arith, l))
+few-in-all (f ∷ fs) (m ∷ ms) before ports l k e =
+    let all = few-over f fs m ms before ports e in
+    let both = length-append m.graphs (closed_graphs [] 0 0 ms) in
+    let rest = few-in-all fs ms (before + size m) (ports + graph_ports (closed_graphs [] 0 0 (m ∷ []))) (omega (arith, l)) all.few_graphs all.rest in
+    omega (arith, both, rest)

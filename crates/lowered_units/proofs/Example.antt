@@ -32,7 +32,7 @@ use Rattle.typed_tree.specs.declared.program.Program.{Program}
 use Rattle.typed_tree.specs.Types as number
 use Rattle.lowering.specs.TooMany.{too_many}
 use Rattle.bound_trees.specs.Depths.{AreWithin}
-use Rattle.lowered_units.specs.Fitting.{HasName, IsFitting}
+use Rattle.lowered_units.specs.Fitting.{HasName, HaveMembers, IsFitting}
 use Rattle.lowered_units.specs.Listed.{Listing, NodeListing, list_graph, list_node, listing}
 use Rattle.lowered_units.specs.Units.{IsTranslated}
 
@@ -139,12 +139,14 @@ only (suc i) name h = absurd (none h.function h.there)
     none : (f : Function) → slice_get (function ∷ []) (suc i) ≡ Some f → ⊥
     none f e = absurd cc
 
+pub example-members : HaveMembers program.types
+example-members = no-members
+
 pub example-fits : IsFitting program
 example-fits = record {
   headers = record { params = ty.Int ∷ []; results = ty.Int ∷ [] } ∷ [];
   tree = record { fits = (record { params = (number.integer refl, tt); results = (number.integer refl, tt); body = tt }, tt) };
   types = basics;
-  members = no-members;
   results = All-cons (λ (f : Function). 1 ≤ length f.results) function [] (omega arith) (All-nil (λ (f : Function). 1 ≤ length f.results));
   shallow = All-cons (λ (f : Function). AreWithin 200 f.body) function [] tt (All-nil (λ (f : Function). AreWithin 200 f.body));
   visible = All-cons IsName (codes "f") [] refl (All-nil IsName);

@@ -16,14 +16,14 @@ use Rattle.lowering.specs.Graphs.{size, closed}
 use Rattle.lowering.specs.Programs.{functions_lowered, graphs}
 use Rattle.lowering.specs.TooMany.{too_many}
 use Rattle.lowering.specs.Types.{Labelled, Table, basics, function_label, header_need, body_needs, with_needs, table, header_label}
-use Rattle.lowered_units.specs.Fitting.{IsFitting}
+use Rattle.lowered_units.specs.Fitting.{HaveMembers, IsFitting}
 use Rattle.lowered_units.specs.Listed.{ListedGraph, Listing, all_of, listing}
-use Rattle.lowered_units.specs.Small.{HasSmallPorts}
 use Rattle.lowered_units.specs.Units.{inner_graphs, function_graph, function_listings, name_of, import_if, imports_of, entries_from, IsTranslated}
 use Rattle.lowered_units.proofs.Bodies.{bodies-formed}
 use Rattle.lowered_units.proofs.Edges.{called-quotable}
 use Rattle.lowered_units.proofs.Entries.{strip, whole_listing, whole-strips}
 use Rattle.lowered_units.proofs.Heads.{In, listing-is}
+use Rattle.lowered_units.proofs.KeptTrees.{small-ports}
 use Rattle.lowered_units.proofs.Lined.{HasLabel, header_table, after-headers, grown-length}
 use Rattle.lowered_units.proofs.Nested.{AreNested}
 use Rattle.lowered_units.proofs.OneUnit.{inside_in, head_of, nil-is-no-cons, heads, tails}
@@ -86,30 +86,30 @@ module _ (p : Program) where
       let h = headers-of (suc place) (q + size m) fs ms gs (tails (listing x) own (map listing gs) rest e) g i in
       record { function = h.function; there = inr h.there; fun = h.fun; name = h.name; inner = h.inner }
 
-  module _ (fit : IsFitting p) where
+  module _ (fit : IsFitting p) (members : HaveMembers p.types) where
     headers-grow : (fs : List typed.Function) (ts : Table) → Grows ts (with_needs (map (header_need p) fs) ts)
     headers-grow [] ts = grows-none ts
     headers-grow (f ∷ fs) ts =
         grows-then ts (function_label p.types p.names f ts).table (with_needs (map (header_need p) fs) (function_label p.types p.names f ts).table) (function-grows p.types p.names f ts) (headers-grow fs (function_label p.types p.names f ts).table)
 
-    header-labels : (fs : List typed.Function) → ((k : ℕ) (f : typed.Function) → slice_get fs k ≡ Some f → IsHeaded p.types p.names fit.visible fit.types fit.members f) → (ts : Table) → IsWellTable ts → (later : Table) → Grows (with_needs (map (header_need p) fs) ts) later
+    header-labels : (fs : List typed.Function) → ((k : ℕ) (f : typed.Function) → slice_get fs k ≡ Some f → IsHeaded p.types p.names fit.visible fit.types members f) → (ts : Table) → IsWellTable ts → (later : Table) → Grows (with_needs (map (header_need p) fs) ts) later
         → (f : typed.Function) → In f fs → HasLabel later (function_label p.types p.names f later)
     header-labels [] h ts w later g f i = absurd i
     header-labels (x ∷ fs) h ts w later g f (inl e) =
         let r = function_label p.types p.names x ts in
-        let k = function-well p.types p.names fit.visible fit.types fit.members x (h 0 x refl) ts w in
+        let k = function-well p.types p.names fit.visible fit.types members x (h 0 x refl) ts w in
         let grown = grows-then r.table (with_needs (map (header_need p) fs) r.table) later (headers-grow fs r.table) g in
         let same : (function_label p.types p.names f later).label ≡ r.label =
         ap (λ (y : typed.Function). (function_label p.types p.names y later).label) e ∙ ap (λ (y : Labelled). y.label) (function-stays p.types p.names x ts later grown) in
         (omega (arith, same, k.1), omega (arith, same, k.0.label, grown-length r.table later grown))
     header-labels (x ∷ fs) h ts w later g f (inr i) =
-        header-labels fs (λ k y e. h (suc k) y e) (function_label p.types p.names x ts).table (function-well p.types p.names fit.visible fit.types fit.members x (h 0 x refl) ts w).0.well later g f i
+        header-labels fs (λ k y e. h (suc k) y e) (function_label p.types p.names x ts).table (function-well p.types p.names fit.visible fit.types members x (h 0 x refl) ts w).0.well later g f i
 
     header-whole : too_many p ≡ None → (f : typed.Function) → In f p.functions → IsWholeType (entries_from p 1 (table p)) (header_label p f)
     header-whole few f i =
-        let grown = subst (Grows (header_table p fit)) (sym (after-headers p fit p.functions (body_needs p p.functions (functions_lowered p)) basics)) (bodies-grow p p.functions (functions_lowered p) (header_table p fit)) in
-        let h = header-labels p.functions (headed p fit) basics basics-well (table p) grown f i in
-        whole-label p fit few (header_label p f) h.0 h.1
+        let grown = subst (Grows (header_table p fit members)) (sym (after-headers p fit members p.functions (body_needs p p.functions (functions_lowered p)) basics)) (bodies-grow p p.functions (functions_lowered p) (header_table p fit members)) in
+        let h = header-labels p.functions (headed p fit members) basics basics-well (table p) grown f i in
+        whole-label p fit members few (header_label p f) h.0 h.1
 
     imports-formed : too_many p ≡ None → (fs : List typed.Function) → ((f : typed.Function) → In f fs → In f p.functions) → All (IsImport (entries_from p 1 (table p))) (imports_of p fs)
     imports-formed few [] i = All-nil (IsImport (entries_from p 1 (table p)))
@@ -121,15 +121,15 @@ module _ (p : Program) where
             All-cons (IsImport (entries_from p 1 (table p))) (header_label p f, name_of p f) (imports_of p fs) (w.0, w.1, called-quotable p fit.quotable (Some f)) r
         by (Some es) r = r
 
-    pub is-formed : (u : Unit1) → IsTranslated p u → too_many p ≡ None → HasSmallPorts p → AreNested u → IsFormed u
-    is-formed u t few small nests =
-        let bodies = bodies-formed p u fit t few small nests in
+    pub is-formed : (u : Unit1) → IsTranslated p u → too_many p ≡ None → AreNested u → IsFormed u
+    is-formed u t few nests =
+        let bodies = bodies-formed p u fit members t few (small-ports p fit few) nests in
         let placed = all-placed p u (subst (From 1) (sym (ap all_of t.graphs)) whole-from) (λ x i. subst (In x) (ap all_of t.graphs) i)
         (λ g i.
         let h = headers-of 0 1 p.functions (functions_lowered p) u.graphs t.graphs g i in
         (λ k. (subst (IsWholeType u.types) (sym h.fun) (subst (λ ts. IsWholeType ts (header_label p h.function)) (sym t.types) (header-whole few h.function h.there)), subst IsQuotable (sym h.name) (called-quotable p fit.quotable (Some h.function))), h.inner)) in
         record {
-          types = subst IsTable (sym t.types) (types-formed p fit few);
+          types = subst IsTable (sym t.types) (types-formed p fit members few);
           imports = subst (λ ts. All (IsImport ts) u.imports) (sym t.types) (subst (All (IsImport (entries_from p 1 (table p)))) (sym t.imports) (imports-formed few p.functions (λ f i. i)));
           nesting = nests;
           graphs = λ k d i. record { number = (placed k d i).numbered; header = (placed k d i).header; nodes = (bodies k d i).nodes; labels = (bodies k d i).labels; few = (bodies k d i).few; edges = (bodies k d i).edges };

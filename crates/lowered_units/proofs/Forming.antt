@@ -38,9 +38,9 @@ use Rattle.lowering.specs.declared.graph.Lowered.{Lowered}
 use Rattle.lowering.specs.Graphs.{node, size, closed_graphs, graph_lines}
 use Rattle.lowering.specs.Operations.{integer}
 use Rattle.lowering.specs.Programs.{functions_lowered, graph_at}
-use Rattle.lowering.specs.TooMany.{most_nodes, most_graphs, is_large, graphs_over, or_else, too_many}
+use Rattle.lowering.specs.TooMany.{most_nodes, most_graphs, most_ports, is_large, graph_ports, graphs_over, or_else, too_many}
 use Rattle.lowering.specs.Types.{label_of as type_label_of}
-use Rattle.lowered_units.specs.Fitting.{IsFitting}
+use Rattle.lowered_units.specs.Fitting.{HaveMembers, IsFitting}
 use Rattle.lowered_units.specs.Listed.{ListedNode}
 use Rattle.lowered_units.specs.Small.{IsSmallFeed, AreSmall}
 use Rattle.lowered_units.specs.Units.{constant_text, simple_code, compound_code, edge, edge_if, edges_into, node_edges, called_name, listed_node, origin_of, IsTranslated}
@@ -115,17 +115,34 @@ not-large (d ∷ ds) e =
     let r = or-false (nat_lt most_nodes (length d.nodes)) (list_any (λ (d : LoweredGraph). nat_lt most_nodes (length d.nodes)) ds) e in
     (ltb-false most_nodes (length d.nodes) r.0, not-large ds r.1)
 
-pub few-graphs : (fs : List Function) (ms : List Lowered) (before : ℕ) → length fs ≡ length ms → graphs_over fs ms before ≡ None → AreFew (closed_graphs [] 0 0 ms)
-few-graphs [] [] before l e = tt
-few-graphs [] (m ∷ ms) before l e = absurd (omega (arith, l))
-few-graphs (f ∷ fs) [] before l e = absurd (omega (arith, l))
-few-graphs (f ∷ fs) (m ∷ ms) before l e = by (is_large m || nat_lt most_graphs (before + size m)) refl e (λ k. few-graphs fs ms (before + size m) (omega (arith, l)) k)
+-- what is known of a function in which nothing shows to be too many
+pub record IsFew (fs : List Function) (m : Lowered) (ms : List Lowered) (before ports : ℕ) : Type 0 where
+  pub small : is_large m ≡ false
+  pub few_graphs : before + size m ≤ most_graphs
+  pub few_ports : ports + graph_ports (closed_graphs [] 0 0 (m ∷ [])) ≤ most_ports
+  pub rest : graphs_over fs ms (before + size m) (ports + graph_ports (closed_graphs [] 0 0 (m ∷ []))) ≡ None
+
+pub few-over : (f : Function) (fs : List Function) (m : Lowered) (ms : List Lowered) (before ports : ℕ) → graphs_over (f ∷ fs) (m ∷ ms) before ports ≡ None → IsFew fs m ms before ports
+few-over f fs m ms before ports e = by (before + size m) (ports + graph_ports (closed_graphs [] 0 0 (m ∷ []))) (λ x y z w. record { small = x; few_graphs = y; few_ports = z; rest = w }) e
   where
-    by : (b : Bool) → (is_large m || nat_lt most_graphs (before + size m)) ≡ b → (if b then Some f.line else graphs_over fs ms (before + size m)) ≡ None → (graphs_over fs ms (before + size m) ≡ None → AreFew (closed_graphs [] 0 0 ms)) → AreFew (closed_graphs [] 0 0 (m ∷ ms))
-    by true b e k = absurd cc
-    by false b e k =
-        let here = not-large (closed_graphs [] 0 0 (m ∷ [])) (or-false (is_large m) (nat_lt most_graphs (before + size m)) b).0 in
-        (here.0, few-both m.graphs (closed_graphs [] 0 0 ms) (few-left m.graphs [] here.1) (k e))
+    by : (g k : ℕ) → {A : Type 0} → (is_large m ≡ false → g ≤ most_graphs → k ≤ most_ports → graphs_over fs ms g k ≡ None → A) → (if is_large m || (nat_lt most_graphs g || nat_lt most_ports k) then Some f.line else graphs_over fs ms g k) ≡ None → A
+    by g k {A = A} make e = told (is_large m || (nat_lt most_graphs g || nat_lt most_ports k)) refl e
+      where
+        told : (b : Bool) → (is_large m || (nat_lt most_graphs g || nat_lt most_ports k)) ≡ b → (if b then Some f.line else graphs_over fs ms g k) ≡ None → A
+        told true b e = absurd cc
+        told false b e =
+            let both = or-false (is_large m) (nat_lt most_graphs g || nat_lt most_ports k) b in
+            let counts = or-false (nat_lt most_graphs g) (nat_lt most_ports k) both.1 in
+            make both.0 (ltb-false most_graphs g counts.0) (ltb-false most_ports k counts.1) e
+
+pub few-graphs : (fs : List Function) (ms : List Lowered) (before ports : ℕ) → length fs ≡ length ms → graphs_over fs ms before ports ≡ None → AreFew (closed_graphs [] 0 0 ms)
+few-graphs [] [] before ports l e = tt
+few-graphs [] (m ∷ ms) before ports l e = absurd (omega (arith, l))
+few-graphs (f ∷ fs) [] before ports l e = absurd (omega (arith, l))
+few-graphs (f ∷ fs) (m ∷ ms) before ports l e =
+    let all = few-over f fs m ms before ports e in
+    let here = not-large (closed_graphs [] 0 0 (m ∷ [])) all.small in
+    (here.0, few-both m.graphs (closed_graphs [] 0 0 ms) (few-left m.graphs [] here.1) (few-graphs fs ms (before + size m) (ports + graph_ports (closed_graphs [] 0 0 (m ∷ []))) (omega (arith, l)) all.rest))
 
 pub or-right : (a b : Option ℕ) → or_else a b ≡ None → b ≡ None
 or-right None b e = e
@@ -192,7 +209,7 @@ nodes-formed label (n ∷ ns) (v ∷ vs) m one few s =
 
 -- ---- edges
 
-module _ (p : Program) (u : Unit1) (fit : IsFitting p) (t : IsTranslated p u) (within : too_many p ≡ None)
+module _ (p : Program) (u : Unit1) (fit : IsFitting p) (members : HaveMembers p.types) (t : IsTranslated p u) (within : too_many p ≡ None)
     (found : (f : ℕ) → f < functions p fit → IsSome (function_named u.graphs (called_name p (slice_get p.functions f)))) where
   abbrev count : ℕ
   count = functions p fit
@@ -201,7 +218,7 @@ module _ (p : Program) (u : Unit1) (fit : IsFitting p) (t : IsTranslated p u) (w
   lines = graph_lines (functions_lowered p)
 
   whole : (c : Carried) → In c lines → IsWholeType u.types (type_label_of p c)
-  whole c i = subst (λ ts. IsWholeType ts (type_label_of p c)) (sym t.types) (whole-line p fit within c i)
+  whole c i = subst (λ ts. IsWholeType ts (type_label_of p c)) (sym t.types) (whole-line p fit members within c i)
 
   module _ (g : Graph) where
     abbrev IsFormedEdge : Edge → Type 0

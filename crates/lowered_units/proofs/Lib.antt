@@ -3,6 +3,9 @@ pub mod Nested
 pub mod NestedForms
 pub mod NestedTrees
 pub mod Counted
+pub mod Kept
+pub mod KeptForms
+pub mod KeptTrees
 pub mod Built
 pub mod BuiltForms
 pub mod BuiltLoops

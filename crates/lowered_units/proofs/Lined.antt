@@ -18,7 +18,7 @@ use Rattle.lowering.specs.declared.graph.Lowered.{Lowered}
 use Rattle.lowering.specs.Graphs.{callee, graph_lines, size, inputs, closed_wires, closed_nodes, closed_graphs}
 use Rattle.lowering.specs.Programs.{function_lowered, functions_lowered, graphs}
 use Rattle.lowering.specs.Types.{Table, Labelled, basics, carried_label, function_label, with_types, Need, header_need, body_needs, with_needs, table}
-use Rattle.lowered_units.specs.Fitting.{IsFitting}
+use Rattle.lowered_units.specs.Fitting.{HaveMembers, IsFitting}
 use Rattle.lowered_units.proofs.Built.{IsGap, IsLineType, Built, b_only, b_then, b_node, b_whole, b_tag, AllBuilt, no_graph, a_graph}
 use Rattle.lowered_units.proofs.Entries.{length-new}
 use Rattle.lowered_units.proofs.Heads.{In, in-left, in-right}
@@ -151,14 +151,14 @@ grown-length ts later g = omega (arith, ap length g.is, length-append ts g.rest)
 abbrev pub HasLabel : Table → Labelled → Type 0
 HasLabel later r = (1 ≤ r.label) × (r.label ≤ length later)
 
-module _ (p : Program) (fit : IsFitting p) where
+module _ (p : Program) (fit : IsFitting p) (members : HaveMembers p.types) where
   abbrev line_label : Carried → Table → Labelled
   line_label c ts = carried_label p.types p.names p.functions c ts
 
   well-line : (c : Carried) → IsLineType p.types (functions p fit) c → (ts : Table) → IsWellTable ts → IsWell ts (line_label c ts) × (1 ≤ (line_label c ts).label)
-  well-line c h ts w = carried-well p.types p.names fit.visible fit.types fit.members p.functions (headed p fit) (functions p fit) (function-count p fit) c h ts w
+  well-line c h ts w = carried-well p.types p.names fit.visible fit.types members p.functions (headed p fit members) (functions p fit) (function-count p fit) c h ts w
 
-  line-labels : (cs : List Carried) → AreLines p.types (functions p fit) (integers-in p fit) cs → (ts : Table) → IsWellTable ts → (later : Table) → Grows (with_types p.types p.names p.functions cs ts) later
+  line-labels : (cs : List Carried) → AreLines p.types (functions p fit) (integers-in p fit members) cs → (ts : Table) → IsWellTable ts → (later : Table) → Grows (with_types p.types p.names p.functions cs ts) later
       → (c : Carried) → In c cs → HasLabel later (line_label c later)
   line-labels [] h ts w later g c i = absurd i
   line-labels (x ∷ cs) h ts w later g c (inl e) =
@@ -177,9 +177,9 @@ module _ (p : Program) (fit : IsFitting p) where
   body-labels (f ∷ fs) _ _ l (no_graph q) ts w later g c i = absurd i
   body-labels (f ∷ fs) _ _ l (a_graph q m ms h r) ts w later g c i =
       let cs = graph_lines (m ∷ []) in
-      let lines = all-lines p.types (functions p fit) (integers-in p fit) q (m ∷ []) (a_graph q m [] h (no_graph (q + size m))) in
+      let lines = all-lines p.types (functions p fit) (integers-in p fit members) q (m ∷ []) (a_graph q m [] h (no_graph (q + size m))) in
       let next = with_types p.types p.names p.functions cs ts in
-      let well = lines-well p.types p.names fit.visible fit.types fit.members p.functions (headed p fit) (functions p fit) (function-count p fit) (integers-in p fit) cs lines ts w in
+      let well = lines-well p.types p.names fit.visible fit.types members p.functions (headed p fit members) (functions p fit) (function-count p fit) (integers-in p fit members) cs lines ts w in
       let front = m.lines ++ carried m.values in
       apart front (graph_lines ms) c i
       (λ k. line-labels cs lines ts w later (grows-then next (with_needs (body_needs p fs ms) next) later (needs-grow fs ms next) g) c (in-left c front [] k))
@@ -209,7 +209,7 @@ module _ (p : Program) (fit : IsFitting p) where
   nil-right (n ∷ ns) = ap (λ l. n ∷ l) (nil-right ns)
 
   header-well : IsWellTable header_table
-  header-well = subst (λ ns. IsWellTable (with_needs ns basics)) (nil-right (map (header_need p) p.functions)) (headers-well p fit p.functions (headed p fit) [] (λ ts w. w) basics basics-well)
+  header-well = subst (λ ns. IsWellTable (with_needs ns basics)) (nil-right (map (header_need p) p.functions)) (headers-well p fit members p.functions (headed p fit members) [] (λ ts w. w) basics basics-well)
 
   -- what a line of the program carries has its label
   pub line-labelled : (c : Carried) → In c (graph_lines (functions_lowered p)) → HasLabel (table p) (line_label c (table p))
@@ -217,5 +217,6 @@ module _ (p : Program) (fit : IsFitting p) where
       body-labels p.functions 1 (functions_lowered p) (sym (length-new p 1 (map (function_lowered p.types) p.functions) ∙ length-map p.functions (function_lowered p.types))) (program-built p fit) header_table header-well (table p)
       (subst (Grows (with_needs (body_needs p p.functions (functions_lowered p)) header_table)) (sym (after-headers p.functions (body_needs p p.functions (functions_lowered p)) basics)) (grows-none (with_needs (body_needs p p.functions (functions_lowered p)) header_table))) c i
 
+module _ (p : Program) (fit : IsFitting p) where
   pub program-lined : GraphsIn (graph_lines (functions_lowered p)) (graphs p)
   program-lined = all-lined p.types (functions p fit) [] 0 0 1 (functions_lowered p) (program-built p fit)

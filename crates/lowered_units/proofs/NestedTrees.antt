@@ -180,7 +180,7 @@ module _ (p : Program) (forms : List Form) (names : List (List ℕ)) (hs : List 
       same [] = refl
       same (e ∷ es) = ap (λ l. lowers forms e ∷ l) (same es)
 
-  functions-nested : (k q : ℕ) (gs : List Header) (fs : List Function) → FunctionsFit (AreNumbers forms names) hs gs fs → All (λ f. AreWithin k f.body) fs → AllNested p k q (new_graphs q (map (function_lowered forms) fs))
+  pub functions-nested : (k q : ℕ) (gs : List Header) (fs : List Function) → FunctionsFit (AreNumbers forms names) hs gs fs → All (λ f. AreWithin k f.body) fs → AllNested p k q (new_graphs q (map (function_lowered forms) fs))
   functions-nested k q [] [] h d = tt
   functions-nested k q [] (f ∷ fs) h d = absurd h
   functions-nested k q (g ∷ gs) [] h d = absurd h

@@ -20,8 +20,8 @@ use Rattle.lowering.specs.declared.graph.Lowered.{Lowered}
 use Rattle.lowering.specs.Graphs.{size, graph_lines}
 use Rattle.lowering.specs.Programs.{functions_lowered}
 use Rattle.lowering.specs.Types.{Entry, Table, basics, with_types, function_label, Need, header_need, body_needs, needs, with_needs, table}
-use Rattle.lowering.specs.TooMany.{most_types, types_over, graphs_over, or_else, too_many}
-use Rattle.lowered_units.specs.Fitting.{IsFitting}
+use Rattle.lowering.specs.TooMany.{most_types, types_over, or_else, program_over, too_many}
+use Rattle.lowered_units.specs.Fitting.{HaveMembers, IsFitting}
 use Rattle.lowered_units.specs.Units.{entries_from}
 use Rattle.lowered_units.proofs.Built.{AreTypes, AllBuilt, no_graph, a_graph}
 use Rattle.lowered_units.proofs.BuiltTrees.{numbers-types}
@@ -41,8 +41,8 @@ function-at P (x ∷ fs) h zero f e = subst P (same e) (h 0 x (omega arith))
     same e = cc
 function-at P (x ∷ fs) h (suc k) f e = function-at P fs (λ i d l. h (suc i) d (omega (arith, l))) k f e
 
-module _ (p : Program) (fit : IsFitting p) where
-  in-types : (ns : List ℕ) → AreTypes p.types (functions p fit) (map One ns) → AreIn p.types p.names fit.visible fit.types fit.members ns
+module _ (p : Program) (fit : IsFitting p) (members : HaveMembers p.types) where
+  in-types : (ns : List ℕ) → AreTypes p.types (functions p fit) (map One ns) → AreIn p.types p.names fit.visible fit.types members ns
   in-types [] h = tt
   in-types (n ∷ ns) h = (h.0, in-types ns h.1)
 
@@ -59,7 +59,7 @@ module _ (p : Program) (fit : IsFitting p) where
       same e = cc
   fits-at (g ∷ gs) (x ∷ fs) h (suc k) f e = fits-at gs fs h.1 k f e
 
-  pub headed : (k : ℕ) (f : Function) → slice_get p.functions k ≡ Some f → IsHeaded p.types p.names fit.visible fit.types fit.members f
+  pub headed : (k : ℕ) (f : Function) → slice_get p.functions k ≡ Some f → IsHeaded p.types p.names fit.visible fit.types members f
   headed k f e =
       let r = fits-at fit.headers p.functions fit.tree.fits k f e in
       record {
@@ -68,11 +68,11 @@ module _ (p : Program) (fit : IsFitting p) where
         some = function-at (λ f. 1 ≤ length f.results) p.functions fit.results k f e;
       }
 
-  pub headers-well : (fs : List Function) → ((k : ℕ) (f : Function) → slice_get fs k ≡ Some f → IsHeaded p.types p.names fit.visible fit.types fit.members f) → (ns : List Need) → ((ts : Table) → IsWellTable ts → IsWellTable (with_needs ns ts)) → (ts : Table) → IsWellTable ts
+  pub headers-well : (fs : List Function) → ((k : ℕ) (f : Function) → slice_get fs k ≡ Some f → IsHeaded p.types p.names fit.visible fit.types members f) → (ns : List Need) → ((ts : Table) → IsWellTable ts → IsWellTable (with_needs ns ts)) → (ts : Table) → IsWellTable ts
       → IsWellTable (with_needs (map (header_need p) fs ++ ns) ts)
   headers-well [] h ns g ts w = g ts w
   headers-well (f ∷ fs) h ns g ts w =
-      headers-well fs (λ k x e. h (suc k) x e) ns g (function_label p.types p.names f ts).table (function-well p.types p.names fit.visible fit.types fit.members f (h 0 f refl) ts w).0.well
+      headers-well fs (λ k x e. h (suc k) x e) ns g (function_label p.types p.names f ts).table (function-well p.types p.names fit.visible fit.types members f (h 0 f refl) ts w).0.well
 
   pub bodies-well : (fs : List Function) (q : ℕ) (ms : List Lowered) → AllBuilt p.types (functions p fit) q ms → (ts : Table) → IsWellTable ts → IsWellTable (with_needs (body_needs p fs ms) ts)
   bodies-well [] q ms b ts w = w
@@ -80,7 +80,7 @@ module _ (p : Program) (fit : IsFitting p) where
   bodies-well (f ∷ fs) _ _ (a_graph q m ms h r) ts w =
       let lines = all-lines p.types (functions p fit) integers-in q (m ∷ []) (a_graph q m [] h (no_graph (q + size m))) in
       bodies-well fs (q + size m) ms r (with_types p.types p.names p.functions (graph_lines (m ∷ [])) ts)
-      (lines-well p.types p.names fit.visible fit.types fit.members p.functions headed (functions p fit) (function-count p fit) integers-in (graph_lines (m ∷ [])) lines ts w)
+      (lines-well p.types p.names fit.visible fit.types members p.functions headed (functions p fit) (function-count p fit) integers-in (graph_lines (m ∷ [])) lines ts w)
 
   pub table-well : IsWellTable (table p)
   table-well = headers-well p.functions headed (body_needs p p.functions (functions_lowered p)) (λ ts w. bodies-well p.functions 1 (functions_lowered p) (program-built p fit) ts w) basics basics-well
@@ -103,7 +103,7 @@ module _ (p : Program) (fit : IsFitting p) where
           at-most k = ltb-false most_types (length (n.enters ts)) k
 
   pub few-types : too_many p ≡ None → length (table p) ≤ most_types
-  few-types e = few-needs (needs p) basics (omega arith) (or-none (types_over (needs p) basics) (graphs_over p.functions (functions_lowered p) 0) e)
+  few-types e = few-needs (needs p) basics (omega arith) (or-none (types_over (needs p) basics) (program_over p) e)
 
   -- ---- the types of the unit
 

@@ -9,7 +9,7 @@ use Rattle.lowering.specs.Graphs.{graph_lines}
 use Rattle.lowering.specs.Programs.{functions_lowered}
 use Rattle.lowering.specs.TooMany.{too_many}
 use Rattle.lowering.specs.Types.{Entry, Table, table, label_of}
-use Rattle.lowered_units.specs.Fitting.{IsFitting}
+use Rattle.lowered_units.specs.Fitting.{HaveMembers, IsFitting}
 use Rattle.lowered_units.specs.Units.{entries_from}
 use Rattle.lowered_units.proofs.Canonical.{as_type, entry-is, no-zero}
 use Rattle.lowered_units.proofs.Heads.{In}
@@ -77,7 +77,7 @@ real-free n e (inr (inr (inr h))) b r = clash (sym b ∙ ap (λ k. is_basic (kin
     clash : true ≡ false → ⊥
     clash e = cc
 
-module _ (p : Program) (fit : IsFitting p) where
+module _ (p : Program) (fit : IsFitting p) (members : HaveMembers p.types) where
   not-real : (l : ℕ) → IsRealType (entries_from p 1 (table p)) l → ⊥
   not-real zero r = absurd (none (sym (no-zero p 1 (table p) (omega arith)) ∙ r.found))
     where
@@ -89,7 +89,7 @@ module _ (p : Program) (fit : IsFitting p) where
       by None s e = cc
       by (Some x) s e =
           let same : as_type p (suc l) x ≡ r.entry = some-same (as_type p (suc l) x) r.entry e in
-          real-free (length (table p)) x (sound-at (length (table p)) (table p) (table-well p fit).sound l x s)
+          real-free (length (table p)) x (sound-at (length (table p)) (table p) (table-well p fit members).sound l x s)
           (ap (λ (y : TypeEntry). is_basic (kind_at y.code)) same ∙ r.basic_kind) (ap (λ (y : TypeEntry). is_real (basic_at y.first)) same ∙ r.real_code)
         where
           some-same : (a b : TypeEntry) → Some a ≡ Some b → a ≡ b
@@ -100,8 +100,8 @@ module _ (p : Program) (fit : IsFitting p) where
   no-real l (within {m = m} h r) = no-real m r
 
   pub whole-label : too_many p ≡ None → (l : ℕ) → 1 ≤ l → l ≤ length (table p) → IsWholeType (entries_from p 1 (table p)) l
-  whole-label few l one most = ((one, omega (arith, most, few-types p fit few)), is-type p fit (table p) l one most, no-real l)
+  whole-label few l one most = ((one, omega (arith, most, few-types p fit members few)), is-type p fit members (table p) l one most, no-real l)
 
   -- what a line carries has a whole type
   pub whole-line : too_many p ≡ None → (c : Carried) → In c (graph_lines (functions_lowered p)) → IsWholeType (entries_from p 1 (table p)) (label_of p c)
-  whole-line few c i = let h = line-labelled p fit c i in whole-label few (label_of p c) h.0 h.1
+  whole-line few c i = let h = line-labelled p fit members c i in whole-label few (label_of p c) h.0 h.1

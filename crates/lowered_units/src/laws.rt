@@ -1,5 +1,12 @@
 //! The laws of translated units.
-ghost use Rattle.lowered_units.specs.Laws.{AreFormed, AreLowered, AreNormal, AreTablesFormed, IsOneUnit};
+ghost use Rattle.lowered_units.specs.Laws.{
+  AreFormed,
+  AreLowered,
+  AreNormal,
+  ArePortsSmall,
+  AreTablesFormed,
+  IsOneUnit,
+};
 
 /// A program has at most one unit.
 pub fn a_program_is_one_unit()
@@ -7,7 +14,8 @@ pub fn a_program_is_one_unit()
 {}
 
 /// The types of a translated unit within the limits are formed: each has a label of its own, its parts
-/// are types of the unit, and there are at most 65,535.
+/// are types of the unit, and there are at most 65,535. Each record of the program's types has a field
+/// and each union a tag, as those of a text have.
 pub fn tables_of_translated_units_are_formed()
     ensures { AreTablesFormed }
 {}
@@ -18,8 +26,14 @@ pub fn translated_units_are_normal()
     ensures { AreNormal }
 {}
 
-/// A translated unit within the limits, whose ports fit 32 bits, is formed and normal; its graphs nest no
-/// deeper than the expressions of the program, which are at most 200 deep.
+/// The ports of a program within the limits, and the labels of the nodes that they are of, fit 32 bits.
+pub fn ports_within_the_limits_are_small()
+    ensures { ArePortsSmall }
+{}
+
+/// A translated unit within the limits is formed and normal, where each record of the program's types
+/// has a field and each union a tag; its graphs nest no deeper than the expressions of the program,
+/// which are at most 200 deep.
 pub fn translated_units_are_formed()
     ensures { AreFormed }
 {}

@@ -5,6 +5,7 @@
 mod laws;
 
 pub use laws::{
-    a_program_is_one_unit, tables_of_translated_units_are_formed, translated_units_are_formed,
+    a_program_is_one_unit, ports_within_the_limits_are_small,
+    tables_of_translated_units_are_formed, translated_units_are_formed,
     translated_units_are_normal, translated_units_run_as_lowered,
 };

@@ -19,7 +19,7 @@ pub enum Feed {
 }
 
 /// The type of what an edge carries.
-#[derive(Clone, Copy)]
+#[derive(Clone, Copy, PartialEq, Eq, Hash)]
 pub enum Carried {
     /// A value of a type, by its number in the table of the program.
     One(u32),

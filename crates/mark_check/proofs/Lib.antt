@@ -1,1 +1,7 @@
 pub mod Wrong
+mod Lesser
+mod Early
+mod Blamed
+mod InOrder
+mod Listed
+mod Whole

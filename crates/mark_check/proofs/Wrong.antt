@@ -45,7 +45,7 @@ module _ (g : Graph) (labels : List ℕ) (lists : Lists) (w : IsNetOf g labels l
       step (w.net.complete s t ps.0 pt.0 (subst (λ a. links_in g a (slice_index (node_labels g) t) ≡ true) (sym ps.1) (subst (λ b. links_in g l b ≡ true) (sym pt.1) e)))
 
   -- so a way that begins at a node goes by nodes
-  by-places : {l m : ℕ} → Precedes g l m → (s t : ℕ) → IsPlace (node_labels g) s l → IsPlace (node_labels g) t m → walks.Leads lists s t
+  pub by-places : {l m : ℕ} → Precedes g l m → (s t : ℕ) → IsPlace (node_labels g) s l → IsPlace (node_labels g) t m → walks.Leads lists s t
   by-places (fed {l = l} {m = m} f) s t ps pt = one-link l m (fed-link g up l m f) s t ps pt
   by-places (listed {l = l} {m = m} n e c) s t ps pt = one-link l m (listed-link g up l m n e c) s t ps pt
   by-places (between {l = l} {m = m} {n = n} a b) s t ps pt =
@@ -58,10 +58,15 @@ module _ (g : Graph) (labels : List ℕ) (lists : Lists) (w : IsNetOf g labels l
   at-nodes : (at : ℕ) → at < length labels → IsPlace (node_labels g) at (slice_index labels at)
   at-nodes at h = at-labels at (slice_index labels at) (h, refl)
 
+  pub by-labels : (at place label : ℕ) → at < length labels → IsPlace labels place label → walks.Leads lists at place → Precedes g (slice_index labels at) label
+  by-labels at place label h p v =
+      subst (λ a. Precedes g a label) (at-nodes at h).1
+      (subst (Precedes g (slice_index (node_labels g) at)) (at-labels place label p).1 (from-links g up (to-labels (node_labels g) lists (links_in g) w.net v)))
+
   -- the label is that of a node
   pub wrong-there : (at place label : ℕ) → at < length labels → IsPlace labels place label → (walks.Leads lists at place → IsWrong g (slice_index labels at, label)) × (IsWrong g (slice_index labels at, label) → walks.Leads lists at place)
   wrong-there at place label h p = (
-    (λ v. inr (subst (λ a. Precedes g a label) (at-nodes at h).1 (subst (Precedes g (slice_index (node_labels g) at)) (at-labels place label p).1 (from-links g up (to-labels (node_labels g) lists (links_in g) w.net v))))),
+    (λ v. inr (by-labels at place label h p v)),
     from,
   )
     where
@@ -152,6 +157,14 @@ module _ (g : Graph) where
       last : (zs : List (ℕ × ℕ)) → (zs ++ []) ≡ zs
       last [] = refl
       last (z ∷ zs) = ap (λ ys. z ∷ ys) (last zs)
+
+  -- without lists there are no entries
+  pub none-listed : (ns : List Node) → All (λ n. (out-Node n).before ≡ []) ns → All Right (entries ns)
+  none-listed [] h = All-nil Right
+  none-listed (n ∷ ns) h =
+      All-append Right (entries_of n) (entries ns)
+      (all-mapped (label_of n) (out-Node n).before (subst (All (λ l. ¬ IsWrong g (label_of n, l))) (sym (h 0 n (omega arith))) (All-nil (λ l. ¬ IsWrong g (label_of n, l)))))
+      (none-listed ns (λ k d lt. h (suc k) d (omega (arith, lt))))
 
   -- as the loop over the nodes has it
   module _ (labels : List ℕ) (is-labels : labels ≡ node_labels g) (items : List Node) (is-items : items ≡ (out-Graph g).nodes) (n : ℕ) (x : Node) (h : n < length items) (is : x ≡ get_or items n x) (list : List ℕ) (is-list : list ≡ (out-Node x).before) where

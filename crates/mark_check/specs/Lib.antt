@@ -1,1 +1,6 @@
 pub mod Entries
+pub mod Least
+pub mod Late
+pub mod Takers
+pub mod Marks
+pub mod Graphs

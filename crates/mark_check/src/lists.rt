@@ -1,14 +1,15 @@
 //! Labels on ordering lists: whether they are those of nodes, and close no cycle.
-ghost use Rattle.std.specs.Prelude.{◌≡◌, ◌<◌, ◌↔◌, length, slice_index, IfOk, IsTrue};
+ghost use Rattle.std.specs.Prelude.{◌≡◌, ◌<◌, ◌↔◌, [], length, slice_index, All, IfOk, IsTrue};
 ghost use Rattle.std.specs.List.Sorted.{IsStrictlyIncreasing};
 ghost use Rattle.if1_graph.specs.declared.graph.Graph.{Graph};
 ghost use Rattle.if1_graph.specs.declared.graph.Graph.TheViews.{out-Graph};
+ghost use Rattle.if1_graph.specs.declared.graph.Node.{out-Node};
 ghost use Rattle.if1_order.specs.Orders.{IsLinked};
 ghost use Rattle.if1_order.specs.Walks.{AreInside, Leads};
 ghost use Rattle.mark_check.specs.Entries.{IsNetOf, IsOrderOf, IsWrong, FirstWrong, FirstOnList, entries};
 
 use flow_value::NoMemory;
-use if1_graph::Graph;
+use if1_graph::{Graph, Node};
 use if1_order::{Places, labels_of, place_of};
 use if1_reach::{Ranks, nets_of, ranked, way};
 use std::alloc::Global;
@@ -143,10 +144,7 @@ fn first_in(
     Ok(None)
 }
 
-/// The first label on an ordering list of a graph that is none of its nodes or closes a cycle: the
-/// node's label and that label; none where all are right. Linear where all are; else with a search for
-/// each entry before the first wrong one.
-pub fn first_wrong_entry(alloc: Global, graph: &Graph) -> Result<Option<(u32, u32)>, NoMemory>
+fn wrong_in(alloc: Global, graph: &Graph) -> Result<Option<(u32, u32)>, NoMemory>
     requires { IsLinked graph.now }
     ensures { IfOk result (FirstWrong graph.now (entries (out-Graph graph.now).nodes)) }
 {
@@ -155,4 +153,28 @@ pub fn first_wrong_entry(alloc: Global, graph: &Graph) -> Result<Option<(u32, u3
     let order = order_of(alloc, lists.as_slice())?;
     let found = first_in(alloc, graph, labels.as_slice(), lists.as_slice(), &order)?;
     Ok(found)
+}
+
+fn has_no_lists(nodes: &[Node]) -> bool
+    ensures { IsTrue result ↔ All (λ n. (out-Node n).before ≡ []) nodes.now }
+{
+    for node in nodes {
+        if !node.before.is_empty() {
+            return false;
+        }
+    }
+    true
+}
+
+/// The first label on an ordering list of a graph that is none of its nodes or closes a cycle: the
+/// node's label and that label; none where all are right. Linear where all are; else with a search for
+/// each entry before the first wrong one.
+pub fn first_wrong_entry(alloc: Global, graph: &Graph) -> Result<Option<(u32, u32)>, NoMemory>
+    requires { IsLinked graph.now }
+    ensures { IfOk result (FirstWrong graph.now (entries (out-Graph graph.now).nodes)) }
+{
+    if has_no_lists(graph.nodes.as_slice()) {
+        return Ok(None);
+    }
+    wrong_in(alloc, graph)
 }

@@ -35,19 +35,19 @@ both-true false b e = absurd cc
 
 module _ (u : Unit1) (g : Graph) where
   -- an edge from this output leads to this port
-  record Edged (l i a b : ℕ) : Type 0 where
-    edge : Edge
-    found : edge_into g l i ≡ Some edge
-    there : Contains (out-Graph g).edges edge
-    node : edge.node ≡ l
-    port : edge.port ≡ i
-    from : edge.from ≡ origin.Port a b
+  pub record Edged (l i a b : ℕ) : Type 0 where
+    pub edge : Edge
+    pub found : edge_into g l i ≡ Some edge
+    pub there : Contains (out-Graph g).edges edge
+    pub node : edge.node ≡ l
+    pub port : edge.port ≡ i
+    pub from : edge.from ≡ origin.Port a b
 
   from-port : (w : Option Want) (ty : ℕ) (o : Origin) (a b : ℕ) → source_from u w ty o ≡ Port a b → o ≡ origin.Port a b
   from-port w ty (origin.Port n p) a b e = cc
   from-port w ty (origin.Lit text) a b e = absurd cc
 
-  edged : (l i a b : ℕ) → source_at u g l i ≡ Port a b → Edged l i a b
+  pub edged : (l i a b : ℕ) → source_at u g l i ≡ Port a b → Edged l i a b
   edged l i a b e = go (edge_into g l i) refl e
     where
       go : (o : Option Edge) → edge_into g l i ≡ o → source_by u (want_at g l i) o ≡ Port a b → Edged l i a b
@@ -57,12 +57,12 @@ module _ (u : Unit1) (g : Graph) where
           let s = both-true (x.node == l) (x.port == i) f.1 in
           record { edge = x; found = is; there = f.0; node = same-number x.node l s.0; port = same-number x.port i s.1; from = from-port (want_at g l i) x.ty x.from a b e }
 
-  at-sources : (l first count i a b : ℕ) → Fills i (sources u g l first count) first a b → source_at u g l i ≡ Port a b
+  pub at-sources : (l first count i a b : ℕ) → Fills i (sources u g l first count) first a b → source_at u g l i ≡ Port a b
   at-sources l first zero i a b h = absurd h
   at-sources l first (suc count) i a b (inl h) = ap (source_at u g l) (sym h.0) ∙ h.1
   at-sources l first (suc count) i a b (inr h) = at-sources l (suc first) count i a b h
 
-  at-ins : (l : ℕ) (k : Kind) (i a b : ℕ) → Fills i (ins_of u g l k) (first_port k) a b → source_at u g l i ≡ Port a b
+  pub at-ins : (l : ℕ) (k : Kind) (i a b : ℕ) → Fills i (ins_of u g l k) (first_port k) a b → source_at u g l i ≡ Port a b
   at-ins l (Plain row shape) i a b h = at-sources l 1 (width g l) i a b h
   at-ins l (Whole (form.Call f)) i a b h = go (width g l) h
     where
@@ -91,7 +91,7 @@ module _ (u : Unit1) (g : Graph) where
           let at = subst (λ (w : Vertex). Fills i w.ins (first_port w.kind) a b) (sym x) h in
           subst (λ (w : Vertex). Edged w.label i a b) x (edged (vertex_of u g n).label i a b (at-ins (vertex_of u g n).label (vertex_of u g n).kind i a b at))
 
-  taken-edge : (l i a b : ℕ) (x : Edged l i a b) → marks_of g l i ≡ true → x.edge.takes ≡ true
+  pub taken-edge : (l i a b : ℕ) (x : Edged l i a b) → marks_of g l i ≡ true → x.edge.takes ≡ true
   taken-edge l i a b x t = sym (ap takes x.found) ∙ t
 
 module _ (u : Unit1) (p : Place) (ready : IsReady u) (sound : IsSound u) (there : Contains (places u) p) where

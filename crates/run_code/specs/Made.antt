@@ -26,6 +26,23 @@ pub record Plan : Type 0 where
   pub size : (graph : ℕ) → ℕ
   pub extent : (graph : ℕ) → ℕ
 
+-- Of what a step is: of a simple node or Call of a graph, of the inputs of a compound node that are copied, of the results of a graph,
+-- or of those of a body that are put to what a returns collects. Others add nothing.
+pub data Origin : Type 0 where
+  OfNode : (graph : ℕ) (vertex : Vertex) → Origin
+  OfInputs : (graph : ℕ) (vertex : Vertex) → Origin
+  OfResults : (graph : ℕ) → Origin
+  OfRows : (body returns : ℕ) → Origin
+  OfNothing : Origin
+
+-- a step with what it is of
+pub record Line : Type 0 where
+  pub step : Step
+  pub origin : Origin
+
+abbrev pub line : Origin → Step → Line
+line o x = record { step = x; origin = o }
+
 module _ (P : Plan) where
   -- ---- how many steps
 
@@ -114,14 +131,14 @@ module _ (P : Plan) where
 
   -- the steps of a graph on these operands, from a place and a cell on, in a block of so many cells
   abbrev pub Makes : Type 0
-  Makes = (room : ℕ) → List Operand → (graph place lo : ℕ) → List Step
+  Makes = (room : ℕ) → List Operand → (graph place lo : ℕ) → List Line
 
   module _ (make : Makes) (room : ℕ) where
     -- and of an arm, which brings its results to the cells of its node
-    abbrev pub arm_code : List Operand → (graph place w b lo up : ℕ) → List Step
-    arm_code args g t w b lo up = make room args g t up ++ (Move (ends_at args g up) lo w b ∷ [])
+    abbrev pub arm_code : List Operand → (graph place w b lo up : ℕ) → List Line
+    arm_code args g t w b lo up = make room args g t up ++ (line (OfResults g) (Move (ends_at args g up) lo w b) ∷ [])
 
-    abbrev pub arms_code : List Operand → List ℕ → (place w b lo up : ℕ) → List Step
+    abbrev pub arms_code : List Operand → List ℕ → (place w b lo up : ℕ) → List Line
     arms_code args [] t w b lo up = []
     arms_code args (g ∷ gs) t w b lo up = arm_code args g t w b lo up ++ arms_code args gs (t + suc (P.size g)) w b lo up
 
@@ -132,51 +149,58 @@ module _ (P : Plan) where
 
     -- The parts of a node, from a place and a cell on, with the node's outputs in w cells from lo on; b is the place behind the node.
 
-    abbrev pub select_code : List Operand → (selector : ℕ) → List ℕ → (place w b lo mid : ℕ) → List Step
+    abbrev pub select_code : List Operand → (selector : ℕ) → List ℕ → (place w b lo mid : ℕ) → List Line
     select_code own s gs a w b lo mid =
-        make room own s a mid ++ (Branch (end_at own s mid) (arms_at gs (suc (a + P.size s))) lo w b ∷ arms_code own gs (suc (a + P.size s)) w b lo mid)
+        make room own s a mid
+        ++ (line OfNothing (Branch (end_at own s mid) (arms_at gs (suc (a + P.size s))) lo w b) ∷ arms_code own gs (suc (a + P.size s)) w b lo mid)
 
-    abbrev pub tag_code : List Operand → List ℕ → (place w b lo mid : ℕ) → List Step
-    tag_code own gs a w b lo mid = Tag (get_or own 0 (Lit Unfilled)) (arms_at gs (suc a)) mid lo w b ∷ arms_code (At mid ∷ drop 1 own) gs (suc a) w b lo (suc mid)
+    abbrev pub tag_code : List Operand → List ℕ → (place w b lo mid : ℕ) → List Line
+    tag_code own gs a w b lo mid =
+        line OfNothing (Tag (get_or own 0 (Lit Unfilled)) (arms_at gs (suc a)) mid lo w b) ∷ arms_code (At mid ∷ drop 1 own) gs (suc a) w b lo (suc mid)
 
     -- A loop, whose first values lead to a place: to the count of the first turn, or to the test. The body stands before the test.
-    abbrev pub loop_code : List Operand → (init test body returns : ℕ) → (begin : List Step) → (starts turn a w b lo mid n k : ℕ) → List Step
+    abbrev pub loop_code : List Operand → (init test body returns : ℕ) → (begin : List Line) → (starts turn a w b lo mid n k : ℕ) → List Line
     loop_code own i t body r begin starts turn a w b lo mid n k =
-        make room own i a mid ++ (Keep true (P.collects r) (ends_at own i mid) mid starts ∷ begin)
-        ++ make room (own ++ cells_at mid n) body turn (mid + (n + k)) ++ (Keep false (P.collects r) (ends_at (own ++ cells_at mid n) body (mid + (n + k))) mid (suc (turn + P.size body)) ∷ [])
-        ++ make room (own ++ cells_at mid n) t (suc (turn + P.size body)) (mid + (n + k))
-        ++ (Test (end_at (own ++ cells_at mid n) t (mid + (n + k))) turn (suc (suc (turn + P.size body) + P.size t)) lo w b ∷ [])
-        ++ arm_code (own ++ stand (P.collects r) (mid + n) mid) (P.refolded r) (suc (suc (turn + P.size body) + P.size t)) w b lo (mid + (n + k))
+        make room own i a mid
+        ++ (line (OfResults i) (Keep true (P.collects r) (ends_at own i mid) mid starts)
+        ∷ (begin
+        ++ (make room (own ++ cells_at mid n) body turn (mid + (n + k))
+        ++ (line (OfResults body) (Keep false (P.collects r) (ends_at (own ++ cells_at mid n) body (mid + (n + k))) mid (suc (turn + P.size body)))
+        ∷ (make room (own ++ cells_at mid n) t (suc (turn + P.size body)) (mid + (n + k))
+        ++ (line OfNothing (Test (end_at (own ++ cells_at mid n) t (mid + (n + k))) turn (suc (suc (turn + P.size body) + P.size t)) lo w b)
+        ∷ arm_code (own ++ stand (P.collects r) (mid + n) mid) (P.refolded r) (suc (suc (turn + P.size body) + P.size t)) w b lo (mid + (n + k))))))))
 
-    abbrev pub for_all_code : List Operand → (generator body returns : ℕ) → (turn a w b lo mid n k : ℕ) → List Step
+    abbrev pub for_all_code : List Operand → (generator body returns : ℕ) → (turn a w b lo mid n k : ℕ) → List Line
     for_all_code own g body r turn a w b lo mid n k =
-        make room own g a mid ++ (Spread (ends_at own g mid) (P.collects r) mid (suc (turn + P.size body)) lo w b ∷ [])
-        ++ make room (own ++ cells_at (suc (mid + (n + k))) n) body turn (suc (mid + (n + k)) + n)
-        ++ (Add (P.collects r) (ends_at (own ++ cells_at (suc (mid + (n + k))) n) body (suc (mid + (n + k)) + n)) (mid + n) (suc (turn + P.size body))
-        ∷ Each n mid (mid + (n + k)) turn (suc (suc (turn + P.size body))) ∷ [])
-        ++ arm_code ((own ++ cells_at mid n) ++ cells_at (mid + n) k) (P.refolded r) (suc (suc (turn + P.size body))) w b lo (mid + (n + k))
+        make room own g a mid
+        ++ (line (OfResults g) (Spread (ends_at own g mid) (P.collects r) mid (suc (turn + P.size body)) lo w b)
+        ∷ (make room (own ++ cells_at (suc (mid + (n + k))) n) body turn (suc (mid + (n + k)) + n)
+        ++ (line (OfRows body r) (Add (P.collects r) (ends_at (own ++ cells_at (suc (mid + (n + k))) n) body (suc (mid + (n + k)) + n)) (mid + n) (suc (turn + P.size body)))
+        ∷ (line OfNothing (Each n mid (mid + (n + k)) turn (suc (suc (turn + P.size body))))
+        ∷ arm_code ((own ++ cells_at mid n) ++ cells_at (mid + n) k) (P.refolded r) (suc (suc (turn + P.size body))) w b lo (mid + (n + k))))))
 
-    abbrev pub parts_code : List Operand → Kind → (place w b lo mid : ℕ) → List Step
+    abbrev pub parts_code : List Operand → Kind → (place w b lo mid : ℕ) → List Line
     parts_code own (Plain row shape) a w b lo mid = []
     parts_code own (Whole (form.Call f)) a w b lo mid = []
     parts_code own (Whole (form.Select s gs outputs)) a w b lo mid = select_code own s gs a w b lo mid
     parts_code own (Whole (form.TagCase gs outputs)) a w b lo mid = tag_code own gs a w b lo mid
-    parts_code own (Whole (form.LoopA i t body r outputs)) a w b lo mid = loop_code own i t body r (Count ∷ []) (suc (a + P.size i)) (suc (suc (a + P.size i))) a w b lo mid (length (P.results i)) (length (P.collects r))
+    parts_code own (Whole (form.LoopA i t body r outputs)) a w b lo mid =
+        loop_code own i t body r (line OfNothing Count ∷ []) (suc (a + P.size i)) (suc (suc (a + P.size i))) a w b lo mid (length (P.results i)) (length (P.collects r))
     parts_code own (Whole (form.LoopB i t body r outputs)) a w b lo mid =
         loop_code own i t body r [] (suc (suc (a + P.size i) + P.size body)) (suc (a + P.size i)) a w b lo mid (length (P.results i)) (length (P.collects r))
     parts_code own (Whole (form.ForAll g body r m outputs)) a w b lo mid = for_all_code own g body r (suc (a + P.size g)) a w b lo mid (length (P.results g)) (length (P.collects r))
 
-    -- the steps of a node
-    abbrev pub kind_code : List Bool → List Operand → Kind → (w a lo : ℕ) → List Step
-    kind_code picks args (Plain row shape) w a lo = Fire row shape args lo w ∷ []
-    kind_code picks args (Whole (form.Call f)) w a lo = Call (P.entry f) room args lo w ∷ []
-    kind_code picks args kind w a lo =
-        Count ∷ Move (picked picks args) (lo + w) (length (picked picks args)) (suc (suc a))
-        ∷ parts_code (own_cells picks args (lo + w)) kind (suc (suc a)) w (a + kind_size kind) lo ((lo + w) + length (picked picks args))
+    -- the steps of a node of a graph
+    abbrev pub kind_code : (graph : ℕ) → Vertex → List Operand → Kind → (w a lo : ℕ) → List Line
+    kind_code g v args (Plain row shape) w a lo = line (OfNode g v) (Fire row shape args lo w) ∷ []
+    kind_code g v args (Whole (form.Call f)) w a lo = line (OfNode g v) (Call (P.entry f) room args lo w) ∷ []
+    kind_code g v args kind w a lo =
+        line OfNothing Count ∷ line (OfInputs g v) (Move (picked (P.picks g v) args) (lo + w) (length (picked (P.picks g v) args)) (suc (suc a)))
+        ∷ parts_code (own_cells (P.picks g v) args (lo + w)) kind (suc (suc a)) w (a + kind_size kind) lo ((lo + w) + length (picked (P.picks g v) args))
 
-    abbrev pub nodes_code : (graph : ℕ) → Places → List Vertex → (a lo : ℕ) → List Step
+    abbrev pub nodes_code : (graph : ℕ) → Places → List Vertex → (a lo : ℕ) → List Line
     nodes_code g places [] a lo = []
-    nodes_code g places (v ∷ vs) a lo = kind_code (P.picks g v) (map (operand places) v.ins) v.kind (P.width v) a lo ++ nodes_code g places vs (a + kind_size v.kind) (lo + P.width v)
+    nodes_code g places (v ∷ vs) a lo = kind_code g v (map (operand places) v.ins) v.kind (P.width v) a lo ++ nodes_code g places vs (a + kind_size v.kind) (lo + P.width v)
 
   -- graphs, so many levels down
   abbrev pub graph_code : (levels : ℕ) → Makes
@@ -184,5 +208,25 @@ module _ (P : Plan) where
   graph_code (suc n) room args g a lo = nodes_code (graph_code n) room g (placed args (P.nodes g) lo) (P.nodes g) a lo
 
   -- a function, from a place on
+  abbrev pub function_lines : (levels function place : ℕ) → List Line
+  function_lines n f a =
+      graph_code n (room_of f) (cells_at 0 (P.params f)) f a (P.params f) ++ (line (OfResults f) (Return (ends_at (cells_at 0 (P.params f)) f (P.params f))) ∷ [])
+
   abbrev pub function_code : (levels function place : ℕ) → List Step
-  function_code n f a = graph_code n (room_of f) (cells_at 0 (P.params f)) f a (P.params f) ++ (Return (ends_at (cells_at 0 (P.params f)) f (P.params f)) ∷ [])
+  function_code n f a = map (λ l. l.step) (function_lines n f a)
+
+  -- ---- functions, behind one another
+
+  abbrev pub functions_lines : (levels : ℕ) → List ℕ → (place : ℕ) → List Line
+  functions_lines n [] a = []
+  functions_lines n (f ∷ fs) a = function_lines n f a ++ functions_lines n fs (a + suc (P.size f))
+
+  -- each has one step more than its graph, which leaves its block
+  abbrev pub functions_size : List ℕ → ℕ
+  functions_size [] = 0
+  functions_size (f ∷ fs) = suc (P.size f) + functions_size fs
+
+  -- where a function begins, where the first of these begins at a place
+  abbrev pub entry_from : List ℕ → (place function : ℕ) → ℕ
+  entry_from [] a f = a
+  entry_from (h ∷ hs) a f = if eqb h f then a else entry_from hs (a + suc (P.size h)) f

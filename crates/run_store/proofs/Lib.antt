@@ -5,3 +5,4 @@ pub mod Supply
 pub mod Whole
 pub mod Ports
 pub mod Example
+pub mod Sums

@@ -12,7 +12,7 @@ use Rattle.run_store.specs.Refines.{IsTaken}
 use Rattle.run_store.specs.Stored.{Looks, Copies, Takes, copied_as, copied}
 
 -- what a node takes stands in a cell of its own
-record IsOwnCell (keep : ℕ → Bool) (places : Places) (known : Known) (l p : ℕ) : Type 0 where
+pub record IsOwnCell (keep : ℕ → Bool) (places : Places) (known : Known) (l p : ℕ) : Type 0 where
   pub kept : (i : ℕ) → places l p ≡ At i → keep i ≡ true → ⊥
   pub alone : (i m q : ℕ) → places l p ≡ At i → KnowsPort known m q → places m q ≡ At i → (m ≡ l) × (q ≡ p)
 
@@ -59,7 +59,7 @@ pub modes-copy : DoModesCopy
 modes-copy = (modes-copied, picks-copied)
 
 -- a cell that is taken is that of a port that is
-taken-port : (places : Places) (takes consumes : ℕ → Bool) (first : ℕ) (os : List Source) (i : ℕ) → IsTaken (modes_of takes consumes first os) (map (operand places) os) i
+pub taken-port : (places : Places) (takes consumes : ℕ → Bool) (first : ℕ) (os : List Source) (i : ℕ) → IsTaken (modes_of takes consumes first os) (map (operand places) os) i
     → (j : ℕ) × (l : ℕ) × (p : ℕ) × Fills j os first l p × (takes j ≡ true) × (places l p ≡ At i)
 taken-port places takes consumes first [] i h = absurd h
 taken-port places takes consumes first (o ∷ os) i (inr h) =
@@ -72,7 +72,7 @@ taken-port places takes consumes first (Fixed c ∷ os) i (inl h) = absurd (clas
 taken-port places takes consumes first (Port l p ∷ os) i (inl h) = (first, l, p, inl (refl, refl), takes-mode (takes first) (consumes first) h.0, h.1)
 
 -- what is taken is gone after it
-gone-before : (takes : ℕ → Bool) (first : ℕ) (os : List Source) (gone : Taken) (l p : ℕ) → WasTaken gone l p → WasTaken (taken_by takes first os gone) l p
+pub gone-before : (takes : ℕ → Bool) (first : ℕ) (os : List Source) (gone : Taken) (l p : ℕ) → WasTaken gone l p → WasTaken (taken_by takes first os gone) l p
 gone-before takes first [] gone l p h = h
 gone-before takes first (Fixed c ∷ os) gone l p h = gone-before takes (suc first) os gone l p h
 gone-before takes first (Port a b ∷ os) gone l p h = go (takes first) (gone-before takes (suc first) os gone l p h)
@@ -81,7 +81,7 @@ gone-before takes first (Port a b ∷ os) gone l p h = go (takes first) (gone-be
     go true d = inr d
     go false d = d
 
-gone-after : (takes : ℕ → Bool) (first : ℕ) (os : List Source) (gone : Taken) (j l p : ℕ) → Fills j os first l p → takes j ≡ true → WasTaken (taken_by takes first os gone) l p
+pub gone-after : (takes : ℕ → Bool) (first : ℕ) (os : List Source) (gone : Taken) (j l p : ℕ) → Fills j os first l p → takes j ≡ true → WasTaken (taken_by takes first os gone) l p
 gone-after takes first [] gone j l p h t = absurd h
 gone-after takes first (Fixed c ∷ os) gone j l p (inl h) t = absurd (clash h.1)
   where
@@ -102,7 +102,7 @@ gone-after takes first (Port a b ∷ os) gone j l p (inr h) t = go (takes first)
     go true d = inr d
     go false d = d
 
-reads-alive : (keep : ℕ → Bool) (places : Places) (known : Known) (gone : Taken) (os : List Source) → KnowsAll known os → NoneIsTaken gone os → AllIn (IsAlive keep places known gone) (map (operand places) os)
+pub reads-alive : (keep : ℕ → Bool) (places : Places) (known : Known) (gone : Taken) (os : List Source) → KnowsAll known os → NoneIsTaken gone os → AllIn (IsAlive keep places known gone) (map (operand places) os)
 reads-alive keep places known gone [] k a = tt
 reads-alive keep places known gone (Fixed c ∷ os) k a = reads-alive keep places known gone os k a
 reads-alive keep places known gone (Port zero p ∷ os) k a = go (places zero p) refl (reads-alive keep places known gone os k a.1)
@@ -117,10 +117,10 @@ reads-alive keep places known gone (Port (suc l) p ∷ os) k a = go (places (suc
     go (At i) e rest = (inr (suc l, p, inr k.0, a.0, e), rest)
 
 -- what is live stands below a number
-abbrev StandsBelow : (ℕ → Bool) → Places → Known → ℕ → Type 0
+abbrev pub StandsBelow : (ℕ → Bool) → Places → Known → ℕ → Type 0
 StandsBelow keep places known lo = ((i : ℕ) → keep i ≡ true → i < lo) × ((l p i : ℕ) → KnowsPort known l p → places l p ≡ At i → i < lo)
 
-node-lively : (keep : ℕ → Bool) (places : Places) (known : Known) (gone : Taken) (takes consumes : ℕ → Bool) (v : Vertex) (lo w : ℕ)
+pub node-lively : (keep : ℕ → Bool) (places : Places) (known : Known) (gone : Taken) (takes consumes : ℕ → Bool) (v : Vertex) (lo w : ℕ)
     → Puts places v.label lo w → KnowsAll known v.ins → NoneIsTaken gone v.ins
     → ((j l p : ℕ) → Fills j v.ins (first_port v.kind) l p → takes j ≡ true → IsOwnCell keep places known l p) → StandsBelow keep places known lo
     → AllIn (IsAlive keep places known gone) (map (operand places) v.ins) × StaysAlive keep places known gone takes consumes v lo w
@@ -156,7 +156,7 @@ same-cell : (a b : ℕ) → At a ≡ At b → a ≡ b
 same-cell a b e = cc
 
 -- the known outputs stand between two numbers, the later ones above the others
-abbrev Ranged : Places → ℕ → Known → ℕ → Type 0
+abbrev pub Ranged : Places → ℕ → Known → ℕ → Type 0
 Ranged places bottom [] lo = bottom ≤ lo
 Ranged places bottom (k ∷ ks) lo = (s : ℕ) × Puts places k.0 s k.1 × (s + k.1 ≤ lo) × Ranged places bottom ks s
 
@@ -205,7 +205,7 @@ module _ (places : Places) (bottom : ℕ) where
   one-cell (k ∷ ks) lo l p m q i r (inr a) (inr b) x y = one-cell ks r.0 l p m q i r.3 a b x y
 
 -- a known port that fills a port of a node
-known-at : (known : Known) (first : ℕ) (os : List Source) (j l p : ℕ) → KnowsAll known os → Fills j os first (suc l) p → Knows known (suc l) p
+pub known-at : (known : Known) (first : ℕ) (os : List Source) (j l p : ℕ) → KnowsAll known os → Fills j os first (suc l) p → Knows known (suc l) p
 known-at known first [] j l p k h = absurd h
 known-at known first (Fixed c ∷ os) j l p k (inl h) = absurd (clash h.1)
   where
@@ -228,7 +228,7 @@ known-at known first (Port (suc m) q ∷ os) j l p k (inr h) = known-at known (s
 
 module _ (keep : ℕ → Bool) (places : Places) (owned : ℕ → Bool) (bottom : ℕ) (placed : AreInputsPlaced keep places owned bottom) where
   -- an output that is known has a cell of its own
-  own-output : (known : Known) (lo l p : ℕ) → Ranged places bottom known lo → Knows known l p → IsOwnCell keep places known l p
+  pub own-output : (known : Known) (lo l p : ℕ) → Ranged places bottom known lo → Knows known l p → IsOwnCell keep places known l p
   own-output known lo l p r k =
       record {
         kept = λ i at h. let x = in-range places bottom known lo l p r k in
@@ -249,7 +249,7 @@ module _ (keep : ℕ → Bool) (places : Places) (owned : ℕ → Bool) (bottom 
           absurd (omega (arith, e, a, b))
 
   -- so has an input that may be taken
-  own-input : (known : Known) (lo p : ℕ) → Ranged places bottom known lo → owned p ≡ true → IsOwnCell keep places known 0 p
+  pub own-input : (known : Known) (lo p : ℕ) → Ranged places bottom known lo → owned p ≡ true → IsOwnCell keep places known 0 p
   own-input known lo p r o =
       record {
         kept = λ i at h. (placed.apart p i o at).0 h;
@@ -266,7 +266,7 @@ module _ (keep : ℕ → Bool) (places : Places) (owned : ℕ → Bool) (bottom 
           absurd (omega (arith, e, a, b))
 
   -- what is live stands below the next outputs
-  low : (lo : ℕ) (known : Known) → Ranged places bottom known lo → StandsBelow keep places known lo
+  pub low : (lo : ℕ) (known : Known) → Ranged places bottom known lo → StandsBelow keep places known lo
   low lo known r = ((λ i k. let a = placed.kept i k in let b = ranged-at-least places bottom known lo r in omega (arith, a, b)), λ l p i k at. port l p i k at)
     where
       port : (l p i : ℕ) → KnowsPort known l p → places l p ≡ At i → i < lo

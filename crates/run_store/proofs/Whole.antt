@@ -51,7 +51,7 @@ module _ (weigh : Weigh) (limit : ℕ) (code : Code) (handling : ℕ → Handlin
       ap (λ x. at x s.base p.cells s.calls s.fires) a.pc_is
       ∙ (ap (λ x. at p.pc x p.cells s.calls s.fires) a.base_is ∙ (ap (λ x. at p.pc p.base p.cells x s.fires) a.calls_are ∙ ap (λ x. at p.pc p.base p.cells p.calls x) a.fires_are))
 
-  known-here : (s : Stored) (p : State) → Alike s p → AllOf (IsTrue s.base p.cells) (facts s.pc)
+  pub known-here : (s : Stored) (p : State) → Alike s p → AllOf (IsTrue s.base p.cells) (facts s.pc)
   known-here s p a =
       let k = a.known in
       subst (λ z. AllOf (IsTrue s.base p.cells) (facts z)) (sym a.pc_is) (subst (λ z. AllOf (IsTrue z p.cells) (facts p.pc)) (sym a.base_is) k.here)
@@ -96,7 +96,7 @@ module _ (weigh : Weigh) (limit : ℕ) (code : Code) (handling : ℕ → Handlin
       go Stuck is m f = absurd f
 
   -- and the other way round
-  step-valued : (s r : Stored) (p : State) → Alike s p → step_stored weigh limit code handling s ≡ Onward r → (t : State) × (step limit code p ≡ Goes t) × Alike r t × (r.copies ≡ s.copies + adds p)
+  pub step-valued : (s r : Stored) (p : State) → Alike s p → step_stored weigh limit code handling s ≡ Onward r → (t : State) × (step limit code p ≡ Goes t) × Alike r t × (r.copies ≡ s.copies + adds p)
   step-valued s r p a e =
       go (step limit code p) refl (subst (λ x. Matches (s.copies + adds p) x (step limit code p)) e (matched s p a)) (subst (IsSafe live own) e (safe s p a))
     where
@@ -105,7 +105,7 @@ module _ (weigh : Weigh) (limit : ℕ) (code : Code) (handling : ℕ → Handlin
       go (Ends rs c) is m f = absurd m
       go Over is m f = absurd m
 
-  end-valued : (s : Stored) (p : State) (rs : List Carried) (c n : ℕ) → Alike s p → step_stored weigh limit code handling s ≡ Finished rs c n → (step limit code p ≡ Ends rs c) × (n ≡ s.copies + adds p)
+  pub end-valued : (s : Stored) (p : State) (rs : List Carried) (c n : ℕ) → Alike s p → step_stored weigh limit code handling s ≡ Finished rs c n → (step limit code p ≡ Ends rs c) × (n ≡ s.copies + adds p)
   end-valued s p rs c n a e = go (step limit code p) refl (subst (λ x. Matches (s.copies + adds p) x (step limit code p)) e (matched s p a))
     where
       go : (u : Outcome) → step limit code p ≡ u → Matches (s.copies + adds p) (Finished rs c n) u → (step limit code p ≡ Ends rs c) × (n ≡ s.copies + adds p)
@@ -144,12 +144,12 @@ module _ (weigh : Weigh) (limit : ℕ) (code : Code) where
       one : Goes t ≡ Goes q → t ≡ q
       one e = cc
 
-  ends-in : (p t : State) (x : ℕ) (rs : List Carried) (c : ℕ) → Reaches weigh limit code p t x → step limit code t ≡ Ends rs c → (k : ℕ) × EndsIn k limit code p rs c
+  pub ends-in : (p t : State) (x : ℕ) (rs : List Carried) (c : ℕ) → Reaches weigh limit code p t x → step limit code t ≡ Ends rs c → (k : ℕ) × EndsIn k limit code p rs c
   ends-in _ _ _ rs c (stays p) e = (0, e)
   ends-in _ _ _ rs c (goes_on p t q x d b) e = let y = ends-in t q x rs c b e in (suc y.0, (t, d, y.1))
 
   -- what is added to the end is one
-  one-sum : (p t r : State) (x y : ℕ) (rs ls : List Carried) (c d : ℕ) → Reaches weigh limit code p t x → step limit code t ≡ Ends rs c → Reaches weigh limit code p r y → step limit code r ≡ Ends ls d
+  pub one-sum : (p t r : State) (x y : ℕ) (rs ls : List Carried) (c d : ℕ) → Reaches weigh limit code p t x → step limit code t ≡ Ends rs c → Reaches weigh limit code p r y → step limit code r ≡ Ends ls d
       → x + added weigh (code t.pc) t.pc t.base t.cells ≡ y + added weigh (code r.pc) r.pc r.base r.cells
   one-sum _ _ _ _ _ rs ls c d (stays p) e (stays _) f = refl
   one-sum _ _ _ _ _ rs ls c d (stays p) e (goes_on _ q r y g b) f = absurd (goes-ends q (step limit code p) rs c g e)
@@ -161,13 +161,13 @@ module _ (weigh : Weigh) (limit : ℕ) (code : Code) where
       omega (arith, s)
 
 module _ (s : Storage) (X : Layout) (handling : ℕ → Handling) (facts : ℕ → List Fact) (live own : Live) (limit : ℕ) (is : IsStoredCode s X handling facts live own) (f : ℕ) (ins : List Carried) (h : Heap) (cells : Cells) (begins : Begins X facts live own f ins h cells) where
-  abbrev start : State
+  abbrev pub start : State
   start = entered X f cells
 
   abbrev begun : Stored
   begun = entered_stored X f h
 
-  alike : Alike X.weigh limit X.code handling facts live own is.handled is.preserves is.lively begun start
+  pub alike : Alike X.weigh limit X.code handling facts live own is.handled is.preserves is.lively begun start
   alike =
       record {
         pc_is = refl;

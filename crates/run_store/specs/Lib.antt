@@ -4,3 +4,4 @@ pub mod Refines
 pub mod Lively
 pub mod Whole
 pub mod Ports
+pub mod Sums

@@ -3,6 +3,7 @@ ghost use Rattle.run_store.specs.Effects.{AreEffects, DoLead};
 ghost use Rattle.run_store.specs.Refines.{Refines};
 ghost use Rattle.run_store.specs.Lively.{IsNeverStuck};
 ghost use Rattle.run_store.specs.Ports.{DoModesCopy, AreNodesLivelyInOrder};
+ghost use Rattle.run_store.specs.Sums.{AreStoreSumsRecorded, AreUnitWritesRecorded, HaveEndsSums};
 ghost use Rattle.run_store.specs.Whole.{DoRunsBegin, IsStoreExact, AreStoreEndsRecorded, AreStoreRunsDecided, AreUnitRunsDecided};
 
 /// Each step of the machine on values is its effect on what it reads.
@@ -61,4 +62,19 @@ pub fn modes_copy_what_is_consumed_and_left()
 /// So a run of code of a ready unit with sound marks is decided.
 pub fn runs_of_units_are_decided()
     ensures { AreUnitRunsDecided }
+{}
+
+/// A run that ends adds up a sum by any weights.
+pub fn runs_that_end_have_sums()
+    ensures { HaveEndsSums }
+{}
+
+/// Where the code does its graphs with these weights too, it is the sum of record.
+pub fn sums_that_own_are_of_record()
+    ensures { AreStoreSumsRecorded }
+{}
+
+/// So what code of a ready unit with sound marks writes is of record.
+pub fn writes_of_units_are_of_record()
+    ensures { AreUnitWritesRecorded }
 {}

@@ -225,6 +225,12 @@ module _ (u : tree.Unit) (f0 : List Form) (named numbers : List (ℕ × ℕ)) (h
       ap (λ l. slice_get l b.place) kinds ∙ map_at (λ f. f.kind) (given_functions u.items) b.place b.function b.there ∙ ap Some at.is in
       broken_at u d.functions headers named numbers f1 r.is_table (standing_at f1 r.used.standing) text said numbered distinct g same_given d.declares s at.exprs b.place rule line there kind r.holds
 
+-- each type of its table stands for a type, and no union has a tag twice
+pub stands_of : {g : Given} (f1 : List Form) (items : List Item) (fs : List Function) → AreBodies g f1 (map (λ f. f.kind) (given_functions items)) g.functions.now fs
+    → (u : tree.Unit) (f0 : List Form) (named numbers : List (ℕ × ℕ)) (headers : List Numbered) (defines : List ℕ) → IsGivenOf g u named numbers headers → IsDeclared u f0 named headers defines → IsText u
+    → numbers ≡ numbering 0 [] (map (λ s. s.name) headers) → AreDistinct (map (λ s. s.name) headers) → IsUsedIn (given_of g) f0 f1 → AreStanding u.tokens.names f1
+stands_of {g} f1 items fs bodies u f0 named numbers headers defines is d text numbered distinct used = standing_at u f0 named numbers headers defines g is d text numbered distinct f1 used.standing
+
 -- the same, of the items that the walk goes over
 pub program_of : {g : Given} (f1 : List Form) (items : List Item) (fs : List Function) → AreBodies g f1 (map (λ f. f.kind) (given_functions items)) g.functions.now fs
     → (u : tree.Unit) (f0 : List Form) (named numbers : List (ℕ × ℕ)) (headers : List Numbered) (defines : List ℕ) → IsGivenOf g u named numbers headers → IsDeclared u f0 named headers defines → IsText u

@@ -5,6 +5,7 @@ ghost use Rattle.type_rules.specs.Faults.{IsRule};
 ghost use Rattle.type_table.specs.Tables.{IsTable};
 ghost use Rattle.typed_tree.specs.Faults.{BreaksUnit};
 ghost use Rattle.typed_tree.specs.Units.{IsTyped};
+ghost use Rattle.unit_types.specs.Rests.{AreStanding};
 
 use crate::bodies::functions;
 use crate::state::{Given, Walk};
@@ -20,6 +21,7 @@ use value_names::InForce;
 pub fn check(alloc: Global, unit: Unit) -> Result<Program, TypeFault>
     ensures typed { IfOk result (λ p. IsText unit → IsTyped unit p) }
     ensures types { IfOk result (λ p. IsTable p.types) }
+    ensures standing { IfOk result (λ p. IsText unit → AreStanding unit.tokens.names p.types) }
     ensures breaks { IfErr result (IsRule (λ rule line. IsText unit → BreaksUnit unit rule line)) }
 {
     let Declared {

@@ -3,7 +3,6 @@ use Rattle.std.specs.Prelude.{◌≡◌, ℕ, List, Option, Result, Ok, Err}
 use Rattle.flow_gen.specs.Program.{program}
 use Rattle.flow_io.specs.Bytes.{AddsOn}
 use Rattle.if1_call.specs.Calls.{IsCanonicalOf, IsRefusedFor}
-use Rattle.if1_call.specs.declared.fault.Refusal.TheVariants as unit
 use Rattle.if1_graph.specs.declared.fault.If1Fault.{If1Fault}
 use Rattle.mean_call.specs.declared.fault.Refusal.{Refusal}
 use Rattle.mean_call.specs.declared.fault.Refusal.TheVariants as refusal
@@ -36,7 +35,7 @@ IsLater (command.Compile set) bytes = Unit {0}
 IsLater command.Link bytes = Unit {0}
 IsLater (command.Verify set) bytes = Unit {0}
 IsLater (command.Again set) bytes = Unit {0}
-IsLater command.If1 bytes = IsRefusedFor bytes unit.Marked
+IsLater command.If1 bytes = ⊥
 IsLater (command.Mean set) bytes = ⊥
 IsLater (command.Gen n) bytes = ⊥
 IsLater command.Help bytes = ⊥
@@ -51,9 +50,9 @@ abbrev pub IsStopped : Command → List ℕ → Refusal → Type 0
 IsStopped (command.Mean set) bytes r = HasNoMeaning set bytes r
 IsStopped _ bytes r = ⊥
 
--- the command is `if1`, and this is a fault of the text or its unit
+-- the command is `if1`, and this is a fault of the text, its unit or its marks
 abbrev pub IsInvalid : Command → List ℕ → If1Fault → Type 0
-IsInvalid command.If1 bytes f = IsRefusedFor bytes (unit.Fault f)
+IsInvalid command.If1 bytes f = IsRefusedFor bytes f
 IsInvalid _ bytes f = ⊥
 
 -- What a command gives, where these bytes are the text: what is printed, or the cause of a refusal.

@@ -1,7 +1,6 @@
 -- The numbers of the statuses, and the statuses of other crates' faults.
 use Rattle.std.specs.Prelude.{ℕ}
-use Rattle.if1_call.specs.declared.fault.Refusal as units
-use Rattle.if1_call.specs.declared.fault.Refusal.TheVariants as unit
+use Rattle.if1_graph.specs.declared.fault.If1Fault.{If1Fault}
 use Rattle.if1_graph.specs.declared.fault.If1Fault.TheVariants as if1
 use Rattle.mean_call.specs.declared.fault.Refusal.{Refusal}
 use Rattle.mean_call.specs.declared.fault.Refusal.TheVariants as refusal
@@ -63,16 +62,15 @@ of_refusal (refusal.Argument f) = status.Argument f
 of_refusal refusal.TurnLimit = status.TurnLimit
 of_refusal refusal.NoMemory = status.NoMemory
 
--- the status of a refusal of an IF1 text
-abbrev pub of_unit : units.Refusal → Status
-of_unit (unit.Fault if1.NoMemory) = status.NoMemory
-of_unit (unit.Fault (if1.BadLine l)) = status.If1 (if1.BadLine l)
-of_unit (unit.Fault (if1.Unknown l)) = status.If1 (if1.Unknown l)
-of_unit (unit.Fault (if1.Real l)) = status.If1 (if1.Real l)
-of_unit (unit.Fault if1.Unclosed) = status.If1 if1.Unclosed
-of_unit (unit.Fault (if1.Cycle g n)) = status.If1 (if1.Cycle g n)
-of_unit (unit.Fault (if1.Ports g n)) = status.If1 (if1.Ports g n)
-of_unit (unit.Fault (if1.TypeOf g n)) = status.If1 (if1.TypeOf g n)
-of_unit (unit.Fault (if1.Marks g n p r)) = status.If1 (if1.Marks g n p r)
-of_unit (unit.Fault (if1.TooMany l)) = status.If1 (if1.TooMany l)
-of_unit unit.Marked = status.Later
+-- the status of a fault of an IF1 text
+abbrev pub of_unit : If1Fault → Status
+of_unit if1.NoMemory = status.NoMemory
+of_unit (if1.BadLine l) = status.If1 (if1.BadLine l)
+of_unit (if1.Unknown l) = status.If1 (if1.Unknown l)
+of_unit (if1.Real l) = status.If1 (if1.Real l)
+of_unit if1.Unclosed = status.If1 if1.Unclosed
+of_unit (if1.Cycle g n) = status.If1 (if1.Cycle g n)
+of_unit (if1.Ports g n) = status.If1 (if1.Ports g n)
+of_unit (if1.TypeOf g n) = status.If1 (if1.TypeOf g n)
+of_unit (if1.Marks g n p r) = status.If1 (if1.Marks g n p r)
+of_unit (if1.TooMany l) = status.If1 (if1.TooMany l)

@@ -3,7 +3,6 @@ ghost use Rattle.std.specs.Prelude.{◌≡◌};
 ghost use Rattle.sisal_top.specs.Status.{code_of};
 
 use flow_value::{Name, NoMemory};
-use if1_call::Refusal as UnitRefusal;
 use if1_graph::If1Fault;
 use mean_call::{ArgumentFault, Refusal};
 use run_words::WordFault;
@@ -174,16 +173,15 @@ impl From<Refusal> for Status {
     }
 }
 
-impl From<UnitRefusal> for Status {
+impl From<If1Fault> for Status {
     ghost use Rattle.sisal_top.specs.Status.{of_unit};
 
-    ghost from_gives = { λ r s. s ≡ of_unit r };
+    ghost from_gives = { λ f s. s ≡ of_unit f };
 
-    fn from(refusal: UnitRefusal) -> Status {
-        match refusal {
-            UnitRefusal::Fault(If1Fault::NoMemory) => Status::NoMemory,
-            UnitRefusal::Fault(fault) => Status::If1(fault),
-            UnitRefusal::Marked => Status::Later,
+    fn from(fault: If1Fault) -> Status {
+        match fault {
+            If1Fault::NoMemory => Status::NoMemory,
+            other => Status::If1(other),
         }
     }
 }

@@ -17,8 +17,8 @@ gen N                    prints a generated program, N from 1 to 500
 Options of mean: --entry NAME, --limit T. The word -- ends the options.
 
 To come, until then status 11: run with values or options, and of all but programs
-of integers, +, -, * and let; if1 of texts with marks; the options of run --if1,
---entry NAME, --limit T, --workers W, --order K, --stats, --opt, --trace; and
+of integers, +, -, * and let; the options of run --if1, --entry NAME, --limit T,
+--workers W, --order K, --stats, --opt, --trace; and
 compile [--opt] [--dot, --why or --code]  prints the graphs of a SISAL text
 link                                      joins the parts of an IF1 text
 verify [--entry NAME] [--limit T] [VALUES]

@@ -12,7 +12,7 @@ mod places;
 mod why;
 mod wish;
 
-pub use apply::with_marks;
+pub use apply::{set_lists, set_takes, with_marks};
 pub use check::checked;
 pub use graph::{GraphMarks, marks_in};
 pub use judging::judge;

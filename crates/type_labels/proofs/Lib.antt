@@ -1,4 +1,6 @@
 mod Growth
-mod Names
+mod Lines
+pub mod Names
 mod Places
 mod Steps
+mod Tuples

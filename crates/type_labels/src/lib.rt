@@ -2,6 +2,7 @@
 //! the labels of types (IF1 manual M-170, type table).
 #![tactic(auto)]
 
+mod functions;
 mod table;
 mod types;
 

@@ -2,8 +2,10 @@
 ghost use Rattle.std.specs.Prelude.{◌≡◌, ◌<◌, ◌≤◌, [], length, OnErr, IfOk, IfErr};
 ghost use Rattle.lowering.specs.Types.{basics, enter, entry, labelled};
 ghost use Rattle.lowering.specs.TooMany.{most_types};
+ghost use Rattle.type_labels.specs.Lines.{line_of, lines_from};
 
 use flow_value::{NoMemory, Seq};
+use if1_graph::{TypeEntry, TypeTable};
 use indexmap::IndexSet;
 use std::alloc::Global;
 use std::marker::Model;
@@ -22,6 +24,19 @@ pub enum LabelFault {
 
 /// The code, the two numbers and the name of an entry.
 type Key = (u32, u32, u32, Vec<u8>);
+
+/// The line of a type.
+fn line(alloc: Global, label: u32, key: &Key) -> Result<TypeEntry, NoMemory>
+    ensures { IfOk result (λ line. line ≡ line_of label (entry key.now.0 key.now.1 key.now.2 key.now.3.items)) }
+{
+    Ok(TypeEntry {
+        label,
+        code: key.0,
+        first: key.1,
+        second: key.2,
+        name: Seq::from_slice(alloc, key.3.as_slice())?,
+    })
+}
 
 /// The entries in the order of their labels, which are 1, 2, and so on.
 #[derive(Drop)]
@@ -81,6 +96,21 @@ impl Table {
             };
         }
         self.find(&key)
+    }
+
+    /// The lines of the types, by rising label.
+    pub fn lines(&self) -> Result<TypeTable, NoMemory>
+        ensures { IfOk result (λ lines. lines ≡ lines_from 1 self.now) }
+    {
+        let alloc = *self.entries.allocator();
+        let mut lines = TypeTable::with_room(alloc, self.entries.len())?;
+        for place in 0..self.entries.len() {
+            let Some(key) = self.entries.get_index(place) else {
+                return Ok(lines);
+            };
+            lines.add(line(alloc, place as u32 + 1, key)?)?;
+        }
+        Ok(lines)
     }
 
     /// The allocator of the table.

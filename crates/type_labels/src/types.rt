@@ -10,7 +10,7 @@ use std::alloc::Global;
 use type_table::{Form, Member, Types};
 
 /// Types are at most so deep.
-const DEEPEST: u32 = 64;
+pub(crate) const DEEPEST: u32 = 64;
 
 impl Table {
     /// The label of a type, by its number in a program's table of types.
@@ -23,7 +23,7 @@ impl Table {
 
     /// The label of a type that is at most so deep.
     #[cycle(types)]
-    fn label_within(
+    pub(crate) fn label_within(
         &mut self,
         types: &Types,
         names: &[Name],
@@ -74,7 +74,7 @@ impl Table {
 
     /// The label of the arrays or streams of a type.
     #[cycle(types)]
-    fn sequence_label(
+    pub(crate) fn sequence_label(
         &mut self,
         types: &Types,
         names: &[Name],

@@ -4,4 +4,4 @@ use Rattle.lowered_units.proofs.Typed.{types-formed}
 use Rattle.lowered_units.proofs.laws.tables_of_translated_units_are_formed.Goals as goal
 
 pub returns : goal.returns
-returns c = λ p u fit e t. subst IsTable (sym t.types) (types-formed p fit e)
+returns c = λ p u fit members e t. subst IsTable (sym t.types) (types-formed p fit members e)

@@ -4,4 +4,4 @@ use Rattle.lowered_units.proofs.Normality.{is-normal}
 use Rattle.lowered_units.proofs.laws.translated_units_are_formed.Goals as goal
 
 pub returns : goal.returns
-returns c = λ p u fit few small t. (is-formed p fit u t few small (is-nested p u fit t), is-normal p u fit t)
+returns c = λ p u fit members few t. (is-formed p fit members u t few (is-nested p u fit t), is-normal p u fit t)

@@ -1,9 +1,9 @@
-use Rattle.std.proofs.Common.{subst, sym}
-use Rattle.if1_order.specs.Walks.{AreInside}
+use Rattle.std.proofs.Common.{◌≡◌, [], All, refl, subst}
+use Rattle.if1_graph.specs.declared.graph.Graph.TheViews.{out-Graph}
+use Rattle.if1_graph.specs.declared.graph.Node.{out-Node}
+use Rattle.mark_check.proofs.Wrong.{none-listed}
 use Rattle.mark_check.proofs.lists.first_wrong_entry.Goals as goal
 
-pub order_of-requires : goal.order_of-requires
-order_of-requires c = subst AreInside (sym c.as_slice-3.ensures.value) c.in_ok-lists.ensures.inside
-
-pub first_in-requires-clause-inside : goal.first_in-requires-clause-inside
-first_in-requires-clause-inside c = subst AreInside (sym c.as_slice-5.ensures.value) c.in_ok-lists.ensures.inside
+pub returns-then-has_no_lists : goal.returns-then-has_no_lists
+returns-then-has_no_lists c =
+    none-listed c.args.graph.now (out-Graph c.args.graph.now).nodes (subst (All (λ n. (out-Node n).before ≡ [])) c.as_slice.ensures (c.if-has_no_lists.ensures.0 refl))

@@ -2,7 +2,7 @@ use Rattle.std.proofs.Common.{◌≡◌, map, refl, subst, ap, ◌∙◌}
 use Rattle.unit_types.specs.Headings.{has_body, given_functions}
 use Rattle.sisal_check.specs.Headed.{HaveFirst, head_at, head_in}
 use Rattle.sisal_check.proofs.Forms.{passed_on}
-use Rattle.sisal_check.proofs.Tops.{program_of, unit_breaks}
+use Rattle.sisal_check.proofs.Tops.{program_of, stands_of, unit_breaks}
 use Rattle.sisal_check.proofs.Whole.{have_all}
 use Rattle.sisal_check.proofs.units.check.Goals as goal
 
@@ -25,3 +25,11 @@ returns-clause-typed c = λ text.
     program_of c.functions.new.walk.types c.as_slice-4.result.now fs (c.in_ok-functions.ensures.typed c.new.ensures) u d.types d.named d.numbers d.functions d.defines
     (record { tokens = c.as_slice.ensures; spellings = c.as_slice-2.ensures; named_by = refl; functions = c.as_slice-3.ensures; numbers_by = refl })
     (c.in_ok-types.ensures.declares text.spelled) text c.in_ok-types.ensures.numbers c.in_ok-types.ensures.own.distinct c.as_slice-4.ensures c.in_ok-functions.ensures.used c.holds.ensures heads
+
+pub returns-clause-standing : goal.returns-clause-standing
+returns-clause-standing c = λ text.
+    let u = c.args.unit in
+    let d = c.in_ok-types.field-0 in
+    stands_of c.functions.new.walk.types c.as_slice-4.result.now c.in_ok-functions.functions (c.in_ok-functions.ensures.typed c.new.ensures) u d.types d.named d.numbers d.functions d.defines
+    (record { tokens = c.as_slice.ensures; spellings = c.as_slice-2.ensures; named_by = refl; functions = c.as_slice-3.ensures; numbers_by = refl })
+    (c.in_ok-types.ensures.declares text.spelled) text c.in_ok-types.ensures.numbers c.in_ok-types.ensures.own.distinct c.in_ok-functions.ensures.used

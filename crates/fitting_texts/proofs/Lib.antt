@@ -1,0 +1,5 @@
+pub mod Written
+pub mod Names
+pub mod Functions
+pub mod Texts
+pub mod Typed

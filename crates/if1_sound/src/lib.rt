@@ -1,0 +1,6 @@
+//! Units that are known to have sound marks.
+#![tactic(auto)]
+
+mod sound;
+
+pub use sound::Sound;

@@ -1,0 +1,10 @@
+pub mod Tables
+pub mod Stable
+pub mod Same
+mod Wires
+mod Made
+mod Forms
+mod Loops
+mod Turns
+mod Trees
+mod Programs

@@ -1,0 +1,5 @@
+mod Typed
+mod Sized
+mod SizedForms
+mod SizedLoops
+mod SizedTrees

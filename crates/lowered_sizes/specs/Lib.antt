@@ -1,0 +1,4 @@
+pub mod Counting
+pub mod Forms
+pub mod Programs
+pub mod Laws

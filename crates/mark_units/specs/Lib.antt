@@ -1,0 +1,4 @@
+pub mod Notes
+pub mod Begun
+pub mod Walked
+pub mod Laws

@@ -1,0 +1,9 @@
+pub mod Sets
+pub mod Parts
+pub mod Labels
+pub mod Nodes
+pub mod Owning
+pub mod Placing
+pub mod Seen
+pub mod Laid
+pub mod Steps

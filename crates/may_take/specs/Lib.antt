@@ -1,0 +1,6 @@
+pub mod Ports
+pub mod Uses
+pub mod Around
+pub mod Consuming
+pub mod Owned
+pub mod Looked

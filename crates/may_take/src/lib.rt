@@ -1,0 +1,22 @@
+//! Which edges of a unit may take: consuming edges from owned ports.
+#![tactic(auto)]
+
+mod around;
+mod consuming;
+mod flags;
+mod functions;
+mod inputs;
+mod looking;
+mod node;
+mod owned;
+mod port_set;
+mod units;
+mod uses;
+
+pub use around::Around;
+pub use flags::Flags;
+pub use functions::Functions;
+pub use inputs::Inputs;
+pub use port_set::PortSet;
+pub use units::candidates;
+pub use uses::NodeUse;

@@ -1,0 +1,4 @@
+pub mod Plans
+pub mod Laws
+pub mod Orders
+pub mod Tables

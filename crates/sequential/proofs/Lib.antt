@@ -1,0 +1,12 @@
+pub mod Reading
+pub mod Putting
+pub mod Scalars
+pub mod Doing
+pub mod Stepping
+pub mod Deciding
+pub mod LoadSteps
+pub mod MoveSteps
+pub mod LeaveSteps
+pub mod Same
+pub mod Rows
+pub mod FireSteps

@@ -1,0 +1,24 @@
+use Rattle.std.proofs.Common.{◌+◌, ◌<◌, length, ◌∙◌, ap, arith}
+use Rattle.std.proofs.lemmas.List.{length-set}
+use Rattle.run_cells.specs.Held.{held}
+use Rattle.sequential.proofs.MoveSteps.{held-at, unload-more, same-place, same-behind}
+use Rattle.sequential.proofs.moving.unload.Goals as goal
+
+pub loop-place-preserved : goal.loop-place-preserved
+loop-place-preserved c =
+    let l = c.loop-place in
+    let n = length c.args.loaded.now.items in
+    let test = c.loop-place-test.true in
+    let end = c.len-place-end.ensures in
+    let room = c.requires in
+    let size = l.invariant.size in
+    let lt : l.place < n = omega (arith, test, end) in
+    let inside : c.args.from + l.place < length l.cells.items = omega (arith, lt, room, size) in
+    let cell = c.taken_out-cell.result in
+    record {
+      size = length-set l.cells.items (c.args.from + l.place) cell ∙ l.invariant.size;
+      long = c.taken_out-cell.ensures.long ∙ l.invariant.long;
+      others = c.taken_out-cell.ensures.others ∙ same-behind l.loaded.items c.args.loaded.now.items l.place l.invariant.others;
+      heap = λ rs e. l.invariant.heap rs e ∙ unload-more n l.place c.args.from rs cell l.cells.items lt inside
+          (ap held (c.taken_out-cell.ensures.value ∙ same-place l.loaded.items c.args.loaded.now.items l.place l.invariant.others) ∙ held-at c.args.loaded.now.items rs e l.place lt);
+    }

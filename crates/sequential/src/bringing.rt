@@ -1,0 +1,52 @@
+//! What is brought to a cell.
+ghost use Rattle.std.specs.Prelude.{◌≡◌, ◌-◌, ◌+◌, true, length, IfOk, OnOk};
+ghost use Rattle.graph_meaning.specs.Storage.{capped, leaves_of};
+ghost use Rattle.run_store.specs.Stored as stored;
+ghost use Rattle.run_fuller.specs.Fuller.{IsWithin};
+ghost use Rattle.run_cells.specs.Held.{held, heap_of};
+ghost use Rattle.run_cells.specs.Sights.{seen_value};
+ghost use Rattle.step_code.specs.Reading.{operand_in, mode_in};
+ghost use Rattle.sequential.specs.Inside.{IsInside};
+ghost use Rattle.sequential.specs.Bringing.{IsBrought};
+
+use crate::sights::sight;
+use flow_value::NoMemory;
+use run_cells::{Cell, Seen, copied, leaves_seen};
+use std::alloc::Global;
+use std::mem;
+use step_code::{Code, Operand};
+
+/// What a step brings of an operand: a copy, or what leaves its cell. What is copied by its mode is
+/// added to the copies.
+pub fn brought(
+    alloc: Global,
+    code: &Code,
+    cells: &mut Vec<Cell>,
+    base: usize,
+    from: Operand,
+    copies: &mut u64,
+) -> Result<Cell, NoMemory>
+    requires { IsInside code.now (length cells.old.items - base) from }
+    ensures value { IfOk result (λ c. IsBrought code.now cells.old.items base from c) }
+    ensures left { IsWithin (stored.left_by base (mode_in code.now from) (operand_in code.now from) (heap_of cells.old.items)) (heap_of cells.new.items) }
+    ensures size { length cells.new.items ≡ length cells.old.items }
+    ensures copies { OnOk result (copies.new ≡ capped (copies.old + stored.copied_as (mode_in code.now from) (stored.seen (heap_of cells.old.items) base (mode_in code.now from) (operand_in code.now from)))) }
+{
+    let _in_range = *copies;
+    match from {
+        Operand::Takes(cell) => Ok(mem::replace(&mut cells[base + cell as usize], Cell::Empty)),
+        Operand::Copies(_) => counted(alloc, sight(code, cells.as_slice(), base, from), copies),
+        Operand::CopiesOf(_) => counted(alloc, sight(code, cells.as_slice(), base, from), copies),
+        Operand::Literal(_) => copied(alloc, sight(code, cells.as_slice(), base, from)),
+        Operand::Looks(_) => copied(alloc, sight(code, cells.as_slice(), base, from)),
+        Operand::LooksAt(_) => copied(alloc, sight(code, cells.as_slice(), base, from)),
+    }
+}
+
+fn counted(alloc: Global, seen: Seen<'_>, copies: &mut u64) -> Result<Cell, NoMemory>
+    ensures value { IfOk result (λ c. held c ≡ stored.Owns (seen_value seen.entry)) }
+    ensures copies { copies.new ≡ capped (copies.old + leaves_of (seen_value seen.entry)) }
+{
+    *copies = copies.saturating_add(leaves_seen(seen));
+    copied(alloc, seen)
+}

@@ -1,0 +1,7 @@
+//! The unit of IF1 graphs of a typed program, known to be valid.
+#![tactic(auto)]
+
+mod members;
+mod ready;
+
+pub use ready::ready_unit;

@@ -1,0 +1,6 @@
+mod Kept
+mod Folds
+mod LoopClauses
+mod Steps
+mod Told
+mod Whole
