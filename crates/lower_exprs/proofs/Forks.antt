@@ -1,5 +1,5 @@
 -- Clauses with masks, arms of a `tagcase`, and loops over generators.
-use Rattle.std.proofs.Common.{◌≡◌, ◌<◌, ◌+◌, ℕ, zero, suc, Bool, true, false, nat_lt, List, [], ◌∷◌, ◌++◌, map, length, get_or, drop, Some, None, refl, sym, ap, ap₂, subst, ◌∙◌, arith, if◌then◌else◌}
+use Rattle.std.proofs.Common.{◌≡◌, ◌<◌, ◌+◌, ℕ, zero, suc, Bool, true, false, nat_lt, List, [], ◌∷◌, ◌++◌, map, length, get_or, drop, Some, None, refl, sym, ap, ap₂, ◌∙◌, arith, if◌then◌else◌}
 use Rattle.std.specs.Prelude.{Result, IfOk}
 use Rattle.std.proofs.lemmas.List.{length-map, length-append}
 use Rattle.std.proofs.lemmas.Result.{IfOk-weaker}
@@ -20,7 +20,7 @@ use Rattle.lowering.specs.Operations.{Lowers}
 use Rattle.lowering.specs.Choices.{tag_named, first_tag, content_of, arm_names}
 use Rattle.lowering.specs.Loops.{clauses_lowered, types, single, many, own_inputs, generators_lowered, returns_lowered, bound_of, forall_lowered}
 use Rattle.lowered_data.specs.declared.made.Made.{Made}
-use Rattle.lowered_data.specs.States.{lowered_in, with_lowered, next_graph, with_part, unclosed, IsMade, IsPart, AreParts, new_parts, places_in}
+use Rattle.lowered_data.specs.States.{with_lowered, next_graph, with_part, unclosed, IsMade, IsPart, AreParts, new_parts, places_in}
 use Rattle.lower_nodes.specs.declared.loops.Placed.{Placed}
 use Rattle.lower_nodes.specs.Rows.{tags_named}
 use Rattle.lower_nodes.specs.Placing.{IsPlaced}

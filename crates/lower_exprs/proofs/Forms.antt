@@ -1,5 +1,5 @@
 -- What each form of expression becomes, by its parts.
-use Rattle.std.proofs.Common.{◌≡◌, ℕ, List, [], ◌∷◌, map, refl, sym, ap, ◌∙◌}
+use Rattle.std.proofs.Common.{◌≡◌, ℕ, List, [], ◌∷◌, sym, ap, ◌∙◌}
 use Rattle.type_table.specs.declared.form.Form.{Form}
 use Rattle.sisal_tree.specs.declared.expr.Constant.{Constant}
 use Rattle.value_ops.specs.declared.operation.Operation.{Operation}
@@ -13,8 +13,8 @@ use Rattle.typed_tree.specs.declared.expr.Case.{Case}
 use Rattle.typed_tree.specs.declared.expr.Product.{Product}
 use Rattle.typed_tree.specs.declared.expr.Turns.{Turns}
 use Rattle.lowering.specs.declared.feed.Wire.{Wire}
-use Rattle.lowering.specs.Graphs.{Lowering, only, andthen}
-use Rattle.lowering.specs.Operations.{all_lowered, body_lowered, wire_at, constant_lowered}
+use Rattle.lowering.specs.Graphs.{only, andthen}
+use Rattle.lowering.specs.Operations.{body_lowered, wire_at, constant_lowered}
 use Rattle.lowering.specs.Choices.{if_lowered, case_lowered}
 use Rattle.lowering.specs.Loops.{Phrase, product_lowered, initial_lowered}
 use Rattle.lowering.specs.Phrases.{Kind, each, phrase, phrase_kind, kind_lowered, expr_lowered, lowers}

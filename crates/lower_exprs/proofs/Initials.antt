@@ -1,5 +1,5 @@
 -- Loops of turns: what they collect, and their four graphs.
-use Rattle.std.proofs.Common.{◌≡◌, ◌≤◌, ◌<◌, ◌+◌, ◌⊎◌, inl, inr, ℕ, zero, suc, min, Bool, true, false, List, [], ◌∷◌, ◌++◌, map, take, drop, length, get_or, All, Option, Some, None, refl, sym, ap, ap₂, subst, ◌∙◌, append-nil, append_assoc, arith}
+use Rattle.std.proofs.Common.{◌≡◌, ◌≤◌, ◌<◌, ◌+◌, ◌⊎◌, inl, inr, ℕ, zero, suc, min, Bool, true, false, List, [], ◌∷◌, ◌++◌, map, take, drop, length, get_or, All, Option, Some, None, refl, sym, ap, ap₂, subst, ◌∙◌, append-nil, arith}
 use Rattle.std.specs.Prelude.{Result, IfOk}
 use Rattle.std.proofs.lemmas.List.{length-map, length-append, drop_all, drop_more, take_at}
 use Rattle.std.proofs.lemmas.List.Elements.{All-nil, All-cons}
@@ -16,7 +16,7 @@ use Rattle.lowering.specs.declared.graph.Lowered.{Lowered}
 use Rattle.lowering.specs.Feeds.{into}
 use Rattle.lowering.specs.Graphs.{Lowering, only, andthen, new_graph, size, whole}
 use Rattle.lowering.specs.Operations.{Lowers, one, wire_at, all_lowered, defs_lowered}
-use Rattle.lowering.specs.Loops.{Phrase, Bound, Wired, types, many, own_inputs, take_up, returns_lowered, unless_places, loop_lowered, loop_kind, loop_name, extra, extras, place_of, collected, renew, test_lowered, row_of_turn, initial_lowered}
+use Rattle.lowering.specs.Loops.{Phrase, Wired, types, many, own_inputs, take_up, returns_lowered, unless_places, loop_lowered, loop_kind, loop_name, extra, extras, place_of, collected, renew, test_lowered, row_of_turn, initial_lowered}
 use Rattle.lowered_data.specs.declared.made.Made.{Made}
 use Rattle.lowered_data.specs.declared.made.Around.{Around}
 use Rattle.lowered_data.specs.Scopes.{Scopes, scopes, with_names, entered, first_names}
@@ -28,7 +28,7 @@ use Rattle.lowered_data.proofs.Laws.{only_made, andthen_made}
 use Rattle.lowered_data.proofs.Parts.{no_parts, first_part, first_place}
 use Rattle.lower_nodes.specs.declared.loops.Placed.{Placed}
 use Rattle.lower_nodes.specs.Placing.{IsPlaced}
-use Rattle.lower_nodes.proofs.Walks.{Going, with_values, goes_on, ended}
+use Rattle.lower_nodes.proofs.Walks.{Going, goes_on, ended}
 use Rattle.lower_exprs.specs.Phrased.{Grows, maybe_not, phrases}
 use Rattle.typed_tree.specs.declared.expr.TypedExpr.{TypedExpr}
 use Rattle.lower_exprs.proofs.Steps.{in_open, more_inside}

@@ -1,8 +1,8 @@
 -- Names that come into force and are undone, and definitions one after another.
-use Rattle.std.proofs.Common.{◌≡◌, ℕ, suc, ◌+◌, List, [], ◌∷◌, ◌++◌, map, take, drop, length, refl, sym, ap, subst, ◌∙◌, append-nil, append_assoc}
+use Rattle.std.proofs.Common.{◌≡◌, ℕ, List, [], ◌++◌, take, length, sym, ap, ◌∙◌, append-nil, append_assoc}
 use Rattle.std.proofs.lemmas.List.{take_at}
 use Rattle.lowering.specs.declared.feed.Wire.{Wire}
-use Rattle.lowered_data.specs.Scopes.{Scopes, scopes, with_names, entered, first_names, IsInside}
+use Rattle.lowered_data.specs.Scopes.{Scopes, scopes, with_names, first_names}
 use Rattle.lower_exprs.specs.Phrased.{Grows}
 
 pub no_names : (s : Scopes) → Grows s s

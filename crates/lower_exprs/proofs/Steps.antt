@@ -3,7 +3,7 @@ use Rattle.std.proofs.Common.{◌≡◌, ◌<◌, ℕ, List, [], ◌∷◌, ◌+
 use Rattle.std.specs.Prelude.{Result, Ok, Err, IfOk, OnOk, Option, Some, None}
 use Rattle.lowering.specs.declared.feed.Feed.TheVariants.{Port}
 use Rattle.lowering.specs.declared.feed.Carried.TheVariants.{One}
-use Rattle.std.proofs.lemmas.Result.{IfOk-weaker, on_ok_weaker}
+use Rattle.std.proofs.lemmas.Result.{IfOk-weaker}
 use Rattle.lowering.specs.declared.feed.Wire.{Wire}
 use Rattle.lowering.specs.Feeds.{wire, into}
 use Rattle.lowering.specs.Graphs.{Lowering, andthen}

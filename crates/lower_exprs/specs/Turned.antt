@@ -1,5 +1,5 @@
 -- What `for initial` collects, one value or mask at a time.
-use Rattle.std.specs.Prelude.{◌<◌, ℕ, suc, Bool, true, false, List, [], length, Option, Some, None}
+use Rattle.std.specs.Prelude.{◌<◌, ℕ, suc, Bool, true, false, [], length, Option, Some, None}
 use Rattle.lowering.specs.Graphs.{only}
 use Rattle.lowering.specs.Operations.{Lowers}
 use Rattle.lowered_data.specs.declared.made.Made.{Made}

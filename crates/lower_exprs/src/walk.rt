@@ -32,9 +32,9 @@ use crate::turns::{collected, kept, loop_node, names_from, renewed, turn_inputs}
 use flow_value::{NoMemory, Numbers, Scalar1, Seq};
 use if1_graph::{Compound, Simple};
 use lower_nodes::{
-    BOOLEAN, INTEGER, Placed, append, applied, arms_of, begin, bound_of, constant, content_of, first_tags,
-    flag_at, generator_part, inside, many_inputs, nil, returns_part, row, shut_part, single_inputs,
-    tag_count, type_of, unless_places, wire_at,
+    BOOLEAN, INTEGER, Placed, append, applied, arms_of, begin, bound_of, constant, content_of,
+    first_tags, flag_at, generator_part, inside, many_inputs, nil, returns_part, row, shut_part,
+    single_inputs, tag_count, type_of, unless_places, wire_at,
 };
 use lowered_data::{Made, Names, one_wire, output};
 use lowering::{Action, Carried, Wire};
@@ -605,7 +605,9 @@ fn initial(
     let count = held.len();
     let loops = held.as_slice();
     let own = turn_inputs(alloc, loops)?;
-    let values = turned(alloc, forms, names, made, around, count, flags, held, results)?;
+    let values = turned(
+        alloc, forms, names, made, around, count, flags, held, results,
+    )?;
     names.leave();
     let first = shut_part(alloc, made, begun, values)?;
     let named = own.as_slice();
@@ -616,7 +618,9 @@ fn initial(
     let turn = defs.as_slice();
     defined(alloc, forms, names, made, turn)?;
     let next = renewed(alloc, names, start, turns, own)?;
-    let sums = turned(alloc, forms, names, made, around, count, flags, next, results)?;
+    let sums = turned(
+        alloc, forms, names, made, around, count, flags, next, results,
+    )?;
     names.leave();
     let third = shut_part(alloc, made, opened, sums)?;
     let collects = collected(alloc, around, count, flags, results)?;

@@ -1,4 +1,4 @@
-use Rattle.std.proofs.Common.{◌≡◌, ◌∙◌, Bool, List, ap, sym}
+use Rattle.std.proofs.Common.{◌∙◌, Bool, List, ap, sym}
 use Rattle.type_table.specs.declared.form.Form.{Form}
 use Rattle.lowering.specs.Loops.{loop_name}
 use Rattle.lowering.specs.Phrases.{phrase}

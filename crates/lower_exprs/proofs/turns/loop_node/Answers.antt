@@ -1,11 +1,11 @@
-use Rattle.std.proofs.Common.{◌≡◌, ◌∙◌, ◌++◌, ◌∷◌, [], ℕ, List, map, ap, ap₂, sym, refl, subst}
+use Rattle.std.proofs.Common.{◌≡◌, ◌∙◌, ◌∷◌, [], ℕ, List, map, ap, subst}
 use Rattle.std.specs.Prelude.{IfOk}
 use Rattle.if1_graph.specs.declared.op.Compound.{Compound}
 use Rattle.typed_tree.specs.declared.expr.ClauseForm.{ClauseForm}
 use Rattle.lowering.specs.declared.feed.Carried.{Carried}
 use Rattle.lowering.specs.declared.feed.Wire.{Wire}
 use Rattle.lowering.specs.Graphs.{Lowering, whole}
-use Rattle.lowering.specs.Operations.{Lowers, one, wire_at}
+use Rattle.lowering.specs.Operations.{one, wire_at}
 use Rattle.lowering.specs.Loops.{Wired, many, own_inputs, loop_kind, returns_lowered}
 use Rattle.lowered_data.specs.declared.made.Made.{Made}
 use Rattle.lowered_data.specs.States.{IsMade, AreParts, new_parts, places_in}

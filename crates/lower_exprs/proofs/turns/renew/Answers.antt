@@ -1,4 +1,4 @@
-use Rattle.std.proofs.Common.{◌≡◌, ◌≤◌, min, length, arith}
+use Rattle.std.proofs.Common.{◌≡◌, min, length, arith}
 use Rattle.lower_exprs.proofs.Turning.{nothing_renewed}
 use Rattle.lower_exprs.proofs.turns.renew.Goals as goal
 

@@ -1,5 +1,5 @@
-use Rattle.std.proofs.Common.{rules, ◌≡◌, ◌∙◌, ◌≤◌, ◌<◌, ◌+◌, ◌++◌, ◌∷◌, [], ℕ, List, map, drop, length, refl, sym, ap, ap₂, subst, append-nil, arith, suc, min, take, get_or, Bool, true, false, All, Option}
-use Rattle.std.specs.Prelude.{IfOk, OnOk}
+use Rattle.std.proofs.Common.{◌≡◌, ◌∙◌, ◌≤◌, ◌<◌, ◌+◌, ◌++◌, ◌∷◌, [], ℕ, List, map, drop, length, refl, sym, ap, ap₂, subst, arith, suc, min, take, get_or, Bool, false, All}
+use Rattle.std.specs.Prelude.{IfOk}
 use Rattle.std.proofs.lemmas.List.{drop_all, get_or-drop, drop-drop}
 use Rattle.std.proofs.lemmas.Result.{IfOk-weaker, on_ok_weaker}
 use Rattle.typed_tree.specs.declared.expr.TypedExpr.{TypedExpr}
@@ -9,7 +9,7 @@ use Rattle.lowering.specs.declared.feed.Carried.TheVariants.{One}
 use Rattle.lowering.specs.declared.graph.Action.TheVariants.{Call}
 use Rattle.lowering.specs.Graphs.{Lowering, only, andthen, a_node, whole}
 use Rattle.lowering.specs.Choices.{applied, if_lowered, case_lowered, tag_case, tag_count, type_of, arms_of, arm_names, first_tag, tag_named}
-use Rattle.lowering.specs.Loops.{Bound, clauses_lowered, single, many, own_inputs, unless_places, renew, generators_lowered, returns_lowered, bound_of, product_lowered, initial_lowered, test_lowered, row_of_turn, loop_name, loop_kind, extras, types, collected}
+use Rattle.lowering.specs.Loops.{Bound, clauses_lowered, single, many, own_inputs, unless_places, renew, generators_lowered, returns_lowered, bound_of, product_lowered, initial_lowered, test_lowered, row_of_turn, loop_name, extras, types, collected}
 use Rattle.lowering.specs.Operations.{Lowers, integer, wire_at, all_lowered, body_lowered, defs_lowered, row_lowered}
 use Rattle.lowering.specs.Phrases.{each, lowers}
 use Rattle.flow_value.specs.declared.operation.Scalar1.TheVariants as unary
@@ -24,12 +24,12 @@ use Rattle.lower_nodes.specs.Placing.{IsPlaced}
 use Rattle.lower_nodes.specs.Rows.{tags_named}
 use Rattle.lowered_data.specs.declared.made.Around.{Around}
 use Rattle.lowered_data.specs.declared.made.Made.{Made}
-use Rattle.lowered_data.specs.Scopes.{Scopes, scopes, entered, with_names, first_names, IsInside}
+use Rattle.lowered_data.specs.Scopes.{Scopes, scopes, entered, with_names, first_names}
 use Rattle.lowered_data.proofs.Laws.{andthen_made}
-use Rattle.lowered_data.specs.States.{IsMade, IsPart, AreParts, new_parts, places_in, opened, around_of}
+use Rattle.lowered_data.specs.States.{IsMade, IsPart, AreParts, new_parts, places_in}
 use Rattle.lowered_data.proofs.Lists.{rest_is}
-use Rattle.lowered_data.proofs.Parts.{opened_there, places_within}
-use Rattle.lower_nodes.proofs.Walks.{if_as, as_made, only_as, Going, begun, goes_on, ended, Defining, begun_defs, defs_go_on, ended_defs}
+use Rattle.lowered_data.proofs.Parts.{places_within}
+use Rattle.lower_nodes.proofs.Walks.{if_as, as_made, only_as, Going, goes_on, ended, Defining, begun_defs, defs_go_on, ended_defs}
 use Rattle.lower_exprs.specs.Phrased.{kind_of, phrases, alls, lists, all_defs, call_of, apply_of, selector_of, arms_in, content_at, with_content, maybe_not}
 use Rattle.lower_exprs.specs.Turned.{extra_lowered}
 use Rattle.lower_exprs.proofs.Forms.{expr_is, constant_is, value_is, group_is, call_is, apply_is, let_is, if_is, case_is, product_is, initial_is}

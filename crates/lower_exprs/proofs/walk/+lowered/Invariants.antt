@@ -1,6 +1,4 @@
-use Rattle.std.proofs.Common.{◌≡◌, ◌+◌, ◌*◌, ◌++◌, List, ℕ, drop}
-use Rattle.lowered_data.specs.declared.made.Made.{Made}
-use Rattle.lowered_data.specs.States.{AreParts, places_in}
+use Rattle.std.proofs.Common.{◌≡◌, ◌+◌, ◌*◌, drop}
 use Rattle.lowering.specs.Operations.{all_lowered}
 use Rattle.lowering.specs.Loops.{clauses_lowered, loop_name, extras}
 use Rattle.lowering.specs.Phrases.{each}
