@@ -13,7 +13,7 @@ pub use choices::{
 };
 pub use loops::{
     Bound, Placed, begin, bound_of, flag_at, generator_part, many_inputs, returns_part, shut_part,
-    single_inputs, unless_places,
+    single_inputs, types_of, unless_places,
 };
 pub use operations::{applied, constant, row};
 pub use wiring::{BOOLEAN, INTEGER, append, inside, nil, one, wire_at};

@@ -1,0 +1,7 @@
+mod Forms
+mod Names
+mod Steps
+mod Forks
+mod Turning
+mod Arms
+mod Initials

@@ -1,0 +1,2 @@
+pub mod Phrased
+pub mod Turned
