@@ -8,8 +8,8 @@ use Rattle.type_table.specs.declared.form.Form.{Form}
 use Rattle.typed_tree.specs.declared.program.Function.{Function}
 use Rattle.lowering.specs.declared.feed.Carried.{Carried}
 use Rattle.lowering.specs.Types.{Table, Labelled, labelled, basics, carried_label, with_types}
-use Rattle.line_types.proofs.Tables.{Grows, grows-none, carried-grows, types-grow}
-use Rattle.line_types.proofs.Stable.{carried-stays}
+use Rattle.lowering.proofs.Tables.{Grows, grows-none, carried-grows, types-grow}
+use Rattle.lowering.proofs.Stable.{carried-stays}
 use Rattle.line_types.proofs.Same.{with-both}
 use Rattle.line_labels.specs.declared.labels.Labels.{Labels}
 use Rattle.line_labels.specs.Labels.{AreKept}

@@ -1,5 +1,3 @@
-pub mod Tables
-pub mod Stable
 pub mod Same
 mod Wires
 mod Made

@@ -4,8 +4,8 @@ use Rattle.type_table.specs.declared.form.Form.{Form}
 use Rattle.typed_tree.specs.declared.program.Function.{Function}
 use Rattle.lowering.specs.declared.feed.Carried.{Carried}
 use Rattle.lowering.specs.Types.{Table, Labelled, carried_label, with_types}
-use Rattle.line_types.proofs.Tables.{Grows, grows-none, grows-then, types-grow}
-use Rattle.line_types.proofs.Stable.{carried-stays}
+use Rattle.lowering.proofs.Tables.{Grows, grows-none, grows-then, types-grow}
+use Rattle.lowering.proofs.Stable.{carried-stays}
 
 -- ---- members of lists
 

@@ -30,7 +30,7 @@ use Rattle.lowering.specs.Types.{Entry, entry, is_entry, Table, label_from, or_n
 use Rattle.lowered_units.specs.Units.{constant_text, entries_from}
 use Rattle.lowered_units.proofs.Built.{IsConstantOf}
 use Rattle.lowered_units.proofs.Literals.{IsValueWant, integer_read, character_read, types-begin, label-is}
-use Rattle.lowered_units.proofs.Tables.{grows-then, table-begins, enter-grows, tuple-grows}
+use Rattle.lowering.proofs.Tables.{grows-then, table-begins, enter-grows, tuple-grows}
 
 -- ---- values as they are spelled
 

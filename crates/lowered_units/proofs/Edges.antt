@@ -33,7 +33,7 @@ use Rattle.lowered_units.specs.Units.{constant_text, entries_from, called_name}
 use Rattle.lowered_units.proofs.Built.{IsConstantOf}
 use Rattle.lowered_units.proofs.Canonical.{IsCode, callee-code}
 use Rattle.lowered_units.proofs.Literals.{IsValueWant, integer_read, character_read, integer_quotable, character_quotable, types-begin, label-is}
-use Rattle.lowered_units.proofs.Tables.{table-begins}
+use Rattle.lowering.proofs.Tables.{table-begins}
 
 -- ---- texts in quotes
 

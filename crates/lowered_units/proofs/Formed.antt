@@ -28,9 +28,9 @@ use Rattle.lowered_units.proofs.Lined.{HasLabel, header_table, after-headers, gr
 use Rattle.lowered_units.proofs.Nested.{AreNested}
 use Rattle.lowered_units.proofs.OneUnit.{inside_in, head_of, nil-is-no-cons, heads, tails}
 use Rattle.lowered_units.proofs.Placed.{From, AreInner, all-placed}
-use Rattle.lowered_units.proofs.Stable.{function-stays}
+use Rattle.lowering.proofs.Stable.{function-stays}
 use Rattle.lowered_units.proofs.Tabled.{IsWellTable, IsHeaded, function-well, basics-well}
-use Rattle.lowered_units.proofs.Tables.{function-grows, Grows, grows-then, grows-none, bodies-grow}
+use Rattle.lowering.proofs.Tables.{function-grows, Grows, grows-then, grows-none, bodies-grow}
 use Rattle.lowered_units.proofs.Typed.{headed, types-formed}
 use Rattle.lowered_units.proofs.Whole.{whole-label}
 

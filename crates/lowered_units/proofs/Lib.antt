@@ -10,7 +10,6 @@ pub mod Built
 pub mod BuiltForms
 pub mod BuiltLoops
 pub mod BuiltTrees
-pub mod Tables
 pub mod Literals
 pub mod Rights
 pub mod Heads
@@ -29,7 +28,6 @@ pub mod Lines
 pub mod Tabled
 pub mod Typed
 pub mod Example
-pub mod Stable
 pub mod Lined
 pub mod Whole
 pub mod Edges

@@ -25,9 +25,9 @@ use Rattle.lowered_units.proofs.Heads.{In, in-left, in-right}
 use Rattle.lowered_units.proofs.Lines.{AreLines, all-lines}
 use Rattle.lowered_units.proofs.Programs.{functions, program-built, function-count}
 use Rattle.lowered_units.proofs.Rights.{closed-gap}
-use Rattle.lowered_units.proofs.Stable.{carried-stays}
+use Rattle.lowering.proofs.Stable.{carried-stays}
 use Rattle.lowered_units.proofs.Tabled.{IsWellTable, IsWell, carried-well, lines-well, basics-well}
-use Rattle.lowered_units.proofs.Tables.{Grows, grows-none, grows-then, types-grow}
+use Rattle.lowering.proofs.Tables.{Grows, grows-none, grows-then, types-grow}
 use Rattle.lowered_units.proofs.Typed.{headed, integers-in, headers-well}
 
 -- ---- wires by lines

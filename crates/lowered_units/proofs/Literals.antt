@@ -33,7 +33,7 @@ use Rattle.lowering.specs.Types.{basics, form_label, label_within, table, label_
 use Rattle.lowered_units.specs.Networks.{constant_value}
 use Rattle.lowered_units.specs.Units.{constant_text, entries_from}
 use Rattle.lowered_units.proofs.Built.{IsConstantOf}
-use Rattle.lowered_units.proofs.Tables.{table-begins}
+use Rattle.lowering.proofs.Tables.{table-begins}
 
 -- ---- integers
 

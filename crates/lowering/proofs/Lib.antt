@@ -4,3 +4,5 @@ mod ChoiceExamples
 mod LoopExamples
 mod TurnExamples
 mod ProgramExamples
+pub mod Tables
+pub mod Stable

@@ -9,7 +9,7 @@ use Rattle.typed_tree.specs.declared.program.Function.{Function}
 use Rattle.lowering.specs.declared.feed.Carried.{Carried}
 use Rattle.lowering.specs.declared.feed.Carried.TheVariants.{One, Many, Callee}
 use Rattle.lowering.specs.Types.{Entry, entry, is_entry, Table, Labelled, labelled, label_from, or_new, enter, Part, members, named, over, form_label, label_within, type_label, tuple_label, function_label, callee_label, carried_label, deepest}
-use Rattle.line_types.proofs.Tables.{Grows, grows-then, enter-grows, within-grows, type-grows, tuple-grows}
+use Rattle.lowering.proofs.Tables.{Grows, grows-then, enter-grows, within-grows, type-grows, tuple-grows}
 
 -- ---- entries
 
