@@ -14,7 +14,7 @@ ghost use Rattle.lower_exprs.specs.Turned.{kept, place_at, next_after, StandIn};
 
 use flow_value::{NoMemory, Seq};
 use if1_graph::Compound;
-use lower_nodes::{Bound, Placed, many_inputs, one, returns_part, types_of, wire_at};
+use lower_nodes::{Bound, Placed, many_inputs, one, one_more, returns_part, types_of, wire_at};
 use lowered_data::{Made, Names, carried_ports, copy_wire};
 use lowering::{Carried, Wire};
 use std::alloc::Global;
@@ -134,15 +134,6 @@ pub fn kept(around: usize, count: usize, is_negated: bool, e: &TypedExpr) -> Opt
         None
     } else {
         loop_name(around, count, name_of(e))
-    }
-}
-
-fn one_more(n: usize) -> Result<usize, NoMemory>
-    ensures { IfOk result (λ m. m ≡ suc n) }
-{
-    match n.checked_add(1) {
-        Some(m) => Ok(m),
-        None => Err(NoMemory),
     }
 }
 

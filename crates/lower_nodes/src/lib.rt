@@ -16,4 +16,4 @@ pub use loops::{
     single_inputs, types_of, unless_places,
 };
 pub use operations::{applied, constant, row};
-pub use wiring::{BOOLEAN, INTEGER, append, inside, nil, one, wire_at};
+pub use wiring::{BOOLEAN, INTEGER, append, inside, nil, one, one_more, wire_at};

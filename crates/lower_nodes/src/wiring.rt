@@ -97,7 +97,8 @@ fn into(alloc: Global, w: &Wire) -> Result<Wire, NoMemory>
     }
 }
 
-fn one_more(n: usize) -> Result<usize, NoMemory>
+/// One more, where it can be counted; a number of nodes or graphs that memory holds can.
+pub fn one_more(n: usize) -> Result<usize, NoMemory>
     ensures { IfOk result (λ m. m ≡ suc n) }
 {
     match n.checked_add(1) {
