@@ -1,10 +1,8 @@
 -- What a function of a text gives nests no deeper than its type, its tags are small, and what is printed of it reads as that value.
-use Rattle.std.proofs.Common.{◌≡◌, ℕ, zero, suc, ◌+◌, ◌^◌, ◌<◌, ◌≤◌, max, Bool, true, false, ◌&&◌, List, [], ◌∷◌, ◌++◌, All, map, length, Option, Some, None, refl, sym, ap, subst, ◌∙◌, arith, rules, inl, inr, ◌⊎◌, slice_get, option_map, get_or, if◌then◌else◌, Ok, Err, nat_lt}
-use Rattle.std.specs.Prelude.{fold, Result}
-use Rattle.std.specs.List.{list_all, list_any}
+use Rattle.std.proofs.Common.{◌≡◌, ℕ, zero, suc, ◌^◌, ◌<◌, ◌≤◌, Bool, true, false, ◌&&◌, List, [], ◌∷◌, map, length, Some, refl, sym, ap, subst, ◌∙◌, arith, rules, slice_get, nat_lt}
+use Rattle.std.specs.List.{list_all}
 use Rattle.std.proofs.lemmas.Bool.Decides.{nat_tests}
-use Rattle.std.proofs.lemmas.Option.{slice_get-map}
-use Rattle.flow_value.specs.Bounds.{Bounded, is_few, is_within}
+use Rattle.flow_value.specs.Bounds.{is_few, is_within}
 use Rattle.flow_value.specs.Scalar.{fits_64}
 use Rattle.flow_value.specs.Well.{Test, FieldTest, each_field, by_tag, test_part, well_step, is_well}
 use Rattle.flow_value.specs.declared.value.Val.{Val, map-Val}

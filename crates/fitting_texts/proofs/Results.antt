@@ -1,24 +1,23 @@
 -- The results of functions of texts are read from what is printed of them.
-use Rattle.std.proofs.Common.{◌≡◌, ℕ, zero, suc, ◌<◌, ◌≤◌, Bool, true, false, not, ◌&&◌, ◌||◌, eqb, List, [], ◌∷◌, All, map, length, Option, Some, None, refl, sym, ap, subst, ◌∙◌, arith, slice_get, get_or, if◌then◌else◌, Ok, Err, nat_lt, nat_eq}
+use Rattle.std.proofs.Common.{◌≡◌, ℕ, zero, suc, ◌+◌, ◌<◌, ◌≤◌, Bool, true, false, not, ◌&&◌, ◌||◌, eqb, List, [], ◌∷◌, All, map, length, Some, refl, sym, ap, subst, arith, slice_get, if◌then◌else◌, Ok, Err, nat_lt, nat_eq}
 use Rattle.std.specs.Prelude.{fold, Result}
 use Rattle.std.specs.List.{list_any, IsDistinct, AllByRecursion}
 use Rattle.std.proofs.lemmas.Map.Steps.{length-le_from_distinct_below}
 use Rattle.std.proofs.lemmas.Bool.{eqb-true}
+use Rattle.std.proofs.lemmas.Bool.Decides.{nat_tests}
 use Rattle.flow_value.specs.declared.value.Val.{Val}
 use Rattle.flow_value.specs.declared.ty.Ty.{Ty}
-use Rattle.value_text.specs.Printed.{value_bytes}
-use Rattle.value_text.specs.Grammar.{reads_value}
 use Rattle.value_text.proofs.RoundTrip.{printed_reads}
 use Rattle.type_table.specs.declared.form.Form.{Form}
 use Rattle.type_table.specs.declared.form.Form.TheVariants as form
 use Rattle.type_table.specs.declared.form.Member.{Member as NumberedMember}
 use Rattle.type_table.specs.Tables.{IsTable}
 use Rattle.type_rules.specs.Records.{are_distinct}
-use Rattle.typed_tree.specs.Types.{Member, depth_of, IsShallow, IsNumber, AreNumbers, boolean, character, integer, null, array, stream, a_record, a_union, AreMembers, no_member, a_member}
+use Rattle.typed_tree.specs.Types.{Member, depth_of, IsNumber, AreNumbers, boolean, character, integer, null, array, stream, a_record, a_union, AreMembers, no_member, a_member}
 use Rattle.typed_tree.specs.declared.program.Function.{Function}
 use Rattle.typed_tree.specs.declared.program.Program.{Program}
 use Rattle.typed_tree.specs.Typing.{Signature}
-use Rattle.typed_tree.specs.Units.{Declared, given, signatures, IsFunctionOf, AreFunctionsOf, no_function, a_function}
+use Rattle.typed_tree.specs.Units.{Declared, given, AreFunctionsOf, no_function, a_function}
 use Rattle.typed_rows.specs.Rows.{AreOf}
 use Rattle.unit_types.specs.Rests.{HasEachOnce, AreStanding}
 use Rattle.unit_types.proofs.Depth.{shallow_number}
@@ -27,13 +26,13 @@ use Rattle.sisal_lex.specs.declared.head.Lexeme.TheVariants as lexeme
 use Rattle.sisal_lex.specs.declared.fault.LexFault.{LexFault}
 use Rattle.sisal_lex.specs.declared.fault.LexFault.TheVariants as fault
 use Rattle.sisal_lex.specs.declared.token.Tokens.{Tokens}
-use Rattle.sisal_lex.specs.Names.{Lexed, used, used_by, with_names}
+use Rattle.sisal_lex.specs.Names.{Lexed, used_by, with_names}
 use Rattle.sisal_lex.specs.Tokens.{tokens_of, named, lexed}
 use Rattle.sisal_tree.specs.declared.unit.Unit as tree
 use Rattle.std.specs.Prelude.{◌++◌, bytes_eq}
 use Rattle.std.proofs.lemmas.List.{length-append}
 use Rattle.bound_trees.proofs.Told.{lexed_sound}
-use Rattle.fitting_texts.specs.Laws.{IsTypedText, AreReadAs, AreResultsRead}
+use Rattle.fitting_texts.specs.Laws.{AreReadAs, AreResultsRead}
 use Rattle.fitting_texts.proofs.Printed.{number_flat}
 use Rattle.fitting_texts.proofs.Typed.{texts_typed}
 
@@ -76,13 +75,14 @@ and_both false b e = cc
 
 none_of : (x : ℕ) (xs : List ℕ) → not (list_any (nat_eq x) xs) ≡ true → AllByRecursion (λ y. eqb x y ≡ false) xs
 none_of x [] e = tt
-none_of x (y ∷ ys) e = by (nat_eq x y) refl e
+none_of x (y ∷ ys) e = by (nat_eq x y) refl e (none_of x ys)
   where
-    by : (b : Bool) → nat_eq x y ≡ b → not (b || list_any (nat_eq x) ys) ≡ true → AllByRecursion (λ z. eqb x z ≡ false) (y ∷ ys)
-    by true q e = cc
-    by false q e = (q, none_of x ys e)
+    by : (b : Bool) → nat_eq x y ≡ b → not (b || list_any (nat_eq x) ys) ≡ true → (not (list_any (nat_eq x) ys) ≡ true → AllByRecursion (λ z. eqb x z ≡ false) ys) → AllByRecursion (λ z. eqb x z ≡ false) (y ∷ ys)
+    by true q e rest = cc
+    by false q e rest = (q, rest e)
 
 distinct_is : (xs : List ℕ) → are_distinct xs ≡ true → IsDistinct eqb xs
+unfolding IsDistinct
 distinct_is [] e = tt
 distinct_is (x ∷ xs) e = let h = and_both (not (list_any (nat_eq x) xs)) (are_distinct xs) e in (none_of x xs h.0, distinct_is xs h.1)
 
@@ -93,11 +93,11 @@ there_below (y ∷ ys) (suc n) x e = let h = there_below ys n x e in omega (arit
 
 members_below : (forms : List Form) (names : List (List ℕ)) {ms : List NumberedMember} {fs : List Member} → AreMembers forms names ms fs → (q : ℕ) → list_any (eqb q) (map (λ m. m.name) ms) ≡ true → q < length names
 members_below forms names no_member q e = cc
-members_below forms names (a_member {x = x} {name = name} {ms = ms} s p more) q e = by (eqb q x) refl e
+members_below forms names (a_member {x = x} {name = name} {ms = ms} s p more) q e = by (eqb q x) refl e (members_below forms names more q)
   where
-    by : (b : Bool) → eqb q x ≡ b → (b || list_any (eqb q) (map (λ m. m.name) ms)) ≡ true → q < length names
-    by true h e = let same = eqb-true q x h in subst (λ k. k < length names) (sym same) (there_below names x name s)
-    by false h e = members_below forms names more q e
+    by : (b : Bool) → eqb q x ≡ b → (b || list_any (eqb q) (map (λ m. m.name) ms)) ≡ true → (list_any (eqb q) (map (λ m. m.name) ms) ≡ true → q < length names) → q < length names
+    by true h e rest = let same = eqb-true q x h in subst (λ k. k < length names) (sym same) (there_below names x name s)
+    by false h e rest = rest e
 
 all_at : {A : Type 0} (P : A → Type 0) (xs : List A) (n : ℕ) (x : A) → All P xs → slice_get xs n ≡ Some x → P x
 all_at P [] n x h e = cc

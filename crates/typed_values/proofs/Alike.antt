@@ -1,14 +1,10 @@
 -- Two names that are spelled alike.
-use Rattle.std.proofs.Common.{◌≡◌, ℕ, zero, suc, pos, Bool, true, false, List, [], ◌∷◌, map, length, All, Contains, Some, None, refl, sym, ap, subst, ◌∙◌, arith}
+use Rattle.std.proofs.Common.{◌≡◌, ℕ, pos, true, List, [], ◌∷◌, length, Contains, Some, refl, sym, ap, ◌∙◌, arith}
 use Rattle.std.specs.Prelude.{codes}
 use Rattle.std.proofs.lemmas.List.Elements.{All-nil, All-cons}
 use Rattle.flow_value.specs.declared.value.Val.{Val}
 use Rattle.flow_value.specs.declared.value.Val.TheVariants as val
-use Rattle.flow_value.specs.declared.value.Val.TheViews.{out-Val}
-use Rattle.flow_value.specs.declared.ty.Ty.{Ty}
 use Rattle.flow_value.specs.declared.ty.Ty.TheVariants as ty
-use Rattle.flow_value.specs.declared.ty.Ty.TheOpen.{Ty-F}
-use Rattle.flow_value.specs.Well.{test_part}
 use Rattle.sisal_tree.specs.declared.expr.Constant.TheVariants as constant
 use Rattle.typed_tree.specs.declared.expr.TypedExpr.{TypedExpr}
 use Rattle.typed_tree.specs.declared.expr.Case.{Case}
@@ -17,14 +13,13 @@ use Rattle.typed_tree.specs.declared.expr.TypedKind.TheVariants as typed
 use Rattle.typed_tree.specs.declared.expr.TypedKind.TheViews.{roll-TypedKind}
 use Rattle.typed_tree.specs.declared.expr.TypedKind.TheOpen.{TypedKind-F}
 use Rattle.typed_tree.specs.declared.expr.TypedKind.TheFolds.{map-TypedKind, fold-roll-TypedKind, fold-roll-TypedExpr}
-use Rattle.typed_tree.specs.Typing.{with, at, Types, tag_case, name, constant as a_constant, AreTyped, no_more, more, AreArms, no_arm, an_arm, IsOtherwise, otherwise, IsTag, names_of}
-use Rattle.typed_tree.specs.Types.{Member, IsNumber, integer, boolean, a_union, AreMembers, no_member, a_member}
-use Rattle.meaning.specs.Timed.{Timed, given, plus, andthen}
-use Rattle.meaning.specs.Meaning.{Gives, arm_of}
+use Rattle.typed_tree.specs.Typing.{with, Types, tag_case, name, constant as a_constant, no_more, more, no_arm, an_arm, otherwise, IsTag}
+use Rattle.typed_tree.specs.Types.{IsNumber, integer, boolean, a_union, no_member, a_member}
+use Rattle.meaning.specs.Timed.{plus}
+use Rattle.meaning.specs.Meaning.{Gives}
 use Rattle.meaning.specs.Plain.{Depth, Deep, kind_at, expr_at, plain, plain_kind, plain_meaning}
-use Rattle.typed_rows.specs.Rows.{Of}
 use Rattle.typed_rows.proofs.ValueKinds.{out_uni, of_uni, of_bool}
-use Rattle.typed_values.specs.Alike.{tags, forms, spellings, known, scope, none_written, named, zero_of, expression, typed_expression, truth, DoNamesAlikeBreak}
+use Rattle.typed_values.specs.Alike.{tags, forms, spellings, known, scope, none_written, named, expression, typed_expression, truth, DoNamesAlikeBreak}
 use Rattle.typed_values.proofs.NoTree.{no_integer}
 
 int_number : IsNumber forms spellings 2 ty.Int
