@@ -1,0 +1,7 @@
+//! The laws of the plan of a unit.
+ghost use Rattle.unit_plan.specs.Laws.{AreUnitPlansRight};
+
+/// The plan of a ready unit with sound marks is right, with tables that are right.
+pub fn plans_of_units_are_right()
+    ensures { AreUnitPlansRight }
+{}
