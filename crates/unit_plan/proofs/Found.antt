@@ -1,5 +1,5 @@
 -- The graphs of a ready unit by their numbers, and their nodes in an order.
-use Rattle.std.proofs.Common.{◌≡◌, ◌==◌, ℕ, zero, suc, ◌+◌, ◌<◌, ◌≤◌, cond, Bool, true, false, List, [], ◌∷◌, map, find, slice_get, option_map, Option, Some, None, ◌⊎◌, inl, inr, Contains, refl, sym, ap, ◌∙◌, subst, arith}
+use Rattle.std.proofs.Common.{◌≡◌, ◌==◌, ℕ, suc, ◌<◌, ◌≤◌, cond, Bool, true, false, List, [], ◌∷◌, find, slice_get, option_map, Option, Some, None, ◌⊎◌, inl, inr, Contains, refl, sym, ap, ◌∙◌, subst, arith}
 use Rattle.std.proofs.lemmas.Bool.{eq-eqb}
 use Rattle.if1_graph.specs.declared.graph.Graph.{Graph}
 use Rattle.if1_graph.specs.declared.graph.Graph.TheViews.{out-Graph}
@@ -7,12 +7,10 @@ use Rattle.if1_graph.specs.declared.graph.Node.{Node, out-Node}
 use Rattle.if1_graph.specs.declared.graph.Unit1.{Unit1}
 use Rattle.if1_graph.specs.declared.op.Compound.{Compound}
 use Rattle.if1_graph.specs.declared.op.Part.{Part}
-use Rattle.if1_graph.specs.declared.op.Part.TheVariants as part
 use Rattle.if1_graph.specs.Formed.{IsFormed}
-use Rattle.if1_graph.specs.Parts.{part_at}
 use Rattle.if1_graph.specs.Ports.{part_of}
 use Rattle.if1_graph.specs.Ready.{IsReady}
-use Rattle.if1_graph.specs.Units.{Function, Inside, Place, label_of, node_at, number_of, places, sizes, width}
+use Rattle.if1_graph.specs.Units.{Function, Inside, Place, label_of, node_at, number_of, places, sizes}
 use Rattle.if1_marks.proofs.Tests.{no-both, same-number}
 use Rattle.graph_meaning.proofs.Lists.{found-in, here-or-there, in-none}
 use Rattle.graph_meaning.proofs.Numbers.{numbers-own, one-place}
@@ -23,7 +21,7 @@ use Rattle.ordered_meaning.specs.Orders.{IsInOrder}
 use Rattle.unit_laws.proofs.TypedEdges.{graph-formed}
 use Rattle.unit_laws.proofs.TypedNodes.{node-found}
 use Rattle.unit_laws.proofs.TypedPlans.{net-found, part-place}
-use Rattle.unit_plan.specs.Plans.{place_of, plain_as, plain_at, plain_by, plain_in, plain_of}
+use Rattle.unit_plan.specs.Plans.{place_of, plain_as, plain_in, plain_of}
 use Rattle.unit_plan.specs.Shares.{kind_or, kind_there}
 
 -- what is in a list and passes is found there, or something before it

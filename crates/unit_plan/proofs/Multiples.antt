@@ -17,12 +17,12 @@ use Rattle.if1_graph.specs.declared.op.Simple.TheVariants as simple
 use Rattle.if1_graph.specs.Formed.{IsOrigin, want_at}
 use Rattle.if1_graph.specs.Ops.{compound_at, simple_at}
 use Rattle.if1_graph.specs.Parts.{part_at}
-use Rattle.if1_graph.specs.Ports.{IsThere, IsUpTo, carried, inputs, part_inputs, part_of, results_at}
+use Rattle.if1_graph.specs.Ports.{IsThere, IsUpTo, carried, inputs, part_inputs, results_at}
 use Rattle.if1_graph.specs.Ready.{IsReady}
 use Rattle.if1_graph.specs.Tables.{◌>>=◌}
 use Rattle.if1_graph.specs.Types.{Sort, sort_at}
-use Rattle.if1_graph.specs.Typing.{FitsCompound, FitsInput, FitsNode, FitsOwnInput, FitsPartInput, FitsNodeInput, FitsReturned, IsGiven, IsMultiple, IsPlain, result_of}
-use Rattle.if1_graph.specs.Units.{Inside, Place, edge_into, label_of, number_of, places, results, width}
+use Rattle.if1_graph.specs.Typing.{FitsCompound, FitsInput, FitsNode, FitsOwnInput, FitsPartInput, FitsNodeInput, IsGiven, IsMultiple, IsPlain, result_of}
+use Rattle.if1_graph.specs.Units.{Inside, Place, edge_into, label_of, places, results, width}
 use Rattle.graph_meaning.specs.Demand.{Fixed, Kind, Plain, Port, Source, Whole}
 use Rattle.graph_meaning.proofs.StorageUnits.{plain-kind}
 use Rattle.graph_meaning.specs.Forms as form
@@ -34,9 +34,9 @@ use Rattle.if1_marks.specs.Given.{is_call_as}
 use Rattle.ordered_meaning.specs.Taking.{first_port}
 use Rattle.run_code.specs.Refolds.{AllPlain}
 use Rattle.unit_laws.proofs.TypeLists.{never-many, some-same}
-use Rattle.unit_laws.proofs.TypedEdges.{IsValueWant, bound, edge-formed, edge-there, found-edge, wanted-here}
+use Rattle.unit_laws.proofs.TypedEdges.{IsValueWant, edge-formed, edge-there, found-edge, wanted-here}
 use Rattle.unit_laws.proofs.TypedNodes.{want-is, wanted-at}
-use Rattle.unit_laws.proofs.TypedParts.{beyond, no-want, part-is, part-result}
+use Rattle.unit_laws.proofs.TypedParts.{no-want, part-is, part-result}
 use Rattle.unit_laws.proofs.TypedPlans.{boundary-wants, part-place}
 use Rattle.unit_plan.proofs.Sources.{by-edge, in-ins, in-sources}
 use Rattle.unit_plan.proofs.Ways.{AreInputs}
@@ -48,7 +48,7 @@ le-or a b = grind arith
 nat-false : (a b : ℕ) → nat_le a b ≡ false → b < a
 nat-false a b e = grind (arith, e)
 
-call-is : (o : Simple) → is_call_as None (Some o) ≡ true → o ≡ simple.Call
+pub call-is : (o : Simple) → is_call_as None (Some o) ≡ true → o ≡ simple.Call
 call-is simple.Call e = refl
 call-is _ e = absurd (let x : false ≡ true = e in cc)
 

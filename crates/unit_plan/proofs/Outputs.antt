@@ -1,9 +1,8 @@
 -- How many outputs the nodes of a ready unit have, and that none but these are read.
-use Rattle.std.proofs.Common.{◌≡◌, ℕ, zero, suc, ◌+◌, ◌≤◌, List, [], ◌∷◌, map, length, option_map, Option, Some, None, Contains, refl, sym, ap, ◌∙◌, subst, arith}
-use Rattle.std.specs.Prelude.{MatchOption, unwrap_or}
+use Rattle.std.proofs.Common.{◌≡◌, ℕ, zero, suc, ◌≤◌, List, [], ◌∷◌, map, length, option_map, Option, Some, None, Contains, refl, sym, ap, ◌∙◌, subst, arith}
+use Rattle.std.specs.Prelude.{unwrap_or}
 use Rattle.flow_value.specs.declared.operation.Scalar1.TheVariants as one
 use Rattle.flow_value.specs.declared.operation.Scalar2.TheVariants as two
-use Rattle.flow_value.specs.declared.ty.Ty.TheVariants as ty
 use Rattle.if1_graph.specs.declared.graph.Edge.{Edge}
 use Rattle.if1_graph.specs.declared.graph.Graph.{Graph}
 use Rattle.if1_graph.specs.declared.graph.Graph.TheViews.{out-Graph}
@@ -14,20 +13,17 @@ use Rattle.if1_graph.specs.declared.op.Compound.{Compound}
 use Rattle.if1_graph.specs.declared.op.Compound.TheVariants as compound
 use Rattle.if1_graph.specs.declared.op.Simple.{Simple}
 use Rattle.if1_graph.specs.declared.op.Simple.TheVariants as simple
-use Rattle.if1_graph.specs.declared.row.Want.{Want}
-use Rattle.if1_graph.specs.declared.row.Want.TheVariants as want
 use Rattle.if1_graph.specs.Formed.{IsOrigin}
 use Rattle.if1_graph.specs.Ops.{compound_at, simple_at}
 use Rattle.if1_graph.specs.Ports.{IsFilledAs, IsThere, IsUpTo, carried, count_from, fields_of, given_outputs, outputs, outputs_as, results_of}
 use Rattle.if1_graph.specs.Ready.{IsReady}
 use Rattle.if1_graph.specs.Rows.{row_of}
-use Rattle.if1_graph.specs.Types.{Member, Plain}
-use Rattle.if1_graph.specs.Typing.{Fits, FitsNode, known}
+use Rattle.if1_graph.specs.Types.{Member}
+use Rattle.if1_graph.specs.Typing.{FitsNode}
 use Rattle.if1_graph.specs.Units.{Place, edge_into, label_of, number_of, places, results}
-use Rattle.graph_meaning.specs.Carried.{Carried}
-use Rattle.graph_meaning.specs.Demand.{EachNode, Fixed, Kind, Net, Port, Source, Vertex, at_label}
+use Rattle.graph_meaning.specs.Demand.{EachNode, Fixed, Port, Source, Vertex, at_label}
 use Rattle.graph_meaning.specs.Laws.{outputs_by}
-use Rattle.graph_meaning.specs.Networks.{fields_shape, kind_as, kind_of, net_of, network, simple_kind, source_at, sources, vertex_of}
+use Rattle.graph_meaning.specs.Networks.{fields_shape, kind_as, kind_of, network, simple_kind, source_at, sources, vertex_of}
 use Rattle.ordered_meaning.specs.Orders.{IsInOrder}
 use Rattle.run_made.specs.Orders.{AreOutputs}
 use Rattle.unit_laws.proofs.TypeLists.{out_rec}

@@ -4,14 +4,17 @@ use Rattle.if1_graph.specs.declared.op.Grouping.{Grouping}
 use Rattle.if1_graph.specs.declared.op.Simple.{Simple}
 use Rattle.if1_graph.specs.declared.op.Simple.TheVariants as simple
 use Rattle.graph_meaning.specs.Carried.{Carried, Unfilled}
-use Rattle.graph_meaning.specs.Demand.{Source, Port, Fixed, Kind, Plain, Whole, Vertex, EachNode}
+use Rattle.if1_graph.specs.Rows.{row_of}
+use Rattle.graph_meaning.specs.Demand.{Source, Port, Fixed, IsLabel, Kind, LabelsOnce, Plain, Whole, Vertex, EachNode}
 use Rattle.graph_meaning.specs.Forms.{columns}
+use Rattle.graph_meaning.specs.Laws.{outputs_by}
 use Rattle.graph_meaning.specs.NodeValues.{Shape}
-use Rattle.graph_meaning.specs.Storage.{Storage, Weights, copied_by, is_left, kept_of}
+use Rattle.graph_meaning.specs.Storage.{Storage, Weights, copied_by, is_left}
 use Rattle.run_code.proofs.Collecting.{lasts, nodes-same}
 use Rattle.run_code.proofs.Refolding.{sum-none}
 use Rattle.run_code.specs.Collections.{AreWithin, Collect, Final, IsWithin, Sifts, made}
-use Rattle.run_code.specs.Refolds.{AllLong, AllPlain, AreRefolded, AreWhole, IsWhole, Refolded, a_fold, a_whole, none_refolded, one_refolded, ports_of, reads, rows_sum, unchanged}
+use Rattle.run_code.specs.Known.{AreReadable, IsReadable, Known, Knows, KnowsAll, known_after}
+use Rattle.run_code.specs.Refolds.{AllPlain, AreRefolded, AreWhole, Refolded, a_fold, a_whole, none_refolded, one_refolded, ports_of, reads, rows_sum, unchanged}
 use Rattle.unit_plan.specs.Returns.{Keeping, Lasts, Way, Wholly, behind_way, collected_port, collects_by, ins_by, keeping_way, last_way, multiple, node_collects, nodes_collects, refolded_node, refolded_nodes, row_by, way_of, whole_in, whole_ins, whole_of, wholes}
 
 -- ---- the ways of nodes
@@ -165,7 +168,7 @@ module _ (W : Weights) (s : Storage) (plain m r : ℕ) (cs : List Collect) where
       → (os : List Source) (way : Way) → v.ins ≡ os → WayIs plain (left v.label) row os way → Stand cs k (collects_by way plain os)
       → Refolded W plain m cs r r v (record { label = v.label; kind = Plain (row_by way row) shape; ins = ins_by way plain k os; before = v.before }) (λ row. 0)
   plain-node k v l _ shape label kind h weighs _ _ ins (is_last x j e) st =
-      let v' = record { label = v.label; kind = Plain simple.NoOp shape; ins = collected_port plain k ∷ []; before = v.before } in
+      let v' : Vertex = record { label = v.label; kind = Plain simple.NoOp shape; ins = collected_port plain k ∷ []; before = v.before } in
       let below = multiple-below plain m x j (subst (AreInputs (plain + m)) ins h) e in
       a_fold v v' l [] simple.FinalValue simple.NoOp shape shape (Final j) k (λ row. 0) label refl kind refl (ins ∙ ap (λ z. z ∷ []) (multiple-is plain x j e)) refl tt st.0
       (λ ks rows long all. lasts shape shape m j ks rows below all long)
@@ -176,7 +179,7 @@ module _ (W : Weights) (s : Storage) (plain m r : ℕ) (cs : List Collect) where
       last-weight l [] a b rs long = refl
       last-weight l (k ∷ ks) a b rs long = absurd (omega (arith, long))
   plain-node k v l _ shape label kind h weighs _ _ ins (is_final x y j q kept e f) st =
-      let v' = record { label = v.label; kind = Plain simple.FinalValue shape; ins = collected_port plain k ∷ []; before = v.before } in
+      let v' : Vertex = record { label = v.label; kind = Plain simple.FinalValue shape; ins = collected_port plain k ∷ []; before = v.before } in
       let i = subst (AreInputs (plain + m)) ins h in
       let below : IsWithin m (Sifts j (Some q)) = (multiple-below plain m x j (first-input (plain + m) x (y ∷ []) i) e, multiple-below plain m y q (other-inputs (plain + m) x (y ∷ []) i) f) in
       a_fold v v' l [] simple.FinalValue simple.FinalValue shape shape (Sifts j (Some q)) k (λ row. 0) label refl kind refl (ins ∙ same-ports x y j q e f) refl tt st.0
@@ -188,7 +191,7 @@ module _ (W : Weights) (s : Storage) (plain m r : ℕ) (cs : List Collect) where
       final-weight l kept [] a b c rs long = none-left (is_left s r l 1) _ _ kept
       final-weight l kept (k ∷ ks) a b c rs long = absurd (omega (arith, long))
   plain-node k v l _ shape label kind h weighs _ _ ins (is_gather o x y j q kept plainly e f) st =
-      let v' = record { label = v.label; kind = Plain simple.AGather shape; ins = o ∷ collected_port plain k ∷ []; before = v.before } in
+      let v' : Vertex = record { label = v.label; kind = Plain simple.AGather shape; ins = o ∷ collected_port plain k ∷ []; before = v.before } in
       let i = subst (AreInputs (plain + m)) ins h in
       let i' = other-inputs (plain + m) o (x ∷ y ∷ []) i in
       let below : IsWithin m (Sifts j (Some q)) = (multiple-below plain m x j (first-input (plain + m) x (y ∷ []) i') e, multiple-below plain m y q (other-inputs (plain + m) x (y ∷ []) i') f) in
@@ -197,7 +200,7 @@ module _ (W : Weights) (s : Storage) (plain m r : ℕ) (cs : List Collect) where
       (λ ks rs rows long all. with-none (W.of_node r v (ks ++ reads (Sifts j (Some q)) (columns m rows)) rs) (W.of_node r v' (ks ++ made (Sifts j (Some q)) rows ∷ []) rs) rows
       (weighs v refl (ks ++ reads (Sifts j (Some q)) (columns m rows)) rs ∙ (none-left (is_left s r v.label 2) _ _ kept ∙ sym (weighs v' refl (ks ++ made (Sifts j (Some q)) rows ∷ []) rs))))
   plain-node k v l _ shape label kind h weighs _ _ ins (is_reduce g o x y j q kept plainly e f) st =
-      let v' = record { label = v.label; kind = Plain (simple.Reduce g) shape; ins = o ∷ collected_port plain k ∷ []; before = v.before } in
+      let v' : Vertex = record { label = v.label; kind = Plain (simple.Reduce g) shape; ins = o ∷ collected_port plain k ∷ []; before = v.before } in
       let i = subst (AreInputs (plain + m)) ins h in
       let i' = other-inputs (plain + m) o (x ∷ y ∷ []) i in
       let below : IsWithin m (Sifts j (Some q)) = (multiple-below plain m x j (first-input (plain + m) x (y ∷ []) i') e, multiple-below plain m y q (other-inputs (plain + m) x (y ∷ []) i') f) in
@@ -206,7 +209,7 @@ module _ (W : Weights) (s : Storage) (plain m r : ℕ) (cs : List Collect) where
       (λ ks rs rows long all. with-none (W.of_node r v (ks ++ reads (Sifts j (Some q)) (columns m rows)) rs) (W.of_node r v' (ks ++ made (Sifts j (Some q)) rows ∷ []) rs) rows
       (weighs v refl (ks ++ reads (Sifts j (Some q)) (columns m rows)) rs ∙ (none-left (is_left s r v.label 2) _ _ kept ∙ sym (weighs v' refl (ks ++ made (Sifts j (Some q)) rows ∷ []) rs))))
   plain-node k v l _ shape label kind h weighs _ _ ins (is_whole row os) st =
-      let v' = record { label = v.label; kind = Plain row shape; ins = whole_ins plain k os; before = v.before } in
+      let v' : Vertex = record { label = v.label; kind = Plain row shape; ins = whole_ins plain k os; before = v.before } in
       a_whole v v' l row shape label refl kind refl (subst (λ z. AreWhole plain m cs z (whole_ins plain k os)) (sym ins) (whole-ins k os (subst (AreInputs (plain + m)) ins h) st))
       (λ ks rs. weighs v refl ks rs ∙ sym (weighs v' refl ks rs))
 
@@ -267,3 +270,102 @@ module _ (W : Weights) (s : Storage) (plain m r : ℕ) (cs : List Collect) where
   pub all-within : (vs : List Vertex) → EachNode IsReturned vs → AreWithin m (nodes_collects plain left vs)
   all-within [] h = tt
   all-within (v ∷ vs) h = within-more (node_collects plain left v v.kind) (nodes_collects plain left vs) (node-within v v.kind h.0.inputs) (all-within vs h.1)
+
+-- ---- what is read is known
+
+module _ (plain : ℕ) (left : (node port : ℕ) → Bool) (width : Vertex → ℕ)
+    (outputs : (v : Vertex) (row : Simple) (shape : Shape) → v.kind ≡ Plain row shape → width v ≡ outputs_by (row_of row).gives shape) where
+  knows-whole : (known : Known) (k : ℕ) (os : List Source) → KnowsAll known os → KnowsAll known (whole_ins plain k os)
+  knows-whole known k [] h = tt
+  knows-whole known k (o ∷ os) h = go (multiple plain o) (λ i. knows-whole known i os (other-known known o os h))
+    where
+      first-known : (known : Known) (o : Source) (os : List Source) → KnowsAll known (o ∷ os) → (qs : List Source) → KnowsAll known qs → KnowsAll known (o ∷ qs)
+      first-known known (Fixed c) os h qs r = r
+      first-known known (Port zero p) os h qs r = r
+      first-known known (Port (suc l) p) os h qs r = (h.0, r)
+
+      other-known : (known : Known) (o : Source) (os : List Source) → KnowsAll known (o ∷ os) → KnowsAll known os
+      other-known known (Fixed c) os h = h
+      other-known known (Port zero p) os h = h
+      other-known known (Port (suc l) p) os h = h.1
+
+      go : (x : Option ℕ) → ((i : ℕ) → KnowsAll known (whole_ins plain i os)) → KnowsAll known (whole_in plain k o x (λ i. whole_ins plain i os))
+      go None rest = first-known known o os h (whole_ins plain k os) (rest k)
+      go (Some j) rest = rest (suc k)
+
+  first-knows : (known : Known) (o : Source) (os : List Source) (k : ℕ) → KnowsAll known (o ∷ os) → KnowsAll known (o ∷ collected_port plain k ∷ [])
+  first-knows known (Fixed c) os k h = tt
+  first-knows known (Port zero p) os k h = tt
+  first-knows known (Port (suc l) p) os k h = (h.0, tt)
+
+  way-knows : (known : Known) (l k : ℕ) (row : Simple) (os : List Source) (way : Way) → WayIs plain (left l) row os way → KnowsAll known os → KnowsAll known (ins_by way plain k os)
+  way-knows known l k _ _ _ (is_last x j e) h = tt
+  way-knows known l k _ _ _ (is_final x y j q kept e f) h = tt
+  way-knows known l k _ _ _ (is_gather o x y j q kept plainly e f) h = first-knows known o (x ∷ y ∷ []) k h
+  way-knows known l k _ _ _ (is_reduce g o x y j q kept plainly e f) h = first-knows known o (x ∷ y ∷ []) k h
+  way-knows known l k _ _ _ (is_whole row os) h = knows-whole known k os h
+
+  way-outputs : (l : ℕ) (row : Simple) (os : List Source) (way : Way) (shape : Shape) → WayIs plain (left l) row os way → outputs_by (row_of (row_by way row)).gives shape ≡ outputs_by (row_of row).gives shape
+  way-outputs l _ _ _ shape (is_last x j e) = refl
+  way-outputs l _ _ _ shape (is_final x y j q kept e f) = refl
+  way-outputs l _ _ _ shape (is_gather o x y j q kept plainly e f) = refl
+  way-outputs l _ _ _ shape (is_reduce g o x y j q kept plainly e f) = refl
+  way-outputs l _ _ _ shape (is_whole row os) = refl
+
+  node-as-wide : (k : ℕ) (v : Vertex) (kind : Kind) → v.kind ≡ kind → width (refolded_node plain left k v kind) ≡ width v
+  node-as-wide k v (Plain row shape) e =
+      outputs (refolded_node plain left k v (Plain row shape)) (row_by (way_of plain (left v.label) row v.ins) row) shape refl
+      ∙ (way-outputs v.label row v.ins (way_of plain (left v.label) row v.ins) shape (way-is plain (left v.label) row v.ins) ∙ sym (outputs v row shape e))
+  node-as-wide k v (Whole form) e = refl
+
+  pub label-same : (k : ℕ) (v : Vertex) (kind : Kind) → (refolded_node plain left k v kind).label ≡ v.label
+  label-same k v (Plain row shape) = refl
+  label-same k v (Whole form) = refl
+
+  node-knows : (known : Known) (k : ℕ) (v : Vertex) (kind : Kind) → KnowsAll known v.ins → KnowsAll known (refolded_node plain left k v kind).ins
+  node-knows known k v (Plain row shape) h = way-knows known v.label k row v.ins (way_of plain (left v.label) row v.ins) (way-is plain (left v.label) row v.ins) h
+  node-knows known k v (Whole form) h = h
+
+  -- what is known behind a node is the same
+  known-same : (known : Known) (k : ℕ) (v : Vertex) → ((v.label, width v) ∷ known) ≡ (((refolded_node plain left k v v.kind).label, width (refolded_node plain left k v v.kind)) ∷ known)
+  known-same known k v = ap (λ l. (l, width v) ∷ known) (sym (label-same k v v.kind)) ∙ ap (λ n. ((refolded_node plain left k v v.kind).label, n) ∷ known) (sym (node-as-wide k v v.kind refl))
+
+  readable : (known : Known) (k : ℕ) (vs : List Vertex) → IsReadable width known vs → IsReadable width known (refolded_nodes plain left k vs)
+  readable known k [] h = tt
+  readable known k (v ∷ vs) h = (
+    (λ e. h.0 (sym (label-same k v v.kind) ∙ e)),
+    (λ p x. h.1 p (subst (λ l. Knows known l p) (label-same k v v.kind) x)),
+    node-knows known k v v.kind h.2,
+    subst (λ z. IsReadable width z (refolded_nodes plain left (k + length (node_collects plain left v v.kind)) vs)) (known-same known k v) (readable ((v.label, width v) ∷ known) (k + length (node_collects plain left v v.kind)) vs h.3),
+  )
+
+  after-same : (known : Known) (k : ℕ) (vs : List Vertex) → known_after width known vs ≡ known_after width known (refolded_nodes plain left k vs)
+  after-same known k [] = refl
+  after-same known k (v ∷ vs) =
+      after-same ((v.label, width v) ∷ known) (k + length (node_collects plain left v v.kind)) vs
+      ∙ ap (λ z. known_after width z (refolded_nodes plain left (k + length (node_collects plain left v v.kind)) vs)) (known-same known k v)
+
+  pub all-readable : (vs : List Vertex) (results : List Source) → AreReadable width vs results → AreReadable width (refolded_nodes plain left 0 vs) results
+  all-readable vs results h = (readable [] 0 vs h.0, subst (λ z. KnowsAll z results) (after-same [] 0 vs) h.1)
+
+  labelled : (k : ℕ) (vs : List Vertex) (l : ℕ) → IsLabel (refolded_nodes plain left k vs) l → IsLabel vs l
+  labelled k [] l h = h
+  labelled k (v ∷ vs) l (inl e) = inl (e ∙ label-same k v v.kind)
+  labelled k (v ∷ vs) l (inr h) = inr (labelled (k + length (node_collects plain left v v.kind)) vs l h)
+
+  pub labels-once : (k : ℕ) (vs : List Vertex) → LabelsOnce vs → LabelsOnce (refolded_nodes plain left k vs)
+  labels-once k [] h = tt
+  labels-once k (v ∷ vs) h = (
+    (λ x. h.0 (labelled (k + length (node_collects plain left v v.kind)) vs v.label (subst (IsLabel (refolded_nodes plain left (k + length (node_collects plain left v v.kind)) vs)) (label-same k v v.kind) x))),
+    labels-once (k + length (node_collects plain left v v.kind)) vs h.1,
+  )
+
+-- compound nodes and Calls stay, and what holds of simple nodes whatever they do holds of all
+pub each-refolded : (Q : Vertex → Kind → Type 0) (plain : ℕ) (left : (node port : ℕ) → Bool) → ((v : Vertex) (row : Simple) (shape : Shape) → Q v (Plain row shape)) → (k : ℕ) (vs : List Vertex)
+    → EachNode (λ v. Q v v.kind) vs → EachNode (λ v. Q v v.kind) (refolded_nodes plain left k vs)
+each-refolded Q plain left simple k [] h = tt
+each-refolded Q plain left simple k (v ∷ vs) h = (one v.kind refl h.0, each-refolded Q plain left simple (k + length (node_collects plain left v v.kind)) vs h.1)
+  where
+    one : (kind : Kind) → v.kind ≡ kind → Q v kind → Q (refolded_node plain left k v kind) (refolded_node plain left k v kind).kind
+    one (Plain row shape) e h = simple (refolded_node plain left k v (Plain row shape)) (row_by (way_of plain (left v.label) row v.ins) row) shape
+    one (Whole form) e h = subst (Q v) (sym e) h

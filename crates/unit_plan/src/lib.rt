@@ -3,4 +3,6 @@
 
 mod laws;
 
-pub use laws::plans_of_units_are_right;
+pub use laws::{
+    plans_of_units_are_right, runs_of_plans_of_units_are_decided, tables_of_units_are_there,
+};
