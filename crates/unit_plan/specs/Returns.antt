@@ -69,14 +69,13 @@ module _ (plain : ℕ) (left : (node port : ℕ) → Bool) where
 abbrev pub collected_port : (plain k : ℕ) → Source
 collected_port plain k = Port 0 (suc (plain + k))
 
-mutual
-  abbrev pub whole_ins : (plain k : ℕ) → List Source → List Source
-  whole_ins plain k [] = []
-  whole_ins plain k (o ∷ os) = whole_in plain k o (multiple plain o) os
+abbrev pub whole_in : (plain k : ℕ) → Source → Option ℕ → (rest : (k : ℕ) → List Source) → List Source
+whole_in plain k o None rest = o ∷ rest k
+whole_in plain k o (Some j) rest = collected_port plain k ∷ rest (suc k)
 
-  abbrev pub whole_in : (plain k : ℕ) → Source → Option ℕ → List Source → List Source
-  whole_in plain k o None os = o ∷ whole_ins plain k os
-  whole_in plain k o (Some j) os = collected_port plain k ∷ whole_ins plain (suc k) os
+abbrev pub whole_ins : (plain k : ℕ) → List Source → List Source
+whole_ins plain k [] = []
+whole_ins plain k (o ∷ os) = whole_in plain k o (multiple plain o) (λ i. whole_ins plain i os)
 
 abbrev pub ins_by : Way → (plain k : ℕ) → List Source → List Source
 ins_by (Lasts j) plain k os = collected_port plain k ∷ []
