@@ -1,5 +1,5 @@
 -- What is asked of shares, clause by clause, for the graphs of a unit.
-use Rattle.std.proofs.Common.{◌≡◌, ◌≢◌, ℕ, zero, suc, ◌+◌, ◌||◌, Bool, true, false, List, [], ◌∷◌, length, option_map, Option, Some, None, Contains, inl, inr, refl, sym, ap, ◌∙◌, subst, arith}
+use Rattle.std.proofs.Common.{◌≡◌, ℕ, zero, suc, ◌+◌, ◌||◌, Bool, true, false, List, [], ◌∷◌, length, Option, Some, None, Contains, inl, inr, refl, sym, ap, ◌∙◌, subst, arith}
 use Rattle.std.specs.Prelude.{slice_get}
 use Rattle.if1_graph.specs.declared.graph.Graph.TheViews.{out-Graph}
 use Rattle.if1_graph.specs.declared.graph.Node.{Node, out-Node}
@@ -9,8 +9,7 @@ use Rattle.if1_graph.specs.Ops.{compound_at, simple_at}
 use Rattle.if1_graph.specs.Ready.{IsReady}
 use Rattle.if1_graph.specs.Units.{Place, label_of, results}
 use Rattle.if1_marks.specs.Sound.{IsSound}
-use Rattle.graph_meaning.proofs.Units.{at-node}
-use Rattle.graph_meaning.specs.Demand.{EachNode, Fixed, Kind, Net, Plain, Port, Source, Vertex, Whole, at_label}
+use Rattle.graph_meaning.specs.Demand.{EachNode, Fixed, Kind, Net, Plain, Port, Source, Vertex, Whole}
 use Rattle.graph_meaning.specs.Networks.{form_of, kind_as, kind_of, net_at, network, vertex_of}
 use Rattle.graph_meaning.specs.Storage.{is_left}
 use Rattle.graph_meaning.specs.StorageUnits.{storage_of}
@@ -25,12 +24,10 @@ use Rattle.made_store.proofs.Owners.{takers-owned}
 use Rattle.made_store.specs.Marks.{owned_inputs}
 use Rattle.made_store.specs.Settings.{Shares}
 use Rattle.made_store.specs.Shared.{AreThere, IsKindShared, TakesOwned}
-use Rattle.unit_laws.proofs.TypedEdges.{node-formed}
-use Rattle.unit_laws.proofs.TypedNodes.{node-found}
 use Rattle.unit_plan.specs.Plans.{Tables, nodes_by, place_of, plain_at, plain_in, plain_of, plan_of}
 use Rattle.unit_plan.specs.Returns.{multiple, node_collects, nodes_collects, refolded_node, refolded_nodes}
 use Rattle.unit_plan.specs.Shares.{has_of, kind_there, owns_collected, owns_of, shares_of, takes_more, weighing}
-use Rattle.plan_shares.proofs.Graphs.{IsAt, IsPlaced, each-both, each-of, each-refolded, final-more, in-order, kind-at, network-each, none-more, old-more, placed-at, whole-more}
+use Rattle.plan_shares.proofs.Graphs.{IsAt, IsPlaced, each-both, each-of, each-refolded, final-more, in-order, kind-at, network-each, none-more, old-more, own-label, own-vertex, placed-at, whole-more}
 use Rattle.plan_shares.proofs.KindsShared.{IsLastOnce, node-shared}
 use Rattle.plan_shares.proofs.Lasting.{IsFit, refolded-last}
 use Rattle.plan_shares.proofs.Multiples.{node-plain, results-plain}
@@ -255,22 +252,14 @@ module _ (u : Unit1) (order : (graph : ℕ) → List Vertex) (t : Tables) (ready
       abbrev v : Vertex
       v = vertex_of u q.graph n
 
-      at-own : at_label (network u g).nodes (label_of n) ≡ Some v
-      at-own =
-          ap (λ (z : Net). at_label z.nodes (label_of n)) x.net
-          ∙ (at-node u q.graph (out-Graph q.graph).nodes (label_of n) ∙ ap (option_map (vertex_of u q.graph)) (node-found u ready q x.there n inside))
-
-      labelled : label_of n ≢ 0
-      labelled e = let le = (node-formed u ready q x.there n inside).label.0 in omega (arith, e, le)
-
       less : (c : Compound) → compound_at (out-Node n).op ≡ Some c → (i : ℕ) → takes_more u order g (label_of n) i ≡ false
-      less c is i = whole-more u order g v (form_of c (out-Node n).subs (out-Node n).assoc) (record { labelled = labelled; found = at-own }) (ap (λ o. kind_as u q.graph n o (simple_at (out-Node n).op)) is) i
+      less c is i = whole-more u order g v (form_of c (out-Node n).subs (out-Node n).assoc) (record { labelled = own-label u ready g q x n inside; found = own-vertex u ready g q x n inside }) (ap (λ o. kind_as u q.graph n o (simple_at (out-Node n).op)) is) i
 
       place-shared : Shared v
       place-shared =
           subst (λ k. IsKindShared (plan_of u order t) (shares_of u order) (weighing u order t) k v v.kind) x.number
           (node-shared u order t ready sound q x.there n inside (λ c is i. subst (λ k. takes_more u order k (label_of n) i ≡ false) (sym x.number) (less c is i)) once
-          (subst (λ k. kind_there (network u k) v ≡ v.kind) (sym x.number) (kind-at (network u g) v at-own)))
+          (subst (λ k. kind_there (network u k) v ≡ v.kind) (sym x.number) (kind-at (network u g) v (own-vertex u ready g q x n inside))))
 
     net-shared : EachNode Shared (network u g).nodes
     net-shared = network-each u g Shared place-shared

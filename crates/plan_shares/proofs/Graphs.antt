@@ -1,13 +1,15 @@
 -- What holds of each node of a graph of a unit holds along its order, and of a returns on what is collected.
-use Rattle.std.proofs.Common.{◌≡◌, ◌≢◌, ℕ, zero, suc, ◌+◌, ◌-◌, ◌≤◌, ◌&&◌, not, if◌then◌else◌, eqb, Bool, true, false, List, [], ◌∷◌, map, get_or, length, Option, Some, None, Contains, inl, inr, refl, sym, ap, ◌∙◌, subst, arith, ◌==◌}
+use Rattle.std.proofs.Common.{◌≡◌, ◌≢◌, ℕ, zero, suc, ◌+◌, ◌-◌, ◌≤◌, ◌&&◌, not, if◌then◌else◌, eqb, Bool, true, false, List, [], ◌∷◌, map, get_or, length, option_map, Option, Some, None, Contains, inl, inr, refl, sym, ap, ◌∙◌, subst, arith, ◌==◌}
 use Rattle.std.specs.Prelude.{is_some, slice_get}
 use Rattle.if1_graph.specs.declared.graph.Graph.{Graph}
 use Rattle.if1_graph.specs.declared.graph.Graph.TheViews.{out-Graph}
 use Rattle.if1_graph.specs.declared.graph.Node.{Node}
 use Rattle.if1_graph.specs.declared.graph.Unit1.{Unit1}
-use Rattle.if1_graph.specs.Units.{Place, number_of, places}
+use Rattle.if1_graph.specs.Ready.{IsReady}
+use Rattle.if1_graph.specs.Units.{Place, label_of, number_of, places}
 use Rattle.if1_marks.proofs.Lists.{found-in, here, there}
 use Rattle.if1_marks.proofs.Tests.{same-number}
+use Rattle.graph_meaning.proofs.Units.{at-node}
 use Rattle.graph_meaning.specs.Carried.{Unfilled}
 use Rattle.graph_meaning.specs.Demand.{EachNode, Fixed, Kind, Net, Plain, Port, Source, Vertex, Whole, at_label}
 use Rattle.graph_meaning.specs.Forms as form
@@ -17,6 +19,8 @@ use Rattle.graph_meaning.specs.StorageUnits.{storage_of}
 use Rattle.ordered_meaning.specs.Orders.{IsInOrder}
 use Rattle.ordered_meaning.specs.Taking.{Fills, first_port}
 use Rattle.run_code.specs.Collections.{Final, Sifts}
+use Rattle.unit_laws.proofs.TypedEdges.{node-formed}
+use Rattle.unit_laws.proofs.TypedNodes.{node-found}
 use Rattle.unit_plan.specs.Plans.{place_of, plain_of}
 use Rattle.unit_plan.specs.Returns.{Keeping, Lasts, Way, Wholly, collects_by, multiple, node_collects, refolded_node, refolded_nodes, way_of, whole_of, wholes}
 use Rattle.unit_plan.specs.Shares.{is_last, kind_or, kind_there, reads_by, reads_multiple, takes_collected, takes_more}
@@ -90,6 +94,16 @@ network-each u g Q h = go (place_of u g) refl
     go : (o : Option Place) → place_of u g ≡ o → EachNode Q (network u g).nodes
     go None e = subst (λ n. EachNode Q n.nodes) (sym (ap (net_at u) e)) tt
     go (Some q) e = let x = placed-at u g q e in subst (λ n. EachNode Q n.nodes) (sym x.net) (mapped u q.graph Q (out-Graph q.graph).nodes (h q x))
+
+-- its own label leads to the vertex of a node
+module _ (u : Unit1) (ready : IsReady u) (g : ℕ) (q : Place) (x : IsPlaced u g q) (n : Node) (inside : Contains (out-Graph q.graph).nodes n) where
+  pub own-vertex : at_label (network u g).nodes (label_of n) ≡ Some (vertex_of u q.graph n)
+  own-vertex =
+      ap (λ (z : Net). at_label z.nodes (label_of n)) x.net
+      ∙ (at-node u q.graph (out-Graph q.graph).nodes (label_of n) ∙ ap (option_map (vertex_of u q.graph)) (node-found u ready q x.there n inside))
+
+  pub own-label : label_of n ≢ 0
+  own-label e = let le = (node-formed u ready q x.there n inside).label.0 in omega (arith, e, le)
 
 pub kind-at : (net : Net) (v : Vertex) → at_label net.nodes v.label ≡ Some v → kind_there net v ≡ v.kind
 kind-at net v e = ap (kind_or v.kind) e

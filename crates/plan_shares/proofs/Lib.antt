@@ -16,3 +16,4 @@ pub mod Graphs
 pub mod Once
 pub mod Clauses
 pub mod Right
+pub mod Runs

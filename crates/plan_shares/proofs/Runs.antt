@@ -1,15 +1,15 @@
 -- Runs of the code that is made of the plan of a unit are decided.
-use Rattle.std.proofs.Common.{◌≡◌, ◌≢◌, ℕ, zero, suc, ◌&&◌, not, Bool, true, false, List, [], ◌∷◌, option_map, Option, Some, None, Contains, inl, refl, sym, ap, ◌∙◌, subst, arith}
+use Rattle.std.proofs.Common.{◌≡◌, ℕ, zero, suc, ◌&&◌, not, Bool, true, false, List, [], Option, Some, None, inl, refl, ap, ◌∙◌}
 use Rattle.if1_graph.specs.declared.graph.Unit1.{Unit1}
 use Rattle.graph_meaning.specs.Carried.{Carried}
-use Rattle.graph_meaning.specs.Demand.{EachNode, Net, Vertex, at_label}
+use Rattle.graph_meaning.specs.Demand.{Vertex, at_label}
 use Rattle.graph_meaning.specs.Networks.{network}
 use Rattle.graph_meaning.specs.Storage.{copying, is_left}
 use Rattle.graph_meaning.specs.StorageUnits.{storage_of}
 use Rattle.made_store.proofs.Units.{made-unit-decided}
 use Rattle.made_store.proofs.UnitWeights.{unit-weights}
 use Rattle.made_store.specs.Weights.{by_modes, node_weight}
-use Rattle.unit_plan.specs.Plans.{Tables, functions_of, levels_of, plain_of, plan_of}
+use Rattle.unit_plan.specs.Plans.{functions_of, levels_of, plain_of, plan_of}
 use Rattle.unit_plan.specs.Shares.{has_of, owns_of, reads_by, shares_of, takes_collected, takes_more, weighing}
 use Rattle.plan_shares.proofs.Graphs.{each-both, each-of, kind-at, network-each, own-vertex}
 use Rattle.plan_shares.proofs.Right.{shares-right}
@@ -36,10 +36,10 @@ weights-alike u order t ready g =
     let net = network u g in
     let base = unit-weights u P (takes_more u order) (owns_of u order) (has_of u) (λ r. []) (more-apart u order) (λ g v. refl) (λ g. inl refl) g in (
       each-of (λ v. (at_label net.nodes v.label ≡ Some v) × ((ks rs : List Carried) → (by_modes P S s).weights.of_node g v ks rs ≡ (copying s).of_node g v ks rs))
-      (λ v. (ks rs : List Carried) → (weighing u order t).weights.of_node g v ks rs ≡ (copying s).of_node g v ks rs)
-      (λ v h ks rs. ap (λ k. node_weight P S s g v k ks rs) (kind-at net v h.0) ∙ h.1 ks rs) net.nodes
-      (each-both (λ v. at_label net.nodes v.label ≡ Some v) (λ v. (ks rs : List Carried) → (by_modes P S s).weights.of_node g v ks rs ≡ (copying s).of_node g v ks rs) net.nodes
-      (network-each u g (λ v. at_label net.nodes v.label ≡ Some v) (λ q x n c. own-vertex u ready g q x n c)) base.0),
+          (λ v. (ks rs : List Carried) → (weighing u order t).weights.of_node g v ks rs ≡ (copying s).of_node g v ks rs)
+          (λ v h ks rs. ap (λ k. node_weight P S s g v k ks rs) (kind-at net v h.0) ∙ h.1 ks rs) net.nodes
+          (each-both (λ v. at_label net.nodes v.label ≡ Some v) (λ v. (ks rs : List Carried) → (by_modes P S s).weights.of_node g v ks rs ≡ (copying s).of_node g v ks rs) net.nodes
+          (network-each u g (λ v. at_label net.nodes v.label ≡ Some v) (λ q x n c. own-vertex u ready g q x n c)) base.0),
       base.1,
     )
 
