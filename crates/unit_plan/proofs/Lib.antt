@@ -6,5 +6,4 @@ pub mod Multiples
 pub mod Aggregates
 pub mod RightNodes
 pub mod Right
-pub mod Weights
 pub mod Tables

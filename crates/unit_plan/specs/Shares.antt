@@ -1,5 +1,5 @@
 -- What the ports of a unit take and copy in its plan, which inputs graphs own, and the weights of its steps.
-use Rattle.std.specs.Prelude.{ℕ, zero, suc, ◌+◌, ◌-◌, ◌&&◌, not, ltb, leb, if◌then◌else◌, Bool, true, false, List, [], get_or, slice_get, Option, Some, None}
+use Rattle.std.specs.Prelude.{ℕ, zero, suc, ◌+◌, ◌-◌, ◌&&◌, not, ltb, leb, if◌then◌else◌, Bool, true, false, List, [], get_or, slice_get, Option, Some, None, is_some}
 use Rattle.if1_graph.specs.declared.graph.Graph.{Graph}
 use Rattle.if1_graph.specs.declared.graph.Node.{Node}
 use Rattle.if1_graph.specs.declared.graph.Unit1.{Unit1}
@@ -10,8 +10,9 @@ use Rattle.if1_graph.specs.Ports.{part_of}
 use Rattle.if1_graph.specs.Units.{Home, Function, Inside, Place, label_of, width}
 use Rattle.if1_marks.specs.Given.{is_consumed_by}
 use Rattle.graph_meaning.specs.Carried.{Unfilled}
-use Rattle.graph_meaning.specs.Demand.{Source, Port, Fixed, Kind, Vertex, Net, at_label}
+use Rattle.graph_meaning.specs.Demand.{Fixed, Kind, Plain, Whole, Vertex, Net, at_label}
 use Rattle.graph_meaning.specs.Networks.{network}
+use Rattle.graph_meaning.specs.Storage.{is_left}
 use Rattle.graph_meaning.specs.StorageUnits.{storage_of}
 use Rattle.run_code.specs.Collections.{Collect, Sifts, Final}
 use Rattle.run_code.specs.Made.{Plan}
@@ -22,7 +23,8 @@ use Rattle.made_store.specs.Marks.{owned_inputs}
 use Rattle.made_store.specs.Settings.{Shares, result_modes}
 use Rattle.made_store.specs.UnitWeights.{marked_shares}
 use Rattle.made_store.specs.Weights.{node_weight}
-use Rattle.unit_plan.specs.Plans.{Tables, collects_in, nodes_by, place_of, plain_of, plan_of}
+use Rattle.unit_plan.specs.Plans.{Tables, collects_in, place_of, plain_of, plan_of}
+use Rattle.unit_plan.specs.Returns.{Lasts, Way, multiple, way_of}
 
 -- ---- collections
 
@@ -31,29 +33,30 @@ abbrev pub collect_at : (plain : ℕ) → List Collect → (port : ℕ) → Opti
 collect_at plain cs zero = None
 collect_at plain cs (suc p) = if ltb p plain then None else slice_get cs (p - plain)
 
-abbrev pub is_sifting : Option Collect → Bool
-is_sifting (Some (Sifts j mask)) = true
-is_sifting _ = false
+-- ---- what is taken more
 
--- the source is a collection
-abbrev pub is_collected : (plain : ℕ) → List Collect → Source → Bool
-is_collected plain cs (Port zero p) = is_sifting (collect_at plain cs p)
-is_collected plain cs _ = false
+abbrev pub is_last : Way → Bool
+is_last (Lasts j) = true
+is_last _ = false
 
--- what fills a port of the node of a label
-abbrev pub fills_port : Option Vertex → (port : ℕ) → Source
-fills_port None port = Fixed Unfilled
-fills_port (Some v) port = get_or v.ins (port - 1) (Fixed Unfilled)
+-- a simple node of a returns reads a multiple at this port, and not its last value alone
+abbrev pub reads_multiple : (plain : ℕ) → (left : (node port : ℕ) → Bool) → Vertex → Kind → (port : ℕ) → Bool
+reads_multiple plain left v (Plain row shape) port = not (is_last (way_of plain (left v.label) row v.ins)) && is_some (multiple plain (get_or v.ins (port - 1) (Fixed Unfilled)))
+reads_multiple plain left v (Whole form) port = false
+
+abbrev pub reads_by : (plain : ℕ) → (left : (node port : ℕ) → Bool) → Option Vertex → (port : ℕ) → Bool
+reads_by plain left None port = false
+reads_by plain left (Some v) port = reads_multiple plain left v v.kind port
 
 module _ (u : Unit1) (order : (graph : ℕ) → List Vertex) where
   -- a collection of what has no parts is taken by the node that reads it
   abbrev pub takes_collected : Option ℕ → (graph node port : ℕ) → Bool
   takes_collected None g l port = false
-  takes_collected (Some plain) g l port =
-      is_collected plain (collects_in u g (Some plain) (order g)) (fills_port (at_label (nodes_by u g (Some plain) (order g)) l) port) && not ((storage_of u).is_aggregate g l port)
+  takes_collected (Some plain) g l port = reads_by plain (is_left (storage_of u) g) (at_label (network u g).nodes l) port && not ((storage_of u).is_aggregate g l port)
 
   abbrev pub takes_more : (graph node port : ℕ) → Bool
-  takes_more g l port = takes_collected (plain_of u g) g l port
+  takes_more g zero port = false
+  takes_more g (suc l) port = takes_collected (plain_of u g) g (suc l) port
 
   -- ---- what graphs own
 
@@ -67,8 +70,10 @@ module _ (u : Unit1) (order : (graph : ℕ) → List Vertex) where
   owns_by None g port = owned_inputs u g port
   owns_by (Some plain) g port = owns_collected plain g (collect_at plain (collects_in u g (Some plain) (order g)) port)
 
+  -- no port has number 0
   abbrev pub owns_of : (graph port : ℕ) → Bool
-  owns_of g port = owns_by (plain_of u g) g port
+  owns_of g zero = false
+  owns_of g (suc p) = owns_by (plain_of u g) g (suc p)
 
 -- ---- what is there
 
@@ -87,12 +92,16 @@ abbrev pub has_in : Unit1 → Option Place → (port : ℕ) → Bool
 has_in u None port = true
 has_in u (Some p) port = is_there_at u p.home port
 
+abbrev pub has_of : Unit1 → (graph port : ℕ) → Bool
+has_of u g zero = false
+has_of u g (suc p) = has_in u (place_of u g) (suc p)
+
 -- ---- the shares
 
 -- Ports take by their marks, and copy what they consume and do not take. What is put to collections is moved: its copies are counted
 -- where it is read.
 abbrev pub shares_of : Unit1 → (order : (graph : ℕ) → List Vertex) → Shares
-shares_of u order = marked_shares (storage_of u) (takes_more u order) (owns_of u order) (λ g port. has_in u (place_of u g) port) (λ r. [])
+shares_of u order = marked_shares (storage_of u) (takes_more u order) (owns_of u order) (has_of u) (λ r. [])
 
 -- ---- the weights
 
