@@ -8,30 +8,21 @@ use Rattle.graph_meaning.specs.Demand.{Vertex}
 use Rattle.graph_meaning.specs.Entered.{IsIn}
 use Rattle.graph_meaning.specs.Networks.{network}
 use Rattle.graph_meaning.specs.Plain.{Costs}
-use Rattle.graph_meaning.specs.Storage.{copying}
-use Rattle.graph_meaning.specs.StorageUnits.{storage_of}
 use Rattle.ordered_meaning.specs.Orders.{AreInOrder}
-use Rattle.run_laws.specs.Weighing.{AreAlike}
-use Rattle.run_made.specs.Plans.{IsRightPlan, laid}
+use Rattle.run_made.specs.Plans.{laid}
 use Rattle.run_store.specs.Whole.{EndsStored, IsOfUnit, StopsStored, entered_stored, first_cells}
 use Rattle.made_store.specs.Settled.{functions_settings, handling_of}
-use Rattle.unit_plan.specs.Plans.{Tables, functions_of, levels_of, plan_of}
+use Rattle.unit_plan.specs.Plans.{AreTables, Tables, functions_of, levels_of, plan_of}
 use Rattle.unit_plan.specs.Shares.{shares_of, weighing}
 
--- the weights of the plan of a unit are those of record
-abbrev pub AreUnitWeightsAlike : Type 0
-AreUnitWeightsAlike = (u : Unit1) (order : (graph : ℕ) → List Vertex) (t : Tables) → IsReady u → AreAlike (network u) (weighing u order t).weights (copying (storage_of u))
-
--- So, where the plan of a ready unit with sound marks is right, nothing is asked of its shares and weights: a run of the code that is
--- made of it is decided.
+-- A run of the code that is made of a ready unit with sound marks, begun with its arguments in the first cells, is decided: it ends with
+-- the results, cost and copies of record, or every cost is beyond the limit. Nothing is asked but that the tables of steps and cells are
+-- right.
 abbrev pub AreUnitRunsDecided : Type 0
-AreUnitRunsDecided = (u : Unit1) (order : (graph : ℕ) → List Vertex) (t : Tables) (limit : ℕ) → IsReady u → IsSound u → AreInOrder (network u) order
+AreUnitRunsDecided = (u : Unit1) (order : (graph : ℕ) → List Vertex) (t : Tables) (limit : ℕ) → IsReady u → IsSound u → AreInOrder (network u) order → AreTables u order t
     → (let P = plan_of u order t in
-    let S = shares_of u order in
-    let W = weighing u order t in
-    let X = laid P W (network u) order (functions_of u) (levels_of u) in
-    let handling = handling_of (functions_settings P S (levels_of u) (functions_of u)) in
-    IsRightPlan P W (network u) order (functions_of u) (levels_of u)
-    → (f : ℕ) (ins : List Carried) → IsIn f (functions_of u) → length ins ≡ P.params f
+    let X = laid P (weighing u order t) (network u) order (functions_of u) (levels_of u) in
+    let handling = handling_of (functions_settings P (shares_of u order) (levels_of u) (functions_of u)) in
+    (f : ℕ) (ins : List Carried) → IsIn f (functions_of u) → length ins ≡ P.params f
     → ((rs : List Carried) × (c : ℕ) × (copies : ℕ) × EndsStored X handling limit (entered_stored X f (first_cells ins)) rs c copies × IsOfUnit u f ins rs c copies × (c ≤ limit))
     ⊎ (StopsStored X handling limit (entered_stored X f (first_cells ins)) × ((d c : ℕ) → Costs (network u) d f ins c → limit < c)))

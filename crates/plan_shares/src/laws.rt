@@ -7,7 +7,7 @@ ghost use Rattle.plan_shares.specs.Laws.{
   AreSharesOwned,
   AreUnitSharesRight,
 };
-ghost use Rattle.plan_shares.specs.Runs.{AreUnitRunsDecided, AreUnitWeightsAlike};
+ghost use Rattle.plan_shares.specs.Runs.{AreUnitRunsDecided};
 ghost use Rattle.plan_shares.specs.Parts.{ArePartsOwned, ArePlacesFound};
 
 /// The place of a graph is found by its number, with the node that it is inside.
@@ -51,13 +51,8 @@ pub fn shares_of_units_are_right()
     ensures { AreUnitSharesRight }
 {}
 
-/// What the steps of its code weigh is what is copied by the definition of record.
-pub fn weights_of_plans_are_of_record()
-    ensures { AreUnitWeightsAlike }
-{}
-
-/// So each run of the code that is made of the plan of a ready unit with sound marks is decided, where the
-/// plan is right.
-pub fn runs_of_plans_are_decided()
+/// So each run of the code that is made of a ready unit with sound marks is decided: it ends with the results,
+/// cost and copies of record, or every cost is beyond the limit.
+pub fn runs_of_units_with_tables_are_decided()
     ensures { AreUnitRunsDecided }
 {}
