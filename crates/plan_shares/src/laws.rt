@@ -7,7 +7,7 @@ ghost use Rattle.plan_shares.specs.Laws.{
   AreSharesOwned,
   AreUnitSharesRight,
 };
-ghost use Rattle.plan_shares.specs.Runs.{AreUnitRunsDecided};
+ghost use Rattle.plan_shares.specs.Runs.{AreUnitRunsDecided, AreUnitWritesRecorded};
 ghost use Rattle.plan_shares.specs.Parts.{ArePartsOwned, ArePlacesFound};
 
 /// The place of a graph is found by its number, with the node that it is inside.
@@ -55,4 +55,9 @@ pub fn shares_of_units_are_right()
 /// cost and copies of record, or every cost is beyond the limit.
 pub fn runs_of_units_with_tables_are_decided()
     ensures { AreUnitRunsDecided }
+{}
+
+/// What such a run writes is of record.
+pub fn writes_of_units_with_tables_are_of_record()
+    ensures { AreUnitWritesRecorded }
 {}

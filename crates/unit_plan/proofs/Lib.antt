@@ -1,3 +1,4 @@
+pub mod Costs
 pub mod Ways
 pub mod Found
 pub mod Sources

@@ -56,7 +56,8 @@ use Rattle.unit_plan.proofs.Outputs.{results-long, sources-long}
 use Rattle.unit_plan.proofs.Ways.{IsKept, IsReturned, all-nodes, all-within, stand-all}
 use Rattle.unit_plan.specs.Returns.{nodes_collects, refolded_nodes}
 use Rattle.unit_plan.specs.Plans.{Tables, collects_in, functions_of, inputs_in, nodes_by, outputs_in, place_of, plain_as, plain_by, plain_of, plan_of}
-use Rattle.unit_plan.specs.Shares.{kind_or, shares_of, weighing}
+use Rattle.unit_plan.specs.Shares.{kind_or, shares_of}
+use Rattle.unit_plan.proofs.Costs.{IsWeighing}
 
 -- ---- lists of graphs
 
@@ -112,15 +113,12 @@ behind-long : (xs : List Source) (k : ℕ) → length xs ≡ 1 + k → length (d
 behind-long [] k e = absurd (omega (arith, e))
 behind-long (x ∷ xs) k e = omega (arith, e)
 
-module _ (u : Unit1) (order : ℕ → List Vertex) (t : Tables) (ready : IsReady u) (along : AreInOrder (network u) order) where
+module _ (u : Unit1) (order : ℕ → List Vertex) (t : Tables) (ready : IsReady u) (along : AreInOrder (network u) order) (W : Weighing) (weighs : IsWeighing u order t W) where
   abbrev P : Plan
   P = plan_of u order t
 
   abbrev S : Shares
   S = shares_of u order
-
-  abbrev W : Weighing
-  W = weighing u order t
 
   abbrev count : ℕ
   count = suc (sizes u.graphs)
@@ -146,11 +144,6 @@ module _ (u : Unit1) (order : ℕ → List Vertex) (t : Tables) (ready : IsReady
       abbrev gs : List Graph
       gs = (out-Node n).subs
 
-      -- ---- its weights
-
-      weighs-as : (kind : Kind) → v.kind ≡ kind → (ks rs : List Carried) → W.weights.of_node g v ks rs ≡ node_weight P S (storage_of u) g v kind ks rs
-      weighs-as kind e ks rs = ap (λ k. node_weight P S (storage_of u) g v k ks rs) (own-kind u ready p place n inside ∙ e)
-
       module _ (c : Compound) (is : compound_at (out-Node n).op ≡ Some c) where
         kind-is : v.kind ≡ Whole (form_of c gs (out-Node n).assoc)
         kind-is = ap (λ o. kind_as u p.graph n o (simple_at (out-Node n).op)) is
@@ -168,15 +161,8 @@ module _ (u : Unit1) (order : ℕ → List Vertex) (t : Tables) (ready : IsReady
         ins-long : length v.ins ≡ width p.graph l
         ins-long = ap (λ k. length (ins_of u p.graph l k)) kind-is ∙ (ap length (ins-by c) ∙ sources-long u p.graph l 1 (width p.graph l))
 
-        picked-as : (d : Compound) → v.kind ≡ Whole (form_of d gs (out-Node n).assoc) → ArePicked P W (network u) order (functions_of u) g v
-        picked-as compound.Select e ks rs = sym (weighs-as (Whole (form_of compound.Select gs (out-Node n).assoc)) e ks rs)
-        picked-as compound.TagCase e ks rs = sym (weighs-as (Whole (form_of compound.TagCase gs (out-Node n).assoc)) e ks rs)
-        picked-as compound.LoopA e ks rs = sym (weighs-as (Whole (form_of compound.LoopA gs (out-Node n).assoc)) e ks rs)
-        picked-as compound.LoopB e ks rs = sym (weighs-as (Whole (form_of compound.LoopB gs (out-Node n).assoc)) e ks rs)
-        picked-as compound.ForAll e ks rs = sym (weighs-as (Whole (form_of compound.ForAll gs (out-Node n).assoc)) e ks rs)
-
         picked : ArePicked P W (network u) order (functions_of u) g v
-        picked = picked-as c kind-is
+        picked ks rs = weighs.gives g v c gs (out-Node n).assoc (own-kind u ready p place n inside ∙ kind-is) ks rs
 
         -- ---- its parts
 
@@ -213,7 +199,7 @@ module _ (u : Unit1) (order : ℕ → List Vertex) (t : Tables) (ready : IsReady
                 let none = no-aggregate u.types (d.0).ty z.0 (d.2 ∙ ap Some z.1) z.2 in
                 let carries : (storage_of u).is_aggregate (part_number gs k) 0 1 ≡ false =
                 ap (λ h. (storage_of u).is_aggregate h 0 1) number-is ∙ (ap (λ o. test_in o (λ h. carries_aggregate u (edge_into h 0 1))) (part-found u ready p place n inside k s e) ∙ (ap (carries_aggregate u) d.1 ∙ none)) in
-                (long ∙ r, λ ks. alone-uncopied (S.takes (part_number gs k) 0) (S.copies (part_number gs k) 0) (P.results (part_number gs k)) ks (long ∙ r) (ap (λ b. (storage_of u).is_given (part_number gs k) 0 1 && b) carries ∙ and-false ((storage_of u).is_given (part_number gs k) 0 1)))
+                (long ∙ r, weighs.ends (part_number gs k) (λ ks. alone-uncopied (S.takes (part_number gs k) 0) (S.copies (part_number gs k) 0) (P.results (part_number gs k)) ks (long ∙ r) (ap (λ b. (storage_of u).is_given (part_number gs k) 0 1 && b) carries ∙ and-false ((storage_of u).is_given (part_number gs k) 0 1))))
 
           -- ---- a returns
 
@@ -244,13 +230,12 @@ module _ (u : Unit1) (order : ℕ → List Vertex) (t : Tables) (ready : IsReady
               labelled zero e le = absurd (omega (arith, le))
               labelled (suc j) e le = (j, sym e)
 
-              kept : (kind : Kind) → x.kind ≡ kind → IsKept W.weights (storage_of u) plain many r cs x kind
+              kept : (kind : Kind) → x.kind ≡ kind → IsKept W.weights (storage_of u) plain many r cs (weighs.cost r) (weighs.costs r) x kind
               kept (Plain row shape) y =
-                  λ w same ks rs. ap (λ o. node_weight P S (storage_of u) r w (kind_or w.kind o) ks rs) (ap (at_label (network u r).nodes) same ∙ at-own u ready q there m in_s)
-                  ∙ (ap (λ k. node_weight P S (storage_of u) r w k ks rs) y ∙ ap (λ i. copied_by (storage_of u) r i row ks rs) same)
+                  λ w same ks rs. weighs.rows r w row shape (ap (kind_or w.kind) (ap (at_label (network u r).nodes) same ∙ at-own u ready q there m in_s) ∙ y) ks rs ∙ ap (λ i. weighs.cost r i row ks rs) same
               kept (Whole whole) y = whole-plain u ready p place n inside c is k s e f m in_s whole y
 
-              returned : IsReturned W.weights (storage_of u) plain many r cs x
+              returned : IsReturned W.weights (storage_of u) plain many r cs (weighs.cost r) (weighs.costs r) x
               returned =
                   record {
                     label = labelled (label_of m) refl (node-formed u ready q there m in_s).label.0;
@@ -258,8 +243,8 @@ module _ (u : Unit1) (order : ℕ → List Vertex) (t : Tables) (ready : IsReady
                     kept = kept x.kind refl;
                   }
 
-            all-returned : EachNode (IsReturned W.weights (storage_of u) plain many r cs) (order r)
-            all-returned = each-in-order u ready q there (IsReturned W.weights (storage_of u) plain many r cs) returned (order r) (along r)
+            all-returned : EachNode (IsReturned W.weights (storage_of u) plain many r cs (weighs.cost r) (weighs.costs r)) (order r)
+            all-returned = each-in-order u ready q there (IsReturned W.weights (storage_of u) plain many r cs (weighs.cost r) (weighs.costs r)) returned (order r) (along r)
 
             abbrev Done : Option ℕ → Type 0
             Done o = AreWithin many (collects_in u r o (order r))
@@ -267,8 +252,8 @@ module _ (u : Unit1) (order : ℕ → List Vertex) (t : Tables) (ready : IsReady
 
             done : Done (Some plain)
             done =
-                let y = all-nodes W.weights (storage_of u) plain many r cs 0 (order r) all-returned (stand-all cs) in (
-                  all-within W.weights (storage_of u) plain many r cs (order r) all-returned,
+                let y = all-nodes W.weights (storage_of u) plain many r cs (weighs.cost r) (weighs.costs r) 0 (order r) all-returned (stand-all cs) in (
+                  all-within W.weights (storage_of u) plain many r cs (weighs.cost r) (weighs.costs r) (order r) all-returned,
                   record {
                     nodes = subst (AreRefolded W.weights plain many cs r r (order r) (refolded_nodes plain (is_left (storage_of u) r) 0 (order r))) (fun_ext y.2) y.1;
                     results = refl;
@@ -356,7 +341,8 @@ module _ (u : Unit1) (order : ℕ → List Vertex) (t : Tables) (ready : IsReady
             inner compound.ForAll is 1 b.0 b.1 part.Body refl refl,
             long compound.ForAll is 1 b.0 b.1 ∙ sym (results-of compound.ForAll is 1 b.0 b.1),
             lays compound.ForAll is 2 r.0 r.1,
-            subst (λ a. IsRefolded P W (network u) order (functions_of u) a (results_at gs 1) (part_number gs 2) (λ row. 0)) plainly (refolds compound.ForAll is 2 r.0 r.1 refl),
+            subst (λ e. IsRefolded P W (network u) order (functions_of u) (length v.ins + length (P.results (part_number gs 0))) (results_at gs 1) (part_number gs 2) e) (sym (weighs.puts (part_number gs 2)))
+                (subst (λ a. IsRefolded P W (network u) order (functions_of u) a (results_at gs 1) (part_number gs 2) (λ row. 0)) plainly (refolds compound.ForAll is 2 r.0 r.1 refl)),
           )
 
       -- ---- calls
@@ -380,7 +366,7 @@ module _ (u : Unit1) (order : ℕ → List Vertex) (t : Tables) (ready : IsReady
             let long = ap (λ k. length (ins_of u p.graph l k)) call-kind ∙ behind-long (sources u p.graph l 1 (width p.graph l)) (length c.args) (sources-long u p.graph l 1 (width p.graph l) ∙ wide) in (
               subst (λ h. IsIn h (functions_of u)) (sym c.number) (in-functions u.graphs c.index c.function c.at),
               long ∙ sym own,
-              λ ks rs. weighs-as (Whole (form.Call f)) call-kind ks [] ∙ sym (weighs-as (Whole (form.Call f)) call-kind ks rs),
+              λ ks rs. weighs.calls g v f (own-kind u ready p place n inside ∙ call-kind) ks rs,
             )
 
       -- ---- all of them

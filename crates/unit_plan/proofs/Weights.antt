@@ -9,7 +9,7 @@ use Rattle.graph_meaning.proofs.Units.{units-orderly}
 use Rattle.graph_meaning.specs.Carried.{Carried}
 use Rattle.graph_meaning.specs.Demand.{EachNode, Vertex, at_label}
 use Rattle.graph_meaning.specs.Networks.{network}
-use Rattle.graph_meaning.specs.Storage.{copying, is_left}
+use Rattle.graph_meaning.specs.Storage.{copying, is_left, node_written, writing}
 use Rattle.graph_meaning.specs.StorageUnits.{storage_of}
 use Rattle.run_code.specs.Made.{Plan}
 use Rattle.run_laws.specs.Weighing.{AreAlike}
@@ -19,6 +19,7 @@ use Rattle.made_store.specs.Settings.{Shares}
 use Rattle.made_store.specs.Weights.{by_modes, node_weight}
 use Rattle.unit_plan.proofs.Right.{plans-right}
 use Rattle.unit_plan.specs.Laws.{AreUnitPlansDecided}
+use Rattle.unit_plan.specs.Writes.{writes_weighing}
 use Rattle.unit_plan.specs.Plans.{Tables, functions_of, levels_of, plain_of, plan_of}
 use Rattle.unit_plan.specs.Shares.{has_of, kind_or, owns_of, reads_by, shares_of, takes_collected, takes_more, weighing}
 
@@ -60,3 +61,14 @@ pub plans-decided : AreUnitPlansDecided
 plans-decided u order t limit ready sound along tables shared f ins in_f as_many =
     made-unit-decided u (plan_of u order t) (shares_of u order) (weighing u order t) order (functions_of u) (levels_of u) limit ready sound along
     (plans-right u order t ready sound along tables) shared (weights-alike u order t ready (sound-in-order u sound)) f ins in_f as_many
+
+-- ---- writes
+
+writes-nodes : (u : Unit1) (g : ℕ) (vs : List Vertex) → EachNode (λ v. at_label (network u g).nodes v.label ≡ Some v) vs
+    → EachNode (λ v. (ks rs : List Carried) → (writes_weighing u).weights.of_node g v ks rs ≡ (writing (storage_of u)).of_node g v ks rs) vs
+writes-nodes u g [] h = tt
+writes-nodes u g (v ∷ vs) h = ((λ ks rs. ap (λ o. node_written (storage_of u) g v.label (kind_or v.kind o) ks rs) h.0), writes-nodes u g vs h.1)
+
+module _ (u : Unit1) (ready : IsReady u) (lists : AreOrdersRight u) where
+  pub writes-alike : AreAlike (network u) (writes_weighing u).weights (writing (storage_of u))
+  writes-alike g = (writes-nodes u g (network u g).nodes (all-found (network u g).nodes (units-orderly u ready lists g).once), λ rs long. refl)

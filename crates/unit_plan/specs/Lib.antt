@@ -1,4 +1,5 @@
 pub mod Returns
 pub mod Plans
 pub mod Shares
+pub mod Writes
 pub mod Laws

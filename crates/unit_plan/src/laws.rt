@@ -4,6 +4,7 @@ ghost use Rattle.unit_plan.specs.Laws.{
   AreUnitPlansRight,
   AreUnitTablesThere,
 };
+ghost use Rattle.unit_plan.specs.Writes.{AreUnitPlansRightForWrites};
 
 /// The plan of a ready unit with sound marks is right, with tables that are right.
 pub fn plans_of_units_are_right()
@@ -18,4 +19,9 @@ pub fn tables_of_units_are_there()
 /// So a run of the code that is made of the plan is decided, where its shares are right.
 pub fn runs_of_plans_of_units_are_decided()
     ensures { AreUnitPlansDecided }
+{}
+
+/// The plan is right with weights by which writes are counted, too.
+pub fn plans_of_units_are_right_for_writes()
+    ensures { AreUnitPlansRightForWrites }
 {}

@@ -4,5 +4,6 @@
 mod laws;
 
 pub use laws::{
-    plans_of_units_are_right, runs_of_plans_of_units_are_decided, tables_of_units_are_there,
+    plans_of_units_are_right, plans_of_units_are_right_for_writes,
+    runs_of_plans_of_units_are_decided, tables_of_units_are_there,
 };
