@@ -7,5 +7,4 @@ pub mod Multiples
 pub mod Aggregates
 pub mod RightNodes
 pub mod Right
-pub mod Weights
 pub mod Tables
