@@ -1,5 +1,5 @@
 -- What weights must meet so that the plan of a unit is right with them: those by which copies are counted, and those by which writes are.
-use Rattle.std.proofs.Common.{◌≡◌, ℕ, ◌+◌, Bool, false, true, List, [], ◌∷◌, if◌then◌else◌, refl, sym, ap, ◌∙◌}
+use Rattle.std.proofs.Common.{◌≡◌, ℕ, Bool, false, true, List, [], ◌∷◌, if◌then◌else◌, refl, sym, ap, ◌∙◌}
 use Rattle.if1_graph.specs.declared.graph.Graph.{Graph}
 use Rattle.if1_graph.specs.declared.graph.Unit1.{Unit1}
 use Rattle.if1_graph.specs.declared.op.Compound.{Compound}
@@ -8,7 +8,7 @@ use Rattle.if1_graph.specs.declared.op.Grouping.{Grouping}
 use Rattle.if1_graph.specs.declared.op.Simple.{Simple}
 use Rattle.if1_graph.specs.declared.op.Simple.TheVariants as simple
 use Rattle.graph_meaning.specs.Carried.{Carried, Many, Name, Spoiled, Unfilled, Value}
-use Rattle.graph_meaning.specs.Demand.{Kind, Plain, Vertex, Whole}
+use Rattle.graph_meaning.specs.Demand.{Plain, Vertex, Whole}
 use Rattle.graph_meaning.specs.Forms as form
 use Rattle.graph_meaning.specs.Networks.{form_of, network}
 use Rattle.graph_meaning.specs.NodeValues.{Shape}

@@ -32,7 +32,7 @@ use Rattle.graph_meaning.specs.Demand.{EachNode, Kind, Plain, Source, Vertex, Wh
 use Rattle.graph_meaning.specs.Entered.{IsIn}
 use Rattle.graph_meaning.specs.Forms as form
 use Rattle.graph_meaning.specs.Networks.{callee_number, form_of, ins_of, kind_as, kind_of, network, part as part_number, number_or_zero, simple_kind, sources, vertex_of}
-use Rattle.graph_meaning.specs.Storage.{copied_by, is_left}
+use Rattle.graph_meaning.specs.Storage.{is_left}
 use Rattle.graph_meaning.specs.StorageUnits.{carries_aggregate, storage_of, test_in}
 use Rattle.ordered_meaning.specs.Orders.{AreInOrder}
 use Rattle.run_code.specs.Collections.{AreWithin, Collect}
@@ -42,7 +42,6 @@ use Rattle.run_made.specs.Plans.{All, ArePicked, IsChoice, IsInner, IsKindRight,
 use Rattle.run_store.specs.Ports.{mode_of, modes_of}
 use Rattle.run_store.specs.Stored.{copied}
 use Rattle.made_store.specs.Settings.{Shares}
-use Rattle.made_store.specs.Weights.{node_weight}
 use Rattle.unit_laws.proofs.TypeLists.{out_bool, out_int}
 use Rattle.unit_laws.proofs.TypedCalls.{called, callee-there}
 use Rattle.unit_laws.proofs.TypedChoices.{got-below}
