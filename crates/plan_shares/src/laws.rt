@@ -7,12 +7,7 @@ ghost use Rattle.plan_shares.specs.Laws.{
   AreSharesOwned,
   AreUnitSharesRight,
 };
-ghost use Rattle.plan_shares.specs.Runs.{
-  AreUnitPlansMarked,
-  AreUnitRunsDecided,
-  AreUnitWeightsAlike,
-  AreUnitWritesRecorded,
-};
+ghost use Rattle.plan_shares.specs.Runs.{AreUnitPlansMarked, AreUnitRunsDecided, AreUnitWritesRecorded};
 ghost use Rattle.plan_shares.specs.Parts.{ArePartsOwned, ArePlacesFound};
 
 /// The place of a graph is found by its number, with the node that it is inside.
@@ -56,22 +51,18 @@ pub fn shares_of_units_are_right()
     ensures { AreUnitSharesRight }
 {}
 
-/// What the steps of its code weigh is what is copied by the definition of record.
-pub fn weights_of_plans_are_of_record()
-    ensures { AreUnitWeightsAlike }
-{}
-
-/// So a ready unit with sound marks has a plan that takes and copies by its marks.
+/// So it has a plan that takes and copies by its marks.
 pub fn plans_of_units_are_marked()
     ensures { AreUnitPlansMarked }
 {}
 
-/// So each run of the code that is made of the plan of a ready unit with sound marks is decided.
-pub fn runs_of_plans_are_decided()
+/// So each run of the code that is made of a ready unit with sound marks is decided: it ends with the results,
+/// cost and copies of record, or every cost is beyond the limit.
+pub fn runs_of_units_with_tables_are_decided()
     ensures { AreUnitRunsDecided }
 {}
 
-/// What such a run writes is of record.
-pub fn writes_of_plans_are_of_record()
+/// And what such a run that ends writes is of record.
+pub fn writes_of_units_with_tables_are_of_record()
     ensures { AreUnitWritesRecorded }
 {}

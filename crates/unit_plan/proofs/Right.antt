@@ -10,10 +10,12 @@ use Rattle.if1_marks.proofs.Tests.{same-number}
 use Rattle.if1_marks.specs.Orders.{AreOrdersRight}
 use Rattle.graph_meaning.proofs.Lists.{found-in}
 use Rattle.graph_meaning.proofs.Units.{units-orderly}
+use Rattle.if1_graph.specs.declared.op.Simple.{Simple}
+use Rattle.graph_meaning.specs.Carried.{Carried}
 use Rattle.graph_meaning.specs.Demand.{EachNode, LabelsOnce, Vertex}
 use Rattle.graph_meaning.specs.Entered.{IsIn}
 use Rattle.graph_meaning.specs.Networks.{net_at, network, nothing}
-use Rattle.graph_meaning.specs.Storage.{is_left}
+use Rattle.graph_meaning.specs.Storage.{copied_by, is_left, written_by}
 use Rattle.graph_meaning.specs.StorageUnits.{storage_of}
 use Rattle.ordered_meaning.specs.Orders.{AreInOrder, IsInOrder}
 use Rattle.run_code.specs.Known.{AreReadable, KnowsAll}
@@ -25,12 +27,11 @@ use Rattle.unit_laws.proofs.TypedPlans.{function-place}
 use Rattle.unit_plan.proofs.Found.{each-in-order, function-plain, number-within}
 use Rattle.unit_plan.proofs.RightNodes.{LaysIn, RightIn, kind-right}
 use Rattle.unit_plan.proofs.Outputs.{nodes-read, results-read}
+use Rattle.unit_plan.proofs.Weighed.{IsWeighed, copies-weighed, writes-weighed}
 use Rattle.unit_plan.proofs.Ways.{all-readable, each-refolded, labels-once}
-use Rattle.unit_plan.specs.Laws.{AreUnitPlansRight}
+use Rattle.unit_plan.specs.Laws.{AreUnitPlansRight, AreUnitWritesRight}
 use Rattle.unit_plan.specs.Plans.{AreTables, Tables, functions_of, levels_of, nodes_by, outputs_in, place_of, plain_of, plan_of}
-use Rattle.unit_plan.specs.Shares.{weighing}
-use Rattle.unit_plan.specs.Writes.{AreUnitPlansRightForWrites, writes_weighing}
-use Rattle.unit_plan.proofs.Costs.{IsWeighing, copies-weigh, writes-weigh}
+use Rattle.unit_plan.specs.Shares.{weighing, writing_of}
 
 -- a number of no graph has no nodes
 pub no-nodes : (vs : List Vertex) → IsInOrder nothing vs → vs ≡ []
@@ -40,7 +41,8 @@ no-nodes (v ∷ vs) h = absurd (clash h.nodes.0.1)
     clash : None ≡ Some v → ⊥
     clash e = cc
 
-module _ (u : Unit1) (order : ℕ → List Vertex) (t : Tables) (ready : IsReady u) (lists : AreOrdersRight u) (along : AreInOrder (network u) order) (W : Weighing) (weighs : IsWeighing u order t W) where
+module _ (u : Unit1) (order : ℕ → List Vertex) (t : Tables) (W : Weighing) (by_row : (graph label : ℕ) → Simple → List Carried → List Carried → ℕ) (weighed : IsWeighed u order t W by_row) (ready : IsReady u) (lists : AreOrdersRight u)
+    (along : AreInOrder (network u) order) where
   abbrev P : Plan
   P = plan_of u order t
 
@@ -48,13 +50,13 @@ module _ (u : Unit1) (order : ℕ → List Vertex) (t : Tables) (ready : IsReady
   width v = outputs_in u v.kind
 
   abbrev pub Right : ℕ → Type 0
-  Right g = IsRight P W (network u) order (functions_of u) (LaysIn u order t ready along W weighs g) g
+  Right g = IsRight P W (network u) order (functions_of u) (LaysIn u order t W by_row weighed ready along g) g
 
   -- what is asked of the nodes of a graph
   record Good (g : ℕ) (vs : List Vertex) : Type 0 where
     pub readable : AreReadable width vs (network u g).results
     pub once : LabelsOnce vs
-    pub kinds : EachNode (λ v. RightIn u order t ready along W weighs g v v.kind) vs
+    pub kinds : EachNode (λ v. RightIn u order t W by_row weighed ready along g v v.kind) vs
 
   good-done : (g : ℕ) (vs : List Vertex) → Good g vs → (o : Option ℕ) → Good g (nodes_by u g o vs)
   good-done g vs h None = h
@@ -62,7 +64,7 @@ module _ (u : Unit1) (order : ℕ → List Vertex) (t : Tables) (ready : IsReady
       record {
         readable = all-readable plain (is_left (storage_of u) g) width (λ v row shape e. ap (outputs_in u) e) vs (network u g).results h.readable;
         once = labels-once plain (is_left (storage_of u) g) width (λ v row shape e. ap (outputs_in u) e) 0 vs h.once;
-        kinds = each-refolded (RightIn u order t ready along W weighs g) plain (is_left (storage_of u) g) (λ v row shape. tt) 0 vs h.kinds;
+        kinds = each-refolded (RightIn u order t W by_row weighed ready along g) plain (is_left (storage_of u) g) (λ v row shape. tt) 0 vs h.kinds;
       }
 
   good-right : (g : ℕ) → Good g (nodes_by u g (plain_of u g) (order g)) → Right g
@@ -75,7 +77,7 @@ module _ (u : Unit1) (order : ℕ → List Vertex) (t : Tables) (ready : IsReady
       record {
         readable = x.0;
         once = x.1;
-        kinds = each-in-order u ready p place (λ v. RightIn u order t ready along W weighs g v v.kind) (λ n c. kind-right u order t ready along W weighs p place n c) (order g) (along g);
+        kinds = each-in-order u ready p place (λ v. RightIn u order t W by_row weighed ready along g v v.kind) (λ n c. kind-right u order t W by_row weighed ready along p place n c) (order g) (along g);
       }
 
   none-good : (g : ℕ) → place_of u g ≡ None → Good g (order g)
@@ -115,7 +117,9 @@ module _ (u : Unit1) (order : ℕ → List Vertex) (t : Tables) (ready : IsReady
   plan-right tables = record { sized = tables.sized; entries = tables.entries; graphs = function-right }
 
 pub plans-right : AreUnitPlansRight
-plans-right u order t ready sound along tables = plan-right u order t ready (sound-in-order u sound) along (weighing u order t) (copies-weigh u order t) tables
+plans-right u order t ready sound along tables =
+    plan-right u order t (weighing u order t) (λ g l row ks rs. copied_by (storage_of u) g l row ks rs) (copies-weighed u order t) ready (sound-in-order u sound) along tables
 
-pub writes-right : AreUnitPlansRightForWrites
-writes-right u order t ready sound along tables = plan-right u order t ready (sound-in-order u sound) along (writes_weighing u) (writes-weigh u order t) tables
+pub writes-right : AreUnitWritesRight
+writes-right u order t ready sound along tables =
+    plan-right u order t (writing_of u) (λ g l row ks rs. written_by (storage_of u) g l row ks rs) (writes-weighed u order t) ready (sound-in-order u sound) along tables

@@ -1,5 +1,5 @@
 -- Each node of a ready unit is right in its plan.
-use Rattle.std.proofs.Common.{◌≡◌, ℕ, zero, suc, ◌+◌, ◌<◌, ◌≤◌, ◌&&◌, Bool, true, false, List, [], ◌∷◌, map, drop, length, option_map, Option, Some, None, Contains, inl, inr, refl, sym, ap, ◌∙◌, subst, arith}
+use Rattle.std.proofs.Common.{◌≡◌, ℕ, zero, suc, ◌+◌, ◌<◌, ◌≤◌, Bool, true, false, List, [], ◌∷◌, map, drop, length, option_map, Option, Some, None, Contains, inl, inr, refl, sym, ap, ◌∙◌, subst, arith}
 use Rattle.std.specs.Prelude.{slice_get, unwrap_or}
 use Rattle.std.specs.Prelude as std
 use Rattle.std.proofs.Math.Path.{fun_ext}
@@ -39,9 +39,6 @@ use Rattle.run_code.specs.Collections.{AreWithin, Collect}
 use Rattle.run_code.specs.Made.{Plan}
 use Rattle.run_code.specs.Refolds.{AllPlain, AreRefolded, Refolds}
 use Rattle.run_made.specs.Plans.{All, ArePicked, IsChoice, IsInner, IsKindRight, IsLoopRight, IsPlanned, IsRefolded, Weighing}
-use Rattle.run_store.specs.Ports.{mode_of, modes_of}
-use Rattle.run_store.specs.Stored.{copied}
-use Rattle.made_store.specs.Settings.{Shares}
 use Rattle.unit_laws.proofs.TypeLists.{out_bool, out_int}
 use Rattle.unit_laws.proofs.TypedCalls.{called, callee-there}
 use Rattle.unit_laws.proofs.TypedChoices.{got-below}
@@ -52,11 +49,11 @@ use Rattle.unit_plan.proofs.Aggregates.{has_parts_in, no-aggregate}
 use Rattle.unit_plan.proofs.Found.{at-own, each-in-order, net-is, own-kind, part-found, part-in, part-plain, part-rises, place-found}
 use Rattle.unit_plan.proofs.Multiples.{call-is, ins-there, many_by, results-plain, whole-plain}
 use Rattle.unit_plan.proofs.Outputs.{results-long, sources-long}
+use Rattle.unit_plan.proofs.Weighed.{IsWeighed}
 use Rattle.unit_plan.proofs.Ways.{IsKept, IsReturned, all-nodes, all-within, stand-all}
 use Rattle.unit_plan.specs.Returns.{nodes_collects, refolded_nodes}
 use Rattle.unit_plan.specs.Plans.{Tables, collects_in, functions_of, inputs_in, nodes_by, outputs_in, place_of, plain_as, plain_by, plain_of, plan_of}
-use Rattle.unit_plan.specs.Shares.{kind_or, shares_of}
-use Rattle.unit_plan.proofs.Costs.{IsWeighing}
+use Rattle.unit_plan.specs.Shares.{kind_or, kind_there}
 
 -- ---- lists of graphs
 
@@ -89,35 +86,13 @@ integer t e = (ty.Int, e, rw out_int refl)
 boolean : (t : Sort) → t ≡ types.Plain ty.Bool → (a : Ty) × (t ≡ types.Plain a) × (has_parts_in (out-Ty a) ≡ false)
 boolean t e = (ty.Bool, e, rw out_bool refl)
 
-and-false : (b : Bool) → b && false ≡ false
-and-false true = refl
-and-false false = refl
-
--- what is looked at or taken is not copied
-uncopied-rest : (ks : List Carried) → copied [] ks ≡ 0
-uncopied-rest [] = refl
-uncopied-rest (k ∷ ks) = let x = uncopied-rest ks in omega (arith, x)
-
-mode-uncopied : (b : Bool) (ks : List Carried) → copied (mode_of b false ∷ []) ks ≡ 0
-mode-uncopied b [] = refl
-mode-uncopied true (k ∷ ks) = let x = uncopied-rest ks in omega (arith, x)
-mode-uncopied false (k ∷ ks) = let x = uncopied-rest ks in omega (arith, x)
-
-alone-uncopied : (takes copies : ℕ → Bool) (os : List Source) (ks : List Carried) → length os ≡ 1 → copies 1 ≡ false → copied (modes_of takes copies 1 os) ks ≡ 0
-alone-uncopied takes copies [] ks long e = absurd (omega (arith, long))
-alone-uncopied takes copies (o ∷ x ∷ os) ks long e = absurd (omega (arith, long))
-alone-uncopied takes copies (o ∷ []) ks long e = ap (λ b. copied (mode_of (takes 1) b ∷ []) ks) e ∙ mode-uncopied (takes 1) ks
-
 behind-long : (xs : List Source) (k : ℕ) → length xs ≡ 1 + k → length (drop 1 xs) ≡ k
 behind-long [] k e = absurd (omega (arith, e))
 behind-long (x ∷ xs) k e = omega (arith, e)
 
-module _ (u : Unit1) (order : ℕ → List Vertex) (t : Tables) (ready : IsReady u) (along : AreInOrder (network u) order) (W : Weighing) (weighs : IsWeighing u order t W) where
+module _ (u : Unit1) (order : ℕ → List Vertex) (t : Tables) (W : Weighing) (by_row : (graph label : ℕ) → Simple → List Carried → List Carried → ℕ) (weighed : IsWeighed u order t W by_row) (ready : IsReady u) (along : AreInOrder (network u) order) where
   abbrev P : Plan
   P = plan_of u order t
-
-  abbrev S : Shares
-  S = shares_of u order
 
   abbrev count : ℕ
   count = suc (sizes u.graphs)
@@ -143,6 +118,10 @@ module _ (u : Unit1) (order : ℕ → List Vertex) (t : Tables) (ready : IsReady
       abbrev gs : List Graph
       gs = (out-Node n).subs
 
+      -- what it does in the graph of its number
+      there-kind : (kind : Kind) → v.kind ≡ kind → kind_there (network u g) v ≡ kind
+      there-kind kind e = own-kind u ready p place n inside ∙ e
+
       module _ (c : Compound) (is : compound_at (out-Node n).op ≡ Some c) where
         kind-is : v.kind ≡ Whole (form_of c gs (out-Node n).assoc)
         kind-is = ap (λ o. kind_as u p.graph n o (simple_at (out-Node n).op)) is
@@ -161,7 +140,7 @@ module _ (u : Unit1) (order : ℕ → List Vertex) (t : Tables) (ready : IsReady
         ins-long = ap (λ k. length (ins_of u p.graph l k)) kind-is ∙ (ap length (ins-by c) ∙ sources-long u p.graph l 1 (width p.graph l))
 
         picked : ArePicked P W (network u) order (functions_of u) g v
-        picked ks rs = weighs.gives g v c gs (out-Node n).assoc (own-kind u ready p place n inside ∙ kind-is) ks rs
+        picked = weighed.wholes g v c gs (out-Node n).assoc (there-kind (Whole (form_of c gs (out-Node n).assoc)) kind-is)
 
         -- ---- its parts
 
@@ -198,7 +177,7 @@ module _ (u : Unit1) (order : ℕ → List Vertex) (t : Tables) (ready : IsReady
                 let none = no-aggregate u.types (d.0).ty z.0 (d.2 ∙ ap Some z.1) z.2 in
                 let carries : (storage_of u).is_aggregate (part_number gs k) 0 1 ≡ false =
                 ap (λ h. (storage_of u).is_aggregate h 0 1) number-is ∙ (ap (λ o. test_in o (λ h. carries_aggregate u (edge_into h 0 1))) (part-found u ready p place n inside k s e) ∙ (ap (carries_aggregate u) d.1 ∙ none)) in
-                (long ∙ r, weighs.ends (part_number gs k) (λ ks. alone-uncopied (S.takes (part_number gs k) 0) (S.copies (part_number gs k) 0) (P.results (part_number gs k)) ks (long ∙ r) (ap (λ b. (storage_of u).is_given (part_number gs k) 0 1 && b) carries ∙ and-false ((storage_of u).is_given (part_number gs k) 0 1))))
+                (long ∙ r, weighed.choices (part_number gs k) (long ∙ r) carries)
 
           -- ---- a returns
 
@@ -229,12 +208,14 @@ module _ (u : Unit1) (order : ℕ → List Vertex) (t : Tables) (ready : IsReady
               labelled zero e le = absurd (omega (arith, le))
               labelled (suc j) e le = (j, sym e)
 
-              kept : (kind : Kind) → x.kind ≡ kind → IsKept W.weights (storage_of u) plain many r cs (weighs.cost r) (weighs.costs r) x kind
+              kept : (kind : Kind) → x.kind ≡ kind → IsKept W.weights (is_left (storage_of u) r) (by_row r) (weighed.ways r) plain many r cs x kind
               kept (Plain row shape) y =
-                  λ w same ks rs. weighs.rows r w row shape (ap (kind_or w.kind) (ap (at_label (network u r).nodes) same ∙ at-own u ready q there m in_s) ∙ y) ks rs ∙ ap (λ i. weighs.cost r i row ks rs) same
+                  λ w same ks rs.
+                  weighed.simple_nodes r w row shape (ap (kind_or w.kind) (ap (at_label (network u r).nodes) same ∙ at-own u ready q there m in_s) ∙ y) ks rs
+                  ∙ ap (λ i. by_row r i row ks rs) same
               kept (Whole whole) y = whole-plain u ready p place n inside c is k s e f m in_s whole y
 
-              returned : IsReturned W.weights (storage_of u) plain many r cs (weighs.cost r) (weighs.costs r) x
+              returned : IsReturned W.weights (is_left (storage_of u) r) (by_row r) (weighed.ways r) plain many r cs x
               returned =
                   record {
                     label = labelled (label_of m) refl (node-formed u ready q there m in_s).label.0;
@@ -242,8 +223,8 @@ module _ (u : Unit1) (order : ℕ → List Vertex) (t : Tables) (ready : IsReady
                     kept = kept x.kind refl;
                   }
 
-            all-returned : EachNode (IsReturned W.weights (storage_of u) plain many r cs (weighs.cost r) (weighs.costs r)) (order r)
-            all-returned = each-in-order u ready q there (IsReturned W.weights (storage_of u) plain many r cs (weighs.cost r) (weighs.costs r)) returned (order r) (along r)
+            all-returned : EachNode (IsReturned W.weights (is_left (storage_of u) r) (by_row r) (weighed.ways r) plain many r cs) (order r)
+            all-returned = each-in-order u ready q there (IsReturned W.weights (is_left (storage_of u) r) (by_row r) (weighed.ways r) plain many r cs) returned (order r) (along r)
 
             abbrev Done : Option ℕ → Type 0
             Done o = AreWithin many (collects_in u r o (order r))
@@ -251,8 +232,8 @@ module _ (u : Unit1) (order : ℕ → List Vertex) (t : Tables) (ready : IsReady
 
             done : Done (Some plain)
             done =
-                let y = all-nodes W.weights (storage_of u) plain many r cs (weighs.cost r) (weighs.costs r) 0 (order r) all-returned (stand-all cs) in (
-                  all-within W.weights (storage_of u) plain many r cs (weighs.cost r) (weighs.costs r) (order r) all-returned,
+                let y = all-nodes W.weights (is_left (storage_of u) r) (by_row r) (weighed.ways r) plain many r cs 0 (order r) all-returned (stand-all cs) in (
+                  all-within W.weights (is_left (storage_of u) r) (by_row r) (weighed.ways r) plain many r cs (order r) all-returned,
                   record {
                     nodes = subst (AreRefolded W.weights plain many cs r r (order r) (refolded_nodes plain (is_left (storage_of u) r) 0 (order r))) (fun_ext y.2) y.1;
                     results = refl;
@@ -340,7 +321,7 @@ module _ (u : Unit1) (order : ℕ → List Vertex) (t : Tables) (ready : IsReady
             inner compound.ForAll is 1 b.0 b.1 part.Body refl refl,
             long compound.ForAll is 1 b.0 b.1 ∙ sym (results-of compound.ForAll is 1 b.0 b.1),
             lays compound.ForAll is 2 r.0 r.1,
-            subst (λ e. IsRefolded P W (network u) order (functions_of u) (length v.ins + length (P.results (part_number gs 0))) (results_at gs 1) (part_number gs 2) e) (sym (weighs.puts (part_number gs 2)))
+            subst (IsRefolded P W (network u) order (functions_of u) (length v.ins + length (P.results (part_number gs 0))) (results_at gs 1) (part_number gs 2)) (sym (weighed.rows (part_number gs 2)))
                 (subst (λ a. IsRefolded P W (network u) order (functions_of u) a (results_at gs 1) (part_number gs 2) (λ row. 0)) plainly (refolds compound.ForAll is 2 r.0 r.1 refl)),
           )
 
@@ -365,7 +346,7 @@ module _ (u : Unit1) (order : ℕ → List Vertex) (t : Tables) (ready : IsReady
             let long = ap (λ k. length (ins_of u p.graph l k)) call-kind ∙ behind-long (sources u p.graph l 1 (width p.graph l)) (length c.args) (sources-long u p.graph l 1 (width p.graph l) ∙ wide) in (
               subst (λ h. IsIn h (functions_of u)) (sym c.number) (in-functions u.graphs c.index c.function c.at),
               long ∙ sym own,
-              λ ks rs. weighs.calls g v f (own-kind u ready p place n inside ∙ call-kind) ks rs,
+              weighed.calls g v f (there-kind (Whole (form.Call f)) call-kind),
             )
 
       -- ---- all of them

@@ -7,6 +7,11 @@ use Rattle.if1_marks.proofs.Taken.{sound-in-order}
 use Rattle.if1_marks.proofs.Tests.{same-number}
 use Rattle.if1_marks.specs.Orders.{AreOrdersRight}
 use Rattle.graph_meaning.proofs.Lists.{found-in}
+use Rattle.if1_graph.specs.declared.op.Simple.{Simple}
+use Rattle.graph_meaning.specs.Carried.{Carried}
+use Rattle.graph_meaning.specs.Storage.{copied_by}
+use Rattle.graph_meaning.specs.StorageUnits.{storage_of}
+use Rattle.run_made.specs.Plans.{Weighing}
 use Rattle.graph_meaning.specs.Demand.{EachNode, Kind, Plain, Vertex, Whole}
 use Rattle.graph_meaning.specs.Forms as form
 use Rattle.graph_meaning.specs.Networks.{net_at, network}
@@ -19,10 +24,10 @@ use Rattle.run_made.specs.Tables.{InnersAre}
 use Rattle.unit_plan.proofs.Found.{number-within}
 use Rattle.unit_plan.proofs.RightNodes.{LaysIn, RightIn}
 use Rattle.unit_plan.proofs.Right.{no-nodes, right}
+use Rattle.unit_plan.proofs.Weighed.{copies-weighed}
 use Rattle.unit_plan.specs.Laws.{AreUnitTablesThere}
 use Rattle.unit_plan.specs.Plans.{Tables, functions_of, nodes_by, place_of, plain_of, plan_of}
 use Rattle.unit_plan.specs.Shares.{weighing}
-use Rattle.unit_plan.proofs.Costs.{copies-weigh}
 
 -- ---- where functions begin plays no part in sizes
 
@@ -82,14 +87,20 @@ module _ (u : Unit1) (order : ℕ → List Vertex) (t : Tables) (ready : IsReady
   abbrev P : Plan
   P = plan_of u order t
 
+  abbrev W : Weighing
+  W = weighing u order t
+
+  abbrev by_row : ℕ → ℕ → Simple → List Carried → List Carried → ℕ
+  by_row g l row ks rs = copied_by (storage_of u) g l row ks rs
+
   abbrev Inner : ℕ → ℕ → Type 0
-  Inner g h = IsInner P (weighing u order t) (network u) order (functions_of u) (LaysIn u order t ready along (weighing u order t) (copies-weigh u order t) g) h
+  Inner g h = IsInner P W (network u) order (functions_of u) (LaysIn u order t W by_row (copies-weighed u order t) ready along g) h
 
   all-rise : (g : ℕ) (hs : List ℕ) → All (Inner g) hs → All (λ h. g < h) hs
   all-rise g [] h = tt
   all-rise g (x ∷ xs) h = (h.0.1.0, all-rise g xs h.1)
 
-  kind-rises : (g : ℕ) (v : Vertex) (k : Kind) → RightIn u order t ready along (weighing u order t) (copies-weigh u order t) g v k → InnersAre P (λ h. g < h) k
+  kind-rises : (g : ℕ) (v : Vertex) (k : Kind) → RightIn u order t W by_row (copies-weighed u order t) ready along g v k → InnersAre P (λ h. g < h) k
   kind-rises g v (Plain row shape) h = tt
   kind-rises g v (Whole (form.Call f)) h = tt
   kind-rises g v (Whole (form.Select s gs w)) h = (h.2.1.0, all-rise g gs h.4)
@@ -98,12 +109,12 @@ module _ (u : Unit1) (order : ℕ → List Vertex) (t : Tables) (ready : IsReady
   kind-rises g v (Whole (form.LoopB i t b r w)) h = (h.2.1.0, h.3.1.0, h.5.1.0, h.7.0)
   kind-rises g v (Whole (form.ForAll e b r m w)) h = (h.2.1.0, h.3.1.0, h.5.0)
 
-  nodes-rise : (g : ℕ) (vs : List Vertex) → EachNode (λ v. RightIn u order t ready along (weighing u order t) (copies-weigh u order t) g v v.kind) vs → EachNode (λ v. InnersAre P (λ h. g < h) v.kind) vs
+  nodes-rise : (g : ℕ) (vs : List Vertex) → EachNode (λ v. RightIn u order t W by_row (copies-weighed u order t) ready along g v v.kind) vs → EachNode (λ v. InnersAre P (λ h. g < h) v.kind) vs
   nodes-rise g [] h = tt
   nodes-rise g (v ∷ vs) h = (kind-rises g v v.kind h.0, nodes-rise g vs h.1)
 
   rises : (g : ℕ) → EachNode (λ v. InnersAre P (λ h. g < h) v.kind) (P.nodes g)
-  rises g = nodes-rise g (P.nodes g) (right u order t ready lists along (weighing u order t) (copies-weigh u order t) g).kinds
+  rises g = nodes-rise g (P.nodes g) (right u order t W by_row (copies-weighed u order t) ready lists along g).kinds
 
   empty : (g : ℕ) → suc (sizes u.graphs) ≤ g → P.nodes g ≡ []
   empty g le = go (place_of u g) refl

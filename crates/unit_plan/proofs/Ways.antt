@@ -9,13 +9,12 @@ use Rattle.graph_meaning.specs.Demand.{Source, Port, Fixed, IsLabel, Kind, Label
 use Rattle.graph_meaning.specs.Forms.{columns}
 use Rattle.graph_meaning.specs.Laws.{outputs_by}
 use Rattle.graph_meaning.specs.NodeValues.{Shape}
-use Rattle.graph_meaning.specs.Storage.{Storage, Weights, is_left}
+use Rattle.graph_meaning.specs.Storage.{Weights}
 use Rattle.run_code.proofs.Collecting.{lasts, nodes-same}
 use Rattle.run_code.proofs.Refolding.{sum-none}
 use Rattle.run_code.specs.Collections.{AreWithin, Collect, Final, IsWithin, Sifts, made}
 use Rattle.run_code.specs.Known.{AreReadable, IsReadable, Known, Knows, KnowsAll, known_after}
 use Rattle.run_code.specs.Refolds.{AllPlain, AreRefolded, AreWhole, Refolded, a_fold, a_whole, none_refolded, one_refolded, ports_of, reads, rows_sum, unchanged}
-use Rattle.unit_plan.proofs.Costs.{AreCosts, Cost}
 use Rattle.unit_plan.specs.Returns.{Keeping, Lasts, Way, Wholly, behind_way, collected_port, collects_by, ins_by, keeping_way, last_way, multiple, node_collects, nodes_collects, refolded_node, refolded_nodes, row_by, way_of, whole_in, whole_ins, whole_of, wholes}
 
 -- ---- the ways of nodes
@@ -132,12 +131,19 @@ pub stand-all : (cs : List Collect) → Stand cs 0 cs
 stand-all [] = tt
 stand-all (c ∷ cs) = (refl, stand-behind c cs 0 cs (stand-all cs))
 
+-- ---- weights
+
+-- Weights of simple nodes by label and row: a last value weighs by its output alone, and what is kept where no copy is counted weighs the
+-- same where it is read as a collection.
+pub record AreWaysWeighed (left : (node port : ℕ) → Bool) (by_row : (label : ℕ) → Simple → List Carried → List Carried → ℕ) : Type 0 where
+  pub last : (l : ℕ) (ks : List Carried) (a b : Carried) (rs : List Carried) → length ks ≡ 0 → by_row l simple.FinalValue (ks ++ a ∷ []) rs ≡ by_row l simple.FinalValue (ks ++ b ∷ []) rs
+  pub final : (l : ℕ) → left l 1 ≡ false → (ks : List Carried) (a b c : Carried) (rs : List Carried) → length ks ≡ 0 → by_row l simple.FinalValue (ks ++ a ∷ b ∷ []) rs ≡ by_row l simple.FinalValue (ks ++ c ∷ []) rs
+  pub gather : (l : ℕ) → left l 2 ≡ false → (ks : List Carried) (a b c : Carried) (rs : List Carried) → length ks ≡ 1 → by_row l simple.AGather (ks ++ a ∷ b ∷ []) rs ≡ by_row l simple.AGather (ks ++ c ∷ []) rs
+  pub reduce : (g : Grouping) (l : ℕ) → left l 2 ≡ false → (ks : List Carried) (a b c : Carried) (rs : List Carried) → length ks ≡ 1 → by_row l (simple.Reduce g) (ks ++ a ∷ b ∷ []) rs ≡ by_row l (simple.Reduce g) (ks ++ c ∷ []) rs
+
 -- ---- one node
 
-module _ (W : Weights) (s : Storage) (plain m r : ℕ) (cs : List Collect) (cost : Cost) (costs : AreCosts (is_left s r) cost) where
-  abbrev left : ℕ → ℕ → Bool
-  left l p = is_left s r l p
-
+module _ (W : Weights) (left : (node port : ℕ) → Bool) (by_row : (label : ℕ) → Simple → List Carried → List Carried → ℕ) (ways : AreWaysWeighed left by_row) (plain m r : ℕ) (cs : List Collect) where
   whole-ins : (k : ℕ) (os : List Source) → AreInputs (plain + m) os → Stand cs k (wholes plain os) → AreWhole plain m cs os (whole_ins plain k os)
   whole-ins k [] h st = tt
   whole-ins k (o ∷ os) h st = go (multiple plain o) refl st (λ i. whole-ins i os (other-inputs (plain + m) o os h))
@@ -152,29 +158,10 @@ module _ (W : Weights) (s : Storage) (plain m r : ℕ) (cs : List Collect) (cost
 
   -- weights of nodes of this label go by this row
   abbrev pub WeighsAs : Vertex → Simple → Type 0
-  WeighsAs v row = (w : Vertex) → w.label ≡ v.label → (ks rs : List Carried) → W.of_node r w ks rs ≡ cost v.label row ks rs
+  WeighsAs v row = (w : Vertex) → w.label ≡ v.label → (ks rs : List Carried) → W.of_node r w ks rs ≡ by_row v.label row ks rs
 
   same-ports : (x y : Source) (j q : ℕ) → multiple plain x ≡ Some j → multiple plain y ≡ Some q → x ∷ y ∷ [] ≡ ports_of plain (Sifts j (Some q))
   same-ports x y j q f g = ap (λ z. z ∷ y ∷ []) (multiple-is plain x j f) ∙ ap (λ z. collected_port plain j ∷ z ∷ []) (multiple-is plain y q g)
-
-  -- what is read behind nothing, and behind one source
-  last-cost : (l : ℕ) (ks : List Carried) (a b : Carried) (rs : List Carried) → length ks ≡ 0 → cost l simple.FinalValue (ks ++ a ∷ []) rs ≡ cost l simple.FinalValue (ks ++ b ∷ []) rs
-  last-cost l [] a b rs long = costs.last l a b rs
-  last-cost l (k ∷ ks) a b rs long = absurd (omega (arith, long))
-
-  final-cost : (l : ℕ) → left l 1 ≡ false → (ks : List Carried) (a b c : Carried) (rs : List Carried) → length ks ≡ 0 → cost l simple.FinalValue (ks ++ a ∷ b ∷ []) rs ≡ cost l simple.FinalValue (ks ++ c ∷ []) rs
-  final-cost l kept [] a b c rs long = costs.final l kept a b c rs
-  final-cost l kept (k ∷ ks) a b c rs long = absurd (omega (arith, long))
-
-  gather-cost : (l : ℕ) → left l 2 ≡ false → (ks : List Carried) (a b c : Carried) (rs : List Carried) → length ks ≡ 1 → cost l simple.AGather (ks ++ a ∷ b ∷ []) rs ≡ cost l simple.AGather (ks ++ c ∷ []) rs
-  gather-cost l kept [] a b c rs long = absurd (omega (arith, long))
-  gather-cost l kept (k ∷ []) a b c rs long = costs.gather l kept k a b c rs
-  gather-cost l kept (k ∷ x ∷ ks) a b c rs long = absurd (omega (arith, long))
-
-  reduce-cost : (g : Grouping) (l : ℕ) → left l 2 ≡ false → (ks : List Carried) (a b c : Carried) (rs : List Carried) → length ks ≡ 1 → cost l (simple.Reduce g) (ks ++ a ∷ b ∷ []) rs ≡ cost l (simple.Reduce g) (ks ++ c ∷ []) rs
-  reduce-cost g l kept [] a b c rs long = absurd (omega (arith, long))
-  reduce-cost g l kept (k ∷ []) a b c rs long = costs.reduce g l kept k a b c rs
-  reduce-cost g l kept (k ∷ x ∷ ks) a b c rs long = absurd (omega (arith, long))
 
   -- with nothing for its rows
   with-none : (a b : ℕ) (rows : List (List Carried)) → a ≡ b → a ≡ b + rows_sum (λ row. 0) rows
@@ -189,7 +176,7 @@ module _ (W : Weights) (s : Storage) (plain m r : ℕ) (cs : List Collect) (cost
       a_fold v v' l [] simple.FinalValue simple.NoOp shape shape (Final j) k (λ row. 0) label refl kind refl (ins ∙ ap (λ z. z ∷ []) (multiple-is plain x j e)) refl tt st.0
       (λ ks rows long all. lasts shape shape m j ks rows below all long)
       (λ ks rs rows long all. with-none (W.of_node r v (ks ++ reads (Final j) (columns m rows)) rs) (W.of_node r v' (ks ++ made (Final j) rows ∷ []) rs) rows
-      (weighs v refl (ks ++ reads (Final j) (columns m rows)) rs ∙ (last-cost v.label ks (get_or (columns m rows) j Unfilled) (made (Final j) rows) rs long ∙ sym (weighs v' refl (ks ++ made (Final j) rows ∷ []) rs))))
+      (weighs v refl (ks ++ reads (Final j) (columns m rows)) rs ∙ (ways.last v.label ks (get_or (columns m rows) j Unfilled) (made (Final j) rows) rs long ∙ sym (weighs v' refl (ks ++ made (Final j) rows ∷ []) rs))))
   plain-node k v l _ shape label kind h weighs _ _ ins (is_final x y j q kept e f) st =
       let v' : Vertex = record { label = v.label; kind = Plain simple.FinalValue shape; ins = collected_port plain k ∷ []; before = v.before } in
       let i = subst (AreInputs (plain + m)) ins h in
@@ -197,7 +184,7 @@ module _ (W : Weights) (s : Storage) (plain m r : ℕ) (cs : List Collect) (cost
       a_fold v v' l [] simple.FinalValue simple.FinalValue shape shape (Sifts j (Some q)) k (λ row. 0) label refl kind refl (ins ∙ same-ports x y j q e f) refl tt st.0
       (λ ks rows long all. (nodes-same m j (Some q) ks rows below all).2 shape long)
       (λ ks rs rows long all. with-none (W.of_node r v (ks ++ reads (Sifts j (Some q)) (columns m rows)) rs) (W.of_node r v' (ks ++ made (Sifts j (Some q)) rows ∷ []) rs) rows
-      (weighs v refl (ks ++ reads (Sifts j (Some q)) (columns m rows)) rs ∙ (final-cost v.label kept ks (get_or (columns m rows) j Unfilled) (get_or (columns m rows) q Unfilled) (made (Sifts j (Some q)) rows) rs long ∙ sym (weighs v' refl (ks ++ made (Sifts j (Some q)) rows ∷ []) rs))))
+      (weighs v refl (ks ++ reads (Sifts j (Some q)) (columns m rows)) rs ∙ (ways.final v.label kept ks (get_or (columns m rows) j Unfilled) (get_or (columns m rows) q Unfilled) (made (Sifts j (Some q)) rows) rs long ∙ sym (weighs v' refl (ks ++ made (Sifts j (Some q)) rows ∷ []) rs))))
   plain-node k v l _ shape label kind h weighs _ _ ins (is_gather o x y j q kept plainly e f) st =
       let v' : Vertex = record { label = v.label; kind = Plain simple.AGather shape; ins = o ∷ collected_port plain k ∷ []; before = v.before } in
       let i = subst (AreInputs (plain + m)) ins h in
@@ -206,7 +193,7 @@ module _ (W : Weights) (s : Storage) (plain m r : ℕ) (cs : List Collect) (cost
       a_fold v v' l (o ∷ []) simple.AGather simple.AGather shape shape (Sifts j (Some q)) k (λ row. 0) label refl kind refl (ins ∙ ap (λ z. o ∷ z) (same-ports x y j q e f)) refl (single-plain plain (plain + m) o (first-input (plain + m) o (x ∷ y ∷ []) i) plainly) st.0
       (λ ks rows long all. (nodes-same m j (Some q) ks rows below all).0 shape long)
       (λ ks rs rows long all. with-none (W.of_node r v (ks ++ reads (Sifts j (Some q)) (columns m rows)) rs) (W.of_node r v' (ks ++ made (Sifts j (Some q)) rows ∷ []) rs) rows
-      (weighs v refl (ks ++ reads (Sifts j (Some q)) (columns m rows)) rs ∙ (gather-cost v.label kept ks (get_or (columns m rows) j Unfilled) (get_or (columns m rows) q Unfilled) (made (Sifts j (Some q)) rows) rs long ∙ sym (weighs v' refl (ks ++ made (Sifts j (Some q)) rows ∷ []) rs))))
+      (weighs v refl (ks ++ reads (Sifts j (Some q)) (columns m rows)) rs ∙ (ways.gather v.label kept ks (get_or (columns m rows) j Unfilled) (get_or (columns m rows) q Unfilled) (made (Sifts j (Some q)) rows) rs long ∙ sym (weighs v' refl (ks ++ made (Sifts j (Some q)) rows ∷ []) rs))))
   plain-node k v l _ shape label kind h weighs _ _ ins (is_reduce g o x y j q kept plainly e f) st =
       let v' : Vertex = record { label = v.label; kind = Plain (simple.Reduce g) shape; ins = o ∷ collected_port plain k ∷ []; before = v.before } in
       let i = subst (AreInputs (plain + m)) ins h in
@@ -215,7 +202,7 @@ module _ (W : Weights) (s : Storage) (plain m r : ℕ) (cs : List Collect) (cost
       a_fold v v' l (o ∷ []) (simple.Reduce g) (simple.Reduce g) shape shape (Sifts j (Some q)) k (λ row. 0) label refl kind refl (ins ∙ ap (λ z. o ∷ z) (same-ports x y j q e f)) refl (single-plain plain (plain + m) o (first-input (plain + m) o (x ∷ y ∷ []) i) plainly) st.0
       (λ ks rows long all. (nodes-same m j (Some q) ks rows below all).1 g shape long)
       (λ ks rs rows long all. with-none (W.of_node r v (ks ++ reads (Sifts j (Some q)) (columns m rows)) rs) (W.of_node r v' (ks ++ made (Sifts j (Some q)) rows ∷ []) rs) rows
-      (weighs v refl (ks ++ reads (Sifts j (Some q)) (columns m rows)) rs ∙ (reduce-cost g v.label kept ks (get_or (columns m rows) j Unfilled) (get_or (columns m rows) q Unfilled) (made (Sifts j (Some q)) rows) rs long ∙ sym (weighs v' refl (ks ++ made (Sifts j (Some q)) rows ∷ []) rs))))
+      (weighs v refl (ks ++ reads (Sifts j (Some q)) (columns m rows)) rs ∙ (ways.reduce g v.label kept ks (get_or (columns m rows) j Unfilled) (get_or (columns m rows) q Unfilled) (made (Sifts j (Some q)) rows) rs long ∙ sym (weighs v' refl (ks ++ made (Sifts j (Some q)) rows ∷ []) rs))))
   plain-node k v l _ shape label kind h weighs _ _ ins (is_whole row os) st =
       let v' : Vertex = record { label = v.label; kind = Plain row shape; ins = whole_ins plain k os; before = v.before } in
       a_whole v v' l row shape label refl kind refl (subst (λ z. AreWhole plain m cs z (whole_ins plain k os)) (sym ins) (whole-ins k os (subst (AreInputs (plain + m)) ins h) st))

@@ -1,5 +1,4 @@
 pub mod Returns
 pub mod Plans
 pub mod Shares
-pub mod Writes
 pub mod Laws

@@ -12,7 +12,7 @@ use Rattle.if1_marks.specs.Given.{is_consumed_by}
 use Rattle.graph_meaning.specs.Carried.{Unfilled}
 use Rattle.graph_meaning.specs.Demand.{Fixed, Kind, Plain, Whole, Vertex, Net, at_label}
 use Rattle.graph_meaning.specs.Networks.{network}
-use Rattle.graph_meaning.specs.Storage.{is_left}
+use Rattle.graph_meaning.specs.Storage.{is_left, node_written}
 use Rattle.graph_meaning.specs.StorageUnits.{storage_of}
 use Rattle.run_code.specs.Collections.{Collect, Sifts, Final}
 use Rattle.run_code.specs.Made.{Plan}
@@ -127,3 +127,12 @@ weighing_of u P S =
 
 abbrev pub weighing : Unit1 → (order : (graph : ℕ) → List Vertex) → Tables → Weighing
 weighing u order t = weighing_of u (plan_of u order t) (shares_of u order)
+
+-- It writes what that node writes.
+abbrev pub writing_of : Unit1 → Weighing
+writing_of u =
+    record {
+      weights = record { of_node = λ g v ks rs. node_written (storage_of u) g v.label (kind_there (network u g) v) ks rs; of_results = λ g rs. 0 };
+      inputs = λ g v ks. 0;
+      rows = λ r row. 0;
+    }
