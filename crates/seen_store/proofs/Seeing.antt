@@ -86,15 +86,15 @@ no-place out w i le lt (inr a) = omega (arith, lt, a)
 module _ (seen : Seen) (hidden : (place cell : ℕ) → Bool) (live own : Live) (code : Code) (handling : (place : ℕ) → Handling) (facts : (place : ℕ) → List Fact)
     (through : IsSeenThrough seen hidden live own code handling facts) where
   abbrev live' : Live
-  live' = bare_of seen hidden live
+  live' = bare_of seen live
 
   abbrev own' : Live
-  own' = bare_of seen hidden own
+  own' = bare_of seen own
 
-  bare-live : (some : Live) (pc c : ℕ) → some pc c ≡ true → seen pc c ≡ None → bare_of seen hidden some pc c ≡ true
+  bare-live : (some : Live) (pc c : ℕ) → some pc c ≡ true → seen pc c ≡ None → bare_of seen some pc c ≡ true
   bare-live some pc c l e = and-both (some pc c) (is_none (seen pc c)) l (ap is_none e)
 
-  live-bare : (some : Live) (pc c : ℕ) → bare_of seen hidden some pc c ≡ true → (some pc c ≡ true) × (seen pc c ≡ None)
+  live-bare : (some : Live) (pc c : ℕ) → bare_of seen some pc c ≡ true → (some pc c ≡ true) × (seen pc c ≡ None)
   live-bare some pc c h = let x = and-parts (some pc c) (is_none (seen pc c)) h in (x.0, none-is (seen pc c) x.1)
 
   -- ---- what is read
@@ -202,14 +202,14 @@ module _ (seen : Seen) (hidden : (place cell : ℕ) → Bool) (live own : Live) 
 
   some-follows : (some : Live) → ((pc c : ℕ) → some pc c ≡ true → IsSome seen hidden live own pc c) → (pc next out w : ℕ) (H : Handling) (args : List Operand) → IsOneOf next out w (leads (code pc) pc)
       → Follows some H args pc next out w
-      → Follows (bare_of seen hidden some) (record { modes = seen_modes (seen pc) H.modes args; keeps = λ c. H.keeps c && not (hidden pc c); puts = H.puts }) args pc next out w
+      → Follows (bare_of seen some) (record { modes = seen_modes (seen pc) H.modes args; keeps = λ c. H.keeps c && not (hidden pc c); puts = H.puts }) args pc next out w
   some-follows some is pc next out w H args lead follows i l =
       let b = live-bare some next i l in
       go (follows i b.0) (through.leads_on pc next out w lead i (is next i b.0) b.1)
     where
       go : ((out ≤ i) × (i < out + w) × (H.keeps i ≡ true)) ⊎ (IsLive some pc i × (IsTaken H.modes args i → ⊥) × ((i < out) ⊎ (out + w ≤ i)))
           → ((out ≤ i) × (i < out + w) × (hidden pc i ≡ false)) ⊎ (((i < out) ⊎ (out + w ≤ i)) × (seen pc i ≡ None))
-          → ((out ≤ i) × (i < out + w) × (H.keeps i && not (hidden pc i) ≡ true)) ⊎ (IsLive (bare_of seen hidden some) pc i × (IsTaken (seen_modes (seen pc) H.modes args) args i → ⊥) × ((i < out) ⊎ (out + w ≤ i)))
+          → ((out ≤ i) × (i < out + w) × (H.keeps i && not (hidden pc i) ≡ true)) ⊎ (IsLive (bare_of seen some) pc i × (IsTaken (seen_modes (seen pc) H.modes args) args i → ⊥) × ((i < out) ⊎ (out + w ≤ i)))
       go (inl a) (inl b) = inl (a.0, a.1, and-both (H.keeps i) (not (hidden pc i)) a.2 (ap not b.2))
       go (inl a) (inr b) = absurd (no-place out w i a.0 a.1 b.0)
       go (inr a) (inl b) = absurd (no-place out w i b.0 b.1 a.2)
@@ -218,13 +218,13 @@ module _ (seen : Seen) (hidden : (place cell : ℕ) → Bool) (live own : Live) 
   -- ---- calls
 
   some-returns : (some : Live) → ((pc c : ℕ) → some pc c ≡ true → IsSome seen hidden live own pc c) → (pc entry size out w : ℕ) (H : Handling) (args : List Operand) → Returns some H args pc size out w → CallsBare seen hidden live own pc (Call entry size args out w)
-      → Returns (bare_of seen hidden some) (record { modes = seen_modes (seen pc) H.modes args; keeps = λ c. H.keeps c && not (hidden pc c); puts = H.puts }) args pc size out w
+      → Returns (bare_of seen some) (record { modes = seen_modes (seen pc) H.modes args; keeps = λ c. H.keeps c && not (hidden pc c); puts = H.puts }) args pc size out w
   some-returns some is pc entry size out w H args returns bare i l =
       let b = live-bare some (suc pc) i l in
       go (returns i b.0) (bare i (is (suc pc) i b.0) b.1)
     where
       go : ((out ≤ i) × (i < out + w)) ⊎ (IsLive some pc i × (IsTaken H.modes args i → ⊥) × (i < size)) → ((out ≤ i) × (i < out + w)) ⊎ (seen pc i ≡ None)
-          → ((out ≤ i) × (i < out + w)) ⊎ (IsLive (bare_of seen hidden some) pc i × (IsTaken (seen_modes (seen pc) H.modes args) args i → ⊥) × (i < size))
+          → ((out ≤ i) × (i < out + w)) ⊎ (IsLive (bare_of seen some) pc i × (IsTaken (seen_modes (seen pc) H.modes args) args i → ⊥) × (i < size))
       go (inl a) b = inl a
       go (inr a) (inl b) = inl b
       go (inr a) (inr b) = inr (bare-live some pc i a.0 b, (λ t. a.1 (taken-before (seen pc) H.modes args i t)), a.2)

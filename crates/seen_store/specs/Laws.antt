@@ -13,4 +13,4 @@ use Rattle.seen_store.specs.Seen.{IsSeenThrough, Seen, bare_of, seen_handling}
 abbrev pub IsSeenStored : Type 0
 IsSeenStored = (s : Storage) (X : Layout) (handling : (place : ℕ) → Handling) (live own : Live) (seen : Seen) (hidden : (place cell : ℕ) → Bool) (facts : (place : ℕ) → List Fact)
     → IsStoredCode s X handling (λ pc. []) live own → IsSeenThrough seen hidden live own X.code handling facts
-    → IsStoredCode s X (seen_handling seen hidden X.code handling) facts (bare_of seen hidden live) (bare_of seen hidden own)
+    → IsStoredCode s X (seen_handling seen hidden X.code handling) facts (bare_of seen live) (bare_of seen own)

@@ -40,15 +40,14 @@ ArePlain (m ∷ ms) = IsPlainMode m × ArePlain ms
 
 -- ---- the settings of a place
 
-module _ (seen : Seen) (hidden : (place cell : ℕ) → Bool) where
-  -- What is seen through a path is read so, and what is hidden is not kept.
-  abbrev pub seen_handling : Code → ((place : ℕ) → Handling) → (place : ℕ) → Handling
-  seen_handling code handling pc =
-      record { modes = seen_modes (seen pc) (handling pc).modes (reads_of (code pc)); keeps = λ c. (handling pc).keeps c && not (hidden pc c); puts = (handling pc).puts }
+-- What is seen through a path is read so, and what is hidden is not kept.
+abbrev pub seen_handling : Seen → (hidden : (place cell : ℕ) → Bool) → Code → ((place : ℕ) → Handling) → (place : ℕ) → Handling
+seen_handling seen hidden code handling pc =
+    record { modes = seen_modes (seen pc) (handling pc).modes (reads_of (code pc)); keeps = λ c. (handling pc).keeps c && not (hidden pc c); puts = (handling pc).puts }
 
-  -- a cell is live, or owns what it has, where it did and is not seen through a path
-  abbrev pub bare_of : Live → Live
-  bare_of some pc c = some pc c && is_none (seen pc c)
+-- a cell is live, or owns what it has, where it did and is not seen through a path
+abbrev pub bare_of : Seen → Live → Live
+bare_of seen some pc c = some pc c && is_none (seen pc c)
 
 -- ---- what is asked
 
