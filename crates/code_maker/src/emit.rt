@@ -248,36 +248,19 @@ fn emit_parts(
 {
     match work {
         Work::Plain(..) | Work::Call(_) => Ok(()),
-        Work::Select(selector, arms) => emit_select(
-            alloc,
-            plan,
-            room,
-            levels,
-            own,
-            *selector,
-            arms.as_slice(),
-            place,
-            width,
-            next,
-            lo,
-            mid,
-            draft,
-        ),
-        Work::TagCase(arms) => emit_tag(
-            alloc,
-            plan,
-            room,
-            levels,
-            union,
-            own,
-            arms.as_slice(),
-            place,
-            width,
-            next,
-            lo,
-            mid,
-            draft,
-        ),
+        Work::Select(selector, arms) => {
+            let chosen = arms.as_slice();
+            emit_select(
+                alloc, plan, room, levels, own, *selector, chosen, place, width, next, lo, mid,
+                draft,
+            )
+        }
+        Work::TagCase(arms) => {
+            let tagged = arms.as_slice();
+            emit_tag(
+                alloc, plan, room, levels, union, own, tagged, place, width, next, lo, mid, draft,
+            )
+        }
         Work::LoopA(parts) => emit_loop(
             alloc, plan, room, levels, true, own, *parts, place, width, next, lo, mid, draft,
         ),
@@ -470,38 +453,16 @@ fn emit_loop(
     )?;
     add_early(draft, early)?;
     let lent = with_cells(alloc, own, mid, values)?;
+    let turned = lent.as_slice();
     emit_turns(
-        alloc,
-        plan,
-        room,
-        levels,
-        lent.as_slice(),
-        parts,
-        turn,
-        tests,
-        leave,
-        width,
-        next,
-        lo,
-        mid,
-        top,
+        alloc, plan, room, levels, turned, parts, turn, tests, leave, width, next, lo, mid, top,
         draft,
     )?;
     let all = with_stand(alloc, own, collects, mid + values, mid)?;
+    let folds = all.as_slice();
     let last = refolded_in(graphs, parts.returns);
     emit_arm(
-        alloc,
-        plan,
-        room,
-        levels,
-        all.as_slice(),
-        last,
-        leave,
-        width,
-        next,
-        lo,
-        top,
-        draft,
+        alloc, plan, room, levels, folds, last, leave, width, next, lo, top, draft,
     )
 }
 
@@ -609,38 +570,21 @@ fn emit_for_all(
     add_spread(
         draft, collects, own, mid, ports, mid, turns, lo, width, next,
     )?;
+    let into = mid + lists;
+    let up = top + 1 + lists;
+    let leave = turns + 1;
     let lent = with_cells(alloc, own, top + 1, lists)?;
+    let turned = lent.as_slice();
     emit_rows(
-        alloc,
-        plan,
-        room,
-        levels,
-        lent.as_slice(),
-        body,
-        returns,
-        turn,
-        turns,
-        mid + lists,
-        top + 1 + lists,
-        draft,
+        alloc, plan, room, levels, turned, body, returns, turn, turns, into, up, draft,
     )?;
-    add_each(draft, lists, mid, top, turn, turns + 1)?;
-    let all = with_cells(alloc, own, mid, lists)?;
-    let all = with_cells(alloc, all.as_slice(), mid + lists, many)?;
+    add_each(draft, lists, mid, top, turn, leave)?;
+    let listed = with_cells(alloc, own, mid, lists)?;
+    let all = with_cells(alloc, listed.as_slice(), into, many)?;
+    let folds = all.as_slice();
     let last = refolded_in(graphs, returns);
     emit_arm(
-        alloc,
-        plan,
-        room,
-        levels,
-        all.as_slice(),
-        last,
-        turns + 1,
-        width,
-        next,
-        lo,
-        top,
-        draft,
+        alloc, plan, room, levels, folds, last, leave, width, next, lo, top, draft,
     )
 }
 

@@ -219,12 +219,12 @@ emit_loop-returns t c =
     let leave = tests + c.number_at-3.result + 1 in
     let top = c.args.mid + n + k in
     on_ok_weaker c.emit_arm.result
-    (λ e. loop-made plan c.requires.formed c.args.room c.args.levels c.args.early c.args.own.now c.as_slice.result.now c.as_slice-2.result.now p c.args.place c.args.width c.args.next c.args.lo c.args.mid n k begun c.starts_at-starts.result turn tests leave top
+    (λ e. loop-made plan c.requires.formed c.args.room c.args.levels c.args.early c.args.own.now c.as_slice-turned.result.now c.as_slice-folds.result.now p c.args.place c.args.width c.args.next c.args.lo c.args.mid n k begun c.starts_at-starts.result turn tests leave top
     c.args.draft.now c.emit_first.new.draft c.add_early.new.draft c.emit_turns.new.draft c.emit_arm.new.draft
     (ap length (c.results_in.ensures ∙ ap (λ x. results_of (slice_get x p.init)) c.as_slice-graphs.ensures)) (ap length cs_are) (omega (arith, ri)) (ap (λ q. begun + q) c.one_if.ensures) (omega (arith, rb)) (omega (arith, rt)) c.starts_at-starts.ensures (omega arith)
-    (c.as_slice.ensures ∙ c.in_ok-lent.ensures) (c.as_slice-2.ensures ∙ (c.in_ok-all.ensures ∙ ap (λ q. c.args.own.now ++ stand_from q (c.args.mid + n) c.args.mid) cs_are))
+    (c.as_slice-turned.ensures ∙ c.in_ok-lent.ensures) (c.as_slice-folds.ensures ∙ (c.in_ok-all.ensures ∙ ap (λ q. c.args.own.now ++ stand_from q (c.args.mid + n) c.args.mid) cs_are))
     c.in_ok-emit_first.ensures (c.in_ok-add_early.ensures plan) c.in_ok-emit_turns.ensures
-    (subst (λ q. ArmMade plan c.args.room c.args.levels c.as_slice-2.result.now q leave c.args.width c.args.next c.args.lo top c.emit_turns.new.draft c.emit_arm.new.draft) (c.refolded_in-last.ensures ∙ ap (λ x. refolded_of (slice_get x p.returns)) c.as_slice-graphs.ensures) e))
+    (subst (λ q. ArmMade plan c.args.room c.args.levels c.as_slice-folds.result.now q leave c.args.width c.args.next c.args.lo top c.emit_turns.new.draft c.emit_arm.new.draft) (c.refolded_in-last.ensures ∙ ap (λ x. refolded_of (slice_get x p.returns)) c.as_slice-graphs.ensures) e))
     c.emit_arm.ensures
 
 pub emit_loop-with_stand-requires-clause-columns : goal.emit_loop-with_stand-requires-clause-columns
@@ -253,12 +253,12 @@ emit_for_all-returns t c =
     let top = c.args.mid + n + k in
     let up : top + 1 ≡ suc top = omega arith in
     on_ok_weaker c.emit_arm.result
-    (λ e. for-all-made plan c.requires.formed c.args.room c.args.levels c.args.own.now c.as_slice.result.now c.as_slice-2.result.now c.as_slice-3.result.now g c.args.body r c.args.place c.args.width c.args.next c.args.lo c.args.mid n k turn turns (turns + 1) top (c.args.mid + n) (top + 1 + n)
+    (λ e. for-all-made plan c.requires.formed c.args.room c.args.levels c.args.own.now c.as_slice-turned.result.now c.as_slice.result.now c.as_slice-folds.result.now g c.args.body r c.args.place c.args.width c.args.next c.args.lo c.args.mid n k turn turns (turns + 1) top (c.args.mid + n) (top + 1 + n)
     c.args.draft.now c.emit_graph.new.draft c.add_spread.new.draft c.emit_rows.new.draft c.add_each.new.draft c.emit_arm.new.draft c.results_in-ports.result.now c.collects_in-collects.result.now ports_are cs_are
     (ap length ports_are) (ap length cs_are) (omega (arith, rg)) (omega (arith, rb)) (omega arith) (omega arith) refl (omega arith)
-    (c.as_slice.ensures ∙ (c.in_ok-lent.ensures ∙ ap (λ q. c.args.own.now ++ cells_from q n) up)) (c.as_slice-2.ensures ∙ c.in_ok-all.ensures) (c.as_slice-3.ensures ∙ c.in_ok-all-2.ensures)
+    (c.as_slice-turned.ensures ∙ (c.in_ok-lent.ensures ∙ ap (λ q. c.args.own.now ++ cells_from q n) up)) (c.as_slice.ensures ∙ c.in_ok-listed.ensures) (c.as_slice-folds.ensures ∙ c.in_ok-all.ensures)
     c.in_ok-emit_graph.ensures (c.in_ok-add_spread.ensures plan) c.in_ok-emit_rows.ensures (λ o lives owns. c.in_ok-add_each.ensures plan o lives owns c.requires.formed)
-    (subst (λ q. ArmMade plan c.args.room c.args.levels c.as_slice-3.result.now q (turns + 1) c.args.width c.args.next c.args.lo top c.add_each.new.draft c.emit_arm.new.draft) (c.refolded_in-last.ensures ∙ ap (λ x. refolded_of (slice_get x r)) c.as_slice-graphs.ensures) e))
+    (subst (λ q. ArmMade plan c.args.room c.args.levels c.as_slice-folds.result.now q (turns + 1) c.args.width c.args.next c.args.lo top c.add_each.new.draft c.emit_arm.new.draft) (c.refolded_in-last.ensures ∙ ap (λ x. refolded_of (slice_get x r)) c.as_slice-graphs.ensures) e))
     c.emit_arm.ensures
 
 -- ---- what the results of a graph are read of
@@ -306,7 +306,7 @@ emit_parts-returns-in-Select t c =
     let plan = c.args.plan.now in
     on_ok_weaker c.emit_select.result
     (λ e. subst (λ x. PartsMade plan c.args.room c.args.levels (parts.mode_by c.args.union) c.args.own.now (parts.kind_of x c.args.width) c.args.place c.args.width c.args.next c.args.lo c.args.mid c.args.draft.now c.emit_select.new.draft) (sym c.in-Select.is)
-    (subst (λ q. PartsMade plan c.args.room c.args.levels (parts.mode_by c.args.union) c.args.own.now (Whole (form.Select c.in-Select.selector q c.args.width)) c.args.place c.args.width c.args.next c.args.lo c.args.mid c.args.draft.now c.emit_select.new.draft) c.as_slice.ensures (e (parts.mode_by c.args.union))))
+    (subst (λ q. PartsMade plan c.args.room c.args.levels (parts.mode_by c.args.union) c.args.own.now (Whole (form.Select c.in-Select.selector q c.args.width)) c.args.place c.args.width c.args.next c.args.lo c.args.mid c.args.draft.now c.emit_select.new.draft) c.as_slice-chosen.ensures (e (parts.mode_by c.args.union))))
     c.emit_select.ensures
 
 pub emit_parts-returns-in-TagCase : goal.emit_parts-returns-in-TagCase
@@ -314,7 +314,7 @@ emit_parts-returns-in-TagCase t c =
     let plan = c.args.plan.now in
     on_ok_weaker c.emit_tag.result
     (λ e. subst (λ x. PartsMade plan c.args.room c.args.levels (parts.mode_by c.args.union) c.args.own.now (parts.kind_of x c.args.width) c.args.place c.args.width c.args.next c.args.lo c.args.mid c.args.draft.now c.emit_tag.new.draft) (sym c.in-TagCase.is)
-    (subst (λ q. PartsMade plan c.args.room c.args.levels (parts.mode_by c.args.union) c.args.own.now (Whole (form.TagCase q c.args.width)) c.args.place c.args.width c.args.next c.args.lo c.args.mid c.args.draft.now c.emit_tag.new.draft) c.as_slice-in-TagCase.ensures e))
+    (subst (λ q. PartsMade plan c.args.room c.args.levels (parts.mode_by c.args.union) c.args.own.now (Whole (form.TagCase q c.args.width)) c.args.place c.args.width c.args.next c.args.lo c.args.mid c.args.draft.now c.emit_tag.new.draft) c.as_slice-tagged.ensures e))
     c.emit_tag.ensures
 
 pub emit_parts-returns-in-LoopA : goal.emit_parts-returns-in-LoopA
