@@ -1,0 +1,5 @@
+pub mod Kinds
+pub mod Ready
+pub mod Whole
+pub mod Runs
+pub mod Laws

@@ -1,0 +1,11 @@
+//! Runs of code: the steps of the machine of one worker, one after another, to the end or to a
+//! limit of firings.
+#![tactic(auto)]
+
+mod laws;
+mod running;
+mod stepping;
+
+pub use laws::runs_of_stored_code_begin;
+pub use running::{RunFault, run};
+pub use stepping::step;
