@@ -9,7 +9,7 @@ use Rattle.lowering.specs.declared.feed.Carried.TheVariants.{One}
 use Rattle.lowering.specs.declared.graph.Action.TheVariants.{Call}
 use Rattle.lowering.specs.Graphs.{Lowering, only, andthen, a_node, whole}
 use Rattle.lowering.specs.Choices.{applied, if_lowered, case_lowered, tag_case, tag_count, type_of, arms_of, arm_names, first_tag, tag_named}
-use Rattle.lowering.specs.Loops.{Bound, clauses_lowered, single, many, own_inputs, unless_places, renew, generators_lowered, returns_lowered, bound_of, product_lowered, initial_lowered, test_lowered, row_of_turn, loop_name, extras, types, collected}
+use Rattle.lowering.specs.Loops.{clauses_lowered, single, own_inputs, unless_places, renew, generators_lowered, product_lowered, initial_lowered, test_lowered, row_of_turn, loop_name, extras, types, collected}
 use Rattle.lowering.specs.Operations.{Lowers, integer, wire_at, all_lowered, body_lowered, defs_lowered, row_lowered}
 use Rattle.lowering.specs.Phrases.{each, lowers}
 use Rattle.flow_value.specs.declared.operation.Scalar1.TheVariants as unary
@@ -17,16 +17,13 @@ use Rattle.if1_graph.specs.declared.op.Simple.TheVariants as simple
 use Rattle.if1_graph.specs.declared.op.Compound.TheVariants as compound
 use Rattle.typed_tree.specs.declared.expr.Choice.{Choice}
 use Rattle.typed_tree.specs.declared.expr.Source.{Source}
-use Rattle.typed_tree.specs.declared.expr.ClauseForm.{ClauseForm}
 use Rattle.lowering.specs.declared.feed.Carried.{Carried}
-use Rattle.lower_nodes.specs.Bounds.{plain}
 use Rattle.lower_nodes.specs.Placing.{IsPlaced}
 use Rattle.lower_nodes.specs.Rows.{tags_named}
 use Rattle.lowered_data.specs.declared.made.Around.{Around}
-use Rattle.lowered_data.specs.declared.made.Made.{Made}
 use Rattle.lowered_data.specs.Scopes.{Scopes, scopes, entered, with_names, first_names}
 use Rattle.lowered_data.proofs.Laws.{andthen_made}
-use Rattle.lowered_data.specs.States.{IsMade, IsPart, AreParts, new_parts, places_in}
+use Rattle.lowered_data.specs.States.{IsMade, IsPart, new_parts}
 use Rattle.lowered_data.proofs.Lists.{rest_is}
 use Rattle.lowered_data.proofs.Parts.{places_within}
 use Rattle.lower_nodes.proofs.Walks.{if_as, as_made, only_as, Going, goes_on, ended, Defining, begun_defs, defs_go_on, ended_defs}
@@ -34,9 +31,9 @@ use Rattle.lower_exprs.specs.Phrased.{kind_of, phrases, alls, lists, all_defs, c
 use Rattle.lower_exprs.specs.Turned.{extra_lowered}
 use Rattle.lower_exprs.proofs.Forms.{expr_is, constant_is, value_is, group_is, call_is, apply_is, let_is, if_is, case_is, product_is, initial_is}
 use Rattle.lower_exprs.proofs.Names.{no_names, more_names, undone}
-use Rattle.lower_exprs.proofs.Steps.{then_as, inside_of, inside_with, as_entered, in_open, stands, three_parts, three_places, three_within, content_names, content_is, begun_with, more_inside, on_ok_always}
+use Rattle.lower_exprs.proofs.Steps.{then_as, inside_of, inside_with, as_entered, in_open, stands, three_parts, three_places, content_names, content_is, begun_with, more_inside, on_ok_always}
 use Rattle.lower_exprs.proofs.Arms.{Listing, goes_on as listing_goes_on, ended as listing_ended}
-use Rattle.lower_exprs.proofs.Forks.{clause_step, tags_length, tags_at, arm_is, forall_made}
+use Rattle.lower_exprs.proofs.Forks.{clause_step, tags_length, tags_at, arm_is}
 use Rattle.lower_exprs.proofs.Initials.{extras_go_on, extras_ended, turned_names, test_is, first_placed, turn_placed, first_of, turn_of, initial_ends, both_stand, three_stand}
 use Rattle.lower_exprs.proofs.walk.+lowered.Goals as goal
 
