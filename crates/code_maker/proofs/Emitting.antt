@@ -56,6 +56,23 @@ along3 R a a' b b' c c' e f g h = along2 (λ x y. R x y c') a a' b b' e f (subst
 along4 : {A B C D : Type 0} (R : A → B → C → D → Type 0) (a a' : A) (b b' : B) (c c' : C) (d d' : D) → a ≡ a' → b ≡ b' → c ≡ c' → d ≡ d' → R a b c d → R a' b' c' d'
 along4 R a a' b b' c c' d d' e f g k h = along3 (λ x y z. R x y z d') a a' b b' c c' e f g (subst (R a b c) k h)
 
+-- ---- other lists of what is copied that tell the same
+
+puts-laid : (code : Code) (xs : List step_of.Step) (l : Line) (ms : List Mode) (bs bs' : List Bool) (lives owns : Cells_of) → ((i : ℕ) → get_or bs i false ≡ get_or bs' i false)
+    → AreLaid code xs (l ∷ []) (setting ms bs lives owns ∷ []) → AreLaid code xs (l ∷ []) (setting ms bs' lives owns ∷ [])
+puts-laid code [] l ms bs bs' lives owns same h = absurd h
+puts-laid code (x ∷ xs) l ms bs bs' lives owns same h = (record { step = h.0.step; modes = h.0.modes; puts = λ i. h.0.puts i ∙ same i; keeps = h.0.keeps }, h.1)
+
+puts-line : (D : PlanData) (b c : Draft) (l : Line) (ms : List Mode) (bs bs' : List Bool) (lives owns : Cells_of) → ((i : ℕ) → get_or bs i false ≡ get_or bs' i false)
+    → Grows D b c (l ∷ []) (setting ms bs lives owns ∷ []) → Grows D b c (l ∷ []) (setting ms bs' lives owns ∷ [])
+puts-line D b c l ms bs bs' lives owns same h =
+    record {
+      steps = (h.steps.0, h.steps.1, λ code begins. puts-laid code h.steps.0 l ms bs bs' lives owns same (h.steps.2 code begins));
+      operands = h.operands;
+      targets = h.targets;
+      collects = h.collects;
+    }
+
 -- ---- a graph, and the step behind it
 
 module _ (D : PlanData) (P : Plan) (S : Shares) (formed : IsFormed D) (stands : Stands D P S) where
@@ -133,10 +150,12 @@ module _ (D : PlanData) (formed : IsFormed D) (room levels : ℕ) where
       let k = length (P.collects r) in
       let long : length cs ≡ k = ap length cs_are ∙ sym (ap length (stands.collects r) ∙ length-map (graph_collects D r) collect_in) in
       let one = ends-line D P S formed stands b c (OfRows body r) (λ q. Add (map collect_in cs) q into turns) (λ m. m ++ takes_all (length cs)) body x up (map puts_of cs) lives owns ports ports_are (last (OfRows body r) lives owns) in
-      let two = along3 (λ ks n bs. Grows D b c (line (OfRows body r) (Add ks (ends_at P xs body up) into turns) ∷ []) (setting (result_modes P S body ++ takes_all n) bs lives owns ∷ []))
-      (map collect_in cs) (P.collects r) (length cs) k (map puts_of cs) (S.puts r) (ap (map collect_in) cs_are ∙ sym (stands.collects r)) long (ap (map puts_of) cs_are ∙ sym (stands.puts r)) one in
+      let two = along2 (λ ks n. Grows D b c (line (OfRows body r) (Add ks (ends_at P xs body up) into turns) ∷ []) (setting (result_modes P S body ++ takes_all n) (map puts_of cs) lives owns ∷ []))
+      (map collect_in cs) (P.collects r) (length cs) k (ap (map collect_in) cs_are ∙ sym (stands.collects r)) long one in
+      let three = puts-line D b c (line (OfRows body r) (Add (P.collects r) (ends_at P xs body up) into turns)) (result_modes P S body ++ takes_all k) (map puts_of cs) (S.puts r) lives owns
+      (λ q. ap (λ l. get_or (map puts_of l) q false) cs_are ∙ sym (stands.puts r q)) two in
       grows-then D a b c (graph_code P levels room xs body t up) (line (OfRows body r) (Add (P.collects r) (ends_at P xs body up) into turns) ∷ []) (graph_settings P S levels keep hold xs body up) (setting (result_modes P S body ++ takes_all k) (S.puts r) lives owns ∷ [])
-      (made P S keep hold stands) two
+      (made P S keep hold stands) three
 
   -- ---- a part, and what stands behind it
 

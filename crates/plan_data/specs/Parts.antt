@@ -39,9 +39,10 @@ abbrev pub collects_of : Option PlanGraph → List Collect
 collects_of None = []
 collects_of (Some g) = g.collects
 
-abbrev pub refolded_of : Option PlanGraph → ℕ
-refolded_of None = 0
-refolded_of (Some g) = g.refolded
+-- where there is no graph of this number, the number itself
+abbrev pub refolded_of : (graph : ℕ) → Option PlanGraph → ℕ
+refolded_of n None = n
+refolded_of n (Some g) = g.refolded
 
 -- what a node does, with so many outputs
 abbrev pub kind_of : Work → (width : ℕ) → Kind
@@ -127,7 +128,7 @@ module _ (D : PlanData) where
   graph_collects g = collects_of (slice_get D.graphs g)
 
   abbrev pub graph_refolded : ℕ → ℕ
-  graph_refolded g = refolded_of (slice_get D.graphs g)
+  graph_refolded g = refolded_of g (slice_get D.graphs g)
 
   abbrev pub literal_in : ℕ → Carried
   literal_in n = owned_in (held (get_or D.literals n cell.Empty))

@@ -1,5 +1,5 @@
 -- Which plan, with which shares, stands in the data.
-use Rattle.std.specs.Prelude.{◌≡◌, ℕ, suc, ◌+◌, if◌then◌else◌, List, [], ◌∷◌, map}
+use Rattle.std.specs.Prelude.{◌≡◌, ℕ, suc, ◌+◌, if◌then◌else◌, false, List, [], ◌∷◌, get_or, map}
 use Rattle.graph_meaning.specs.Demand.{Source, Fixed, Vertex}
 use Rattle.graph_meaning.specs.Demand as demand
 use Rattle.run_code.specs.Cells.{At}
@@ -51,7 +51,7 @@ module _ (D : PlanData) (P : Plan) (S : Shares) where
     pub results : (g : ℕ) → AreFed g (graph_results D g) (P.results g)
     pub modes : (g : ℕ) → result_modes P S g ≡ map mode_of (graph_results D g)
     pub collects : (r : ℕ) → P.collects r ≡ map collect_in (graph_collects D r)
-    pub puts : (r : ℕ) → S.puts r ≡ map puts_of (graph_collects D r)
+    pub puts : (r i : ℕ) → get_or (S.puts r) i false ≡ get_or (map puts_of (graph_collects D r)) i false
     pub refolded : (r : ℕ) → P.refolded r ≡ graph_refolded D r
     pub entries : (f : ℕ) → P.entry f ≡ table_of D.entries f
     pub params : (f : ℕ) → P.params f ≡ table_of D.params f

@@ -45,12 +45,13 @@ pub fn collects_in(graphs: &[PlanGraph], graph: u32) -> &[Collect]
     }
 }
 
-/// The graph that does a returns on what was collected, 0 where there is no graph of this number.
+/// The graph that does a returns on what was collected, this one where there is no graph of this
+/// number.
 pub fn refolded_in(graphs: &[PlanGraph], graph: u32) -> u32
-    ensures { result ≡ refolded_of (slice_get graphs.now graph) }
+    ensures { result ≡ refolded_of graph (slice_get graphs.now graph) }
 {
     match graphs.get(graph as usize) {
         Some(found) => found.refolded,
-        None => 0,
+        None => graph,
     }
 }

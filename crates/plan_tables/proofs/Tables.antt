@@ -1,7 +1,9 @@
 -- Tables that are filled from the last graph to the first.
-use Rattle.std.proofs.Common.{◌≡◌, ℕ, zero, suc, ◌+◌, ◌<◌, ◌≤◌, max, List, [], ◌∷◌, ◌++◌, length, map, get_or, slice_get, refl, sym, ap, ◌∙◌, subst, arith, get_or-set_other, get_or-set_same, set, eqb, Bool, true, false, Some, None}
+use Rattle.std.proofs.Common.{◌≡◌, ℕ, zero, suc, ◌+◌, ◌-◌, ◌<◌, ◌≤◌, max, drop, if◌then◌else◌, inl, inr, List, [], ◌∷◌, ◌++◌, length, map, get_or, slice_get, refl, sym, ap, ◌∙◌, subst, arith, get_or-set_other, get_or-set_same, set, eqb, Bool, true, false, Some, None}
 use Rattle.std.proofs.lemmas.Bool.{eq-eqb}
 use Rattle.std.proofs.lemmas.Option.{slice_get_past}
+use Rattle.std.proofs.lemmas.List.{drop_more}
+use Rattle.graph_meaning.specs.Entered.{IsIn}
 use Rattle.run_made.proofs.Lying.{eqb-sound}
 use Rattle.plan_data.specs.declared.plan.PlanData.{PlanData}
 use Rattle.plan_data.specs.declared.plan.PlanGraph.{PlanGraph}
@@ -9,18 +11,18 @@ use Rattle.plan_data.specs.declared.plan.PlanNode.{PlanNode}
 use Rattle.plan_data.specs.declared.plan.Work.{Work}
 use Rattle.plan_data.specs.declared.plan.Work.TheVariants as work
 use Rattle.plan_data.specs.Parts.{arms_steps, collects_of, count_true, extent_in, graph_refolded, greatest_of, nodes_cells, nodes_of, nodes_steps, picks_of, refolded_of, results_of, size_in, table_of, work_cells, work_steps}
-use Rattle.plan_tables.specs.Above.{AllAbove, AreAbove, ArePartsAbove, IsPartAbove, roomed, tabled}
+use Rattle.plan_tables.specs.Above.{AllAbove, AreAbove, ArePartsAbove, IsPartAbove, entry_at, roomed, tabled}
 
 module _ (D E : PlanData) (same_graphs : D.graphs ≡ E.graphs) (k : ℕ) where
   refolded-same : (r : ℕ) → graph_refolded D r ≡ graph_refolded E r
-  refolded-same r = ap (λ gs. refolded_of (slice_get gs r)) same_graphs
+  refolded-same r = ap (λ gs. refolded_of r (slice_get gs r)) same_graphs
 
   module _ (same : (h : ℕ) → k < h → size_in D h ≡ size_in E h) where
     arms-same : (gs : List ℕ) → AllAbove k gs → arms_steps D gs ≡ arms_steps E gs
     arms-same [] up = refl
     arms-same (g ∷ gs) up = let a = same g up.0 in let b = arms-same gs up.1 in omega (arith, a, b)
 
-    last-same : (r : ℕ) → k < refolded_of (slice_get D.graphs r) → size_in D (graph_refolded D r) ≡ size_in E (graph_refolded E r)
+    last-same : (r : ℕ) → k < refolded_of r (slice_get D.graphs r) → size_in D (graph_refolded D r) ≡ size_in E (graph_refolded E r)
     last-same r up = same (graph_refolded D r) up ∙ ap (size_in E) (refolded-same r)
 
     work-same : (x : Work) → IsPartAbove D.graphs k x → work_steps D x ≡ work_steps E x
@@ -41,10 +43,10 @@ module _ (D E : PlanData) (same_graphs : D.graphs ≡ E.graphs) (k : ℕ) where
     greatest-same [] up = refl
     greatest-same (g ∷ gs) up = ap (λ x. max x (greatest_of D gs)) (same g up.0) ∙ ap (λ x. max (extent_in E g) x) (greatest-same gs up.1)
 
-    end-same : (r : ℕ) → k < refolded_of (slice_get D.graphs r) → extent_in D (graph_refolded D r) ≡ extent_in E (graph_refolded E r)
+    end-same : (r : ℕ) → k < refolded_of r (slice_get D.graphs r) → extent_in D (graph_refolded D r) ≡ extent_in E (graph_refolded E r)
     end-same r up = same (graph_refolded D r) up ∙ ap (extent_in E) (refolded-same r)
 
-    loop-alike : (i t b r : ℕ) → k < i → k < t → k < b → k < refolded_of (slice_get D.graphs r)
+    loop-alike : (i t b r : ℕ) → k < i → k < t → k < b → k < refolded_of r (slice_get D.graphs r)
         → max (extent_in D i) (length (results_of (slice_get D.graphs i)) + (length (collects_of (slice_get D.graphs r)) + max (extent_in D t) (max (extent_in D b) (extent_in D (graph_refolded D r)))))
         ≡ max (extent_in E i) (length (results_of (slice_get E.graphs i)) + (length (collects_of (slice_get E.graphs r)) + max (extent_in E t) (max (extent_in E b) (extent_in E (graph_refolded E r)))))
     loop-alike i t b r a c d e =
@@ -105,3 +107,44 @@ steps-past graphs xs k a b = table-past xs k b ∙ sym (ap (λ x. nodes_steps (t
 
 pub cells-past : (graphs : List PlanGraph) (xs : List ℕ) (k : ℕ) → length graphs ≤ k → length xs ≤ k → table_of xs k ≡ nodes_cells (roomed graphs xs) (nodes_of (slice_get graphs k))
 cells-past graphs xs k a b = table-past xs k b ∙ sym (ap (λ x. nodes_cells (roomed graphs xs) (nodes_of x)) (slice_get_past graphs k a))
+
+-- ---- functions
+
+module _ (D : PlanData) where
+  rest-size : (fs : List ℕ) (i : ℕ) → arms_steps D (drop i fs) ≤ arms_steps D fs
+  rest-size [] zero = omega arith
+  rest-size [] (suc i) = omega arith
+  rest-size (f ∷ fs) zero = omega arith
+  rest-size (f ∷ fs) (suc i) = let a = rest-size fs i in omega (arith, a)
+
+  -- the function at a place, and those behind it
+  pub at-place : (fs : List ℕ) (i : ℕ) → i < length fs → drop i fs ≡ get_or fs i 0 ∷ drop (suc i) fs
+  at-place fs i lt = let e : i + 1 ≡ suc i = omega arith in drop_more fs i 0 lt ∙ ap (λ x. get_or fs i 0 ∷ drop x fs) e
+
+  place-fits : (fs : List ℕ) (i begin : ℕ) → i < length fs → begin + arms_steps D (drop (suc i) fs) ≡ arms_steps D fs → suc (size_in D (get_or fs i 0)) ≤ begin
+  place-fits fs i begin lt far =
+      let a = rest-size fs i in
+      let b = ap (arms_steps D) (at-place fs i lt) in
+      omega (arith, a, b, far)
+
+  -- the function before a place that is reached
+  pub begin-fits : (fs : List ℕ) (place begin : ℕ) → 0 < place → place ≤ length fs → begin + arms_steps D (drop place fs) ≡ arms_steps D fs → suc (size_in D (get_or fs (place - 1) 0)) ≤ begin
+  begin-fits fs place begin some inside far =
+      let e : place ≡ suc (place - 1) = omega (arith, some) in
+      place-fits fs (place - 1) begin (omega (arith, some, inside)) (subst (λ x. begin + arms_steps D (drop x fs) ≡ arms_steps D fs) e far)
+
+  pub entries-more : (es : List ℕ) (h : ℕ) (hs : List ℕ) (begin next : ℕ) → h < length es → next ≡ begin + suc (size_in D h)
+      → ((f : ℕ) → IsIn f hs → table_of es f ≡ entry_at D hs next f)
+      → (f : ℕ) → IsIn f (h ∷ hs) → table_of (set es h begin) f ≡ entry_at D (h ∷ hs) begin f
+  entries-more es h hs begin next lt e right f in_f = go (eqb h f) (eqb-sound h f) (λ e. eq-eqb h f e) in_f
+    where
+      go : (c : Bool) → (c ≡ true → h ≡ f) → (h ≡ f → c ≡ true) → IsIn f (h ∷ hs) → table_of (set es h begin) f ≡ (if c then begin else entry_at D hs (begin + suc (size_in D h)) f)
+      go true sound total there = subst (λ x. table_of (set es h begin) x ≡ begin) (sound refl) (get_or-set_same es h begin 0 lt)
+      go false sound total (inl e) = absurd (let x : false ≡ true = total (sym e) in cc)
+      go false sound total (inr there) =
+          get_or-set_other es h f begin 0 (λ e. absurd (let x : false ≡ true = total (sym e) in cc)) ∙ (right f there ∙ ap (λ x. entry_at D hs x f) e)
+
+pub in-all : (fs : List ℕ) (i : ℕ) → i < length fs → IsIn (get_or fs i 0) fs
+in-all [] i lt = absurd (omega (arith, lt))
+in-all (f ∷ fs) zero lt = inl refl
+in-all (f ∷ fs) (suc i) lt = inr (in-all fs i (omega (arith, lt)))

@@ -1,9 +1,11 @@
-//! How many steps and cells the graphs of a plan take, by tables that are filled from the last graph
-//! to the first.
+//! How many steps and cells the graphs of a plan take and where its functions begin, by tables that
+//! are filled from the last to the first.
 #![tactic(auto)]
 
+mod entries;
 mod extents;
 mod sizes;
 
+pub use entries::entries_of;
 pub use extents::extents_of;
 pub use sizes::sizes_of;

@@ -29,7 +29,8 @@ pub fn zeros(alloc: Global, count: usize) -> Result<Numbers, NoMemory>
     Ok(list)
 }
 
-fn arms_total(graphs: &[PlanGraph], sizes: &[u32], arms: &[u32]) -> Result<u32, NoMemory>
+/// How many steps these graphs take, with one more behind each.
+pub fn arms_total(graphs: &[PlanGraph], sizes: &[u32], arms: &[u32]) -> Result<u32, NoMemory>
     ensures { IfOk result (λ n. n ≡ arms_steps (tabled graphs.now sizes.now) arms.now) }
 {
     let _these = graphs;

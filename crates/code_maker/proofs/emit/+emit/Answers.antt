@@ -224,7 +224,7 @@ emit_loop-returns t c =
     (ap length (c.results_in.ensures ∙ ap (λ x. results_of (slice_get x p.init)) c.as_slice-graphs.ensures)) (ap length cs_are) (omega (arith, ri)) (ap (λ q. begun + q) c.one_if.ensures) (omega (arith, rb)) (omega (arith, rt)) c.starts_at-starts.ensures (omega arith)
     (c.as_slice-turned.ensures ∙ c.in_ok-lent.ensures) (c.as_slice-folds.ensures ∙ (c.in_ok-all.ensures ∙ ap (λ q. c.args.own.now ++ stand_from q (c.args.mid + n) c.args.mid) cs_are))
     c.in_ok-emit_first.ensures (c.in_ok-add_early.ensures plan) c.in_ok-emit_turns.ensures
-    (subst (λ q. ArmMade plan c.args.room c.args.levels c.as_slice-folds.result.now q leave c.args.width c.args.next c.args.lo top c.emit_turns.new.draft c.emit_arm.new.draft) (c.refolded_in-last.ensures ∙ ap (λ x. refolded_of (slice_get x p.returns)) c.as_slice-graphs.ensures) e))
+    (subst (λ q. ArmMade plan c.args.room c.args.levels c.as_slice-folds.result.now q leave c.args.width c.args.next c.args.lo top c.emit_turns.new.draft c.emit_arm.new.draft) (c.refolded_in-last.ensures ∙ ap (λ x. refolded_of p.returns (slice_get x p.returns)) c.as_slice-graphs.ensures) e))
     c.emit_arm.ensures
 
 pub emit_loop-with_stand-requires-clause-columns : goal.emit_loop-with_stand-requires-clause-columns
@@ -258,7 +258,7 @@ emit_for_all-returns t c =
     (ap length ports_are) (ap length cs_are) (omega (arith, rg)) (omega (arith, rb)) (omega arith) (omega arith) refl (omega arith)
     (c.as_slice-turned.ensures ∙ (c.in_ok-lent.ensures ∙ ap (λ q. c.args.own.now ++ cells_from q n) up)) (c.as_slice.ensures ∙ c.in_ok-listed.ensures) (c.as_slice-folds.ensures ∙ c.in_ok-all.ensures)
     c.in_ok-emit_graph.ensures (c.in_ok-add_spread.ensures plan) c.in_ok-emit_rows.ensures (λ o lives owns. c.in_ok-add_each.ensures plan o lives owns c.requires.formed)
-    (subst (λ q. ArmMade plan c.args.room c.args.levels c.as_slice-folds.result.now q (turns + 1) c.args.width c.args.next c.args.lo top c.add_each.new.draft c.emit_arm.new.draft) (c.refolded_in-last.ensures ∙ ap (λ x. refolded_of (slice_get x r)) c.as_slice-graphs.ensures) e))
+    (subst (λ q. ArmMade plan c.args.room c.args.levels c.as_slice-folds.result.now q (turns + 1) c.args.width c.args.next c.args.lo top c.add_each.new.draft c.emit_arm.new.draft) (c.refolded_in-last.ensures ∙ ap (λ x. refolded_of r (slice_get x r)) c.as_slice-graphs.ensures) e))
     c.emit_arm.ensures
 
 -- ---- what the results of a graph are read of

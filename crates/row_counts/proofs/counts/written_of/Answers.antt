@@ -1,0 +1,7 @@
+use Rattle.std.proofs.Common.{ap, ◌∙◌}
+use Rattle.step_code.specs.Laid.{written_at}
+use Rattle.row_counts.proofs.Weighed.{written-is}
+use Rattle.row_counts.proofs.counts.written_of.Goals as goal
+
+pub returns : goal.returns
+returns c = λ s g l e ks rs. ap (λ x. written_at x ks rs) c.written_by_row.ensures ∙ written-is s g l c.args.row c.args.joined e ks rs
