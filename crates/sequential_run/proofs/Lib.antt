@@ -5,3 +5,4 @@ pub mod Falling
 pub mod Firing
 pub mod Deciding
 pub mod Begun
+pub mod Entering

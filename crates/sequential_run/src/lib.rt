@@ -5,7 +5,9 @@
 mod laws;
 mod running;
 mod stepping;
+mod totals;
 
 pub use laws::runs_of_stored_code_begin;
 pub use running::{RunFault, run};
 pub use stepping::step;
+pub use totals::{Totalled, run_function};

@@ -1,0 +1,100 @@
+//! Runs of functions, from their arguments to their totals.
+ghost use Rattle.std.specs.Prelude.{◌≡◌, ◌+◌, List, [], map, length, IfOk, IfErr, OnOk, MatchResult};
+ghost use Rattle.graph_meaning.specs.Carried.{Carried};
+ghost use Rattle.run_store.specs.Stored as stored;
+ghost use Rattle.run_cells.specs.Held.{held, heap_of};
+ghost use Rattle.sequential.specs.Agrees.{IsAt};
+ghost use Rattle.sequential_run.specs.Runs.{IsDecided, LendsBelow, IsFault};
+ghost use Rattle.sequential_run.specs.Totals.{entered_at, CanEnter, HasEntered, HasTotals};
+
+use crate::running::{RunFault, run};
+use flow_value::{NoMemory, Seq};
+use run_cells::Cell;
+use sequential::Machine;
+use std::alloc::Global;
+use step_code::Code;
+
+/// What a run of a function gives.
+#[derive(Drop)]
+pub struct Totalled {
+    /// The results.
+    pub results: Vec<Cell>,
+    /// The firings.
+    pub fires: u64,
+    /// The leaves that were copied, or the greatest number.
+    pub copies: u64,
+}
+
+/// Runs the function whose first step stands at a place, in a block with so many cells, on these
+/// arguments.
+pub fn run_function(
+    alloc: Global,
+    code: &Code,
+    entry: u32,
+    room: u32,
+    args: Vec<Cell>,
+    limit: u64,
+) -> Result<Totalled, RunFault>
+    requires can { CanEnter code.now entry room }
+    requires begun { (ins : List Carried) × (map held args.items ≡ map stored.Owns ins) × IsDecided code.now limit (entered_at entry ins) × LendsBelow code.now limit (entered_at entry ins) }
+    ensures { (ins : List Carried) → map held args.items ≡ map stored.Owns ins → MatchResult result (λ t. HasTotals code.now limit (entered_at entry ins) t) (λ e. IsFault code.now limit (entered_at entry ins) e) }
+{
+    let mut machine = entered(alloc, entry, room, args)?;
+    run(&mut machine, alloc, code, limit)?;
+    Ok(totals(machine))
+}
+
+fn totals(machine: Machine) -> Totalled
+    ensures results { result.results ≡ machine.results }
+    ensures fires { result.fires ≡ machine.fires }
+    ensures copies { result.copies ≡ machine.copies }
+{
+    let Machine {
+        results,
+        fires,
+        copies,
+        ..
+    } = machine;
+    Totalled {
+        results,
+        fires,
+        copies,
+    }
+}
+
+/// A machine at the first step of a function, with its arguments in the first cells.
+fn entered(alloc: Global, entry: u32, room: u32, args: Vec<Cell>) -> Result<Machine, RunFault>
+    ensures at { IfOk result (λ m. (ins : List Carried) → map held args.items ≡ map stored.Owns ins → IsAt m (entered_at entry ins)) }
+    ensures block { IfOk result (λ m. HasEntered entry room m) }
+    ensures refused { IfErr result (λ e. e ≡ RunFault.NoMemory) }
+{
+    let mut cells = args;
+    match widen(&mut cells, room) {
+        Ok(_) => Ok(standing(alloc, entry, cells)),
+        Err(_) => Err(RunFault::NoMemory),
+    }
+}
+
+fn standing(alloc: Global, entry: u32, cells: Vec<Cell>) -> Machine
+    ensures { result ≡ record { pc = entry; base = 0; cells = cells; calls = []; fires = 0; copies = 0; results = result.results } }
+{
+    Machine {
+        pc: entry as usize,
+        base: 0,
+        cells,
+        calls: Seq::new(alloc),
+        fires: 0,
+        copies: 0,
+        results: Vec::new(alloc),
+    }
+}
+
+fn widen(cells: &mut Vec<Cell>, many: u32) -> Result<(), NoMemory>
+    ensures heap { heap_of cells.new.items ≡ heap_of cells.old.items }
+    ensures size { OnOk result (length cells.new.items ≡ length cells.old.items + many) }
+{
+    for _ in 0..many {
+        cells.push(Cell::Empty)?;
+    }
+    Ok(())
+}
