@@ -11,6 +11,8 @@ use Rattle.lowering.specs.Types.{Table, Labelled, labelled, basics, carried_labe
 use Rattle.lowering.proofs.Tables.{Grows, grows-none, carried-grows, types-grow}
 use Rattle.lowering.proofs.Stable.{carried-stays}
 use Rattle.line_types.proofs.Same.{with-both}
+use Rattle.type_labels.specs.declared.known.Known.{Known}
+use Rattle.type_labels.specs.Known.{AreKnown}
 use Rattle.line_labels.specs.declared.labels.Labels.{Labels}
 use Rattle.line_labels.specs.Labels.{AreKept}
 
@@ -57,9 +59,9 @@ module _ (forms : List Form) (names : List (List ℕ)) (fs : List Function) wher
       let grown = grown-length (label_of c l.table).table (with rest (label_of c l.table).table) (types-grow forms names fs rest (label_of c l.table).table) in
       omega (arith, grown, ap length there)
 
-  pub next-kept : (l : Labels) (c : Carried) (label : ℕ) (table : Table) → AreKept forms names fs l → slice_get l.needs (length l.labels) ≡ Some c → length l.labels < length l.needs → label_of c l.table ≡ labelled label table
-      → (later : Labels) → later.needs ≡ l.needs → later.labels ≡ l.labels ++ label ∷ [] → later.table ≡ table → AreKept forms names fs later
-  next-kept l c label table k is some made later e-needs e-labels e-table =
+  pub next-kept : (l : Labels) (c : Carried) (label : ℕ) (table : Table) (known : Known) → AreKept forms names fs l → slice_get l.needs (length l.labels) ≡ Some c → length l.labels < length l.needs → label_of c l.table ≡ labelled label table → AreKnown forms names known table
+      → (later : Labels) → later.needs ≡ l.needs → later.labels ≡ l.labels ++ label ∷ [] → later.table ≡ table → later.known ≡ known → AreKept forms names fs later
+  next-kept l c label table known k is some made found later e-needs e-labels e-table e-known =
       let n = length l.labels in
       let long : length later.labels ≡ suc n = ap length e-labels ∙ (length-append l.labels (label ∷ []) ∙ omega arith) in
       let made-table : (label_of c l.table).table ≡ table = ap (λ (r : Labelled). r.table) made in
@@ -69,6 +71,7 @@ module _ (forms : List Form) (names : List (List ℕ)) (fs : List Function) wher
       ∙ (sym (with-both forms names fs (take n l.needs) (c ∷ []) basics) ∙ ap (λ ks. with ks basics) (sym (one-more l.needs n c is)))) in
       record {
         few = omega (arith, long, some, ap length e-needs);
+        known = subst (λ x. AreKnown forms names x later.table) (sym e-known) (subst (AreKnown forms names known) (sym e-table) found);
         table = e-table ∙ (now ∙ (ap (λ i. with (take i l.needs) basics) (sym long) ∙ ap (λ ks. with (take (length later.labels) ks) basics) (sym e-needs)));
         labels = λ i d below there.
             let at : slice_get l.needs i ≡ Some d = ap (λ ks. slice_get ks i) (sym e-needs) ∙ there in

@@ -4,6 +4,7 @@ use Rattle.type_table.specs.declared.form.Form.{Form}
 use Rattle.typed_tree.specs.declared.program.Function.{Function}
 use Rattle.lowering.specs.declared.feed.Carried.{Carried}
 use Rattle.lowering.specs.Types.{basics, labelled, carried_label, with_types}
+use Rattle.type_labels.specs.Known.{AreKnown}
 use Rattle.line_labels.specs.declared.labels.Labels.{Labels}
 use Rattle.line_labels.specs.Needs.{is_same}
 
@@ -23,3 +24,4 @@ module _ (forms : List Form) (names : List (List ℕ)) (fs : List Function) wher
     pub few : length l.labels ≤ length l.needs
     pub table : l.table ≡ with_types forms names fs (take (length l.labels) l.needs) basics
     pub labels : (i : ℕ) (c : Carried) → i < length l.labels → slice_get l.needs i ≡ Some c → carried_label forms names fs c l.table ≡ labelled (get_or l.labels i 0) l.table
+    pub known : AreKnown forms names l.known l.table

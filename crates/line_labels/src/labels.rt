@@ -1,5 +1,6 @@
 //! The labels of what lines carry.
-ghost use Rattle.std.specs.Prelude.{◌≡◌, ◌<◌, ◌+◌, ◌∷◌, ◌++◌, [], length, get_or, All, IfOk, IfErr, OnOk};
+ghost use Rattle.std.specs.Prelude.{◌≡◌, ◌<◌, ◌+◌, ◌∷◌, ◌++◌, ℕ, [], None, length, get_or, All, IfOk, IfErr, OnOk};
+ghost use Rattle.type_labels.specs.Known.{known_at};
 ghost use Rattle.lowering.specs.Types.{basics, labelled, carried_label, with_types};
 ghost use Rattle.lowering.specs.TooMany.{most_types};
 ghost use Rattle.line_labels.specs.Labels.{label_in, AreKept};
@@ -8,7 +9,7 @@ use crate::needs::Needs;
 use flow_value::{Name, Seq, item_at};
 use lowering::Carried;
 use std::alloc::Global;
-use type_labels::{LabelFault, Table};
+use type_labels::{Known, LabelFault, Table};
 use type_table::Types;
 use typed_tree::Function;
 
@@ -22,6 +23,8 @@ pub struct Labels {
     pub labels: Seq<u32>,
     /// The table of types.
     pub table: Table,
+    /// The labels of types that were found there.
+    pub known: Known,
 }
 
 impl Labels {
@@ -30,12 +33,14 @@ impl Labels {
         ensures needs { IfOk result (λ l. l.needs ≡ []) }
         ensures labels { IfOk result (λ l. l.labels ≡ []) }
         ensures table { IfOk result (λ l. l.table ≡ basics) }
+        ensures known { IfOk result (λ l. (depth ty : ℕ) → known_at l.known depth ty ≡ None) }
     {
         let table = Table::new(alloc)?;
         Ok(Labels {
             needs: Needs::new(alloc),
             labels: Seq::new(alloc),
             table,
+            known: Known::new(alloc),
         })
     }
 
@@ -99,7 +104,10 @@ impl Labels {
         let Some(carried) = self.needs.get(self.labels.len()) else {
             unreachable!()
         };
-        match self.table.carried_label(types, names, functions, carried) {
+        match self
+            .table
+            .carried_label(types, names, &mut self.known, functions, carried)
+        {
             Ok(label) => {
                 self.keep(label)?;
                 Ok(())
@@ -113,6 +121,7 @@ impl Labels {
         ensures needs { OnOk result (self.new.needs ≡ self.old.needs) }
         ensures labels { OnOk result (self.new.labels ≡ self.old.labels ++ label ∷ []) }
         ensures table { OnOk result (self.new.table ≡ self.old.table) }
+        ensures known { OnOk result (self.new.known ≡ self.old.known) }
         ensures fault { IfErr result (λ e. e ≡ LabelFault.NoMemory) }
     {
         match self.labels.add(label) {

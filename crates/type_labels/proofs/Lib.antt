@@ -1,4 +1,5 @@
 mod Growth
+pub mod Knowing
 mod Lines
 pub mod Names
 mod Places

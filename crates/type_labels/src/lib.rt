@@ -3,7 +3,9 @@
 #![tactic(auto)]
 
 mod functions;
+mod known;
 mod table;
 mod types;
 
+pub use known::Known;
 pub use table::{LabelFault, Table};

@@ -1,5 +1,5 @@
 -- What is entered for a function, and what is left to be entered.
-use Rattle.std.proofs.Common.{◌≡◌, ℕ, ◌+◌, ◌<◌, ◌≤◌, Bool, true, false, List, [], ◌∷◌, ◌++◌, take, length, get_or, slice_get, Option, Some, refl, sym, ap, ◌∙◌, arith, append_assoc}
+use Rattle.std.proofs.Common.{◌≡◌, ℕ, ◌+◌, ◌<◌, ◌≤◌, Bool, true, false, List, [], ◌∷◌, ◌++◌, take, length, get_or, slice_get, Option, Some, None, refl, sym, ap, subst, ◌∙◌, arith, append_assoc}
 use Rattle.std.specs.Prelude.{if◌then◌else◌, Result, Ok, Err, OnOk, IfErr}
 use Rattle.std.specs.List.{list_any}
 use Rattle.std.proofs.lemmas.List.{length-append, take-append-le}
@@ -14,6 +14,9 @@ use Rattle.lowering.specs.Types.{Table, Need, basics, labelled, carried_label, c
 use Rattle.lowering.specs.TooMany.{most_types, types_over}
 use Rattle.line_types.specs.Traces.{function_lines, body_need}
 use Rattle.line_types.proofs.Same.{append-nil}
+use Rattle.type_labels.specs.declared.known.Known.{Known}
+use Rattle.type_labels.specs.Known.{known_at, AreKnown}
+use Rattle.type_labels.proofs.Knowing.{none_known}
 use Rattle.line_labels.specs.declared.labels.Labels.{Labels}
 use Rattle.line_labels.specs.Labels.{AreKept}
 use Rattle.line_labels.specs.Needs.{is_same, put, added}
@@ -56,14 +59,15 @@ module _ (p : Program) where
   abbrev with : List Carried → Table → Table
   with cs ts = with_types p.types p.names p.functions cs ts
 
-  pub start_entered : (l : Labels) → l.needs ≡ [] → l.labels ≡ [] → l.table ≡ basics → AreEntered p l
-  start_entered l e-needs e-labels e-table =
+  pub start_entered : (l : Labels) → l.needs ≡ [] → l.labels ≡ [] → l.table ≡ basics → ((depth ty : ℕ) → known_at l.known depth ty ≡ None) → AreEntered p l
+  start_entered l e-needs e-labels e-table none =
       let four : length l.table ≡ 4 = ap length e-table in
       record {
         kept = record {
           few = omega (arith, ap length e-labels);
           table = e-table ∙ sym (ap (λ (ns : List Carried). with (take (length l.labels) ns) basics) e-needs ∙ ap (λ (ls : List ℕ). with (take (length ls) []) basics) e-labels);
           labels = λ i c below there. absurd (omega (arith, below, ap length e-labels));
+          known = none_known p.types p.names l.known l.table none;
         };
         table = e-table ∙ ap (λ (ns : List Carried). with ns basics) (sym e-needs);
         labels = λ i d below. absurd (omega (arith, below, ap length e-needs));
@@ -71,9 +75,9 @@ module _ (p : Program) where
       }
 
   -- what has labels keeps them where more is needed
-  pub kept-added : (l later : Labels) (cs : List Carried) → AreKept p.types p.names p.functions l → later.needs ≡ added l.needs cs → later.labels ≡ l.labels → later.table ≡ l.table
+  pub kept-added : (l later : Labels) (cs : List Carried) → AreKept p.types p.names p.functions l → later.needs ≡ added l.needs cs → later.labels ≡ l.labels → later.table ≡ l.table → later.known ≡ l.known
       → AreKept p.types p.names p.functions later
-  kept-added l later cs k e-needs e-labels e-table =
+  kept-added l later cs k e-needs e-labels e-table e-known =
       let front = added-front l.needs cs in
       let more = front.0 in
       let behind : later.needs ≡ l.needs ++ more = e-needs ∙ front.1 in
@@ -92,6 +96,7 @@ module _ (p : Program) where
             ap (carried_label p.types p.names p.functions c) e-table
             ∙ (k.labels i c old (front-get l.needs more i c here (ap (λ ks. slice_get ks i) (sym behind) ∙ there))
             ∙ (ap (λ (ls : List ℕ). labelled (get_or ls i 0) l.table) (sym e-labels) ∙ ap (labelled (get_or later.labels i 0)) (sym e-table)));
+        known = subst (λ (x : Known). AreKnown p.types p.names x later.table) (sym e-known) (subst (AreKnown p.types p.names l.known) (sym e-table) k.known);
       }
 
   -- the type of a function

@@ -12,8 +12,8 @@ use Rattle.unit_labels.proofs.functions.enter_body.Goals as goal
 pub enter-requires : goal.enter-requires
 enter-requires c =
     let l = c.args.labels.now in
-    let later : Labels = record { needs = c.add_function.new.needs; labels = l.labels; table = l.table } in
-    kept-added c.args.program.now l later (function_lines c.args.program.now.types c.args.function.now) c.requires.entered.kept c.in-Ok.ensures refl refl
+    let later : Labels = record { needs = c.add_function.new.needs; labels = l.labels; table = l.table; known = l.known } in
+    kept-added c.args.program.now l later (function_lines c.args.program.now.types c.args.function.now) c.requires.entered.kept c.in-Ok.ensures refl refl refl
 
 pub returns-in-Ok-clause-table : goal.returns-in-Ok-clause-table
 returns-in-Ok-clause-table c =

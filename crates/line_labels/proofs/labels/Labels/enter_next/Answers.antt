@@ -14,5 +14,5 @@ pub returns-in_ok-keep-in-Ok-clause-kept : goal.returns-in_ok-keep-in-Ok-clause-
 returns-in_ok-keep-in-Ok-clause-kept c =
     let l = c.args.self.now in
     let there = ap (slice_get l.needs) (sym c.len.ensures) ∙ sym c.in-Some.ensures in
-    next-kept c.args.types.now c.args.names.now c.args.functions.now l c.in-Some.carried c.in-Ok.label c.carried_label.new.self c.requires.kept there c.requires.some c.in-Ok.ensures.ok
-    c.keep.new.self c.in_ok-keep-in-Ok.ensures.needs c.in_ok-keep-in-Ok.ensures.labels c.in_ok-keep-in-Ok.ensures.table
+    next-kept c.args.types.now c.args.names.now c.args.functions.now l c.in-Some.carried c.in-Ok.label c.carried_label.new.self c.carried_label.new.known c.requires.kept there c.requires.some c.in-Ok.ensures.ok c.in-Ok.ensures.known
+    c.keep.new.self c.in_ok-keep-in-Ok.ensures.needs c.in_ok-keep-in-Ok.ensures.labels c.in_ok-keep-in-Ok.ensures.table c.in_ok-keep-in-Ok.ensures.known

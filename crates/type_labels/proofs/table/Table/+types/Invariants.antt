@@ -1,11 +1,15 @@
 use Rattle.std.proofs.Common.{◌≡◌, ◌+◌, ◌*◌, ◌≤◌, length, drop}
 use Rattle.lowering.specs.Types.{labelled, named, members, label_within}
+use Rattle.type_labels.specs.Known.{AreKnown}
 use Rattle.type_labels.proofs.table.Table.+types.Given as goal
 
 -- the members from this place on have their label
 abbrev pub invariant-members_label-loop-at : goal.invariant-members_label-loop-at
-invariant-members_label-loop-at l =
-    (members (label_within l.types l.names l.depth) l.code (named l.types l.names (drop l.at l.parts)) l.fn.self ≡ labelled l.rest l.self) × (l.at ≤ length l.parts)
+invariant-members_label-loop-at l = record {
+  made : members (label_within l.types l.names l.depth) l.code (named l.types l.names (drop l.at l.parts)) l.fn.self ≡ labelled l.rest l.self;
+  inside : l.at ≤ length l.parts;
+  known : AreKnown l.types l.names l.known l.self;
+}
 
 abbrev pub decreases-members_label-loop-at : goal.decreases-members_label-loop-at
 decreases-members_label-loop-at l = l.at
