@@ -1,0 +1,9 @@
+//! From a typed program to the text of its graphs: translated, marked and printed.
+#![tactic(auto)]
+
+mod call;
+mod laws;
+
+pub use call::compile;
+pub use laws::{a_program_has_one_text, compiled_texts_are_read};
+pub use translate::TranslateFault;
