@@ -172,9 +172,6 @@ module _ (plain : ℕ) where
   some-none : (m : ℕ) → Some m ≡ None → ⊥
   some-none m e = cc
 
-  suc-same : (a b : ℕ) → suc a ≡ suc b → a ≡ b
-  suc-same a b e = omega (arith, e)
-
   -- collections behind one have greater numbers
   later-one : (k : ℕ) (os os' : List Source) (cs : List Collect) → Replaced (suc k) os os' cs → (first j m : ℕ) → suc (plain + m) ≡ suc (plain + k) → Fills j os' (suc first) 0 (suc (plain + m)) → ⊥
   later-one k os os' cs r first j m e g = go (comes-from (suc k) os os' cs r (suc first) j 0 (suc (plain + m)) g)

@@ -1,5 +1,5 @@
 -- Runs of the code that is made of the plan of a unit.
-use Rattle.std.specs.Prelude.{◌≡◌, ◌<◌, ◌≤◌, ◌⊎◌, ℕ, List, length}
+use Rattle.std.specs.Prelude.{◌≡◌, ◌<◌, ◌≤◌, ◌⊎◌, ℕ, Bool, List, length}
 use Rattle.if1_graph.specs.declared.graph.Unit1.{Unit1}
 use Rattle.if1_graph.specs.Ready.{IsReady}
 use Rattle.if1_marks.specs.Sound.{IsSound}
@@ -11,11 +11,14 @@ use Rattle.graph_meaning.specs.Plain.{Costs}
 use Rattle.ordered_meaning.specs.Orders.{AreInOrder}
 use Rattle.graph_meaning.specs.Storage.{capped}
 use Rattle.graph_meaning.specs.StorageUnits.{UnitWrites}
+use Rattle.run_laws.specs.Facts.{Fact}
 use Rattle.run_made.specs.Plans.{laid, lines_of, weigh_at}
 use Rattle.run_store.specs.Sums.{EndsAddingStored}
 use Rattle.run_store.specs.Whole.{EndsStored, IsOfUnit, StopsStored, entered_stored, first_cells}
 use Rattle.made_store.specs.Marked.{IsMarkedPlan}
 use Rattle.made_store.specs.Settled.{functions_settings, handling_of}
+use Rattle.seen_store.specs.Made.{IsMadeSeen}
+use Rattle.seen_store.specs.Seen.{Seen, seen_handling}
 use Rattle.unit_plan.specs.Plans.{AreTables, Tables, functions_of, levels_of, plan_of}
 use Rattle.unit_plan.specs.Shares.{shares_of, weighing, writing_of}
 
@@ -45,3 +48,16 @@ AreUnitWritesRecorded = (u : Unit1) (order : (graph : ℕ) → List Vertex) (t :
     (f : ℕ) (ins rs : List Carried) (c copies sum : ℕ) → IsIn f (functions_of u) → length ins ≡ P.params f
     → EndsAddingStored X (weigh_at (writing_of u) (lines_of P (writing_of u) (network u) order (functions_of u) (levels_of u))) handling limit (entered_stored X f (first_cells ins)) rs c copies sum
     → UnitWrites u f ins (capped sum))
+
+-- And so it is where some cells are read through paths, and what is hidden is not kept.
+abbrev pub AreUnitSeenRunsDecided : Type 0
+AreUnitSeenRunsDecided = (u : Unit1) (order : (graph : ℕ) → List Vertex) (t : Tables) (limit : ℕ) (seen : Seen) (hidden : (place cell : ℕ) → Bool) (facts : (place : ℕ) → List Fact)
+    → IsReady u → IsSound u → AreInOrder (network u) order → AreTables u order t
+    → (let P = plan_of u order t in
+    let S = shares_of u order in
+    let X = laid P (weighing u order t) (network u) order (functions_of u) (levels_of u) in
+    let handling = seen_handling seen hidden X.code (handling_of (functions_settings P S (levels_of u) (functions_of u))) in
+    IsMadeSeen P S (weighing u order t) u order (functions_of u) (levels_of u) seen hidden facts
+    → (f : ℕ) (ins : List Carried) → IsIn f (functions_of u) → length ins ≡ P.params f
+    → ((rs : List Carried) × (c : ℕ) × (copies : ℕ) × EndsStored X handling limit (entered_stored X f (first_cells ins)) rs c copies × IsOfUnit u f ins rs c copies × (c ≤ limit))
+    ⊎ (StopsStored X handling limit (entered_stored X f (first_cells ins)) × ((d c : ℕ) → Costs (network u) d f ins c → limit < c)))

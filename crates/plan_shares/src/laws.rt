@@ -7,7 +7,7 @@ ghost use Rattle.plan_shares.specs.Laws.{
   AreSharesOwned,
   AreUnitSharesRight,
 };
-ghost use Rattle.plan_shares.specs.Runs.{AreUnitPlansMarked, AreUnitRunsDecided, AreUnitWritesRecorded};
+ghost use Rattle.plan_shares.specs.Runs.{AreUnitPlansMarked, AreUnitRunsDecided, AreUnitSeenRunsDecided, AreUnitWritesRecorded};
 ghost use Rattle.plan_shares.specs.Parts.{ArePartsOwned, ArePlacesFound};
 
 /// The place of a graph is found by its number, with the node that it is inside.
@@ -65,4 +65,9 @@ pub fn runs_of_units_with_tables_are_decided()
 /// And what such a run that ends writes is of record.
 pub fn writes_of_units_with_tables_are_of_record()
     ensures { AreUnitWritesRecorded }
+{}
+
+/// And where some cells are read through paths, each run is decided with the same copies.
+pub fn runs_of_units_through_paths_are_decided()
+    ensures { AreUnitSeenRunsDecided }
 {}

@@ -3,4 +3,4 @@
 
 mod laws;
 
-pub use laws::code_may_be_read_through_paths;
+pub use laws::{code_may_be_read_through_paths, runs_through_paths_are_decided};
