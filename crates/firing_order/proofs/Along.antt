@@ -1,5 +1,5 @@
 -- The nodes at the places of a firing order are in order.
-use Rattle.std.proofs.Common.{◌≡◌, ◌==◌, ◌≢◌, ℕ, zero, suc, ◌+◌, ◌<◌, ◌≤◌, eqb, if◌then◌else◌, Bool, true, false, List, [], ◌∷◌, ◌++◌, map, length, take, drop, find, slice_get, get_or, Option, Some, None, ◌⊎◌, inl, inr, Contains, refl, sym, ap, ◌∙◌, subst, arith}
+use Rattle.std.proofs.Common.{◌≡◌, ◌==◌, ◌≢◌, ℕ, zero, suc, ◌<◌, eqb, if◌then◌else◌, Bool, true, false, List, [], ◌∷◌, ◌++◌, map, length, take, find, slice_get, Option, Some, None, ◌⊎◌, inl, inr, Contains, refl, sym, ap, ◌∙◌, subst, arith}
 use Rattle.std.specs.Prelude.{slice_index}
 use Rattle.std.specs.List.Sorted.{IsStrictlyIncreasing}
 use Rattle.std.proofs.lemmas.List.Elements.{All-contains, Contains-append_cases, Contains-append_left, Contains-append_right}
@@ -7,14 +7,13 @@ use Rattle.if1_graph.specs.declared.graph.Edge.{Edge}
 use Rattle.if1_graph.specs.declared.graph.Graph.{Graph}
 use Rattle.if1_graph.specs.declared.graph.Graph.TheViews.{out-Graph}
 use Rattle.if1_graph.specs.declared.graph.Node.{Node, out-Node}
-use Rattle.if1_graph.specs.declared.graph.Origin.{Origin}
 use Rattle.if1_graph.specs.declared.graph.Origin.TheVariants as origin
 use Rattle.if1_graph.specs.declared.graph.Unit1.{Unit1}
-use Rattle.if1_graph.specs.Cycles.{Feeds, IsFrom}
+use Rattle.if1_graph.specs.Cycles.{IsFrom}
 use Rattle.if1_graph.specs.Formed.{IsOnce}
-use Rattle.if1_graph.specs.Normal.{IsNormal, IsNormalGraph}
+use Rattle.if1_graph.specs.Normal.{IsNormalGraph}
 use Rattle.if1_graph.specs.Ready.{IsReady}
-use Rattle.if1_graph.specs.Units.{Place, edge_into, label_of, node_at, number_of, places}
+use Rattle.if1_graph.specs.Units.{Place, edge_into, label_of, number_of, places}
 use Rattle.if1_marks.proofs.Taken.{sound-in-order}
 use Rattle.if1_marks.proofs.Tests.{same-number}
 use Rattle.if1_marks.specs.Orders.{AreOrdersRight}
@@ -23,18 +22,17 @@ use Rattle.if1_reach.proofs.Labelled.{fed-link, listed-link}
 use Rattle.if1_reach.specs.Nets.{links_in}
 use Rattle.graph_meaning.proofs.Lists.{found-in, here, here-or-there, in-mapped, in-none, there}
 use Rattle.graph_meaning.proofs.Units.{units-orderly}
-use Rattle.graph_meaning.specs.Carried.{Carried}
-use Rattle.graph_meaning.specs.Demand.{EachNode, Fixed, IsLabel, Kind, Port, Source, Vertex, at_label, data_labels, waits}
+use Rattle.graph_meaning.specs.Demand.{EachNode, Fixed, IsLabel, Port, Source, Vertex, at_label, data_labels, waits}
 use Rattle.graph_meaning.specs.Entered.{IsIn}
 use Rattle.graph_meaning.specs.Networks.{kind_of, net_at, network, nothing, vertex_of}
-use Rattle.ordered_meaning.specs.Orders.{AreInOrder, IsAlong, IsInOrder}
+use Rattle.ordered_meaning.specs.Orders.{IsAlong, IsInOrder}
 use Rattle.unit_laws.proofs.TypedChoices.{got-below}
 use Rattle.unit_laws.proofs.TypedEdges.{found-edge, graph-formed, node-formed}
 use Rattle.unit_laws.proofs.TypedNodes.{node-found}
 use Rattle.unit_plan.proofs.Found.{at-own, net-is}
 use Rattle.unit_plan.proofs.Sources.{by-edge, in-ins}
 use Rattle.firing_order.specs.Laws.{AreFiringOrdersInOrder, HaveUnitsFiringOrders}
-use Rattle.firing_order.specs.Orders.{IsFiringOrder, order_by, vertex_before, vertices_at, vertices_in}
+use Rattle.firing_order.specs.Orders.{IsFiringOrder, vertex_before, vertices_at, vertices_in}
 
 -- ---- places
 
