@@ -20,4 +20,8 @@ mod steps;
 mod tagging;
 
 pub use laws::steps_are_for_all;
+pub use loading::{load, operand_at};
 pub use machine::{Machine, OpenCall, Turn};
+pub use moving::{operands_from, unload};
+pub use scalar::operand_of;
+pub use sights::{cell_at, direct, sight};
