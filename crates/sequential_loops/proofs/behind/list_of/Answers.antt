@@ -1,4 +1,4 @@
-use Rattle.std.proofs.Common.{◌<◌, ◌≤◌, [], ◌∷◌, ◌++◌, take, length, subst, sym, ap, ◌∙◌, arith}
+use Rattle.std.proofs.Common.{◌<◌, ◌≤◌, [], ◌∷◌, ◌++◌, take, length, sym, ap, ◌∙◌, arith}
 use Rattle.graph_meaning.specs.Carried.{val_of}
 use Rattle.graph_meaning.specs.Forms.{items}
 use Rattle.run_cells.specs.Sights.{seen_value}

@@ -1,6 +1,5 @@
-use Rattle.std.proofs.Common.{◌≡◌, ℕ, ◌+◌, ◌<◌, ◌≤◌, length, refl, ◌∙◌, subst, sym, arith}
+use Rattle.std.proofs.Common.{◌≡◌, ◌≤◌, refl, ◌∙◌, arith}
 use Rattle.run_cells.specs.Held.{heap_of}
-use Rattle.sequential_loops.specs.Laying.{IsLaid}
 use Rattle.sequential_loops.proofs.LaidCells.{laid-none, laid-more}
 use Rattle.sequential_loops.proofs.laying.settle.Goals as goal
 

@@ -1,9 +1,7 @@
-use Rattle.std.proofs.Common.{◌≡◌, ◌+◌, ◌-◌, ◌≤◌, ◌&&◌, true, false, nat_eq, List, [], ◌∷◌, drop, length, refl, sym, ap, ◌∙◌, subst, arith}
+use Rattle.std.proofs.Common.{◌≡◌, ◌+◌, ◌-◌, ◌≤◌, ◌&&◌, nat_eq, List, drop, length, sym, ap, ◌∙◌, subst, arith}
 use Rattle.std.proofs.lemmas.Bool.{eq-eqb, ne_eqb}
 use Rattle.graph_meaning.specs.Forms.{items}
-use Rattle.run_store.specs.Stored as stored
 use Rattle.run_cells.specs.Held.{heap_of}
-use Rattle.step_code.specs.Reading.{operand_in, mode_in}
 use Rattle.step_code.specs.declared.code.Operand.{Operand}
 use Rattle.sequential.specs.Loading.{AreInside, seen_of}
 use Rattle.sequential_loops.specs.Spreading.{all_long}

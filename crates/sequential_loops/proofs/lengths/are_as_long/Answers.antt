@@ -1,9 +1,5 @@
-use Rattle.std.proofs.Common.{◌≡◌, List, [], ◌∷◌, length, refl, sym, ap, ◌∙◌}
-use Rattle.graph_meaning.specs.Carried.{Carried}
-use Rattle.graph_meaning.specs.Forms.{items, places_of, are_as_long}
 use Rattle.run_cells.specs.Held.{heap_of}
 use Rattle.sequential.specs.Loading.{seen_of}
-use Rattle.sequential_loops.specs.Spreading.{all_long}
 use Rattle.sequential_loops.proofs.SpreadSteps.{as-long-first}
 use Rattle.sequential_loops.proofs.lengths.are_as_long.Goals as goal
 

@@ -1,9 +1,7 @@
-use Rattle.std.proofs.Common.{◌≡◌, ◌+◌, ◌-◌, ◌≤◌, List, [], ◌∷◌, drop, length, Option, Some, None, refl, sym, ap, ◌∙◌, subst, arith}
+use Rattle.std.proofs.Common.{◌≡◌, ◌+◌, ◌-◌, ◌≤◌, List, drop, length, ap, ◌∙◌, subst, arith}
 use Rattle.flow_reduce.specs.Elements.{or_else}
 use Rattle.graph_meaning.specs.Forms.{spoiled, first_spoiled}
-use Rattle.run_store.specs.Stored as stored
 use Rattle.run_cells.specs.Held.{heap_of}
-use Rattle.step_code.specs.Reading.{operand_in, mode_in}
 use Rattle.step_code.specs.declared.code.Operand.{Operand}
 use Rattle.sequential.specs.Loading.{AreInside, seen_of}
 use Rattle.sequential_loops.proofs.Lists.{drop-next, drop-all}

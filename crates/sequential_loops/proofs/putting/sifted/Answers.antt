@@ -1,10 +1,8 @@
-use Rattle.std.proofs.Common.{◌≡◌, get_or, subst, sym, ◌∙◌}
+use Rattle.std.proofs.Common.{◌≡◌, get_or, subst, sym}
 use Rattle.loop_folds.specs.declared.masking.Keep.TheVariants.{Kept, Dropped, Failed}
 use Rattle.graph_meaning.specs.Carried.{Unfilled}
 use Rattle.run_code.specs.Collecting.{says}
-use Rattle.run_cells.specs.declared.cell.Cell.{Cell}
 use Rattle.run_cells.specs.Held.{held}
-use Rattle.step_code.specs.declared.step.Collect.{Collect}
 use Rattle.sequential.specs.Agrees.{owned_all}
 use Rattle.sequential_loops.proofs.PutRows.{kept-behind, mask-fails, mask-drops}
 use Rattle.sequential_loops.proofs.putting.sifted.Goals as goal

@@ -1,13 +1,12 @@
-use Rattle.std.proofs.Common.{◌≡◌, ℕ, ◌+◌, ◌-◌, ◌<◌, ◌≤◌, ◌⊎◌, true, false, List, ◌∷◌, drop, length, get_or, inl, inr, refl, sym, ap, ◌∙◌, subst, arith}
+use Rattle.std.proofs.Common.{◌≡◌, ℕ, ◌+◌, ◌<◌, ◌≤◌, true, ◌∷◌, drop, length, get_or, inl, inr, refl, sym, ap, ◌∙◌, subst, arith}
 use Rattle.graph_meaning.specs.Carried.{Unfilled}
-use Rattle.run_code.specs.Collections.{put_in, put_all}
+use Rattle.run_code.specs.Collections.{put_all}
 use Rattle.run_store.specs.Stored as stored
 use Rattle.run_cells.specs.Held.{heap_of}
-use Rattle.step_code.specs.Laid.{collect_in}
 use Rattle.sequential.specs.Agrees.{owned_all}
-use Rattle.sequential_loops.specs.Laying.{IsLaid, owning}
+use Rattle.sequential_loops.specs.Laying.{owning}
 use Rattle.sequential_loops.specs.Putting.{AreMovedOnce, IsReadIn, IsThere, collections_of}
-use Rattle.sequential_loops.proofs.Lists.{drop-next, drop-all}
+use Rattle.sequential_loops.proofs.Lists.{drop-next}
 use Rattle.sequential_loops.proofs.LaidCells.{laid-none, laid-more}
 use Rattle.sequential_loops.proofs.PutRows.{put-same, put-at, there-long, there-at}
 use Rattle.sequential_loops.proofs.rows.put_row.Goals as goal

@@ -1,4 +1,4 @@
-use Rattle.std.proofs.Common.{◌+◌, ◌≤◌, length, refl, sym, ap, ◌∙◌, subst, arith}
+use Rattle.std.proofs.Common.{refl, sym, ap, ◌∙◌}
 use Rattle.run_code.specs.Collections.{nothing_in}
 use Rattle.run_store.specs.Stored as stored
 use Rattle.run_cells.specs.Held.{heap_of}

@@ -1,5 +1,4 @@
-use Rattle.std.proofs.Common.{Option, Some, None, sym, ap, ◌∙◌}
-use Rattle.graph_meaning.specs.Forms.{first_spoiled}
+use Rattle.std.proofs.Common.{sym, ap, ◌∙◌}
 use Rattle.run_code.specs.Machine.{spreads, sized}
 use Rattle.run_cells.specs.Held.{heap_of}
 use Rattle.sequential.specs.Loading.{seen_of}

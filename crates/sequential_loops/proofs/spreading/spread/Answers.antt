@@ -1,17 +1,15 @@
-use Rattle.std.proofs.Common.{◌≡◌, ◌+◌, List, length, Option, Some, None, subst, refl, sym, ap, ◌∙◌, arith}
-use Rattle.flow_value.specs.declared.cause.Cause.{Cause}
+use Rattle.std.proofs.Common.{◌≡◌, ◌+◌, List, length, subst, refl, ap, ◌∙◌, arith}
 use Rattle.graph_meaning.specs.Forms.{first_spoiled}
 use Rattle.run_code.specs.Machine.{spreads}
 use Rattle.run_cells.specs.declared.cell.Cell.{Cell}
 use Rattle.run_cells.specs.Held.{heap_of}
 use Rattle.step_code.specs.declared.code.Operand.{Operand}
 use Rattle.step_code.specs.declared.step.Collect.{Collect}
-use Rattle.step_code.specs.Reading.{so_many, listed}
 use Rattle.sequential.specs.declared.machine.Machine.{Machine}
 use Rattle.sequential.specs.Loading.{seen_of}
 use Rattle.sequential_loops.specs.Laying.{IsLaid}
 use Rattle.sequential_loops.specs.Spreading.{by_obstacle, LoadsKept, spread_cells}
-use Rattle.sequential_loops.proofs.SpreadSteps.{Leads, spread-goes, spread-fails}
+use Rattle.sequential_loops.proofs.SpreadSteps.{spread-goes, spread-fails}
 use Rattle.sequential_loops.proofs.spreading.spread.Goals as goal
 
 pub spread_out-requires : goal.spread_out-requires

@@ -1,8 +1,7 @@
-use Rattle.std.proofs.Common.{◌≡◌, ℕ, ◌+◌, pos, length, subst, sym, ap, ◌∙◌, refl, arith}
+use Rattle.std.proofs.Common.{◌≡◌, ◌+◌, pos, length, subst, sym, ap, ◌∙◌, refl, arith}
 use Rattle.run_code.specs.Collections.{nothing_in}
-use Rattle.run_store.specs.Stored as stored
 use Rattle.run_cells.specs.declared.cell.Cell.TheVariants as cell
-use Rattle.run_cells.specs.Held.{held, heap_of}
+use Rattle.run_cells.specs.Held.{heap_of}
 use Rattle.sequential_loops.specs.Laying.{IsLaid, owning}
 use Rattle.sequential_loops.specs.Putting.{collections_of}
 use Rattle.sequential_loops.proofs.PutRows.{none-long}

@@ -1,4 +1,4 @@
-use Rattle.std.proofs.Common.{◌≡◌, ◌+◌, ◌≤◌, if◌then◌else◌, List, [], ◌∷◌, map, drop, length, refl, sym, ap, ◌∙◌, subst, arith}
+use Rattle.std.proofs.Common.{◌≡◌, ◌+◌, ◌≤◌, if◌then◌else◌, List, map, drop, length, ◌∙◌, subst, arith}
 use Rattle.graph_meaning.specs.Storage.{capped}
 use Rattle.run_code.specs.Collecting.{put_leaves}
 use Rattle.run_store.specs.Stored as stored

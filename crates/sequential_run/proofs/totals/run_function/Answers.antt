@@ -1,6 +1,6 @@
-use Rattle.std.proofs.Common.{◌≡◌, subst, sym, ◌∙◌}
+use Rattle.std.proofs.Common.{subst, sym}
 use Rattle.std.proofs.lemmas.Result.{err_from_is_err_and}
-use Rattle.sequential_run.specs.Runs.{IsDecided, LendsBelow, IsFault, HasRun}
+use Rattle.sequential_run.specs.Runs.{IsDecided, LendsBelow, IsFault}
 use Rattle.sequential_run.specs.Totals.{entered_at}
 use Rattle.sequential_run.proofs.Entering.{entered-stands, one-list, totals-are}
 use Rattle.sequential_run.proofs.totals.run_function.Goals as goal
