@@ -1,25 +1,22 @@
 -- Each step that is added is its line, with its setting.
-use Rattle.std.proofs.Common.{◌≡◌, ℕ, zero, suc, ◌+◌, ◌-◌, ◌^◌, ◌≤◌, Bool, true, false, if◌then◌else◌, List, [], ◌∷◌, ◌++◌, map, length, get_or, refl, sym, ap, ◌∙◌, subst, arith}
+use Rattle.std.proofs.Common.{◌≡◌, ℕ, zero, suc, ◌+◌, ◌-◌, ◌^◌, ◌≤◌, true, false, List, [], ◌∷◌, ◌++◌, map, length, get_or, refl, sym, ap, ◌∙◌, subst}
 use Rattle.std.proofs.lemmas.List.{append-nil, length-map}
 use Rattle.node_ops.specs.Operands.{shape_of}
 use Rattle.flow_value.specs.declared.operands.Shape.{Shape}
 use Rattle.if1_graph.specs.declared.op.Simple.{Simple}
-use Rattle.run_code.specs.Cells as cells
 use Rattle.run_code.specs.Cells.{cells_at}
 use Rattle.run_code.specs.Made.{Origin, line}
 use Rattle.run_code.specs.Steps as made
-use Rattle.run_store.specs.Stored.{Mode, Looks, Takes}
+use Rattle.run_store.specs.Stored.{Looks}
 use Rattle.made_store.specs.Settings.{Cells_of, takes_all}
 use Rattle.made_store.specs.Settled.{setting}
-use Rattle.step_code.specs.declared.code.Code.{Code}
 use Rattle.step_code.specs.declared.step.Collect.{Collect}
 use Rattle.step_code.specs.declared.step.Counted.{Counted}
 use Rattle.step_code.specs.declared.step.Written.{Written}
 use Rattle.step_code.specs.declared.step.Step.TheVariants as step
-use Rattle.step_code.specs.Laid.{collect_in, puts_of, taken_all, taken_unless}
+use Rattle.step_code.specs.Laid.{collect_in, puts_of, taken_all}
 use Rattle.step_code.specs.Reading.{is_kept, mode_in, operand_in, so_many}
 use Rattle.plan_data.specs.declared.plan.Handled.{Handled}
-use Rattle.plan_data.specs.declared.plan.Handled.TheVariants as handled
 use Rattle.plan_data.specs.declared.plan.Port.{Port}
 use Rattle.plan_data.specs.declared.plan.PlanData.{PlanData}
 use Rattle.plan_data.specs.Parts.{IsFormed, mode_by, mode_of}
@@ -27,7 +24,7 @@ use Rattle.code_maker.specs.declared.draft.Draft.{Draft}
 use Rattle.code_maker.specs.declared.seats.Seat.{Seat}
 use Rattle.code_maker.specs.Seats.{at_seat, at_seats, laid, looked_at, put_as, seats_at, with_mode}
 use Rattle.code_maker.specs.Grows.{Grows, read_as}
-use Rattle.code_maker.proofs.Reading.{collects-are, kept-by, looked-are, looked-read, more-read, operand-is, operands-are, ports-kept, ports-read, puts-are, puts-none, read-one, taken-same, unmarked}
+use Rattle.code_maker.proofs.Reading.{collects-are, kept-by, looked-read, more-read, operand-is, operands-are, ports-kept, ports-read, puts-are, puts-none, read-one, taken-same, unmarked}
 use Rattle.code_maker.proofs.Growing.{collects-named, grows-one, operands-named, targets-named}
 
 looked-long : (i n : ℕ) → length (looked_at i n) ≡ n

@@ -1,10 +1,10 @@
 -- The parts of a graph's code, one behind another.
-use Rattle.std.proofs.Common.{◌≡◌, ℕ, zero, suc, ◌+◌, ◌≤◌, if◌then◌else◌, Bool, true, false, List, [], ◌∷◌, ◌++◌, map, drop, length, get_or, refl, sym, ap, ◌∙◌, subst, arith, append_assoc}
+use Rattle.std.proofs.Common.{◌≡◌, ℕ, zero, suc, ◌+◌, if◌then◌else◌, Bool, true, false, List, [], ◌∷◌, ◌++◌, map, drop, length, get_or, refl, sym, ap, ◌∙◌, subst, arith, append_assoc}
 use Rattle.std.proofs.lemmas.List.{append-nil, length-map}
 use Rattle.graph_meaning.specs.Carried.{Unfilled}
 use Rattle.graph_meaning.specs.Forms as form
 use Rattle.graph_meaning.specs.Demand.{Source, Vertex, Whole}
-use Rattle.ordered_meaning.specs.Taking.{Taken, first_port, taken_by}
+use Rattle.ordered_meaning.specs.Taking.{first_port, taken_by}
 use Rattle.node_ops.specs.Operands.{shape_of}
 use Rattle.flow_value.specs.declared.operands.Shape.{Shape}
 use Rattle.if1_graph.specs.declared.op.Simple.{Simple}
@@ -12,7 +12,6 @@ use Rattle.run_code.specs.Cells as cells
 use Rattle.run_code.specs.Cells.{cells_at, own_cells, picked}
 use Rattle.run_code.specs.Coded.{operand}
 use Rattle.run_code.specs.Collections as collections
-use Rattle.run_code.specs.Known.{Known}
 use Rattle.run_code.specs.Made.{Line, OfInputs, OfNode, OfNothing, OfResults, OfRows, Origin, Plan, arm_code, arms_at, arms_code, end_at, ends_at, function_lines, functions_lines, graph_code, kind_code, kind_size, line, loop_code, nodes_code, parts_code, placed, stand}
 use Rattle.run_code.specs.Steps.{Add, Branch, Call, Count, Each, Fire, Keep, Move, Return, Spread, Step, Tag, Test}
 use Rattle.run_made.specs.Plans.{last_line}

@@ -1,5 +1,5 @@
 -- Lists of seats and cells that grow at their ends.
-use Rattle.std.proofs.Common.{◌≡◌, ℕ, zero, suc, ◌+◌, List, [], ◌∷◌, ◌++◌, ap, ◌∙◌, arith}
+use Rattle.std.proofs.Common.{◌≡◌, ℕ, zero, suc, ◌+◌, [], ◌∷◌, ◌++◌, ap, ◌∙◌, arith}
 use Rattle.step_code.specs.declared.code.Operand.TheVariants as operand
 use Rattle.code_maker.specs.declared.seats.Seat.TheVariants as seat
 use Rattle.code_maker.specs.Seats.{cells_from, looked_at}

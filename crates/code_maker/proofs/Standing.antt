@@ -1,15 +1,14 @@
 -- What stands in the data is as the plan has it.
-use Rattle.std.proofs.Common.{◌≡◌, ℕ, zero, suc, ◌+◌, ◌-◌, ◌^◌, ◌<◌, ◌≤◌, if◌then◌else◌, Bool, true, false, List, [], ◌∷◌, ◌++◌, map, length, get_or, refl, sym, ap, ◌∙◌, subst, arith}
+use Rattle.std.proofs.Common.{◌≡◌, ℕ, zero, suc, ◌+◌, ◌-◌, ◌^◌, ◌≤◌, if◌then◌else◌, Bool, true, false, List, [], ◌∷◌, ◌++◌, map, length, get_or, refl, sym, ap, ◌∙◌, subst, arith}
 use Rattle.std.proofs.Math.ListN.{get_or-map}
 use Rattle.graph_meaning.specs.Carried.{Unfilled}
-use Rattle.graph_meaning.specs.Demand.{Source, Fixed}
-use Rattle.graph_meaning.specs.Demand as demand
+use Rattle.graph_meaning.specs.Demand.{Source}
 use Rattle.run_code.specs.Cells as cells
 use Rattle.run_code.specs.Cells.{cells_at, own_cells, picked}
 use Rattle.run_code.specs.Coded.{operand}
 use Rattle.run_code.specs.Made.{Makes, Plan, arms_at, arms_size, end_at, ends_at, kind_size, placed, stand}
 use Rattle.run_store.specs.Ports.{copies_of}
-use Rattle.run_store.specs.Stored.{Copies, Mode}
+use Rattle.run_store.specs.Stored.{Copies}
 use Rattle.made_store.specs.Settings.{Shares}
 use Rattle.step_code.specs.declared.step.Collect.{Collect}
 use Rattle.step_code.specs.declared.step.Collect.TheVariants as collect

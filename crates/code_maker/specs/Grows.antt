@@ -1,5 +1,5 @@
 -- Steps that are added to code are these lines, with these settings, whatever is added behind them.
-use Rattle.std.specs.Prelude.{◌≡◌, ℕ, Bool, true, false, List, [], ◌∷◌, ◌++◌, get_or}
+use Rattle.std.specs.Prelude.{◌≡◌, ℕ, true, false, List, [], ◌∷◌, ◌++◌, get_or}
 use Rattle.run_code.specs.Cells as cells
 use Rattle.run_code.specs.Made.{Line}
 use Rattle.run_store.specs.Effects.{reads_of}

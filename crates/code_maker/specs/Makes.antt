@@ -1,7 +1,6 @@
 -- What is made of a graph and of the parts of nodes: the lines and settings of each plan, with its shares, that stands in the data.
-use Rattle.std.specs.Prelude.{◌≡◌, ℕ, suc, if◌then◌else◌, Bool, true, false, List, [], ◌∷◌, ◌++◌, length, get_or}
-use Rattle.graph_meaning.specs.Forms as form
-use Rattle.graph_meaning.specs.Demand.{Kind, Vertex, Whole}
+use Rattle.std.specs.Prelude.{◌≡◌, ℕ, if◌then◌else◌, Bool, true, false, List, [], ◌∷◌, ◌++◌, length, get_or}
+use Rattle.graph_meaning.specs.Demand.{Kind, Vertex}
 use Rattle.run_code.specs.Made.{OfNothing, OfResults, OfRows, Plan, arm_code, arms_code, end_at, ends_at, function_lines, functions_lines, graph_code, kind_code, line, nodes_code, parts_code, placed}
 use Rattle.run_code.specs.Steps.{Add, Keep, Test}
 use Rattle.ordered_meaning.specs.Taking.{Taken}

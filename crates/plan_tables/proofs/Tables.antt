@@ -1,5 +1,5 @@
 -- Tables that are filled from the last graph to the first.
-use Rattle.std.proofs.Common.{◌≡◌, ℕ, zero, suc, ◌+◌, ◌-◌, ◌<◌, ◌≤◌, max, drop, if◌then◌else◌, inl, inr, List, [], ◌∷◌, ◌++◌, length, map, get_or, slice_get, refl, sym, ap, ◌∙◌, subst, arith, get_or-set_other, get_or-set_same, set, eqb, Bool, true, false, Some, None}
+use Rattle.std.proofs.Common.{◌≡◌, ℕ, zero, suc, ◌+◌, ◌-◌, ◌<◌, ◌≤◌, max, drop, if◌then◌else◌, inl, inr, List, [], ◌∷◌, length, map, get_or, slice_get, refl, sym, ap, ◌∙◌, subst, arith, get_or-set_other, get_or-set_same, set, eqb, Bool, true, false}
 use Rattle.std.proofs.lemmas.Bool.{eq-eqb}
 use Rattle.std.proofs.lemmas.Option.{slice_get_past}
 use Rattle.std.proofs.lemmas.List.{drop_more}
@@ -11,7 +11,7 @@ use Rattle.plan_data.specs.declared.plan.PlanNode.{PlanNode}
 use Rattle.plan_data.specs.declared.plan.Work.{Work}
 use Rattle.plan_data.specs.declared.plan.Work.TheVariants as work
 use Rattle.plan_data.specs.Parts.{arms_steps, collects_of, count_true, extent_in, graph_refolded, greatest_of, nodes_cells, nodes_of, nodes_steps, picks_of, refolded_of, results_of, size_in, table_of, work_cells, work_steps}
-use Rattle.plan_tables.specs.Above.{AllAbove, AreAbove, ArePartsAbove, IsPartAbove, entry_at, roomed, tabled}
+use Rattle.plan_tables.specs.Above.{AllAbove, AreAbove, IsPartAbove, entry_at, roomed, tabled}
 
 module _ (D E : PlanData) (same_graphs : D.graphs ≡ E.graphs) (k : ℕ) where
   refolded-same : (r : ℕ) → graph_refolded D r ≡ graph_refolded E r

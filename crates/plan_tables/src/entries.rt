@@ -1,8 +1,9 @@
 //! Where functions begin.
 ghost use Rattle.std.specs.Prelude.{◌≡◌, ℕ, ◌<◌, length, IfOk};
 ghost use Rattle.graph_meaning.specs.Entered.{IsIn};
-ghost use Rattle.plan_data.specs.Parts.{arms_steps, table_of};
-ghost use Rattle.plan_tables.specs.Above.{entry_at, tabled};
+ghost use Rattle.plan_data.specs.declared.plan.PlanData.{PlanData};
+ghost use Rattle.plan_data.specs.Parts.{table_of};
+ghost use Rattle.plan_tables.specs.Above.{entry_at};
 
 use crate::sizes::{arms_total, zeros};
 use flow_value::{NoMemory, Numbers};
@@ -18,7 +19,7 @@ pub fn entries_of(
     functions: &[u32],
 ) -> Result<Numbers, NoMemory>
     requires { (f : ℕ) → IsIn f functions.now → f < length graphs.now }
-    ensures { IfOk result (λ es. (f : ℕ) → IsIn f functions.now → table_of es f ≡ entry_at (tabled graphs.now sizes.now) functions.now 0 f) }
+    ensures { IfOk result (λ es. (D : PlanData) → D.sizes ≡ sizes.now → (f : ℕ) → IsIn f functions.now → table_of es f ≡ entry_at D functions.now 0 f) }
 {
     let mut entries = zeros(alloc, graphs.len())?;
     let mut begin = arms_total(graphs, sizes, functions)?;

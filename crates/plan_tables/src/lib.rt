@@ -4,8 +4,10 @@
 
 mod entries;
 mod extents;
+mod laws;
 mod sizes;
 
 pub use entries::entries_of;
 pub use extents::extents_of;
+pub use laws::tables_are_of_plans;
 pub use sizes::sizes_of;

@@ -1,5 +1,5 @@
 -- What rows say is what is written and copied by the definition of record.
-use Rattle.std.proofs.Common.{◌≡◌, ℕ, suc, ◌+◌, ◌-◌, ◌*◌, ◌<◌, ◌≤◌, ◌&&◌, if◌then◌else◌, Bool, true, false, List, [], ◌∷◌, drop, length, get_or, Option, Some, None, refl, sym, ap, ◌∙◌, subst, arith}
+use Rattle.std.proofs.Common.{◌≡◌, ℕ, suc, ◌+◌, ◌-◌, ◌<◌, ◌≤◌, ◌&&◌, if◌then◌else◌, Bool, true, false, List, [], ◌∷◌, drop, length, get_or, Option, Some, None, refl, sym, ap, ◌∙◌, arith}
 use Rattle.if1_graph.specs.Ops.{reducer_at}
 use Rattle.if1_graph.specs.declared.op.Reducer.{Reducer}
 use Rattle.if1_graph.specs.declared.op.Reducer.TheVariants as reducer

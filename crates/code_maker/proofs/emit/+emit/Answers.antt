@@ -1,4 +1,4 @@
-use Rattle.std.proofs.Common.{◌≡◌, ℕ, zero, suc, ◌+◌, ◌-◌, ◌^◌, ◌≤◌, List, [], ◌∷◌, ◌++◌, length, map, get_or, slice_get, drop, refl, sym, ap, ◌∙◌, subst, arith, max}
+use Rattle.std.proofs.Common.{◌≡◌, suc, ◌+◌, ◌-◌, ◌^◌, [], ◌∷◌, ◌++◌, length, map, get_or, slice_get, drop, refl, sym, ap, ◌∙◌, subst, arith, max}
 use Rattle.std.proofs.lemmas.List.{drop_more}
 use Rattle.std.proofs.lemmas.Result.{on_ok_weaker}
 use Rattle.std.proofs.Math.Nat.{le-max_left, le-max_right}
@@ -7,11 +7,9 @@ use Rattle.made_store.specs.Settled.{arms_settings, graph_settings}
 use Rattle.code_maker.specs.Grows.{Grows}
 use Rattle.code_maker.specs.Makes.{ArmMade, NodesMade, PartsMade}
 use Rattle.code_maker.specs.Seats.{at_seats}
-use Rattle.plan_data.specs.declared.plan.Port.{Port}
 use Rattle.plan_data.specs.declared.plan.PlanNode.{PlanNode}
 use Rattle.plan_data.specs.Parts.{collects_of, nodes_of, refolded_of, results_of, table_of}
 use Rattle.plan_data.specs.Parts as parts
-use Rattle.code_maker.specs.declared.seats.Seat.TheVariants as seat
 use Rattle.code_maker.specs.Seats.{cells_from, first_seat, stand_from}
 use Rattle.code_maker.proofs.Emitting.{arm-made, arm-more, call-made, fire-made, first-made, for-all-made, loop-made, node-more, nodes-none, rows-made, select-made, tag-made, turns-made, whole-made}
 use Rattle.code_maker.proofs.Standing.{below-more, columns-more, many-copied, results-below}

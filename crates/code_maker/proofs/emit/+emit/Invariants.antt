@@ -1,4 +1,4 @@
-use Rattle.std.proofs.Common.{◌≡◌, ℕ, ◌+◌, ◌-◌, ◌*◌, ◌^◌, ◌≤◌, drop}
+use Rattle.std.proofs.Common.{◌+◌, ◌-◌, ◌*◌, ◌^◌, ◌≤◌, drop}
 use Rattle.run_code.specs.Made.{Plan, arms_code, graph_code}
 use Rattle.made_store.specs.Settings.{Cells_of, Shares}
 use Rattle.made_store.specs.Settled.{arms_settings, graph_settings}

@@ -1,4 +1,4 @@
-use Rattle.std.proofs.Common.{◌≡◌, ℕ, ◌+◌, ◌-◌, ◌^◌, ◌≤◌, drop}
+use Rattle.std.proofs.Common.{◌+◌, ◌-◌, ◌^◌, ◌≤◌, drop}
 use Rattle.run_code.specs.Made.{Plan, functions_lines}
 use Rattle.made_store.specs.Settings.{Shares}
 use Rattle.made_store.specs.Settled.{functions_settings}

@@ -1,4 +1,4 @@
-use Rattle.std.proofs.Common.{◌≡◌, ◌+◌, ◌-◌, ◌^◌, ◌≤◌, ◌++◌, drop, length, take}
+use Rattle.std.proofs.Common.{◌≡◌, ◌+◌, ◌-◌, ◌^◌, ◌++◌, drop, take}
 use Rattle.plan_data.specs.Parts.{AreColumnsBelow}
 use Rattle.code_maker.specs.Seats.{stand_from}
 use Rattle.code_maker.proofs.seats.with_stand.Given as goal

@@ -1,4 +1,4 @@
-use Rattle.std.proofs.Common.{refl, ◌∙◌}
+use Rattle.std.proofs.Common.{refl}
 use Rattle.std.proofs.lemmas.Result.{on_ok_weaker}
 use Rattle.code_maker.proofs.Adding.{count-grows}
 use Rattle.code_maker.proofs.steps.add_count.Goals as goal

@@ -1,4 +1,4 @@
-use Rattle.std.proofs.Common.{refl, ◌∙◌}
+use Rattle.std.proofs.Common.{refl}
 use Rattle.std.proofs.lemmas.Result.{on_ok_weaker}
 use Rattle.code_maker.proofs.Adding.{test-grows}
 use Rattle.plan_data.specs.declared.plan.Handled.TheVariants as handled

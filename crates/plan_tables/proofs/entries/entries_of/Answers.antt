@@ -1,9 +1,10 @@
-use Rattle.std.proofs.Common.{◌≡◌, ℕ, suc, ◌+◌, ◌-◌, ◌<◌, ◌≤◌, List, length, get_or, drop, sym, ap, ◌∙◌, subst, arith}
+use Rattle.std.proofs.Common.{◌≡◌, ℕ, suc, ◌+◌, ◌-◌, length, get_or, drop, sym, ap, ◌∙◌, subst, arith}
 use Rattle.std.proofs.lemmas.List.{length-set}
 use Rattle.graph_meaning.specs.Entered.{IsIn}
 use Rattle.plan_data.specs.Parts.{arms_steps, table_of}
 use Rattle.plan_tables.specs.Above.{entry_at, tabled}
 use Rattle.plan_tables.proofs.Tables.{at-place, begin-fits, entries-more, in-all}
+use Rattle.plan_tables.proofs.Plans.{entry-same}
 use Rattle.plan_tables.proofs.entries.entries_of.Goals as goal
 
 pub overflow_add-begin : goal.overflow_add-begin
@@ -55,3 +56,15 @@ loop-place-preserved c =
           ap (λ x. table_of x h) c.set.ensures
           ∙ (more h (subst (IsIn h) rest in_h) ∙ ap (λ x. entry_at D x begin h) (sym rest));
     }
+
+pub returns : goal.returns
+returns c =
+    λ D same f in_f.
+    let fs = c.args.functions.now in
+    let T = tabled c.args.graphs.now c.args.sizes.now in
+    let none = c.loop-place-test.false in
+    let start : c.loop-place.place ≡ 0 = omega (arith, none) in
+    let right = subst (λ x. (h : ℕ) → IsIn h (drop x fs) → table_of c.loop-place.entries h ≡ entry_at T (drop x fs) c.loop-place.begin h) start c.loop-place.invariant.right in
+    let far = subst (λ x. c.loop-place.begin + arms_steps T (drop x fs) ≡ arms_steps T fs) start c.loop-place.invariant.far in
+    let begin : c.loop-place.begin ≡ 0 = omega (arith, far) in
+    right f in_f ∙ (ap (λ q. entry_at T fs q f) begin ∙ entry-same T D (sym same) fs 0 f)
