@@ -1,0 +1,69 @@
+//! The texts of a program's unit.
+ghost use Rattle.std.specs.Prelude.{◌≡◌, ◌++◌, IfOk, IfErr};
+ghost use Rattle.if1_graph.specs.Lines.{if1_text};
+ghost use Rattle.lowered_units.specs.Fitting.{IsFitting};
+ghost use Rattle.unit_drawing.specs.Notes.{note_lines};
+ghost use Rattle.compile_call.specs.Calls.{IsMarked, IsRefused, IsTextBy, Prints};
+
+use flow_value::{NoMemory, Text};
+use if1_write::write_if1;
+use mark_units::{Marked, mark};
+use run_words::CompileSet;
+use std::alloc::Global;
+use translate::{TranslateFault, translate};
+use typed_tree::Program;
+use unit_drawing::{add_notes, drawing};
+
+/// The unit of a program with the marks that are made.
+fn marked(alloc: Global, program: &Program) -> Result<Marked, TranslateFault>
+    requires fits { IsFitting program.now }
+    ensures marked { IfOk result (IsMarked program.now) }
+    ensures refused { IfErr result (IsRefused program.now) }
+{
+    let ready = translate(alloc, program)?;
+    let marked = mark(alloc, ready)?;
+    Ok(marked)
+}
+
+/// The canonical text of a marked unit.
+fn compiled(alloc: Global, marked: &Marked) -> Result<Text, NoMemory>
+    ensures { IfOk result (λ text. text ≡ if1_text marked.now.sound) }
+{
+    write_if1(alloc, marked.sound.unit())
+}
+
+/// The canonical text of a marked unit, and behind it why edges that may take don't.
+fn explained(alloc: Global, marked: &Marked) -> Result<Text, NoMemory>
+    ensures { IfOk result (λ text. text ≡ if1_text marked.now.sound ++ note_lines marked.now.notes) }
+{
+    let mut text = compiled(alloc, marked)?;
+    add_notes(marked.notes.as_slice(), &mut text)?;
+    Ok(text)
+}
+
+/// What is printed of a marked unit.
+fn text_of(alloc: Global, marked: &Marked, set: &CompileSet) -> Result<Text, NoMemory>
+    ensures { IfOk result (IsTextBy set.now.dot set.now.why marked.now) }
+{
+    if set.dot {
+        drawing(alloc, marked.sound.unit())
+    } else if set.why {
+        explained(alloc, marked)
+    } else {
+        compiled(alloc, marked)
+    }
+}
+
+/// What `compile` prints of a program: the canonical text of its unit of graphs with the marks that are
+/// made (IF1 manual M-170), or with `dot` a drawing of it, or with `why` behind the text a comment line
+/// for each edge that may take and does not. Refused where types, graphs or ports would be too large or
+/// too many, with the line of the function in which this shows.
+pub fn compile(alloc: Global, program: &Program, set: &CompileSet) -> Result<Text, TranslateFault>
+    requires fits { IsFitting program.now }
+    ensures printed { IfOk result (Prints program.now set.now) }
+    ensures refused { IfErr result (IsRefused program.now) }
+{
+    let marked = marked(alloc, program)?;
+    let text = text_of(alloc, &marked, set)?;
+    Ok(text)
+}
