@@ -1,1 +1,3 @@
 pub mod KnownNames
+pub mod NamesOf
+pub mod OneLevel

@@ -18,6 +18,10 @@ entry_of u word = option_map (λ g. (out-Graph g).number) (find (is_called word)
 abbrev pub is_imported : List (ℕ × List ℕ) → List ℕ → Bool
 is_imported is name = list_any (λ i. bytes_eq i.1 name) is
 
+-- a function that is not exported and has one of these names
+abbrev pub is_of : List (List ℕ) → Graph → Bool
+is_of names g = not (out-Graph g).exported && list_any (λ n. bytes_eq n (out-Graph g).name) names
+
 -- a function that is not exported and stands in another unit
 abbrev pub is_lacking : Unit1 → Graph → Bool
 is_lacking u g = not (out-Graph g).exported && is_imported u.imports (out-Graph g).name

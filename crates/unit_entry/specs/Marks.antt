@@ -1,17 +1,15 @@
 -- Whether a unit has marks: an edge that takes, or an ordering list, at any depth.
-use Rattle.std.specs.Prelude.{Bool, true, false, ◌||◌, List, [], ◌∷◌}
+use Rattle.std.specs.Prelude.{ℕ, Bool, ◌||◌, List, length, nat_lt}
 use Rattle.std.specs.List.{list_any}
-use Rattle.if1_graph.specs.declared.graph.Edge.{Edge}
 use Rattle.if1_graph.specs.declared.graph.Graph.{Graph}
 use Rattle.if1_graph.specs.declared.graph.Graph.TheOpen.{Graph-F, Node-F}
 use Rattle.if1_graph.specs.declared.graph.Graph.TheFolds.{fold-Graph, fold-Node}
 use Rattle.if1_graph.specs.declared.graph.Node.{Node}
 use Rattle.if1_graph.specs.declared.graph.Unit1.{Unit1}
-use Rattle.std.specs.Prelude.{ℕ}
 
+-- an ordering list has a label
 abbrev pub is_some_label : List ℕ → Bool
-is_some_label [] = false
-is_some_label (l ∷ ls) = true
+is_some_label labels = nat_lt 0 (length labels)
 
 abbrev pub itself : Bool → Bool
 itself b = b

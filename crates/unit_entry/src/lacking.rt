@@ -1,8 +1,9 @@
 //! Functions that stand in other units.
-ghost use Rattle.std.specs.Prelude.{◌≡◌, ◌||◌, ◌&&◌, [], List, ℕ, not, bytes_eq, IfOk, OnOk};
-ghost use Rattle.std.specs.List.{list_any};
+ghost use Rattle.std.specs.Prelude.{◌≡◌, ◌||◌, [], List, ℕ, bytes_eq, option_map, IfOk, OnOk};
+ghost use Rattle.std.specs.List.{find, list_any};
+ghost use Rattle.std.specs.Option.{option_copied};
 ghost use Rattle.if1_graph.specs.declared.graph.Graph.TheViews.{out-Graph};
-ghost use Rattle.unit_entry.specs.Entries.{first_lacking, is_imported};
+ghost use Rattle.unit_entry.specs.Entries.{first_lacking, is_imported, is_of};
 
 use flow_value::{Name, NoMemory};
 use if1_graph::{Graph, Unit1};
@@ -62,21 +63,41 @@ fn imported(alloc: Global, imports: &[(u32, Name)]) -> Result<Names, NoMemory>
 }
 
 fn is_lacking(graph: &Graph, names: &Names) -> bool
-    ensures { result ≡ (not (out-Graph graph.now).exported && list_any (λ n. bytes_eq n (out-Graph graph.now).name) names.now) }
+    ensures { result ≡ is_of names.now graph.now }
 {
     !graph.exported && names.has(graph.name.as_slice())
 }
 
+/// The first function that is not exported and has one of these names.
+fn first_of<'a>(graphs: &'a [Graph], names: &Names) -> Option<&'a Graph>
+    ensures { option_copied result ≡ find (is_of names.now) graphs.now }
+{
+    for graph in graphs {
+        if is_lacking(graph, names) {
+            return Some(graph);
+        }
+    }
+    None
+}
+
+/// The name of the first function that is not exported and has one of these names.
+fn first_name(alloc: Global, graphs: &[Graph], names: &Names) -> Result<Option<Name>, NoMemory>
+    ensures { IfOk result (λ name. name ≡ option_map (λ g. (out-Graph g).name) (find (is_of names.now) graphs.now)) }
+{
+    match first_of(graphs, names) {
+        Some(graph) => {
+            let name = Name::from_slice(alloc, graph.name.as_slice())?;
+            Ok(Some(name))
+        }
+        None => Ok(None),
+    }
+}
+
 /// The name of the first function that is not exported and stands in another unit.
+#[tactic(auto, using(crate::proofs::NamesOf::lacks))]
 pub fn first_lacking(alloc: Global, unit: &Unit1) -> Result<Option<Name>, NoMemory>
     ensures { IfOk result (λ name. name ≡ first_lacking unit.now) }
 {
     let names = imported(alloc, unit.imports.as_slice())?;
-    for graph in unit.graphs.as_slice() {
-        if is_lacking(graph, &names) {
-            let name = Name::from_slice(alloc, graph.name.as_slice())?;
-            return Ok(Some(name));
-        }
-    }
-    Ok(None)
+    first_name(alloc, unit.graphs.as_slice(), &names)
 }

@@ -1,7 +1,7 @@
 //! Whether a unit has marks.
 ghost use Rattle.std.specs.Prelude.{◌≡◌};
 ghost use Rattle.std.specs.List.{list_any};
-ghost use Rattle.unit_entry.specs.Marks.{has_marks, is_marked, is_marked_node};
+ghost use Rattle.unit_entry.specs.Marks.{has_marks, is_marked, is_marked_node, is_some_label};
 
 use if1_graph::{Edge, Graph, Node, Unit1};
 
@@ -16,7 +16,14 @@ fn some_takes(edges: &[Edge]) -> bool
     false
 }
 
+fn has_label(labels: &[u32]) -> bool
+    ensures { result ≡ is_some_label labels.now }
+{
+    0 < labels.len()
+}
+
 #[cycle(marks)]
+#[tactic(auto, using(crate::proofs::OneLevel::by_nodes, crate::proofs::OneLevel::by_takers))]
 fn is_marked(graph: &Graph) -> bool
     ensures { result ≡ is_marked graph.now }
 {
@@ -36,10 +43,11 @@ fn some_nodes(nodes: &[Node]) -> bool
 }
 
 #[cycle(marks)]
+#[tactic(auto, using(crate::proofs::OneLevel::by_graphs, crate::proofs::OneLevel::by_list))]
 fn is_marked_node(node: &Node) -> bool
     ensures { result ≡ is_marked_node node.now }
 {
-    !node.before.is_empty() || some_graphs(node.subs.as_slice())
+    has_label(node.before.as_slice()) || some_graphs(node.subs.as_slice())
 }
 
 #[cycle(marks)]
