@@ -3,3 +3,5 @@ pub mod Names
 pub mod Functions
 pub mod Texts
 pub mod Typed
+pub mod Printed
+pub mod Results

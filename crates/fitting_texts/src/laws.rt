@@ -1,5 +1,5 @@
 //! The laws of programs of texts.
-ghost use Rattle.fitting_texts.specs.Laws.{DoTextsFit, DoTextsGiveTypes, DoTextsMeetWhatTheyTake};
+ghost use Rattle.fitting_texts.specs.Laws.{AreResultsRead, DoTextsFit, DoTextsGiveTypes, DoTextsMeetWhatTheyTake};
 
 /// The program of a typed unit of a text fits.
 pub fn programs_of_texts_fit()
@@ -16,4 +16,9 @@ pub fn functions_of_texts_give_values_of_their_types()
 /// there: operands of the kinds of a row, or errors; truth values; unions that have an arm.
 pub fn functions_of_texts_meet_what_they_take()
     ensures { DoTextsMeetWhatTheyTake }
+{}
+
+/// What is printed of the results of a function of a text reads as these values, each at its type.
+pub fn results_of_texts_are_read()
+    ensures { AreResultsRead }
 {}

@@ -6,5 +6,5 @@ mod laws;
 
 pub use laws::{
     functions_of_texts_give_values_of_their_types, functions_of_texts_meet_what_they_take,
-    programs_of_texts_fit,
+    programs_of_texts_fit, results_of_texts_are_read,
 };

@@ -192,7 +192,7 @@ module _ (u : Unit1) where
   pub record Own (ps : List Place) (low count : ℕ) : Type 0 where
     pub above : (p : Place) → Contains ps p → low ≤ number_of p
     pub below : (p : Place) → Contains ps p → number_of p < low + count
-    pub one : (p q : Place) → Contains ps p → Contains ps q → number_of p ≡ number_of q → p.graph ≡ q.graph
+    pub one : (p q : Place) → Contains ps p → Contains ps q → number_of p ≡ number_of q → p ≡ q
 
   abbrev parts : ℕ → Graph → Node → List Place
   parts more g n = each_from (λ k s. places_of more (Inside g n k) s) 0 (out-Node n).subs
@@ -217,10 +217,10 @@ module _ (u : Unit1) where
     number-of : (k : ℕ) (s : Graph) → slice_get gs k ≡ Some s → (out-Graph s).number ≡ start + sizes (take k gs)
     number-of k s e = numbered k s e (first-right more (home k) s (λ p c. all-siblings Right f 0 gs k s right e p (to-zero f k s p c))).0
 
-    same-graph : (k j : ℕ) (s t : Graph) → slice_get gs k ≡ Some s → slice_get gs j ≡ Some t → (p q : Place) → Contains (f k s) p → Contains (f j t) q → number_of p ≡ number_of q → p.graph ≡ q.graph
-    same-graph k j s t e d p q c b same = go (by-order k j)
+    same-place : (k j : ℕ) (s t : Graph) → slice_get gs k ≡ Some s → slice_get gs j ≡ Some t → (p q : Place) → Contains (f k s) p → Contains (f j t) q → number_of p ≡ number_of q → p ≡ q
+    same-place k j s t e d p q c b same = go (by-order k j)
       where
-        go : (k < j) ⊎ ((k ≡ j) ⊎ (j < k)) → p.graph ≡ q.graph
+        go : (k < j) ⊎ ((k ≡ j) ⊎ (j < k)) → p ≡ q
         go (inl lt) =
             absurd (omega (arith, (own-of k s e).below p c, (own-of j t d).above q b, number-of k s e, number-of j t d, sizes-later gs k j s e lt, same))
         go (inr (inr lt)) =
@@ -238,7 +238,7 @@ module _ (u : Unit1) where
         record {
           above = λ p c. let r = in-siblings f 0 gs p c in omega (arith, (own-of r.0 r.1 r.2).above p (from-zero f r.0 r.1 p r.3), number-of r.0 r.1 r.2);
           below = λ p c. let r = in-siblings f 0 gs p c in omega (arith, (own-of r.0 r.1 r.2).below p (from-zero f r.0 r.1 p r.3), number-of r.0 r.1 r.2, sizes-all gs r.0 r.1 r.2);
-          one = λ p q c d e. let r = in-siblings f 0 gs p c in let t = in-siblings f 0 gs q d in same-graph r.0 t.0 r.1 t.1 r.2 t.2 p q (from-zero f r.0 r.1 p r.3) (from-zero f t.0 t.1 q t.3) e;
+          one = λ p q c d e. let r = in-siblings f 0 gs p c in let t = in-siblings f 0 gs q d in same-place r.0 t.0 r.1 t.1 r.2 t.2 p q (from-zero f r.0 r.1 p r.3) (from-zero f t.0 t.1 q t.3) e;
         }
 
   module _ (more : ℕ) (own : OwnAt more) (home : Home) (g : Graph) (right : (p : Place) → Contains (places_of (suc more) home g) p → Right p) where
@@ -251,10 +251,10 @@ module _ (u : Unit1) where
         (λ p c. right p (there _ _ p (flat-in (parts more g) nodes n p h c)))
         (λ k s e is. omega (arith, is))
 
-    same-inside : (m n : Node) → Contains nodes m → Contains nodes n → (p q : Place) → Contains (parts more g m) p → Contains (parts more g n) q → number_of p ≡ number_of q → p.graph ≡ q.graph
+    same-inside : (m n : Node) → Contains nodes m → Contains nodes n → (p q : Place) → Contains (parts more g m) p → Contains (parts more g n) q → number_of p ≡ number_of q → p ≡ q
     same-inside m n h k p q c d same = go (by-order (label_of m) (label_of n))
       where
-        go : (label_of m < label_of n) ⊎ ((label_of m ≡ label_of n) ⊎ (label_of n < label_of m)) → p.graph ≡ q.graph
+        go : (label_of m < label_of n) ⊎ ((label_of m ≡ label_of n) ⊎ (label_of n < label_of m)) → p ≡ q
         go (inl lt) =
             absurd (omega (arith, (own-parts m h).below p c, (own-parts n k).above q d, lower-later nodes m (label_of n) h lt, lower-is nodes (label_of m), lower-is nodes (label_of n), same))
         go (inr (inr lt)) =
@@ -282,11 +282,11 @@ module _ (u : Unit1) where
                   omega (arith, (own-parts r.0 r.1).below p r.2, lower-all nodes r.0 r.1, lower-is nodes (label_of r.0), size-is g)
             ]
 
-        one : (p q : Place) → Contains (places_of (suc more) home g) p → Contains (places_of (suc more) home g) q → number_of p ≡ number_of q → p.graph ≡ q.graph
+        one : (p q : Place) → Contains (places_of (suc more) home g) p → Contains (places_of (suc more) home g) q → number_of p ≡ number_of q → p ≡ q
         one p q c d same = go (here-or-there _ _ p c) (here-or-there _ _ q d)
           where
-            go : (record { graph = g; home = home } ≡ p) ⊎ Contains (flat_map (parts more g) nodes) p → (record { graph = g; home = home } ≡ q) ⊎ Contains (flat_map (parts more g) nodes) q → p.graph ≡ q.graph
-            go (inl a) (inl b) = ap (λ z. z.graph) (sym a ∙ b)
+            go : (record { graph = g; home = home } ≡ p) ⊎ Contains (flat_map (parts more g) nodes) p → (record { graph = g; home = home } ≡ q) ⊎ Contains (flat_map (parts more g) nodes) q → p ≡ q
+            go (inl a) (inl b) = sym a ∙ b
             go (inl a) (inr b) = let r = in-flat (parts more g) nodes q b in absurd (omega (arith, ap number_of a, same, (own-parts r.0 r.1).above q r.2))
             go (inr a) (inl b) = let r = in-flat (parts more g) nodes p a in absurd (omega (arith, ap number_of b, same, (own-parts r.0 r.1).above p r.2))
             go (inr a) (inr b) =
@@ -302,18 +302,21 @@ module _ (u : Unit1) where
         one = λ p q c d same. go p q (here-or-there _ [] p c) (here-or-there _ [] q d);
       }
     where
-      go : (p q : Place) → (record { graph = g; home = home } ≡ p) ⊎ Contains [] p → (record { graph = g; home = home } ≡ q) ⊎ Contains [] q → p.graph ≡ q.graph
-      go p q (inl a) (inl b) = ap (λ z. z.graph) (sym a ∙ b)
+      go : (p q : Place) → (record { graph = g; home = home } ≡ p) ⊎ Contains [] p → (record { graph = g; home = home } ≡ q) ⊎ Contains [] q → p ≡ q
+      go p q (inl a) (inl b) = sym a ∙ b
       go p q (inl a) (inr b) = in-none q b
       go p q (inr a) b = in-none p a
   own-all (suc more) home g right = own-next more (own-all more) home g right
 
-  -- graphs of one number are one graph
-  pub one-graph : IsFormed u → (p q : Place) → Contains (places u) p → Contains (places u) q → number_of p ≡ number_of q → p.graph ≡ q.graph
-  one-graph formed =
-      (own-siblings most_levels (own-all most_levels) Function u.graphs 1
+  -- numbers are those from 1 to the count of graphs, and places of one number are one place
+  pub numbers-own : IsFormed u → Own (places u) 1 (sizes u.graphs)
+  numbers-own formed =
+      own-siblings most_levels (own-all most_levels) Function u.graphs 1
       (λ p c. let x = All-contains (IsGraph u) (places u) p formed.graphs c in (x.number, x.labels))
-      (λ k s e is. omega (arith, is))).one
+      (λ k s e is. omega (arith, is))
+
+  pub one-place : IsFormed u → (p q : Place) → Contains (places u) p → Contains (places u) q → number_of p ≡ number_of q → p ≡ q
+  one-place formed = (numbers-own formed).one
 
   found-place : IsFormed u → (p : Place) → Contains (places u) p → (o : Option Place) → find (λ q. number_of q == number_of p) (places u) ≡ o → net_at u o ≡ net_of u p.graph
   found-place formed p h None e = absurd (never (places u) h e)
@@ -331,7 +334,7 @@ module _ (u : Unit1) where
               ]
   found-place formed p h (Some q) e =
       let x = found-in (λ q. number_of q == number_of p) (places u) q e in
-      ap (net_of u) (one-graph formed q p x.0 h (eqb_yes (subst T (sym x.1) tt)))
+      ap (λ z. net_of u z.graph) (one-place formed q p x.0 h (eqb_yes (subst T (sym x.1) tt)))
 
 pub found-by-number : AreFoundByNumber
 found-by-number u formed p h = found-place u formed p h (find (λ q. number_of q == number_of p) (places u)) refl

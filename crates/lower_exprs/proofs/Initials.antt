@@ -32,7 +32,7 @@ use Rattle.lower_nodes.proofs.Walks.{Going, goes_on, ended}
 use Rattle.lower_exprs.specs.Phrased.{Grows, maybe_not, phrases}
 use Rattle.typed_tree.specs.declared.expr.TypedExpr.{TypedExpr}
 use Rattle.lower_exprs.proofs.Steps.{in_open, more_inside}
-use Rattle.lower_exprs.specs.Turned.{kept, place_at, next_after, extra_lowered, StandIn}
+use Rattle.lower_exprs.specs.Turned.{kept, place_at, next_after, extra_lowered, BothStand, StandIn}
 
 -- ---- what is collected
 
@@ -82,6 +82,14 @@ more_graphs f a b p =
     let l = length-append a.graphs (unclosed m ∷ m.graphs) in
     let e = ap (λ (s : Made). length s.graphs) p.after_is in
     omega (arith, l, e)
+
+pub both_stand : (f g : Lowering) (a b c : Made) (x y : Placed) → IsPlaced f a b x → IsPlaced g b c y → BothStand c x.place y.place
+both_stand f g a b c x y p q =
+    let i = more_graphs f a b p.part in
+    let j = more_graphs g b c q.part in
+    let ex = p.place in
+    let ey = q.place in
+    record { first = omega (arith, i, j, ex); second = omega (arith, j, ey) }
 
 pub three_stand : (f g h : Lowering) (a b c d : Made) (x y z : Placed) → IsPlaced f a b x → IsPlaced g b c y → IsPlaced h c d z → StandIn d x.place y.place z.place
 three_stand f g h a b c d x y z p q r =

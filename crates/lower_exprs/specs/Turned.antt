@@ -24,6 +24,10 @@ extra_lowered None g env = g env
 extra_lowered (Some x) g env = only []
 
 -- graphs inside stand at these places
+pub record BothStand (s : Made) (x y : ℕ) : Type 0 where
+  pub first : x < length s.graphs
+  pub second : y < length s.graphs
+
 pub record StandIn (s : Made) (x y z : ℕ) : Type 0 where
   pub first : x < length s.graphs
   pub second : y < length s.graphs

@@ -2,7 +2,8 @@
 //! level (SISAL Language Reference Manual 1.2, expressions; IF1 manual M-170).
 #![tactic(auto)]
 
+mod foralls;
 mod turns;
 mod walk;
 
-pub use walk::expr;
+pub use walk::{expr, expressions};

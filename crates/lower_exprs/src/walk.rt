@@ -28,18 +28,19 @@ ghost use Rattle.lower_exprs.specs.Phrased.{
   phrases,
 };
 
+use crate::foralls::forall_node;
 use crate::turns::{collected, kept, loop_node, names_from, renewed, turn_inputs};
 use flow_value::{NoMemory, Numbers, Scalar1, Seq};
 use if1_graph::{Compound, Simple};
 use lower_nodes::{
-    BOOLEAN, INTEGER, Placed, append, applied, arms_of, begin, bound_of, constant, content_of,
-    first_tags, flag_at, generator_part, inside, many_inputs, nil, returns_part, row, shut_part,
-    single_inputs, tag_count, type_of, unless_places, wire_at,
+    BOOLEAN, INTEGER, Placed, append, applied, arms_of, begin, constant, content_of, first_tags,
+    flag_at, generator_part, inside, nil, row, shut_part, single_inputs, tag_count, type_of,
+    unless_places, wire_at,
 };
 use lowered_data::{Made, Names, one_wire, output};
 use lowering::{Action, Carried, Wire};
 use std::alloc::Global;
-use type_table::Form;
+use type_table::Types;
 use typed_tree::{Case, TypedExpr, TypedKind};
 use value_ops::Operation;
 
@@ -57,7 +58,7 @@ fn name(alloc: Global, names: &Names, level: u32) -> Result<Seq<Wire>, NoMemory>
 #[cycle(lowered)]
 pub fn expr(
     alloc: Global,
-    forms: &[Form],
+    forms: &Types,
     names: &mut Names,
     made: &mut Made,
     e: &TypedExpr,
@@ -72,7 +73,7 @@ pub fn expr(
 #[cycle(lowered)]
 fn kind(
     alloc: Global,
-    forms: &[Form],
+    forms: &Types,
     names: &mut Names,
     made: &mut Made,
     kind: &TypedKind,
@@ -84,7 +85,7 @@ fn kind(
     match kind {
         TypedKind::Constant(value) => constant(alloc, made, value, types),
         TypedKind::Value(level) => name(alloc, names, *level),
-        TypedKind::Group(parts) => all(alloc, forms, names, made, parts.as_slice()),
+        TypedKind::Group(parts) => expressions(alloc, forms, names, made, parts.as_slice()),
         TypedKind::Call(f, parts) => call(alloc, forms, names, made, *f, parts.as_slice(), types),
         TypedKind::Apply(op, parts) => {
             apply(alloc, forms, names, made, op, parts.as_slice(), types)
@@ -99,9 +100,9 @@ fn kind(
 
 /// Expressions one after another, with the values of all.
 #[cycle(lowered)]
-fn all(
+pub fn expressions(
     alloc: Global,
-    forms: &[Form],
+    forms: &Types,
     names: &mut Names,
     made: &mut Made,
     parts: &[TypedExpr],
@@ -121,7 +122,7 @@ fn all(
 #[cycle(lowered)]
 fn call(
     alloc: Global,
-    forms: &[Form],
+    forms: &Types,
     names: &mut Names,
     made: &mut Made,
     function: u32,
@@ -131,7 +132,7 @@ fn call(
     ensures made { IfOk result (λ ws. IsMade (call_of forms.now function parts.now types.now names.old.here) made.old made.new ws) }
     ensures names { OnOk result (names.new ≡ names.old) }
 {
-    let ins = all(alloc, forms, names, made, parts)?;
+    let ins = expressions(alloc, forms, names, made, parts)?;
     made.add(alloc, Action::Call(function), ins, 1, types)
 }
 
@@ -139,7 +140,7 @@ fn call(
 #[cycle(lowered)]
 fn apply(
     alloc: Global,
-    forms: &[Form],
+    forms: &Types,
     names: &mut Names,
     made: &mut Made,
     op: &Operation,
@@ -149,7 +150,7 @@ fn apply(
     ensures made { IfOk result (λ ws. IsMade (apply_of forms.now op.now parts.now types.now names.old.here) made.old made.new ws) }
     ensures names { OnOk result (names.new ≡ names.old) }
 {
-    let wires = all(alloc, forms, names, made, parts)?;
+    let wires = expressions(alloc, forms, names, made, parts)?;
     applied(alloc, forms, made, op, wires, types)
 }
 
@@ -157,7 +158,7 @@ fn apply(
 #[cycle(lowered)]
 fn defined(
     alloc: Global,
-    forms: &[Form],
+    forms: &Types,
     names: &mut Names,
     made: &mut Made,
     defs: &[Seq<TypedExpr>],
@@ -166,7 +167,7 @@ fn defined(
     ensures names { OnOk result (Grows names.old names.new) }
 {
     for def in defs {
-        let values = all(alloc, forms, names, made, def.as_slice())?;
+        let values = expressions(alloc, forms, names, made, def.as_slice())?;
         names.define(alloc, values.as_slice())?;
     }
     Ok(())
@@ -176,7 +177,7 @@ fn defined(
 #[cycle(lowered)]
 fn let_in(
     alloc: Global,
-    forms: &[Form],
+    forms: &Types,
     names: &mut Names,
     made: &mut Made,
     kind: &TypedKind,
@@ -191,7 +192,7 @@ fn let_in(
     };
     let before = names.len();
     defined(alloc, forms, names, made, defs.as_slice())?;
-    let values = all(alloc, forms, names, made, parts.as_slice())?;
+    let values = expressions(alloc, forms, names, made, parts.as_slice())?;
     names.truncate(before);
     Ok(values)
 }
@@ -200,7 +201,7 @@ fn let_in(
 #[cycle(lowered)]
 fn part(
     alloc: Global,
-    forms: &[Form],
+    forms: &Types,
     names: &mut Names,
     made: &mut Made,
     parts: &[TypedExpr],
@@ -211,7 +212,7 @@ fn part(
 {
     let around = made.open(alloc)?;
     names.enter()?;
-    let values = all(alloc, forms, names, made, parts)?;
+    let values = expressions(alloc, forms, names, made, parts)?;
     names.leave();
     made.shut(around, values)
 }
@@ -220,7 +221,7 @@ fn part(
 #[cycle(lowered)]
 fn selector(
     alloc: Global,
-    forms: &[Form],
+    forms: &Types,
     names: &mut Names,
     made: &mut Made,
     parts: &[TypedExpr],
@@ -231,7 +232,7 @@ fn selector(
 {
     let around = made.open(alloc)?;
     names.enter()?;
-    let test = all(alloc, forms, names, made, parts)?;
+    let test = expressions(alloc, forms, names, made, parts)?;
     let values = row(alloc, made, Simple::One(Scalar1::Int), test, &[INTEGER])?;
     names.leave();
     made.shut(around, values)
@@ -241,7 +242,7 @@ fn selector(
 #[cycle(lowered)]
 fn if_else(
     alloc: Global,
-    forms: &[Form],
+    forms: &Types,
     names: &mut Names,
     made: &mut Made,
     kind: &TypedKind,
@@ -272,7 +273,7 @@ fn if_else(
 #[cycle(lowered)]
 fn arm(
     alloc: Global,
-    forms: &[Form],
+    forms: &Types,
     names: &mut Names,
     made: &mut Made,
     content: Option<u32>,
@@ -285,7 +286,7 @@ fn arm(
     let around = made.open(alloc)?;
     names.enter()?;
     define_content(alloc, names, content)?;
-    let values = all(alloc, forms, names, made, parts)?;
+    let values = expressions(alloc, forms, names, made, parts)?;
     names.leave();
     made.shut(around, values)
 }
@@ -301,7 +302,7 @@ fn define_content(alloc: Global, names: &mut Names, content: Option<u32>) -> Res
 }
 
 /// The type of the content that an arm sees.
-fn content_at(forms: &[Form], ty: u32, named: u32, tags: &Numbers, arm: usize) -> Option<u32>
+fn content_at(forms: &Types, ty: u32, named: u32, tags: &Numbers, arm: usize) -> Option<u32>
     requires { arm < length tags.now }
     ensures { result ≡ content_at forms.now ty named (slice_index tags.now arm) arm }
 {
@@ -318,7 +319,7 @@ fn content_at(forms: &[Form], ty: u32, named: u32, tags: &Numbers, arm: usize) -
 #[cycle(lowered)]
 fn arms(
     alloc: Global,
-    forms: &[Form],
+    forms: &Types,
     names: &mut Names,
     made: &mut Made,
     case: &Case,
@@ -345,7 +346,7 @@ fn arms(
 #[cycle(lowered)]
 fn tag_case(
     alloc: Global,
-    forms: &[Form],
+    forms: &Types,
     names: &mut Names,
     made: &mut Made,
     kind: &TypedKind,
@@ -359,7 +360,7 @@ fn tag_case(
         unreachable!()
     };
     let unions = subject.as_slice();
-    let wires = all(alloc, forms, names, made, unions)?;
+    let wires = expressions(alloc, forms, names, made, unions)?;
     let given = wires.as_slice();
     let union = wire_at(alloc, given, 0)?;
     let ty = type_of(union.ty);
@@ -374,7 +375,7 @@ fn tag_case(
 #[cycle(lowered)]
 fn value(
     alloc: Global,
-    forms: &[Form],
+    forms: &Types,
     names: &mut Names,
     made: &mut Made,
     is_negated: bool,
@@ -395,7 +396,7 @@ fn value(
 #[cycle(lowered)]
 fn clause_values(
     alloc: Global,
-    forms: &[Form],
+    forms: &Types,
     names: &mut Names,
     made: &mut Made,
     negated: &[bool],
@@ -416,7 +417,7 @@ fn clause_values(
 #[cycle(lowered)]
 fn product(
     alloc: Global,
-    forms: &[Form],
+    forms: &Types,
     names: &mut Names,
     made: &mut Made,
     kind: &TypedKind,
@@ -430,16 +431,16 @@ fn product(
         unreachable!()
     };
     let ends = bounds.as_slice();
-    let wires = all(alloc, forms, names, made, ends)?;
+    let wires = expressions(alloc, forms, names, made, ends)?;
     let given = wires.as_slice();
     let seen = inside(alloc, given)?;
     let inner = seen.as_slice();
     let sources = product.sources.as_slice();
-    let clauses = product.clauses.as_slice();
     let first = generator_part(alloc, forms, made, sources, inner)?;
     let elements = first.carried.as_slice();
     let own = single_inputs(alloc, elements)?;
     let named = own.as_slice();
+    let clauses = product.clauses.as_slice();
     let negated = unless_places(alloc, clauses)?;
     let flags = negated.as_slice();
     let around = begin(alloc, names, made, named)?;
@@ -449,27 +450,14 @@ fn product(
     let values = clause_values(alloc, forms, names, made, flags, results)?;
     names.leave();
     let second = shut_part(alloc, made, around, values)?;
-    let bound = bound_of(alloc, forms, sources, inner)?;
-    let columns = second.carried.as_slice();
-    let multiples = many_inputs(alloc, elements.len() + 1, columns)?;
-    let spans = multiples.as_slice();
-    let third = returns_part(alloc, made, &bound, clauses, spans, types)?;
-    let arms = Seq::from_slice(alloc, &[0, 1, 2])?;
-    made.whole(
-        alloc,
-        Compound::ForAll,
-        &[first.place, second.place, third.place],
-        arms,
-        columns.len(),
-        types,
-    )
+    forall_node(alloc, forms, made, product, inner, &first, &second, types)
 }
 
 /// A value or mask of a clause, unless it is the loop name of a place.
 #[cycle(lowered)]
 fn extra(
     alloc: Global,
-    forms: &[Form],
+    forms: &Types,
     names: &mut Names,
     made: &mut Made,
     place: Option<usize>,
@@ -489,7 +477,7 @@ fn extra(
 #[cycle(lowered)]
 fn extras(
     alloc: Global,
-    forms: &[Form],
+    forms: &Types,
     names: &mut Names,
     made: &mut Made,
     around: usize,
@@ -515,7 +503,7 @@ fn extras(
 #[cycle(lowered)]
 fn turned(
     alloc: Global,
-    forms: &[Form],
+    forms: &Types,
     names: &mut Names,
     made: &mut Made,
     around: usize,
@@ -539,7 +527,7 @@ fn turned(
 #[cycle(lowered)]
 fn tested(
     alloc: Global,
-    forms: &[Form],
+    forms: &Types,
     names: &mut Names,
     made: &mut Made,
     is_until: bool,
@@ -548,7 +536,7 @@ fn tested(
     ensures made { IfOk result (λ ws. IsMade (maybe_not is_until (alls forms.now parts.now) names.old.here) made.old made.new ws) }
     ensures names { OnOk result (names.new ≡ names.old) }
 {
-    let values = all(alloc, forms, names, made, parts)?;
+    let values = expressions(alloc, forms, names, made, parts)?;
     if is_until {
         row(alloc, made, Simple::One(Scalar1::Not), values, &[BOOLEAN])
     } else {
@@ -560,7 +548,7 @@ fn tested(
 #[cycle(lowered)]
 fn test_part(
     alloc: Global,
-    forms: &[Form],
+    forms: &Types,
     names: &mut Names,
     made: &mut Made,
     own: &[Wire],
@@ -580,7 +568,7 @@ fn test_part(
 #[cycle(lowered)]
 fn initial(
     alloc: Global,
-    forms: &[Form],
+    forms: &Types,
     names: &mut Names,
     made: &mut Made,
     kind: &TypedKind,

@@ -8,14 +8,14 @@ ghost use Rattle.lower_nodes.specs.Rows.{tags_named, first_or_second};
 use flow_value::{NoMemory, Numbers, Seq, item_at};
 use lowering::Carried;
 use std::alloc::Global;
-use type_table::{Form, Member};
+use type_table::{Form, Member, Types};
 use typed_tree::{Case, Choice};
 
 /// The type of the elements of an array or a stream.
-pub fn element_of(forms: &[Form], ty: u32) -> u32
+pub fn element_of(forms: &Types, ty: u32) -> u32
     ensures { result ≡ element_of forms.now ty }
 {
-    match item_at(forms, ty as usize) {
+    match forms.form(ty) {
         Some(Form::Array(element)) => *element,
         Some(Form::Stream(element)) => *element,
         _ => 0,
@@ -23,20 +23,20 @@ pub fn element_of(forms: &[Form], ty: u32) -> u32
 }
 
 /// Whether a type is an array.
-pub fn is_array(forms: &[Form], ty: u32) -> bool
+pub fn is_array(forms: &Types, ty: u32) -> bool
     ensures { result ≡ is_array forms.now ty }
 {
-    match item_at(forms, ty as usize) {
+    match forms.form(ty) {
         Some(Form::Array(_)) => true,
         _ => false,
     }
 }
 
 /// The fields of a record, or the tags of a union.
-fn members_of(forms: &[Form], ty: u32) -> &[Member]
+fn members_of(forms: &Types, ty: u32) -> &[Member]
     ensures { result.now ≡ members_at forms.now ty }
 {
-    match item_at(forms, ty as usize) {
+    match forms.form(ty) {
         Some(Form::Record(members)) => members.as_slice(),
         Some(Form::Union(members)) => members.as_slice(),
         _ => &[],
@@ -44,14 +44,14 @@ fn members_of(forms: &[Form], ty: u32) -> &[Member]
 }
 
 /// How many tags a union has.
-pub fn tag_count(forms: &[Form], ty: u32) -> usize
+pub fn tag_count(forms: &Types, ty: u32) -> usize
     ensures { result ≡ tag_count forms.now ty }
 {
     members_of(forms, ty).len()
 }
 
 /// The type of the content of a union at a tag.
-pub fn content_of(forms: &[Form], ty: u32, tag: u32) -> u32
+pub fn content_of(forms: &Types, ty: u32, tag: u32) -> u32
     ensures { result ≡ content_of forms.now ty tag }
 {
     match item_at(members_of(forms, ty), tag as usize) {

@@ -38,7 +38,7 @@ use lowered_data::{Around, Made, Names, copy_wire, one_wire, output};
 use lowering::{Action, Carried, Feed, Wire};
 use sisal_tree::Direction;
 use std::alloc::Global;
-use type_table::Form;
+use type_table::Types;
 use typed_tree::{ClauseForm, Source};
 
 /// The multiple of such values.
@@ -131,7 +131,7 @@ fn width(source: Source) -> usize
 }
 
 /// The elements of an array or a stream, over which a generator goes.
-fn elements_in(alloc: Global, forms: &[Form], bounds: &[Wire]) -> Result<Carried, NoMemory>
+fn elements_in(alloc: Global, forms: &Types, bounds: &[Wire]) -> Result<Carried, NoMemory>
     ensures { IfOk result (λ t. t ≡ elements_in forms.now bounds.now) }
 {
     let w = wire_at(alloc, bounds, 0)?;
@@ -141,7 +141,7 @@ fn elements_in(alloc: Global, forms: &[Form], bounds: &[Wire]) -> Result<Carried
 /// A generator on its bounds.
 fn generator(
     alloc: Global,
-    forms: &[Form],
+    forms: &Types,
     made: &mut Made,
     source: Source,
     bounds: &[Wire],
@@ -193,7 +193,7 @@ fn clause_at(clauses: &[ClauseForm], place: usize) -> ClauseForm
 /// The generators of a loop on their bounds.
 fn generators(
     alloc: Global,
-    forms: &[Form],
+    forms: &Types,
     made: &mut Made,
     sources: &[Source],
     bounds: &[Wire],
@@ -224,7 +224,7 @@ pub enum Bound {
 /// The lower bound of an `array of` by the first generator, on the bounds.
 pub fn bound_of(
     alloc: Global,
-    forms: &[Form],
+    forms: &Types,
     sources: &[Source],
     bounds: &[Wire],
 ) -> Result<Bound, NoMemory>
@@ -239,7 +239,7 @@ pub fn bound_of(
 /// The lower bound by a generator, on the bounds.
 fn first_bound(
     alloc: Global,
-    forms: &[Form],
+    forms: &Types,
     source: Source,
     bounds: &[Wire],
 ) -> Result<Bound, NoMemory>
@@ -254,7 +254,7 @@ fn first_bound(
 }
 
 /// The lower bound of an array, and 1 for a stream.
-fn limit_or_one(forms: &[Form], w: Wire) -> Bound
+fn limit_or_one(forms: &Types, w: Wire) -> Bound
     ensures { plain result ≡ limit_or_one forms.now w }
 {
     if is_array(forms, type_of(w.ty)) {
@@ -433,7 +433,7 @@ pub fn shut_part(
 /// The generators of a loop on their bounds, as they are seen from inside.
 pub fn generator_part(
     alloc: Global,
-    forms: &[Form],
+    forms: &Types,
     made: &mut Made,
     sources: &[Source],
     bounds: &[Wire],

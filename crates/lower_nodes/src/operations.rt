@@ -14,7 +14,7 @@ use lowered_data::{Made, copy_constant, one_wire};
 use lowering::{Action, Carried, Feed, Wire};
 use sisal_tree::Constant;
 use std::alloc::Global;
-use type_table::Form;
+use type_table::Types;
 use value_ops::Operation;
 
 /// A row of the table of simple nodes.
@@ -97,7 +97,7 @@ fn plain_row(op: &Operation) -> Option<Simple>
 /// `is t(u)`
 fn is_tag(
     alloc: Global,
-    forms: &[Form],
+    forms: &Types,
     made: &mut Made,
     tag: u32,
     wires: &[Wire],
@@ -130,7 +130,7 @@ fn truth(alloc: Global, made: &mut Made, constant: Constant) -> Result<usize, No
 /// An operation whose ports are not filled by its operands in their order.
 fn special(
     alloc: Global,
-    forms: &[Form],
+    forms: &Types,
     made: &mut Made,
     op: &Operation,
     wires: Seq<Wire>,
@@ -176,7 +176,7 @@ fn special(
 /// An operation on its operands.
 pub fn applied(
     alloc: Global,
-    forms: &[Form],
+    forms: &Types,
     made: &mut Made,
     op: &Operation,
     wires: Seq<Wire>,

@@ -1,5 +1,5 @@
 -- The returns goes on columns where the other graph goes on what is collected, and the other way round.
-use Rattle.std.proofs.Common.{◌≡◌, ℕ, zero, suc, ◌+◌, ◌-◌, ◌<◌, eqb, Bool, true, false, if◌then◌else◌, List, [], ◌∷◌, ◌++◌, length, get_or, slice_get, Some, None, refl, sym, ap, ◌∙◌, subst, arith}
+use Rattle.std.proofs.Common.{◌≡◌, ℕ, zero, suc, ◌+◌, ◌-◌, ◌<◌, inl, inr, eqb, Bool, true, false, if◌then◌else◌, List, [], ◌∷◌, ◌++◌, length, get_or, slice_get, Some, None, refl, sym, ap, ◌∙◌, subst, arith}
 use Rattle.graph_meaning.specs.Carried.{Carried, Unfilled}
 use Rattle.graph_meaning.specs.NodeValues.{op}
 use Rattle.graph_meaning.specs.Forms.{columns}
@@ -12,7 +12,7 @@ use Rattle.run_code.proofs.Columns.{get-first, get-second}
 use Rattle.run_code.proofs.Folding.{sifts-made}
 use Rattle.run_code.proofs.Totals.{both-fire, both-sum, results-fire, results-sum}
 use Rattle.run_code.specs.Collections.{Collect, Final, Sifts, collected, made}
-use Rattle.run_code.specs.Refolds.{AllLong, AllPlain, AreRefolded, Refolded, Refolds, a_fold, a_pair, none_refolded, one_refolded, ports_of, reads, rows_sum, unchanged}
+use Rattle.run_code.specs.Refolds.{AllLong, AllPlain, AreRefolded, AreWhole, Refolded, Refolds, a_fold, a_whole, none_refolded, one_refolded, ports_of, reads, rows_sum, unchanged}
 
 -- with other inputs
 abbrev pub regiven : List Carried → Bindings → Bindings
@@ -131,13 +131,21 @@ module _ (W : Weights) (plain m : ℕ) (cs : List Collect) (r r' : ℕ) (rest : 
   whole : (j k : ℕ) → slice_get cs k ≡ Some (Sifts j None) → j < m → get_or (collected cs rows) k Unfilled ≡ get_or (columns m rows) j Unfilled
   whole j k at_k lt = get-made cs k (Sifts j None) rows at_k ∙ sifts-made m j None rows (lt, tt) long
 
-  pair-reads : (env : Bindings) (before : List Source) (xs : List Carried) (j q k k' : ℕ) → slice_get cs k ≡ Some (Sifts j None) → slice_get cs k' ≡ Some (Sifts q None) → j < m → q < m → Based other env → ReadsAll env before xs
-      → ReadsAll env (before ++ Port 0 (suc (plain + k)) ∷ Port 0 (suc (plain + k')) ∷ []) (xs ++ reads (Sifts j (Some q)) (columns m rows))
-  pair-reads env before xs j q k k' at_k at_k' jm qm based h =
-      reads-join env before (Port 0 (suc (plain + k)) ∷ Port 0 (suc (plain + k')) ∷ []) xs (reads (Sifts j (Some q)) (columns m rows)) h (
-        port-has plain ks₀ (collected cs rows) env k many based ∙ ap Some (whole j k at_k jm),
-        (port-has plain ks₀ (collected cs rows) env k' many based ∙ ap Some (whole q k' at_k' qm), tt),
-      )
+  -- sources that are read whole read the same
+  whole-reads : (env : Bindings) → Based ins env → (os qs : List Source) (ks : List Carried) → AreWhole plain m cs os qs → ReadsAll env os ks → ReadsAll (regiven other env) qs ks
+  whole-reads env based [] [] ks w h = h
+  whole-reads env based [] (q ∷ qs) ks w h = absurd w
+  whole-reads env based (o ∷ os) [] ks w h = absurd w
+  whole-reads env based (o ∷ os) (q ∷ qs) ks (inl e, rest) h =
+      let s = reads-split env (o ∷ []) os ks h in
+      subst (ReadsAll (regiven other env) (q ∷ qs)) (sym s.2)
+      (reads-join (regiven other env) (q ∷ []) qs s.0 s.1 (subst (λ z. ReadsAll (regiven other env) (z ∷ []) s.0) (sym e.0) (reads-over plain ins other agree env based (o ∷ []) s.0 e.1 s.3)) (whole-reads env based os qs s.1 rest s.4))
+  whole-reads env based (o ∷ os) (q ∷ qs) ks (inr e, rest) h =
+      let s = reads-split env (o ∷ []) os ks h in
+      let one = alone-read plain ks₀ cols env e.0 s.0 many based (subst (λ z. ReadsAll env (z ∷ []) s.0) e.2 s.3) in
+      let has = port-has plain ks₀ (collected cs rows) (regiven other env) e.1 many (regiven-based ins other env based) ∙ ap Some (whole e.0 e.1 e.4 e.5) in
+      subst (ReadsAll (regiven other env) (q ∷ qs)) (sym s.2)
+      (reads-join (regiven other env) (q ∷ []) qs s.0 s.1 (subst (ReadsAll (regiven other env) (q ∷ [])) (sym one) (subst (λ z. ReadsAll (regiven other env) (z ∷ []) (get_or cols e.0 Unfilled ∷ [])) (sym e.3) (has, tt))) (whole-reads env based os qs s.1 rest s.4))
 
   -- ---- from columns to what is collected
 
@@ -166,19 +174,15 @@ module _ (W : Weights) (plain m : ℕ) (cs : List Collect) (r r' : ℕ) (rest : 
         };
         sum = ap (λ z. W.of_node r v z rs) operands ∙ weighs s.0 rs rows s.5 long;
       }
-  to-node _ _ _ (a_pair v v' l before row shape j q k k' label label' kind kind' are are' plainly at_k at_k' jm qm same) env rs inner based node =
-      let s = reads-split env before (ports_of plain (Sifts j (Some q))) node.operands (subst (λ z. ReadsAll env z node.operands) are node.reads) in
-      let ys = ports-read plain ks₀ cols env (Sifts j (Some q)) s.1 many based s.4 in
-      let operands : node.operands ≡ s.0 ++ reads (Sifts j (Some q)) cols = s.2 ∙ ap (λ z. s.0 ++ z) ys in
+  to-node _ _ _ (a_whole v v' l row shape label label' kind kind' wholly same) env rs inner based node =
       let goes = subst (λ z. KindYields (counting W) rest z node.operands rs inner) kind node.gives in
       let z = sum-none rows in
-      let e = ap (λ z. W.of_node r v z rs) operands ∙ same (s.0 ++ reads (Sifts j (Some q)) cols) rs in
+      let e = same node.operands rs in
       record {
         node = record {
-          operands = s.0 ++ reads (Sifts j (Some q)) cols;
-          reads = subst (λ z. ReadsAll (regiven other env) z (s.0 ++ reads (Sifts j (Some q)) cols)) (sym are')
-              (pair-reads (regiven other env) before s.0 j q k k' at_k at_k' jm qm (regiven-based ins other env based) (reads-over plain ins other agree env based before s.0 plainly s.3));
-          gives = subst (λ z. KindYields (counting W) rest z (s.0 ++ reads (Sifts j (Some q)) cols) rs inner) (sym kind') (goes.0 ∙ ap (op row shape) operands, goes.1);
+          operands = node.operands;
+          reads = whole-reads env based v.ins v'.ins node.operands wholly node.reads;
+          gives = subst (λ z. KindYields (counting W) rest z node.operands rs inner) (sym kind') goes;
         };
         sum = omega (arith, z, e);
       }
@@ -193,7 +197,7 @@ module _ (W : Weights) (plain m : ℕ) (cs : List Collect) (r r' : ℕ) (rest : 
   label-of : (v v' : Vertex) (e : List Carried → ℕ) → Refolded W plain m cs r r' v v' e → (l : ℕ) × (v.label ≡ suc l) × (v'.label ≡ v.label)
   label-of _ _ _ (unchanged v l label plainly same) = (l, label, refl)
   label-of _ _ _ (a_fold v v' l before row row' shape shape' c k e label label' kind kind' are are' plainly at_k gives weighs) = (l, label, label')
-  label-of _ _ _ (a_pair v v' l before row shape j q k k' label label' kind kind' are are' plainly at_k at_k' jm qm same) = (l, label, label')
+  label-of _ _ _ (a_whole v v' l row shape label label' kind kind' wholly same) = (l, label, label')
 
   to-nodes : (vs vs' : List Vertex) (extra : List Carried → ℕ) → AreRefolded W plain m cs r r' vs vs' extra → (env after : Bindings) (c : Total (counting W)) → Based ins env → NodesYield (counting W) rest r env vs after c
       → Nodes' env after vs' c (rows_sum extra rows)
@@ -246,10 +250,20 @@ module _ (W : Weights) (plain m : ℕ) (cs : List Collect) (r r' : ℕ) (rest : 
 
   -- ---- and back
 
-  both-read : (env : Bindings) (k k' : ℕ) (ks : List Carried) → Based other env → ReadsAll env (Port 0 (suc (plain + k)) ∷ Port 0 (suc (plain + k')) ∷ []) ks → ks ≡ get_or (collected cs rows) k Unfilled ∷ get_or (collected cs rows) k' Unfilled ∷ []
-  both-read env k k' [] based h = absurd h
-  both-read env k k' (x ∷ ks) based h =
-      ap (λ z. z ∷ ks) (port-read plain ks₀ (collected cs rows) env k x many based h.0) ∙ ap (λ z. get_or (collected cs rows) k Unfilled ∷ z) (alone-read plain ks₀ (collected cs rows) env k' ks many based h.1)
+  whole-back : (env : Bindings) → Based other env → (os qs : List Source) (ks : List Carried) → AreWhole plain m cs os qs → ReadsAll env qs ks → ReadsAll (regiven ins env) os ks
+  whole-back env based [] [] ks w h = h
+  whole-back env based [] (q ∷ qs) ks w h = absurd w
+  whole-back env based (o ∷ os) [] ks w h = absurd w
+  whole-back env based (o ∷ os) (q ∷ qs) ks (inl e, rest) h =
+      let s = reads-split env (q ∷ []) qs ks h in
+      subst (ReadsAll (regiven ins env) (o ∷ os)) (sym s.2)
+      (reads-join (regiven ins env) (o ∷ []) os s.0 s.1 (reads-over plain other ins agree' env based (o ∷ []) s.0 e.1 (subst (λ z. ReadsAll env (z ∷ []) s.0) e.0 s.3)) (whole-back env based os qs s.1 rest s.4))
+  whole-back env based (o ∷ os) (q ∷ qs) ks (inr e, rest) h =
+      let s = reads-split env (q ∷ []) qs ks h in
+      let one = alone-read plain ks₀ (collected cs rows) env e.1 s.0 many based (subst (λ z. ReadsAll env (z ∷ []) s.0) e.3 s.3) ∙ ap (λ z. z ∷ []) (whole e.0 e.1 e.4 e.5) in
+      let has = port-has plain ks₀ cols (regiven ins env) e.0 many (regiven-based other ins env based) in
+      subst (ReadsAll (regiven ins env) (o ∷ os)) (sym s.2)
+      (reads-join (regiven ins env) (o ∷ []) os s.0 s.1 (subst (ReadsAll (regiven ins env) (o ∷ [])) (sym one) (subst (λ z. ReadsAll (regiven ins env) (z ∷ []) (get_or cols e.0 Unfilled ∷ [])) (sym e.2) (has, tt))) (whole-back env based os qs s.1 rest s.4))
 
   from-node : (v v' : Vertex) (e : List Carried → ℕ) → Refolded W plain m cs r r' v v' e → (env : Bindings) (rs : List Carried) (inner : Total (counting W)) → Based other env → (node : NodeYields (counting W) rest env v' rs inner)
       → (back : NodeYields (counting W) rest (regiven ins env) v rs inner) × (W.of_node r v back.operands rs ≡ W.of_node r' v' node.operands rs + rows_sum e rows)
@@ -270,18 +284,14 @@ module _ (W : Weights) (plain m : ℕ) (cs : List Collect) (r r' : ℕ) (rest : 
         },
         weighs s.0 rs rows s.5 long ∙ ap (λ z. W.of_node r' v' z rs + rows_sum e rows) (sym operands),
       )
-  from-node _ _ _ (a_pair v v' l before row shape j q k k' label label' kind kind' are are' plainly at_k at_k' jm qm same) env rs inner based node =
-      let s = reads-split env before (Port 0 (suc (plain + k)) ∷ Port 0 (suc (plain + k')) ∷ []) node.operands (subst (λ z. ReadsAll env z node.operands) are' node.reads) in
-      let ys = both-read env k k' s.1 based s.4 ∙ (ap (λ z. z ∷ get_or (collected cs rows) k' Unfilled ∷ []) (whole j k at_k jm) ∙ ap (λ z. get_or (columns m rows) j Unfilled ∷ z ∷ []) (whole q k' at_k' qm)) in
-      let operands : node.operands ≡ s.0 ++ reads (Sifts j (Some q)) cols = s.2 ∙ ap (λ z. s.0 ++ z) ys in
+  from-node _ _ _ (a_whole v v' l row shape label label' kind kind' wholly same) env rs inner based node =
       let goes = subst (λ z. KindYields (counting W) rest z node.operands rs inner) kind' node.gives in
       let z = sum-none rows in
-      let e = same (s.0 ++ reads (Sifts j (Some q)) cols) rs ∙ ap (λ z. W.of_node r' v' z rs) (sym operands) in (
+      let e = same node.operands rs in (
         record {
-          operands = s.0 ++ reads (Sifts j (Some q)) cols;
-          reads = subst (λ z. ReadsAll (regiven ins env) z (s.0 ++ reads (Sifts j (Some q)) cols)) (sym are)
-              (reads-join (regiven ins env) before (ports_of plain (Sifts j (Some q))) s.0 (reads (Sifts j (Some q)) cols) (reads-over plain other ins agree' env based before s.0 plainly s.3) (ports-has plain ks₀ cols (regiven ins env) (Sifts j (Some q)) many (regiven-based other ins env based)));
-          gives = subst (λ z. KindYields (counting W) rest z (s.0 ++ reads (Sifts j (Some q)) cols) rs inner) (sym kind) (goes.0 ∙ ap (op row shape) operands, goes.1);
+          operands = node.operands;
+          reads = whole-back env based v.ins v'.ins node.operands wholly node.reads;
+          gives = subst (λ z. KindYields (counting W) rest z node.operands rs inner) (sym kind) goes;
         },
         omega (arith, z, e),
       )

@@ -1,6 +1,6 @@
 -- The returns as another graph, whose inputs are what is collected in place of the multiples. Its nodes are those of the first one,
 -- but a node that reads a multiple there reads one collection here.
-use Rattle.std.specs.Prelude.{◌≡◌, ℕ, zero, suc, ◌+◌, ◌-◌, ◌<◌, List, [], ◌∷◌, ◌++◌, length, get_or, slice_get, Some, None}
+use Rattle.std.specs.Prelude.{◌≡◌, ℕ, zero, suc, ◌+◌, ◌-◌, ◌<◌, ◌⊎◌, List, [], ◌∷◌, ◌++◌, length, get_or, slice_get, Some, None}
 use Rattle.if1_graph.specs.declared.op.Simple.{Simple}
 use Rattle.graph_meaning.specs.Carried.{Carried, Unfilled}
 use Rattle.graph_meaning.specs.NodeValues.{Shape, op}
@@ -35,6 +35,19 @@ abbrev pub AllLong : ℕ → List (List Carried) → Type 0
 AllLong m [] = Unit {0}
 AllLong m (r ∷ rs) = (length r ≡ m) × AllLong m rs
 
+module _ (plain m : ℕ) (cs : List Collect) where
+  -- one source is read in place of another: it is the same one, or the whole of a multiple
+  abbrev pub IsWhole : Source → Source → Type 0
+  IsWhole o o' =
+      ((o' ≡ o) × AllPlain plain (o ∷ []))
+      ⊎ ((j : ℕ) × (k : ℕ) × (o ≡ Port 0 (suc (plain + j))) × (o' ≡ Port 0 (suc (plain + k))) × (slice_get cs k ≡ Some (Sifts j None)) × (j < m))
+
+  abbrev pub AreWhole : List Source → List Source → Type 0
+  AreWhole [] [] = Unit {0}
+  AreWhole [] (o ∷ os) = ⊥
+  AreWhole (o ∷ os) [] = ⊥
+  AreWhole (o ∷ os) (q ∷ qs) = IsWhole o q × AreWhole os qs
+
 module _ (W : Weights) (plain m : ℕ) (cs : List Collect) (r r' : ℕ) where
   -- this node of the one graph is that one of the other, and adds so much for each row more
   pub data Refolded : Vertex → Vertex → (List Carried → ℕ) → Type 0 where
@@ -48,12 +61,11 @@ module _ (W : Weights) (plain m : ℕ) (cs : List Collect) (r r' : ℕ) where
         → ((ks rs : List Carried) (rows : List (List Carried)) → length ks ≡ length before → AllLong m rows
         → W.of_node r v (ks ++ reads c (columns m rows)) rs ≡ W.of_node r' v' (ks ++ made c rows ∷ []) rs + rows_sum e rows)
         → Refolded v v' e
-    -- a multiple and its mask are both collected whole, and the node reads both
-    a_pair : (v v' : Vertex) (l : ℕ) (before : List Source) (row : Simple) (shape : Shape) (j q k k' : ℕ)
+    -- each multiple that the node reads is collected whole
+    a_whole : (v v' : Vertex) (l : ℕ) (row : Simple) (shape : Shape)
         → v.label ≡ suc l → v'.label ≡ v.label
         → v.kind ≡ Plain row shape → v'.kind ≡ Plain row shape
-        → v.ins ≡ before ++ ports_of plain (Sifts j (Some q)) → v'.ins ≡ before ++ Port 0 (suc (plain + k)) ∷ Port 0 (suc (plain + k')) ∷ []
-        → AllPlain plain before → slice_get cs k ≡ Some (Sifts j None) → slice_get cs k' ≡ Some (Sifts q None) → j < m → q < m
+        → AreWhole plain m cs v.ins v'.ins
         → ((ks rs : List Carried) → W.of_node r v ks rs ≡ W.of_node r' v' ks rs)
         → Refolded v v' (λ row. 0)
 

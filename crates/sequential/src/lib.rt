@@ -19,5 +19,10 @@ mod sights;
 mod steps;
 mod tagging;
 
+pub use bringing::brought;
+pub use choices::spoil;
 pub use laws::steps_are_for_all;
+pub use loading::{load, operand_at};
 pub use machine::{Machine, OpenCall, Turn};
+pub use moving::operands_from;
+pub use sights::{cell_at, counted, sight};

@@ -13,7 +13,7 @@ ghost use Rattle.lowered_sizes.specs.Forms.{
   sizes,
 };
 ghost use Rattle.tree_sizes.specs.Capped.{Keeps, KeepsSizes};
-ghost use Rattle.tree_sizes.specs.Phrases.{phrases, lists};
+ghost use Rattle.tree_sizes.specs.Phrases.{phrases, lists, IsProduct, IsInitial};
 
 use crate::leaves::{applied, constant, within};
 use crate::loops::{inputs, is_limited};
@@ -66,27 +66,47 @@ fn kind(types: &Types, names: u128, values: u128, kind: &TypedKind) -> Sizes
             let inside = arms(types, names, case, bodies.as_slice());
             joined(union, joined(inside, node(values, values)))
         }
-        TypedKind::Product(form, bounds, definitions, results) => {
-            let ends = exprs(types, names, bounds.as_slice());
-            let inner = inputs(form);
-            let inside = deeper(names, inner.values);
-            let first = defs(types, inside, definitions.as_slice());
-            let forms = form.clauses.as_slice();
-            let body = collect(types, inside, first, forms, results.as_slice());
-            let is_limit = is_limited(types, form.sources.as_slice(), bounds.as_slice());
-            joined(ends, product(is_limit, forms, inner, body, values))
-        }
-        TypedKind::Initial(turns, start, test, definitions, results) => {
-            let first = defs(types, names, start.as_slice());
-            let inside = deeper(names, first.values);
-            let tested = exprs(types, inside, test.as_slice());
-            let turn = defs(types, inside, definitions.as_slice());
-            let forms = turns.clauses.as_slice();
-            let parts = results.as_slice();
-            let kept = row(types, names, first.values, forms, parts);
-            initial(turns, first, kept, tested, turn, parts.len(), values)
-        }
+        TypedKind::Product(_, _, _, _) => generators_loop(types, names, values, kind),
+        TypedKind::Initial(_, _, _, _, _) => turns_loop(types, names, values, kind),
     }
+}
+
+/// How much a loop over generators with so many types becomes.
+#[cycle(sizes)]
+fn generators_loop(types: &Types, names: u128, values: u128, kind: &TypedKind) -> Sizes
+    requires { IsProduct kind.now }
+    ensures { (n : ℕ) (ts : List ℕ) → Keeps names n → Keeps values (length ts) → KeepsSizes result ((kind_sizes types.now kind.now).sizes ts n) }
+{
+    let TypedKind::Product(form, bounds, definitions, results) = kind else {
+        unreachable!()
+    };
+    let ends = exprs(types, names, bounds.as_slice());
+    let inner = inputs(form);
+    let inside = deeper(names, inner.values);
+    let first = defs(types, inside, definitions.as_slice());
+    let forms = form.clauses.as_slice();
+    let body = collect(types, inside, first, forms, results.as_slice());
+    let is_limit = is_limited(types, form.sources.as_slice(), bounds.as_slice());
+    joined(ends, product(is_limit, forms, inner, body, values))
+}
+
+/// How much a loop of turns with so many types becomes.
+#[cycle(sizes)]
+fn turns_loop(types: &Types, names: u128, values: u128, kind: &TypedKind) -> Sizes
+    requires { IsInitial kind.now }
+    ensures { (n : ℕ) (ts : List ℕ) → Keeps names n → Keeps values (length ts) → KeepsSizes result ((kind_sizes types.now kind.now).sizes ts n) }
+{
+    let TypedKind::Initial(turns, start, test, definitions, results) = kind else {
+        unreachable!()
+    };
+    let first = defs(types, names, start.as_slice());
+    let inside = deeper(names, first.values);
+    let tested = exprs(types, inside, test.as_slice());
+    let turn = defs(types, inside, definitions.as_slice());
+    let forms = turns.clauses.as_slice();
+    let parts = results.as_slice();
+    let kept = row(types, names, first.values, forms, parts);
+    initial(turns, first, kept, tested, turn, parts.len(), values)
 }
 
 /// How much some expressions become, one behind another.

@@ -98,6 +98,14 @@ impl Table {
         self.find(&key)
     }
 
+    /// How many entries there are, at most 65,535.
+    pub fn count(&self) -> usize
+        ensures count { result ≡ length self.now }
+        ensures few { result ≤ most_types }
+    {
+        self.entries.len()
+    }
+
     /// The lines of the types, by rising label.
     pub fn lines(&self) -> Result<TypeTable, NoMemory>
         ensures { IfOk result (λ lines. lines ≡ lines_from 1 self.now) }

@@ -8,3 +8,4 @@ pub mod Outs
 pub mod Runs
 pub mod NoTree
 pub mod Units
+pub mod Alike

@@ -24,7 +24,7 @@ use Rattle.typed_rows.proofs.ValueKinds.{at_int, at_bool, out_int, out_bool, of_
 use Rattle.typed_values.specs.Laws.{a_number, a_truth, HasNoTree, HasNoRow}
 use Rattle.typed_values.proofs.Outs.{out_constant, out_value, out_group, out_call, out_apply, out_let, out_if, out_case, out_product, out_initial}
 
-no_integer : (b : Bool) → Of ty.Int (val.Bool b) → ⊥
+pub no_integer : (b : Bool) → Of ty.Int (val.Bool b) → ⊥
 no_integer b h = wrong (sym (at_int (val.Bool b) ∙ ap (test_part Ty-F.Int) (out_bool b)) ∙ h)
   where
     wrong : false ≡ true → ⊥

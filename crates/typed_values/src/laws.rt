@@ -1,4 +1,5 @@
 //! The laws of values and types.
+ghost use Rattle.typed_values.specs.Alike.{DoNamesAlikeBreak};
 ghost use Rattle.typed_values.specs.Laws.{AreCallsTyped, AreExpressionsTyped, AreRunsRight, AreUnitsTyped, HasNoRow, HasNoTree};
 
 /// On values of the types of the names in force, an expression gives values of its types.
@@ -27,4 +28,10 @@ pub fn functions_of_typed_units_give_values_of_their_types()
 pub fn one_plus_true_does_not_fit()
     ensures no_tree { HasNoTree }
     ensures no_row { HasNoRow }
+{}
+
+/// An example: where two names are spelled alike, the typing rules call an expression an integer whose
+/// value is a truth value.
+pub fn names_spelled_alike_break_types()
+    ensures { DoNamesAlikeBreak }
 {}

@@ -6,6 +6,6 @@ mod laws;
 
 pub use laws::{
     calls_give_values_of_their_types, expressions_give_values_of_their_types,
-    functions_of_typed_units_give_values_of_their_types, one_plus_true_does_not_fit,
-    runs_meet_what_they_take,
+    functions_of_typed_units_give_values_of_their_types, names_spelled_alike_break_types,
+    one_plus_true_does_not_fit, runs_meet_what_they_take,
 };

@@ -37,7 +37,7 @@ use Rattle.lower_exprs.proofs.Names.{no_names, more_names, undone}
 use Rattle.lower_exprs.proofs.Steps.{then_as, inside_of, inside_with, as_entered, in_open, stands, three_parts, three_places, three_within, content_names, content_is, begun_with, more_inside, on_ok_always}
 use Rattle.lower_exprs.proofs.Arms.{Listing, goes_on as listing_goes_on, ended as listing_ended}
 use Rattle.lower_exprs.proofs.Forks.{clause_step, tags_length, tags_at, arm_is, forall_made}
-use Rattle.lower_exprs.proofs.Initials.{extras_go_on, extras_ended, turned_names, test_is, first_placed, turn_placed, first_of, turn_of, initial_ends, three_stand}
+use Rattle.lower_exprs.proofs.Initials.{extras_go_on, extras_ended, turned_names, test_is, first_placed, turn_placed, first_of, turn_of, initial_ends, both_stand, three_stand}
 use Rattle.lower_exprs.proofs.walk.+lowered.Goals as goal
 
 pub expr-returns-clause-made : goal.expr-returns-clause-made
@@ -68,8 +68,8 @@ pub kind-returns-in-Group-clause-made : goal.kind-returns-in-Group-clause-made
 kind-returns-in-Group-clause-made t c =
     let forms = c.args.forms.now in
     let env = c.args.names.now.here in
-    if_as c.all.result (kind_of forms c.args.kind.now c.args.types.now env) (alls forms c.as_slice.result.now env) c.args.made.now c.all.new.made
-    (group_is forms c.args.kind.now c.args.types.now env c.in-Group.parts c.in-Group.is ∙ ap (λ (es : List TypedExpr). alls forms es env) (sym c.as_slice.ensures)) c.all.ensures.made
+    if_as c.expressions.result (kind_of forms c.args.kind.now c.args.types.now env) (alls forms c.as_slice.result.now env) c.args.made.now c.expressions.new.made
+    (group_is forms c.args.kind.now c.args.types.now env c.in-Group.parts c.in-Group.is ∙ ap (λ (es : List TypedExpr). alls forms es env) (sym c.as_slice.ensures)) c.expressions.ensures.made
 
 pub kind-returns-in-Call-clause-made : goal.kind-returns-in-Call-clause-made
 kind-returns-in-Call-clause-made t c =
@@ -87,11 +87,11 @@ kind-returns-in-Apply-clause-made t c =
     if_as c.apply.result (kind_of forms c.args.kind.now ts env) (apply_of forms c.in-Apply.op c.as_slice-in-Apply.result.now ts env) c.args.made.now c.apply.new.made
     (apply_is forms c.args.kind.now ts env c.in-Apply.op c.in-Apply.parts c.in-Apply.is ∙ ap (λ (es : List TypedExpr). apply_of forms c.in-Apply.op es ts env) (sym c.as_slice-in-Apply.ensures)) c.apply.ensures.made
 
-pub all-loop-e-init : goal.all-loop-e-init
-all-loop-e-init t c = record { names = refl; going = begun_with (alls c.args.forms.now c.args.parts.now c.args.names.now.here) c.args.made.now c.new-values.result c.new-values.ensures }
+pub expressions-loop-e-init : goal.expressions-loop-e-init
+expressions-loop-e-init t c = record { names = refl; going = begun_with (alls c.args.forms.now c.args.parts.now c.args.names.now.here) c.args.made.now c.new-values.result c.new-values.ensures }
 
-pub all-loop-e-preserved : goal.all-loop-e-preserved
-all-loop-e-preserved t c =
+pub expressions-loop-e-preserved : goal.expressions-loop-e-preserved
+expressions-loop-e-preserved t c =
     let forms = c.args.forms.now in
     let es = c.args.parts.now in
     let i = c.loop-e.e-index in
@@ -108,8 +108,8 @@ all-loop-e-preserved t c =
       going = goes_on f (lowers forms e) (each (phrases forms (drop (i + 1) es))) env c.args.made.now c.loop-e.made c.expr.new.made c.loop-e.values c.in_ok-more.more c.append.new.wires begun one c.in_ok-append.ensures;
     }
 
-pub all-returns-clause-made : goal.all-returns-clause-made
-all-returns-clause-made t c =
+pub expressions-returns-clause-made : goal.expressions-returns-clause-made
+expressions-returns-clause-made t c =
     let forms = c.args.forms.now in
     let es = c.args.parts.now in
     let env = c.args.names.now.here in
@@ -122,14 +122,14 @@ call-returns-clause-made t c =
     let forms = c.args.forms.now in
     let env = c.args.names.now.here in
     let ts = c.args.types.now in
-    then_as c.add.result (alls forms c.args.parts.now env) (λ vs. a_node (Call c.args.function) vs 1 (map One ts)) c.args.made.now c.all.new.made c.add.new.self c.in_ok-ins.ins c.in_ok-ins.ensures.made c.add.ensures
+    then_as c.add.result (alls forms c.args.parts.now env) (λ vs. a_node (Call c.args.function) vs 1 (map One ts)) c.args.made.now c.expressions.new.made c.add.new.self c.in_ok-ins.ins c.in_ok-ins.ensures.made c.add.ensures
 
 pub apply-returns-clause-made : goal.apply-returns-clause-made
 apply-returns-clause-made t c =
     let forms = c.args.forms.now in
     let env = c.args.names.now.here in
     let ts = c.args.types.now in
-    then_as c.applied.result (alls forms c.args.parts.now env) (λ vs. applied forms c.args.op.now vs ts) c.args.made.now c.all.new.made c.applied.new.made c.in_ok-wires.wires c.in_ok-wires.ensures.made c.applied.ensures
+    then_as c.applied.result (alls forms c.args.parts.now env) (λ vs. applied forms c.args.op.now vs ts) c.args.made.now c.expressions.new.made c.applied.new.made c.in_ok-wires.wires c.in_ok-wires.ensures.made c.applied.ensures
 
 pub defined-loop-def-init : goal.defined-loop-def-init
 defined-loop-def-init t c = record { names = no_names c.args.names.now; going = begun_defs (all_defs c.args.forms.now c.args.defs.now c.args.names.now.here) c.args.made.now }
@@ -146,15 +146,15 @@ defined-loop-def-preserved t c =
     let vs = c.in_ok-values.values in
     let begun : Defining f (all_defs forms (d ∷ rest) here) c.args.made.now c.loop-def.made =
     subst (λ (us : List (List TypedExpr)). Defining f (all_defs forms us here) c.args.made.now c.loop-def.made) (rest_is ds i d c.loop-def-test.true c.def-item.is) c.loop-def.invariant.going in
-    let one : IsMade (alls forms d here) c.loop-def.made c.all.new.made vs =
-    subst (λ (es : List TypedExpr). IsMade (alls forms es here) c.loop-def.made c.all.new.made vs) c.as_slice.ensures c.in_ok-values.ensures.made in
+    let one : IsMade (alls forms d here) c.loop-def.made c.expressions.new.made vs =
+    subst (λ (es : List TypedExpr). IsMade (alls forms es here) c.loop-def.made c.expressions.new.made vs) c.as_slice.ensures c.in_ok-values.ensures.made in
     let names : c.define.new.self ≡ with_names c.loop-def.names vs =
-    c.in_ok-define.ensures ∙ ap (λ (k : List Wire). with_names c.all.new.names k) c.as_slice-in-loop-def.ensures ∙ ap (λ (s : Scopes). with_names s vs) c.in_ok-values.ensures.names in
+    c.in_ok-define.ensures ∙ ap (λ (k : List Wire). with_names c.expressions.new.names k) c.as_slice-in-loop-def.ensures ∙ ap (λ (s : Scopes). with_names s vs) c.in_ok-values.ensures.names in
     record {
       names = more_names c.args.names.now c.loop-def.names c.define.new.self vs c.loop-def.invariant.names names;
       going =
-          subst (λ (s : Scopes). Defining f (all_defs forms rest s.here) c.args.made.now c.all.new.made) (sym names)
-          (defs_go_on f (each (phrases forms d)) (lists forms rest) here c.args.made.now c.loop-def.made c.all.new.made vs begun one);
+          subst (λ (s : Scopes). Defining f (all_defs forms rest s.here) c.args.made.now c.expressions.new.made) (sym names)
+          (defs_go_on f (each (phrases forms d)) (lists forms rest) here c.args.made.now c.loop-def.made c.expressions.new.made vs begun one);
     }
 
 pub defined-returns-clause-made : goal.defined-returns-clause-made
@@ -177,10 +177,10 @@ let_in-returns-clause-made t c =
     let vs = c.in_ok-values.values in
     let first : IsMade (all_defs forms ds env) c.args.made.now c.defined.new.made c.defined.new.names.here =
     subst (λ (us : List (List TypedExpr)). IsMade (all_defs forms us env) c.args.made.now c.defined.new.made c.defined.new.names.here) c.as_slice.ensures c.in_ok-defined.ensures.made in
-    let second : IsMade (alls forms es c.defined.new.names.here) c.defined.new.made c.all.new.made vs =
-    subst (λ (us : List TypedExpr). IsMade (alls forms us c.defined.new.names.here) c.defined.new.made c.all.new.made vs) c.as_slice-2.ensures c.in_ok-values.ensures.made in
-    as_made (kind_of forms k ts env) (body_lowered (lists forms ds) (each (phrases forms es)) env) c.args.made.now c.all.new.made vs (let_is forms k ts env ds es c.in-Let.is)
-    (andthen_made (all_defs forms ds env) (all_lowered (each (phrases forms es))) c.args.made.now c.defined.new.made c.all.new.made c.defined.new.names.here vs first second)
+    let second : IsMade (alls forms es c.defined.new.names.here) c.defined.new.made c.expressions.new.made vs =
+    subst (λ (us : List TypedExpr). IsMade (alls forms us c.defined.new.names.here) c.defined.new.made c.expressions.new.made vs) c.as_slice-2.ensures c.in_ok-values.ensures.made in
+    as_made (kind_of forms k ts env) (body_lowered (lists forms ds) (each (phrases forms es)) env) c.args.made.now c.expressions.new.made vs (let_is forms k ts env ds es c.in-Let.is)
+    (andthen_made (all_defs forms ds env) (all_lowered (each (phrases forms es))) c.args.made.now c.defined.new.made c.expressions.new.made c.defined.new.names.here vs first second)
 
 pub let_in-returns-clause-names : goal.let_in-returns-clause-names
 let_in-returns-clause-names t c =
@@ -189,23 +189,23 @@ let_in-returns-clause-names t c =
     (c.truncate.ensures ∙ ap (first_names c.len-before.result) c.in_ok-values.ensures.names)
 
 pub part-leave-requires : goal.part-leave-requires
-part-leave-requires t c = inside_of c.args.names.now c.all.new.names (c.in_ok-values.ensures.names ∙ c.in_ok-enter.ensures)
+part-leave-requires t c = inside_of c.args.names.now c.expressions.new.names (c.in_ok-values.ensures.names ∙ c.in_ok-enter.ensures)
 
 pub part-shut-requires : goal.part-shut-requires
 part-shut-requires t c =
     let a = c.args.made.now in
     let f = alls c.args.forms.now c.args.parts.now (map into c.args.names.now.here) in
-    let p : IsMade f c.open.new.self c.all.new.made c.in_ok-values.values =
-    subst (λ (s : Scopes). IsMade (alls c.args.forms.now c.args.parts.now s.here) c.open.new.self c.all.new.made c.in_ok-values.values) c.in_ok-enter.ensures c.in_ok-values.ensures.made in
-    (stands f a c.open.new.self c.all.new.made c.in_ok-values.values c.in_ok-around.around c.in_ok-around.ensures.opened c.in_ok-around.ensures.around p)
+    let p : IsMade f c.open.new.self c.expressions.new.made c.in_ok-values.values =
+    subst (λ (s : Scopes). IsMade (alls c.args.forms.now c.args.parts.now s.here) c.open.new.self c.expressions.new.made c.in_ok-values.values) c.in_ok-enter.ensures c.in_ok-values.ensures.made in
+    (stands f a c.open.new.self c.expressions.new.made c.in_ok-values.values c.in_ok-around.around c.in_ok-around.ensures.opened c.in_ok-around.ensures.around p)
 
 pub part-returns-clause-part : goal.part-returns-clause-part
 part-returns-clause-part t c =
     let a = c.args.made.now in
     let f = alls c.args.forms.now c.args.parts.now (map into c.args.names.now.here) in
-    let p : IsMade f c.open.new.self c.all.new.made c.in_ok-values.values =
-    subst (λ (s : Scopes). IsMade (alls c.args.forms.now c.args.parts.now s.here) c.open.new.self c.all.new.made c.in_ok-values.values) c.in_ok-enter.ensures c.in_ok-values.ensures.made in
-    on_ok_weaker c.shut.result (λ h. h f a c.in_ok-around.ensures.around (in_open f a c.open.new.self c.all.new.made c.in_ok-values.values c.in_ok-around.ensures.opened p)) c.shut.ensures.part
+    let p : IsMade f c.open.new.self c.expressions.new.made c.in_ok-values.values =
+    subst (λ (s : Scopes). IsMade (alls c.args.forms.now c.args.parts.now s.here) c.open.new.self c.expressions.new.made c.in_ok-values.values) c.in_ok-enter.ensures c.in_ok-values.ensures.made in
+    on_ok_weaker c.shut.result (λ h. h f a c.in_ok-around.ensures.around (in_open f a c.open.new.self c.expressions.new.made c.in_ok-values.values c.in_ok-around.ensures.opened p)) c.shut.ensures.part
 
 pub part-returns-clause-place : goal.part-returns-clause-place
 part-returns-clause-place t c =
@@ -215,11 +215,11 @@ part-returns-clause-place t c =
 pub part-returns-clause-names : goal.part-returns-clause-names
 part-returns-clause-names t c =
     let s = c.args.names.now in
-    let e : c.leave.new.self ≡ s = c.leave.ensures s [] (as_entered s c.all.new.names (c.in_ok-values.ensures.names ∙ c.in_ok-enter.ensures)) in
+    let e : c.leave.new.self ≡ s = c.leave.ensures s [] (as_entered s c.expressions.new.names (c.in_ok-values.ensures.names ∙ c.in_ok-enter.ensures)) in
     on_ok_weaker c.shut.result (λ h. e) c.shut.ensures.part
 
 pub selector-leave-requires : goal.selector-leave-requires
-selector-leave-requires t c = inside_of c.args.names.now c.all.new.names (c.in_ok-test.ensures.names ∙ c.in_ok-enter.ensures)
+selector-leave-requires t c = inside_of c.args.names.now c.expressions.new.names (c.in_ok-test.ensures.names ∙ c.in_ok-enter.ensures)
 
 pub selector-shut-requires : goal.selector-shut-requires
 selector-shut-requires t c =
@@ -227,10 +227,10 @@ selector-shut-requires t c =
     let f = selector_of c.args.forms.now c.args.parts.now (map into c.args.names.now.here) in
     let forms = c.args.forms.now in
     let env = map into c.args.names.now.here in
-    let first : IsMade (alls forms c.args.parts.now env) c.open.new.self c.all.new.made c.in_ok-test.test =
-    subst (λ (s : Scopes). IsMade (alls forms c.args.parts.now s.here) c.open.new.self c.all.new.made c.in_ok-test.test) c.in_ok-enter.ensures c.in_ok-test.ensures.made in
+    let first : IsMade (alls forms c.args.parts.now env) c.open.new.self c.expressions.new.made c.in_ok-test.test =
+    subst (λ (s : Scopes). IsMade (alls forms c.args.parts.now s.here) c.open.new.self c.expressions.new.made c.in_ok-test.test) c.in_ok-enter.ensures c.in_ok-test.ensures.made in
     let p : IsMade f c.open.new.self c.row.new.made c.in_ok-values.values =
-    andthen_made (alls forms c.args.parts.now env) (λ ws. row_lowered (simple.One unary.Int) ws (integer ∷ [])) c.open.new.self c.all.new.made c.row.new.made c.in_ok-test.test c.in_ok-values.values first c.in_ok-values.ensures in
+    andthen_made (alls forms c.args.parts.now env) (λ ws. row_lowered (simple.One unary.Int) ws (integer ∷ [])) c.open.new.self c.expressions.new.made c.row.new.made c.in_ok-test.test c.in_ok-values.values first c.in_ok-values.ensures in
     (stands f a c.open.new.self c.row.new.made c.in_ok-values.values c.in_ok-around.around c.in_ok-around.ensures.opened c.in_ok-around.ensures.around p)
 
 pub selector-returns-clause-part : goal.selector-returns-clause-part
@@ -239,10 +239,10 @@ selector-returns-clause-part t c =
     let f = selector_of c.args.forms.now c.args.parts.now (map into c.args.names.now.here) in
     let forms = c.args.forms.now in
     let env = map into c.args.names.now.here in
-    let first : IsMade (alls forms c.args.parts.now env) c.open.new.self c.all.new.made c.in_ok-test.test =
-    subst (λ (s : Scopes). IsMade (alls forms c.args.parts.now s.here) c.open.new.self c.all.new.made c.in_ok-test.test) c.in_ok-enter.ensures c.in_ok-test.ensures.made in
+    let first : IsMade (alls forms c.args.parts.now env) c.open.new.self c.expressions.new.made c.in_ok-test.test =
+    subst (λ (s : Scopes). IsMade (alls forms c.args.parts.now s.here) c.open.new.self c.expressions.new.made c.in_ok-test.test) c.in_ok-enter.ensures c.in_ok-test.ensures.made in
     let p : IsMade f c.open.new.self c.row.new.made c.in_ok-values.values =
-    andthen_made (alls forms c.args.parts.now env) (λ ws. row_lowered (simple.One unary.Int) ws (integer ∷ [])) c.open.new.self c.all.new.made c.row.new.made c.in_ok-test.test c.in_ok-values.values first c.in_ok-values.ensures in
+    andthen_made (alls forms c.args.parts.now env) (λ ws. row_lowered (simple.One unary.Int) ws (integer ∷ [])) c.open.new.self c.expressions.new.made c.row.new.made c.in_ok-test.test c.in_ok-values.values first c.in_ok-values.ensures in
     on_ok_weaker c.shut.result (λ h. h f a c.in_ok-around.ensures.around (in_open f a c.open.new.self c.row.new.made c.in_ok-values.values c.in_ok-around.ensures.opened p)) c.shut.ensures.part
 
 pub selector-returns-clause-place : goal.selector-returns-clause-place
@@ -253,13 +253,13 @@ selector-returns-clause-place t c =
 pub selector-returns-clause-names : goal.selector-returns-clause-names
 selector-returns-clause-names t c =
     let s = c.args.names.now in
-    let e : c.leave.new.self ≡ s = c.leave.ensures s [] (as_entered s c.all.new.names (c.in_ok-test.ensures.names ∙ c.in_ok-enter.ensures)) in
+    let e : c.leave.new.self ≡ s = c.leave.ensures s [] (as_entered s c.expressions.new.names (c.in_ok-test.ensures.names ∙ c.in_ok-enter.ensures)) in
     on_ok_weaker c.shut.result (λ h. e) c.shut.ensures.part
 
 pub arm-leave-requires : goal.arm-leave-requires
 arm-leave-requires t c =
     let s = c.args.names.now in
-    inside_with s c.all.new.names (content_names c.args.content)
+    inside_with s c.expressions.new.names (content_names c.args.content)
     (c.in_ok-values.ensures.names ∙ c.in_ok-define_content.ensures ∙ ap (λ (k : Scopes). scopes (with_content c.args.content k.here) k.marks) c.in_ok-enter.ensures ∙ content_is s c.args.content)
 
 pub arm-shut-requires : goal.arm-shut-requires
@@ -270,9 +270,9 @@ arm-shut-requires t c =
     let env = with_content c.args.content (map into s.here) in
     let names : c.define_content.new.names.here ≡ env =
     ap (λ (k : Scopes). k.here) (c.in_ok-define_content.ensures ∙ ap (λ (k : Scopes). scopes (with_content c.args.content k.here) k.marks) c.in_ok-enter.ensures) in
-    let p : IsMade f c.open.new.self c.all.new.made c.in_ok-values.values =
-    subst (λ (h : List Wire). IsMade (alls c.args.forms.now c.args.parts.now h) c.open.new.self c.all.new.made c.in_ok-values.values) names c.in_ok-values.ensures.made in
-    (stands f a c.open.new.self c.all.new.made c.in_ok-values.values c.in_ok-around.around c.in_ok-around.ensures.opened c.in_ok-around.ensures.around p)
+    let p : IsMade f c.open.new.self c.expressions.new.made c.in_ok-values.values =
+    subst (λ (h : List Wire). IsMade (alls c.args.forms.now c.args.parts.now h) c.open.new.self c.expressions.new.made c.in_ok-values.values) names c.in_ok-values.ensures.made in
+    (stands f a c.open.new.self c.expressions.new.made c.in_ok-values.values c.in_ok-around.around c.in_ok-around.ensures.opened c.in_ok-around.ensures.around p)
 
 pub arm-returns-clause-part : goal.arm-returns-clause-part
 arm-returns-clause-part t c =
@@ -282,9 +282,9 @@ arm-returns-clause-part t c =
     let env = with_content c.args.content (map into s.here) in
     let names : c.define_content.new.names.here ≡ env =
     ap (λ (k : Scopes). k.here) (c.in_ok-define_content.ensures ∙ ap (λ (k : Scopes). scopes (with_content c.args.content k.here) k.marks) c.in_ok-enter.ensures) in
-    let p : IsMade f c.open.new.self c.all.new.made c.in_ok-values.values =
-    subst (λ (h : List Wire). IsMade (alls c.args.forms.now c.args.parts.now h) c.open.new.self c.all.new.made c.in_ok-values.values) names c.in_ok-values.ensures.made in
-    on_ok_weaker c.shut.result (λ h. h f a c.in_ok-around.ensures.around (in_open f a c.open.new.self c.all.new.made c.in_ok-values.values c.in_ok-around.ensures.opened p)) c.shut.ensures.part
+    let p : IsMade f c.open.new.self c.expressions.new.made c.in_ok-values.values =
+    subst (λ (h : List Wire). IsMade (alls c.args.forms.now c.args.parts.now h) c.open.new.self c.expressions.new.made c.in_ok-values.values) names c.in_ok-values.ensures.made in
+    on_ok_weaker c.shut.result (λ h. h f a c.in_ok-around.ensures.around (in_open f a c.open.new.self c.expressions.new.made c.in_ok-values.values c.in_ok-around.ensures.opened p)) c.shut.ensures.part
 
 pub arm-returns-clause-place : goal.arm-returns-clause-place
 arm-returns-clause-place t c =
@@ -394,9 +394,9 @@ arms-returns-clause-parts t c =
 
 pub tag_case-tag_case-requires : goal.tag_case-tag_case-requires
 tag_case-tag_case-requires t c =
-    let fs = arms_in c.args.forms.now c.in-Case.case c.type_of-ty.result 0 c.as_slice-results.result.now c.all.new.names.here in
+    let fs = arms_in c.args.forms.now c.in-Case.case c.type_of-ty.result 0 c.as_slice-results.result.now c.expressions.new.names.here in
     subst (λ (ps : List ℕ). All (λ k. k < length c.arms.new.made.graphs) ps) (sym (c.as_slice-stands.ensures ∙ c.in_ok-places.ensures.places))
-    (places_within fs c.all.new.made c.arms.new.made c.in_ok-places.ensures.parts)
+    (places_within fs c.expressions.new.made c.arms.new.made c.in_ok-places.ensures.parts)
 
 pub tag_case-returns-clause-made : goal.tag_case-returns-clause-made
 tag_case-returns-clause-made t c =
@@ -408,13 +408,13 @@ tag_case-returns-clause-made t c =
     let us = c.in-Case.subject in
     let ps = c.in-Case.parts in
     let a = c.args.made.now in
-    let b = c.all.new.made in
+    let b = c.expressions.new.made in
     let m = c.tag_case.new.self in
     let wires = c.in_ok-wires.wires in
     let u = c.in_ok-union.union in
     let ty = c.type_of-ty.result in
     let slice = c.as_slice-results.result.now in
-    let here = c.all.new.names.here in
+    let here = c.expressions.new.names.here in
     let table = c.in_ok-table.table in
     let fs = arms_in forms x ty 0 slice here in
     let h = c.tag_case.ensures b fs c.in_ok-places.ensures.parts (c.as_slice-stands.ensures ∙ c.in_ok-places.ensures.places) in
@@ -477,27 +477,24 @@ clause_values-returns-clause-made t c =
 
 -- ---- `for` over generators
 
-pub product-whole-requires : goal.product-whole-requires
-product-whole-requires t c =
+pub product-forall_node-requires : goal.product-forall_node-requires
+product-forall_node-requires t c =
     let forms = c.args.forms.now in
-    let b = c.all.new.made in
+    let b = c.expressions.new.made in
     let d = c.generator_part.new.made in
     let e = c.shut_part.new.made in
-    let m = c.returns_part.new.made in
     let vs = c.in_ok-values.values in
     let f1 = generators_lowered forms c.as_slice-sources.result.now c.as_slice-inner.result.now in
     let start = c.begin.new.names.here in
     let cl = clauses_lowered c.as_slice-flags.result.now (each (phrases forms c.as_slice-results.result.now)) in
     let f2 = andthen (all_defs forms c.as_slice-lets.result.now start) (all_lowered cl) in
-    let f3 = returns_lowered (plain c.in_ok-bound.bound) c.as_slice-clauses.result.now c.as_slice-spans.result.now c.args.types.now in
     let made : IsMade f2 c.begin.new.made c.clause_values.new.made vs =
     andthen_made (all_defs forms c.as_slice-lets.result.now start) (all_lowered cl) c.begin.new.made c.defined.new.made c.clause_values.new.made c.defined.new.names.here vs c.in_ok-defined.ensures.made
     c.in_ok-values.ensures.made in
     let p1 : IsPlaced f1 b d c.in_ok-first.first = c.in_ok-first.ensures in
     let p2 : IsPlaced f2 d e c.in_ok-second.second =
     c.in_ok-second.ensures f2 d c.in_ok-around.ensures.around (in_open f2 d c.begin.new.made c.clause_values.new.made vs c.in_ok-around.ensures.made made) in
-    let p3 : IsPlaced f3 e m c.in_ok-third.third = c.in_ok-third.ensures in
-    three_within f1 f2 f3 b d e m c.in_ok-first.first.place c.in_ok-second.second.place c.in_ok-third.third.place p1.part p2.part p3.part p1.place p2.place p3.place
+    both_stand f1 f2 b d e c.in_ok-first.first c.in_ok-second.second p1 p2
 
 pub product-returns-clause-names : goal.product-returns-clause-names
 product-returns-clause-names t c =
@@ -507,7 +504,7 @@ product-returns-clause-names t c =
     let entered_is : c.begin.new.names ≡ with_names (entered s) own =
     c.in_ok-around.ensures.names ∙ ap (λ (k : Scopes). with_names (entered k) own) c.in_ok-wires.ensures.names in
     let inner : c.clause_values.new.names ≡ with_names (entered s) (own ++ g.more) = c.in_ok-values.ensures.names ∙ more_inside s c.begin.new.names c.defined.new.names own g.more entered_is g.is in
-    on_ok_always c.whole.result (c.leave.new.self ≡ s) (c.leave.ensures s (own ++ g.more) inner)
+    on_ok_always c.forall_node.result (c.leave.new.self ≡ s) (c.leave.ensures s (own ++ g.more) inner)
 
 pub product-returns-clause-made : goal.product-returns-clause-made
 product-returns-clause-made t c =
@@ -517,16 +514,14 @@ product-returns-clause-made t c =
     let env = s.here in
     let x = c.in-Product.product in
     let a = c.args.made.now in
-    let b = c.all.new.made in
+    let b = c.expressions.new.made in
     let d = c.generator_part.new.made in
     let e = c.shut_part.new.made in
-    let m = c.returns_part.new.made in
-    let w = c.whole.new.self in
+    let w = c.forall_node.new.made in
     let ws = c.in_ok-wires.wires in
     let vs = c.in_ok-values.values in
     let g = c.in_ok-first.first in
     let r = c.in_ok-second.second in
-    let k = c.in_ok-third.third in
     let ds = lists forms c.in-Product.defs in
     let gs = each (phrases forms c.in-Product.parts) in
     let cl = clauses_lowered (unless_places x.clauses) gs in
@@ -551,25 +546,12 @@ product-returns-clause-made t c =
     andthen_made (defs_lowered ds start) (all_lowered cl) c.begin.new.made c.defined.new.made c.clause_values.new.made c.defined.new.names.here vs defs_are values_are in
     let p2 : IsPlaced (body start) d e r =
     c.in_ok-second.ensures (body start) d c.in_ok-around.ensures.around (in_open (body start) d c.begin.new.made c.clause_values.new.made vs c.in_ok-around.ensures.made made) in
-    let step : length c.as_slice-elements.result.now + 1 ≡ suc (length g.carried) = let l = ap (λ (k : List Carried). length k) c.as_slice-elements.ensures in omega (arith, l) in
-    let spans : c.as_slice-spans.result.now ≡ own_inputs (suc (length g.carried)) (map many r.carried) =
-    c.as_slice-spans.ensures ∙ c.in_ok-multiples.ensures ∙ ap₂ (λ n (k : List Carried). own_inputs n (map many k)) step c.as_slice-columns.ensures in
-    let bound : plain c.in_ok-bound.bound ≡ bound_of forms x.sources (map into ws) = c.in_ok-bound.ensures ∙ ap₂ (bound_of forms) c.as_slice-sources.ensures inner in
-    let p3 : IsPlaced (returns_lowered (bound_of forms x.sources (map into ws)) x.clauses (own_inputs (suc (length g.carried)) (map many r.carried)) ts) e m k =
-    subst (λ (y : Bound). IsPlaced (returns_lowered y x.clauses (own_inputs (suc (length g.carried)) (map many r.carried)) ts) e m k) bound
-    (subst (λ (cs : List ClauseForm). IsPlaced (returns_lowered (plain c.in_ok-bound.bound) cs (own_inputs (suc (length g.carried)) (map many r.carried)) ts) e m k) c.as_slice-clauses.ensures
-    (subst (λ (us : List Wire). IsPlaced (returns_lowered (plain c.in_ok-bound.bound) c.as_slice-clauses.result.now us ts) e m k) spans c.in_ok-third.ensures)) in
-    let count : length c.as_slice-columns.result.now ≡ length r.carried = ap (λ (k : List Carried). length k) c.as_slice-columns.ensures in
     let first : IsMade (alls forms c.in-Product.bounds env) a b ws =
     subst (λ (es : List TypedExpr). IsMade (alls forms es env) a b ws) c.as_slice-ends.ensures c.in_ok-wires.ensures.made in
-    let all = λ (before : Made) (fs : List Lowering) (p : AreParts fs before m) (q : g.place ∷ r.place ∷ k.place ∷ [] ≡ places_in before fs).
-    subst (λ (n : ℕ). IfOk c.whole.result (λ (us : List Wire). IsMade (whole compound.ForAll (new_parts before fs) (0 ∷ 1 ∷ 2 ∷ []) n ts) before w us)) count
-    (subst (λ (l : List ℕ). IfOk c.whole.result (λ (us : List Wire). IsMade (whole compound.ForAll (new_parts before fs) l (length c.as_slice-columns.result.now) ts) before w us)) c.in_ok-arms.ensures
-    (c.whole.ensures before fs p q)) in
-    if_as c.whole.result (kind_of forms c.args.kind.now ts env) (andthen (alls forms c.in-Product.bounds env) (λ us. product_lowered forms x ds gs ts us env)) a w
+    if_as c.forall_node.result (kind_of forms c.args.kind.now ts env) (andthen (alls forms c.in-Product.bounds env) (λ us. product_lowered forms x ds gs ts us env)) a w
     (product_is forms c.args.kind.now ts env x c.in-Product.bounds c.in-Product.defs c.in-Product.parts c.in-Product.is)
-    (then_as c.whole.result (alls forms c.in-Product.bounds env) (λ us. product_lowered forms x ds gs ts us env) a b w ws first
-    (forall_made c.whole.result forms x.sources x.clauses body ts ws env b d e m w g r k p1 p2 p3 all))
+    (then_as c.forall_node.result (alls forms c.in-Product.bounds env) (λ us. product_lowered forms x ds gs ts us env) a b w ws first
+    (c.forall_node.ensures b d body ws env inner p1 p2))
 
 -- ---- `for initial`
 

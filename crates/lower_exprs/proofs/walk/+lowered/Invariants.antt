@@ -13,8 +13,8 @@ decreases-expr l = 8 * goal.size-expr l + 2
 abbrev pub decreases-kind : goal.decreases-kind
 decreases-kind l = 8 * goal.size-kind l + 1
 
-abbrev pub decreases-all : goal.decreases-all
-decreases-all l = 8 * goal.size-all l + 3
+abbrev pub decreases-expressions : goal.decreases-expressions
+decreases-expressions l = 8 * goal.size-expressions l + 3
 
 abbrev pub decreases-call : goal.decreases-call
 decreases-call l = 8 * goal.size-call l + 4
@@ -47,8 +47,8 @@ abbrev pub decreases-tag_case : goal.decreases-tag_case
 decreases-tag_case l = 8 * goal.size-tag_case l + 0
 
 -- with the phrases that are left all are made
-abbrev pub invariant-all-loop-e : goal.invariant-all-loop-e
-invariant-all-loop-e l = record {
+abbrev pub invariant-expressions-loop-e : goal.invariant-expressions-loop-e
+invariant-expressions-loop-e l = record {
   names : l.names ≡ l.fn.names;
   going : Going (alls l.forms l.parts l.fn.names.here) (alls l.forms (drop l.e-index l.parts) l.fn.names.here) l.fn.made l.made l.values;
 }

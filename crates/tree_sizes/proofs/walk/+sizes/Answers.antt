@@ -177,54 +177,54 @@ kind-returns-in-Case t c = λ n ts h k.
     c.joined-in-Case-2.ensures u (joined z (a_node (length ts) (length ts))) union whole
     ∙ ap capped_sizes (sym (kind-is forms (TypedKind-F.Case case us bodies) c.args.kind.now (c.in-Case.is ∙ sym (typed.rolls-Case case us bodies)) ts n))
 
-pub kind-returns-in-Product : goal.kind-returns-in-Product
-kind-returns-in-Product t c = λ n ts h k.
+pub generators_loop-returns : goal.generators_loop-returns
+generators_loop-returns t c = λ n ts h k.
     let forms = c.args.types.now in
     let p = c.in-Product.form in
     let bs = c.in-Product.bounds in
     let ds = c.in-Product.definitions in
     let gs = c.in-Product.results in
     let e = all_sized (phrases forms bs) n in
-    let ends = c.exprs-ends.ensures n h ∙ ap (λ es. capped_sizes (all_sized (phrases forms es) n)) c.as_slice-in-Product.ensures in
+    let ends = c.exprs-ends.ensures n h ∙ ap (λ es. capped_sizes (all_sized (phrases forms es) n)) c.as_slice.ensures in
     let g = generators_sized p.sources in
     let inner = c.inputs-inner.ensures g refl in
     let m = n + g.values in
     let inside = c.deeper-inside.ensures n g.values h (values-kept c.inputs-inner.result g inner) in
     let d = defs_sized (lists forms ds) m in
-    let first = c.defs-first-in-Product.ensures m inside ∙ ap (λ us. capped_sizes (defs_sized (lists forms us) m)) c.as_slice-in-Product-2.ensures in
+    let first = c.defs-first.ensures m inside ∙ ap (λ us. capped_sizes (defs_sized (lists forms us) m)) c.as_slice-2.ensures in
     let places = unless_places p.clauses in
     let b = joined d (all_sized (clauses_sized places (phrases forms gs)) (m + d.values)) in
     let body = c.collect-body.ensures m d inside first
-    ∙ ap (λ cs. capped_sizes (joined d (all_sized (clauses_sized (unless_places cs) (phrases forms c.as_slice-in-Product-3.result.now)) (m + d.values)))) c.as_slice-forms.ensures
-    ∙ ap (λ us. capped_sizes (joined d (all_sized (clauses_sized places (phrases forms us)) (m + d.values)))) c.as_slice-in-Product-3.ensures in
+    ∙ ap (λ cs. capped_sizes (joined d (all_sized (clauses_sized (unless_places cs) (phrases forms c.as_slice-3.result.now)) (m + d.values)))) c.as_slice-forms.ensures
+    ∙ ap (λ us. capped_sizes (joined d (all_sized (clauses_sized places (phrases forms us)) (m + d.values)))) c.as_slice-3.ensures in
     let types = types_of (map (phrase_sized forms) bs) in
-    let limit = c.is_limited-is_limit.ensures ∙ ap (λ us. is_limited forms us (types_of (map (phrase_sized forms) c.as_slice-in-Product-5.result.now))) c.as_slice-in-Product-4.ensures
-    ∙ ap (λ us. is_limited forms p.sources (types_of (map (phrase_sized forms) us))) c.as_slice-in-Product-5.ensures in
+    let limit = c.is_limited-is_limit.ensures ∙ ap (λ us. is_limited forms us (types_of (map (phrase_sized forms) c.as_slice-5.result.now))) c.as_slice-4.ensures
+    ∙ ap (λ us. is_limited forms p.sources (types_of (map (phrase_sized forms) us))) c.as_slice-5.ensures in
     let made = c.product.ensures g b (length ts) inner body k
     ∙ ap (λ l. capped_sizes (whole (g ∷ b ∷ returns_sized l c.as_slice-forms.result.now b.values (length ts) ∷ []) (length ts))) limit
     ∙ ap (λ cs. capped_sizes (whole (g ∷ b ∷ returns_sized (is_limited forms p.sources types) cs b.values (length ts) ∷ []) (length ts))) c.as_slice-forms.ensures in
-    c.joined-in-Product.ensures e (whole (g ∷ b ∷ returns_sized (is_limited forms p.sources types) p.clauses b.values (length ts) ∷ []) (length ts)) ends made
+    c.joined.ensures e (whole (g ∷ b ∷ returns_sized (is_limited forms p.sources types) p.clauses b.values (length ts) ∷ []) (length ts)) ends made
     ∙ ap capped_sizes (sym (kind-is forms (TypedKind-F.Product p bs ds gs) c.args.kind.now (c.in-Product.is ∙ sym (typed.rolls-Product p bs ds gs)) ts n))
 
-pub kind-returns-in-Initial : goal.kind-returns-in-Initial
-kind-returns-in-Initial t c = λ n ts h k.
+pub turns_loop-returns : goal.turns_loop-returns
+turns_loop-returns t c = λ n ts h k.
     let forms = c.args.types.now in
     let x = c.in-Initial.turns in
     let fs = c.in-Initial.start in
     let us = c.in-Initial.test in
     let ds = c.in-Initial.definitions in
     let gs = c.in-Initial.results in
-    let cs = c.as_slice-forms-in-Initial.result.now in
+    let cs = c.as_slice-forms.result.now in
     let ps = c.as_slice-parts.result.now in
     let f = defs_sized (lists forms fs) n in
-    let first = c.defs-first-in-Initial.ensures n h ∙ ap (λ l. capped_sizes (defs_sized (lists forms l) n)) c.as_slice-in-Initial.ensures in
-    let some = values-kept c.defs-first-in-Initial.result f first in
+    let first = c.defs-first.ensures n h ∙ ap (λ l. capped_sizes (defs_sized (lists forms l) n)) c.as_slice.ensures in
+    let some = values-kept c.defs-first.result f first in
     let m = n + f.values in
-    let inside = c.deeper-inside-in-Initial.ensures n f.values h some in
+    let inside = c.deeper-inside.ensures n f.values h some in
     let u = all_sized (phrases forms us) m in
-    let tested = c.exprs-tested-in-Initial.ensures m inside ∙ ap (λ l. capped_sizes (all_sized (phrases forms l) m)) c.as_slice-in-Initial-2.ensures in
+    let tested = c.exprs-tested.ensures m inside ∙ ap (λ l. capped_sizes (all_sized (phrases forms l) m)) c.as_slice-2.ensures in
     let d = defs_sized (lists forms ds) m in
-    let turn = c.defs-turn.ensures m inside ∙ ap (λ l. capped_sizes (defs_sized (lists forms l) m)) c.as_slice-in-Initial-3.ensures in
+    let turn = c.defs-turn.ensures m inside ∙ ap (λ l. capped_sizes (defs_sized (lists forms l) m)) c.as_slice-3.ensures in
     let row = λ (cs : List ClauseForm) (ps : List TypedExpr). all_sized (extras_sized (loop_name n f.values) (unless_places cs) (map (phrase_sized forms) ps)) m in
     let r = row cs ps in
     let kept = c.row-kept.ensures n f.values h some in
@@ -234,7 +234,7 @@ kind-returns-in-Initial t c = λ n ts h k.
     let count : length ps ≡ length (map (phrase_sized forms) ps) = sym (length-map ps (phrase_sized forms)) in
     made ∙ ap (λ i. capped_sizes (node r i)) count
     ∙ ap (λ l. capped_sizes (node (row cs l) (length (map (phrase_sized forms) l)))) c.as_slice-parts.ensures
-    ∙ ap (λ l. capped_sizes (node (row l gs) (length (map (phrase_sized forms) gs)))) c.as_slice-forms-in-Initial.ensures
+    ∙ ap (λ l. capped_sizes (node (row l gs) (length (map (phrase_sized forms) gs)))) c.as_slice-forms.ensures
     ∙ ap capped_sizes (sym (kind-is forms (TypedKind-F.Initial x fs us ds gs) c.args.kind.now (c.in-Initial.is ∙ sym (typed.rolls-Initial x fs us ds gs)) ts n))
 
 pub collect-returns : goal.collect-returns

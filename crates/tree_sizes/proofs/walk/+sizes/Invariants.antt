@@ -9,31 +9,37 @@ use Rattle.lowering.specs.Loops.{loop_name, unless_places}
 use Rattle.tree_sizes.proofs.walk.+sizes.Given as goal
 
 abbrev pub decreases-expr : goal.decreases-expr
-decreases-expr l = 4 * goal.size-expr l + 1
+decreases-expr l = 8 * goal.size-expr l + 2
 
 abbrev pub decreases-kind : goal.decreases-kind
-decreases-kind l = 4 * goal.size-kind l + 0
+decreases-kind l = 8 * goal.size-kind l + 1
+
+abbrev pub decreases-generators_loop : goal.decreases-generators_loop
+decreases-generators_loop l = 8 * goal.size-generators_loop l + 0
+
+abbrev pub decreases-turns_loop : goal.decreases-turns_loop
+decreases-turns_loop l = 8 * goal.size-turns_loop l + 0
 
 abbrev pub decreases-exprs : goal.decreases-exprs
-decreases-exprs l = 4 * goal.size-exprs l + 2
+decreases-exprs l = 8 * goal.size-exprs l + 3
 
 abbrev pub decreases-defs : goal.decreases-defs
-decreases-defs l = 4 * goal.size-defs l + 3
+decreases-defs l = 8 * goal.size-defs l + 4
 
 abbrev pub decreases-follow : goal.decreases-follow
-decreases-follow l = 4 * goal.size-follow l + 3
+decreases-follow l = 8 * goal.size-follow l + 4
 
 abbrev pub decreases-arms : goal.decreases-arms
-decreases-arms l = 4 * goal.size-arms l + 3
+decreases-arms l = 8 * goal.size-arms l + 4
 
 abbrev pub decreases-clauses : goal.decreases-clauses
-decreases-clauses l = 4 * goal.size-clauses l + 2
+decreases-clauses l = 8 * goal.size-clauses l + 3
 
 abbrev pub decreases-collect : goal.decreases-collect
-decreases-collect l = 4 * goal.size-collect l + 3
+decreases-collect l = 8 * goal.size-collect l + 4
 
 abbrev pub decreases-row : goal.decreases-row
-decreases-row l = 4 * goal.size-row l + 2
+decreases-row l = 8 * goal.size-row l + 3
 
 -- the expressions from this place on have their sizes
 abbrev pub invariant-exprs-loop-at : goal.invariant-exprs-loop-at

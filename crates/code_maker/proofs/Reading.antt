@@ -1,0 +1,122 @@
+-- What operands that were laid are to the machines of the laws.
+use Rattle.std.proofs.Common.{◌≡◌, ℕ, zero, suc, ◌+◌, ◌-◌, ◌≤◌, ltb, if◌then◌else◌, Bool, true, false, List, [], ◌∷◌, ◌++◌, map, take, drop, length, get_or, replicate, refl, sym, ap, ◌∙◌, arith, append_assoc}
+use Rattle.std.proofs.Math.Seq.{take-append_seam, drop-append_seam}
+use Rattle.run_code.specs.Cells as cells
+use Rattle.run_code.specs.Cells.{cells_at}
+use Rattle.run_store.specs.Stored.{Mode, Looks, Copies, Takes, owned_in}
+use Rattle.made_store.specs.Settings.{takes_all}
+use Rattle.run_cells.specs.declared.cell.Cell.TheVariants as cell
+use Rattle.run_cells.specs.Held.{held}
+use Rattle.step_code.specs.declared.code.Code.{Code}
+use Rattle.step_code.specs.declared.step.Collect.{Collect}
+use Rattle.step_code.specs.declared.step.Collect.TheVariants as collect
+use Rattle.step_code.specs.Laid.{collect_in, puts_of, taken_all}
+use Rattle.step_code.specs.Reading.{is_kept, marked, mode_in, operand_in, so_many}
+use Rattle.plan_data.specs.declared.plan.Handled.{Handled}
+use Rattle.plan_data.specs.declared.plan.Handled.TheVariants as handled
+use Rattle.plan_data.specs.declared.plan.Port.{Port}
+use Rattle.plan_data.specs.declared.plan.PlanData.{PlanData}
+use Rattle.plan_data.specs.Parts.{mode_by, mode_of}
+use Rattle.code_maker.specs.declared.seats.Seat.{Seat}
+use Rattle.code_maker.specs.declared.seats.Seat.TheVariants as seat
+use Rattle.code_maker.specs.Seats.{at_seat, at_seats, laid, looked_at, put_as, seat_at, seats_at, with_mode}
+use Rattle.code_maker.specs.Grows.{read_as}
+
+-- ---- stretches of lists
+
+pub so-many-here : {A : Type 0} (xs ys zs : List A) → so_many (length xs) (length ys) ((xs ++ ys) ++ zs) ≡ ys
+so-many-here xs ys zs =
+    ap (λ l. take (length ys) (drop (length xs) l)) (append_assoc xs ys zs) ∙ (ap (take (length ys)) (drop-append_seam xs (ys ++ zs)) ∙ take-append_seam ys zs)
+
+pub drop-all : {A : Type 0} (n : ℕ) (xs : List A) → length xs ≤ n → drop n xs ≡ []
+drop-all zero [] h = refl
+drop-all (suc n) [] h = refl
+drop-all zero (x ∷ xs) h = absurd (omega (arith, h))
+drop-all (suc n) (x ∷ xs) h = drop-all n xs (omega (arith, h))
+
+take-none : (w k : ℕ) → get_or (take w []) k true ≡ true
+take-none zero k = refl
+take-none (suc w) k = refl
+
+-- past all marks there is none
+pub unmarked : (n w : ℕ) (xs : List Bool) → length xs ≤ n → (k : ℕ) → get_or (so_many n w xs) k true ≡ true
+unmarked n w xs h k = ap (λ l. get_or (take w l) k true) (drop-all n xs h) ∙ take-none w k
+
+pub kept-by : (bits : List Bool) → ((k : ℕ) → get_or bits k true ≡ true) → (i c : ℕ) → marked bits i c ≡ true
+kept-by bits h i c = elim (ltb c i) as (λ b. (if b then true else get_or bits (c - i) true) ≡ true) [ true ↦ refl | false ↦ h (c - i) ]
+
+-- ---- collections
+
+pub collects-are : (copying : Bool) (cs : List Collect) → map collect_in (map (put_as copying) cs) ≡ map collect_in cs
+collects-are copying [] = refl
+collects-are true (c ∷ cs) = ap (λ x. collect_in c ∷ x) (collects-are true cs)
+collects-are false (collect.Sifts j mask copies ∷ cs) = ap (λ x. collect_in (collect.Sifts j mask copies) ∷ x) (collects-are false cs)
+collects-are false (collect.Final j ∷ cs) = ap (λ x. collect_in (collect.Final j) ∷ x) (collects-are false cs)
+
+pub puts-are : (cs : List Collect) → map puts_of (map (put_as true) cs) ≡ map puts_of cs
+puts-are [] = refl
+puts-are (c ∷ cs) = ap (λ x. puts_of c ∷ x) (puts-are cs)
+
+pub puts-none : (cs : List Collect) (i : ℕ) → get_or (map puts_of (map (put_as false) cs)) i false ≡ false
+puts-none [] i = refl
+puts-none (collect.Sifts j mask copies ∷ cs) zero = refl
+puts-none (collect.Final j ∷ cs) zero = refl
+puts-none (collect.Sifts j mask copies ∷ cs) (suc i) = puts-none cs i
+puts-none (collect.Final j ∷ cs) (suc i) = puts-none cs i
+
+pub taken-same : (n : ℕ) → taken_all n ≡ takes_all n
+taken-same zero = refl
+taken-same (suc n) = ap (λ x. Takes ∷ x) (taken-same n)
+
+-- ---- operands
+
+is-kept : (h : Handled) (s : Seat) → is_kept (with_mode h s) ≡ true
+is-kept h (seat.Literal n) = refl
+is-kept handled.Looks (seat.Cell c) = refl
+is-kept handled.Copies (seat.Cell c) = refl
+is-kept handled.Takes (seat.Cell c) = refl
+
+pub ports-kept : (args : List Seat) (first : ℕ) (xs : List Port) (k : ℕ) → get_or (map is_kept (map (laid args first) xs)) k true ≡ true
+ports-kept args first [] k = refl
+ports-kept args first (x ∷ xs) zero = is-kept x.handled (seat_at args first x.feed)
+ports-kept args first (x ∷ xs) (suc k) = ports-kept args first xs k
+
+module _ (D : PlanData) (code : Code) (same : code.literals ≡ D.literals) where
+  pub operand-is : (h : Handled) (s : Seat) → operand_in code (with_mode h s) ≡ at_seat D s
+  operand-is h (seat.Literal n) = ap (λ ls. cells.Lit (owned_in (held (get_or ls n cell.Empty)))) same
+  operand-is handled.Looks (seat.Cell c) = refl
+  operand-is handled.Copies (seat.Cell c) = refl
+  operand-is handled.Takes (seat.Cell c) = refl
+
+  pub operands-are : (args : List Seat) (first : ℕ) (xs : List Port) → map (operand_in code) (map (laid args first) xs) ≡ at_seats D (seats_at args first xs)
+  operands-are args first [] = refl
+  operands-are args first (x ∷ xs) =
+      ap (λ o. o ∷ map (operand_in code) (map (laid args first) xs)) (operand-is x.handled (seat_at args first x.feed))
+      ∙ ap (λ os. at_seat D (seat_at args first x.feed) ∷ os) (operands-are args first xs)
+
+  pub read-one : (h : Handled) (s : Seat) (ms ms' : List Mode) (os : List cells.Operand) → read_as ms os ≡ read_as ms' os
+      → read_as (mode_in code (with_mode h s) ∷ ms) (at_seat D s ∷ os) ≡ read_as (mode_by h ∷ ms') (at_seat D s ∷ os)
+  read-one h (seat.Literal n) ms ms' os e = ap (λ x. Looks ∷ x) e
+  read-one handled.Looks (seat.Cell c) ms ms' os e = ap (λ x. Looks ∷ x) e
+  read-one handled.Copies (seat.Cell c) ms ms' os e = ap (λ x. Copies ∷ x) e
+  read-one handled.Takes (seat.Cell c) ms ms' os e = ap (λ x. Takes ∷ x) e
+
+  pub ports-read : (args : List Seat) (first : ℕ) (xs : List Port) → read_as (map (mode_in code) (map (laid args first) xs)) (at_seats D (seats_at args first xs)) ≡ read_as (map mode_of xs) (at_seats D (seats_at args first xs))
+  ports-read args first [] = refl
+  ports-read args first (x ∷ xs) =
+      read-one x.handled (seat_at args first x.feed) (map (mode_in code) (map (laid args first) xs)) (map mode_of xs) (at_seats D (seats_at args first xs)) (ports-read args first xs)
+
+  -- and what stands behind them
+  pub more-read : (args : List Seat) (first : ℕ) (xs : List Port) (ms ms' : List Mode) (os : List cells.Operand) → read_as ms os ≡ read_as ms' os
+      → read_as (map (mode_in code) (map (laid args first) xs) ++ ms) (at_seats D (seats_at args first xs) ++ os) ≡ read_as (map mode_of xs ++ ms') (at_seats D (seats_at args first xs) ++ os)
+  more-read args first [] ms ms' os e = e
+  more-read args first (x ∷ xs) ms ms' os e =
+      read-one x.handled (seat_at args first x.feed) (map (mode_in code) (map (laid args first) xs) ++ ms) (map mode_of xs ++ ms') (at_seats D (seats_at args first xs) ++ os) (more-read args first xs ms ms' os e)
+
+  pub looked-are : (i n : ℕ) → map (operand_in code) (looked_at i n) ≡ cells_at i n
+  looked-are i zero = refl
+  looked-are i (suc n) = ap (λ x. cells.At i ∷ x) (looked-are (suc i) n)
+
+  pub looked-read : (i n : ℕ) → read_as (map (mode_in code) (looked_at i n)) (cells_at i n) ≡ read_as [] (cells_at i n)
+  looked-read i zero = refl
+  looked-read i (suc n) = ap (λ x. Looks ∷ x) (looked-read (suc i) n)

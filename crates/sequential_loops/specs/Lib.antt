@@ -1,0 +1,5 @@
+pub mod Behind
+pub mod Laying
+pub mod Putting
+pub mod Spreading
+pub mod Iterating

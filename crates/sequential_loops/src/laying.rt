@@ -1,0 +1,40 @@
+//! Cells that are laid and lifted.
+ghost use Rattle.std.specs.Prelude.{◌≡◌, ℕ, ◌+◌, ◌<◌, ◌≤◌, get_or, length};
+ghost use Rattle.run_cells.specs.declared.cell.Cell.TheVariants as cell;
+ghost use Rattle.run_cells.specs.Held.{held, heap_of};
+ghost use Rattle.sequential_loops.specs.Laying.{IsLaid};
+
+use run_cells::Cell;
+use std::mem;
+
+/// Puts what was brought into as many cells from one on.
+pub fn settle(cells: &mut Vec<Cell>, from: usize, loaded: &mut Vec<Cell>)
+    requires { from + length loaded.old.items ≤ length cells.old.items }
+    ensures laid { IsLaid from (length loaded.old.items) (heap_of loaded.old.items) (heap_of cells.old.items) (heap_of cells.new.items) }
+    ensures size { length cells.new.items ≡ length cells.old.items }
+{
+    for place in 0..loaded.len() {
+        let cell = lift(loaded, place);
+        lay(cells, from + place, cell);
+    }
+}
+
+/// Puts a cell at a place.
+pub fn lay(cells: &mut Vec<Cell>, place: usize, cell: Cell)
+    requires { place < length cells.old.items }
+    ensures here { heap_of cells.new.items place ≡ held cell }
+    ensures others { (q : ℕ) → (q ≡ place → ⊥) → heap_of cells.new.items q ≡ heap_of cells.old.items q }
+    ensures size { length cells.new.items ≡ length cells.old.items }
+{
+    cells[place] = cell;
+}
+
+/// What stands at a place, which is left empty.
+pub fn lift(cells: &mut Vec<Cell>, place: usize) -> Cell
+    requires { place < length cells.old.items }
+    ensures value { held result ≡ heap_of cells.old.items place }
+    ensures others { (q : ℕ) → (q ≡ place → ⊥) → heap_of cells.new.items q ≡ heap_of cells.old.items q }
+    ensures size { length cells.new.items ≡ length cells.old.items }
+{
+    mem::replace(&mut cells[place], Cell::Empty)
+}

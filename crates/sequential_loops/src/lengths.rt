@@ -1,0 +1,91 @@
+//! How long multiples are.
+ghost use Rattle.std.specs.Prelude.{◌≡◌, ◌-◌, ◌<◌, ◌^◌, length};
+ghost use Rattle.graph_meaning.specs.Forms.{spoiled, first_spoiled, items, places_of, are_as_long};
+ghost use Rattle.run_cells.specs.Held.{heap_of, rising_in};
+ghost use Rattle.run_cells.specs.Sights.{seen_value};
+ghost use Rattle.sequential.specs.Loading.{AreInside, seen_of};
+ghost use Rattle.sequential_loops.specs.Spreading.{all_long};
+
+use flow_value::Cause;
+use run_cells::{Cell, Seen};
+use sequential::{operand_at, sight};
+use step_code::{Code, Operand};
+
+/// How many elements a multiple has.
+pub fn places_in(seen: Seen<'_>) -> usize
+    ensures places { result ≡ length (items (seen_value seen.entry)) }
+    ensures few { result < 2 ^ 63 }
+{
+    match seen {
+        Seen::Elements(values) => values.len(),
+        Seen::Rising(many, lo) => risen(many, lo),
+        _ => 0,
+    }
+}
+
+fn risen(many: u32, lo: i64) -> usize
+    ensures places { result ≡ length (rising_in lo many) }
+    ensures few { result < 2 ^ 63 }
+{
+    let _first = lo;
+    many as usize
+}
+
+/// How many elements the first one of these multiples has.
+pub fn first_places(code: &Code, cells: &[Cell], base: usize, operands: &[Operand]) -> usize
+    requires { AreInside code.now (length cells.now - base) operands.now }
+    ensures places { result ≡ places_of (seen_of code.now base (heap_of cells.now) operands.now) }
+    ensures few { result < 2 ^ 63 }
+{
+    match operands {
+        [] => 0,
+        [first, ..] => places_in(sight(code, cells, base, *first)),
+    }
+}
+
+/// The cause of the first multiple that is an error.
+pub fn first_cause(code: &Code, cells: &[Cell], base: usize, operands: &[Operand]) -> Option<Cause>
+    requires { AreInside code.now (length cells.now - base) operands.now }
+    ensures { result ≡ first_spoiled (seen_of code.now base (heap_of cells.now) operands.now) }
+{
+    for place in 0..operands.len() {
+        let operand = operand_at(operands, place);
+        match cause_in(sight(code, cells, base, operand)) {
+            Some(cause) => return Some(cause),
+            None => {}
+        }
+    }
+    None
+}
+
+fn cause_in(seen: Seen<'_>) -> Option<Cause>
+    ensures { result ≡ spoiled (seen_value seen.entry) }
+{
+    match seen {
+        Seen::Spoiled(cause) => Some(cause),
+        _ => None,
+    }
+}
+
+/// Whether all have as many elements as the first one.
+pub fn are_as_long(code: &Code, cells: &[Cell], base: usize, operands: &[Operand]) -> bool
+    requires { AreInside code.now (length cells.now - base) operands.now }
+    ensures { result ≡ are_as_long (seen_of code.now base (heap_of cells.now) operands.now) }
+{
+    let places = first_places(code, cells, base, operands);
+    all_of(code, cells, base, operands, places)
+}
+
+fn all_of(code: &Code, cells: &[Cell], base: usize, operands: &[Operand], places: usize) -> bool
+    requires { AreInside code.now (length cells.now - base) operands.now }
+    ensures { result ≡ all_long places (seen_of code.now base (heap_of cells.now) operands.now) }
+{
+    for place in 0..operands.len() {
+        let operand = operand_at(operands, place);
+        let found = places_in(sight(code, cells, base, operand));
+        if found != places {
+            return false;
+        }
+    }
+    true
+}

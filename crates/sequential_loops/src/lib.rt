@@ -1,0 +1,20 @@
+//! Steps of loops: values that are kept and put to collections, multiples that are spread, and
+//! iterations.
+#![tactic(auto)]
+
+mod adding;
+mod behind;
+mod columns;
+mod iterating;
+mod keeping;
+mod laying;
+mod lengths;
+mod putting;
+mod rows;
+mod spreading;
+mod weighing;
+
+pub use adding::add;
+pub use iterating::each;
+pub use keeping::keep_values;
+pub use spreading::spread;

@@ -1,0 +1,4 @@
+mod Entering
+mod Steps
+mod Numbers
+mod Whole

@@ -1,0 +1,11 @@
+pub mod Ways
+pub mod Found
+pub mod Sources
+pub mod Outputs
+pub mod Multiples
+pub mod Weighed
+pub mod Aggregates
+pub mod RightNodes
+pub mod Right
+pub mod Weights
+pub mod Tables

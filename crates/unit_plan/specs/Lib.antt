@@ -1,0 +1,4 @@
+pub mod Returns
+pub mod Plans
+pub mod Shares
+pub mod Laws
