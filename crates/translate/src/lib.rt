@@ -2,6 +2,8 @@
 #![tactic(auto)]
 
 mod members;
+mod program;
 mod ready;
 
+pub use program::{TranslateFault, translate};
 pub use ready::ready_unit;
