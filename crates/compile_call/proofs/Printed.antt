@@ -1,5 +1,5 @@
 -- From a marked unit and its text to what is printed of the program.
-use Rattle.std.proofs.Common.{◌≡◌, ◌∙◌, ap, ℕ, Bool, true, false, List, ◌++◌}
+use Rattle.std.proofs.Common.{◌∙◌, ap, ℕ, Bool, true, false, List, ◌++◌}
 use Rattle.typed_tree.specs.declared.program.Program.{Program}
 use Rattle.if1_graph.specs.declared.graph.Unit1.{Unit1}
 use Rattle.if1_graph.specs.Lines.{if1_text}
