@@ -9,8 +9,8 @@ use Rattle.mean_call.specs.declared.fault.Refusal.TheVariants as refusal
 use Rattle.run_words.specs.Words.{IsCommand, HasFault}
 use Rattle.run_words.specs.declared.command.Command.{Command}
 use Rattle.run_words.specs.declared.command.Command.TheVariants as command
-use Rattle.sisal_top.specs.Outputs.{Prints, PrintsMeaning, HasTypeFault, HasNoMeaning, IsNotYet}
-use Rattle.sisal_top.specs.Program.{IsPlain, IsRefused, ReadsText}
+use Rattle.sisal_top.specs.Outputs.{Prints, PrintsMeaning, PrintsGraphs, HasTypeFault, HasNoGraphs, HasNoMeaning, IsNotYet}
+use Rattle.sisal_top.specs.Program.{IsBuilt, IsPlain, IsRefused, ReadsText}
 use Rattle.sisal_top.specs.Texts.{help_text, version_text}
 use Rattle.sisal_top.specs.declared.status.Status.{Status}
 use Rattle.sisal_top.specs.declared.status.Status.TheVariants as status
@@ -18,7 +18,7 @@ use Rattle.sisal_top.specs.declared.status.Status.TheVariants as status
 -- what a command prints, where these bytes are the text
 abbrev pub Asks : Command → List ℕ → List ℕ → Type 0
 Asks (command.Run set) bytes printed = IsPlain set × Prints bytes printed
-Asks (command.Compile set) bytes printed = ⊥
+Asks (command.Compile set) bytes printed = IsBuilt set × PrintsGraphs set bytes printed
 Asks command.Link bytes printed = ⊥
 Asks (command.Verify set) bytes printed = ⊥
 Asks (command.Again set) bytes printed = ⊥
@@ -31,7 +31,7 @@ Asks command.Version bytes printed = printed ≡ version_text
 -- which commands and texts are not built yet
 abbrev pub IsLater : Command → List ℕ → Type 0
 IsLater (command.Run set) bytes = IsPlain set → IsNotYet bytes
-IsLater (command.Compile set) bytes = Unit {0}
+IsLater (command.Compile set) bytes = IsBuilt set → ⊥
 IsLater command.Link bytes = Unit {0}
 IsLater (command.Verify set) bytes = Unit {0}
 IsLater (command.Again set) bytes = Unit {0}
@@ -41,8 +41,9 @@ IsLater (command.Gen n) bytes = ⊥
 IsLater command.Help bytes = ⊥
 IsLater command.Version bytes = ⊥
 
--- the command reads the text, which breaks this typing rule on this line
+-- the command reads the text, which breaks this typing rule on this line; for `compile` the last rule is that on sizes
 abbrev pub IsUntyped : Command → List ℕ → ℕ → ℕ → Type 0
+IsUntyped (command.Compile set) bytes rule line = IsBuilt set × HasNoGraphs bytes rule line
 IsUntyped c bytes rule line = ReadsText c × HasTypeFault bytes rule line
 
 -- the command is `mean`, and this is why the text gives no values

@@ -1,10 +1,13 @@
--- What a text prints as a program of the first form, and what it prints by the meaning of its source.
-use Rattle.std.specs.Prelude.{◌≡◌, ℕ, List, [], ◌∷◌, ◌++◌}
+-- What a text prints as a program of the first form, what it prints by the meaning of its source, and what of its graphs.
+use Rattle.std.specs.Prelude.{◌≡◌, ℕ, List, [], ◌∷◌, ◌++◌, Some, ◌⊎◌}
 use Rattle.flow_value.specs.declared.value.Val.{Val}
 use Rattle.first_form.specs.Value.{values_of}
 use Rattle.first_form.specs.declared.tree.Expr.{Expr}
 use Rattle.mean_call.specs.Calls.{Gives as HasValues, IsRefused as HasNoValues}
 use Rattle.mean_call.specs.declared.fault.Refusal.{Refusal}
+use Rattle.compile_call.specs.Calls.{Prints as PrintsOf}
+use Rattle.lowering.specs.TooMany.{too_many}
+use Rattle.run_words.specs.declared.command.CompileSet.{CompileSet}
 use Rattle.run_words.specs.declared.command.MeanSet.{MeanSet}
 use Rattle.sisal_tree.specs.declared.unit.Unit as tree
 use Rattle.typed_tree.specs.declared.program.Program.{Program}
@@ -57,3 +60,19 @@ pub record HasNoMeaning (set : MeanSet) (bytes : List ℕ) (refusal : Refusal) :
   pub program : Program
   pub typed : HasProgram bytes program
   pub refused : HasNoValues program set refusal
+
+-- these bytes have a typed program, and what `compile` prints of it
+pub record PrintsGraphs (set : CompileSet) (bytes printed : List ℕ) : Type 0 where
+  pub program : Program
+  pub typed : HasProgram bytes program
+  pub is : PrintsOf program set printed
+
+-- these bytes have a typed program whose types, graphs or ports are too large or too many, as shows in the function of a line
+pub record HasTooMany (bytes : List ℕ) (line : ℕ) : Type 0 where
+  pub program : Program
+  pub typed : HasProgram bytes program
+  pub over : too_many program ≡ Some line
+
+-- these bytes are a unit that breaks a typing rule, or a program that is too large, which is rule 24
+abbrev pub HasNoGraphs : List ℕ → ℕ → ℕ → Type 0
+HasNoGraphs bytes rule line = HasTypeFault bytes rule line ⊎ ((rule ≡ 24) × HasTooMany bytes line)

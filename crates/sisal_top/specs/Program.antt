@@ -3,6 +3,7 @@ use Rattle.std.specs.Prelude.{◌≡◌, ◌≤◌, ◌⊎◌, ℕ, false, List,
 use Rattle.run_words.specs.Words.{IsCommand}
 use Rattle.run_words.specs.declared.command.Command.{Command}
 use Rattle.run_words.specs.declared.command.Command.TheVariants as command
+use Rattle.run_words.specs.declared.command.CompileSet.{CompileSet}
 use Rattle.run_words.specs.declared.command.RunSet.{RunSet}
 use Rattle.sisal_lex.specs.Tokens.{tokens_of}
 use Rattle.sisal_lex.specs.declared.fault.LexFault.{LexFault}
@@ -63,11 +64,15 @@ IsRefused bytes refusal = HasNoTokens bytes refusal ⊎ HasNoUnit bytes refusal
 abbrev pub IsPlain : RunSet → Type 0
 IsPlain set = (set.if1 ≡ false) × (set.entry ≡ codes "main") × (set.limit ≡ 10000000) × (set.stats ≡ false) × (set.opt ≡ false) × (set.trace ≡ false) × (set.values ≡ [])
 
--- the commands that read the text: a plain `run`, `mean` and `if1`
+-- `compile` of the graphs as translated, that prints IF1, a drawing or why edges copy
+abbrev pub IsBuilt : CompileSet → Type 0
+IsBuilt set = (set.opt ≡ false) × (set.code ≡ false)
+
+-- the commands that read the text: a plain `run`, `mean`, `compile` and `if1`
 abbrev pub ReadsText : Command → Type 0
 ReadsText (command.Run set) = IsPlain set
 ReadsText (command.Mean set) = Unit {0}
-ReadsText (command.Compile set) = ⊥
+ReadsText (command.Compile set) = IsBuilt set
 ReadsText command.Link = ⊥
 ReadsText (command.Verify set) = ⊥
 ReadsText (command.Again set) = ⊥

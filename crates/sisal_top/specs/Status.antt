@@ -12,6 +12,8 @@ use Rattle.sisal_parse.specs.declared.fault.ParseFault.{ParseFault}
 use Rattle.sisal_parse.specs.declared.fault.ParseFault.TheVariants as parser
 use Rattle.type_rules.specs.declared.fault.TypeFault.{TypeFault}
 use Rattle.type_rules.specs.declared.fault.TypeFault.TheVariants as checker
+use Rattle.translate.specs.declared.program.TranslateFault.{TranslateFault}
+use Rattle.translate.specs.declared.program.TranslateFault.TheVariants as translator
 use Rattle.sisal_top.specs.declared.status.Status.{Status}
 use Rattle.sisal_top.specs.declared.status.Status.TheVariants as status
 use Rattle.sisal_top.specs.declared.status.SyntaxFault.TheVariants as syntax
@@ -55,6 +57,10 @@ of_parser parser.NoMemory = status.NoMemory
 abbrev pub of_checker : TypeFault → Status
 of_checker (checker.Rule r l) = status.Typing r l
 of_checker checker.NoMemory = status.NoMemory
+
+abbrev pub of_translator : TranslateFault → Status
+of_translator (translator.TooMany l) = status.Typing 24 l
+of_translator translator.NoMemory = status.NoMemory
 
 abbrev pub of_refusal : Refusal → Status
 of_refusal (refusal.Unlinked name) = status.Unlinked name

@@ -6,7 +6,7 @@ ghost use Rattle.run_words.specs.Commands.{bytes_of};
 ghost use Rattle.run_words.specs.declared.command.Command.TheVariants as command;
 ghost use Rattle.sisal_top.specs.Answer.{Answers, Gives, IsUsage, Replies};
 ghost use Rattle.sisal_top.specs.Lines.{line_of};
-ghost use Rattle.sisal_top.specs.Program.{AskToRead, IsPlain, IsRefused, ReadsText};
+ghost use Rattle.sisal_top.specs.Program.{AskToRead, IsBuilt, IsPlain, IsRefused, ReadsText};
 ghost use Rattle.sisal_top.specs.Refusals.{IsEarly, IsOfBytes, IsReply, IsUnread, Means, Reads};
 
 use crate::front::{trees, typed};
@@ -14,12 +14,13 @@ use crate::lines::report;
 use crate::printing::{answer, print_all};
 use crate::status::Status;
 use crate::texts::{help, version};
+use compile_call::compile;
 use flow_gen::make;
 use flow_io::{ReadFail, Sink, Source, read_all, write_all};
 use flow_value::Text;
 use if1_call::canonical_text;
 use mean_call::evaluate;
-use run_words::{Command, MeanSet, RunSet, read_words};
+use run_words::{Command, CompileSet, MeanSet, RunSet, read_words};
 use std::alloc::Global;
 
 /// The most bytes of a text.
@@ -39,6 +40,13 @@ fn is_plain(set: &RunSet) -> bool
         && !set.opt
         && !set.trace
         && set.values.is_empty()
+}
+
+/// Whether `compile` neither optimises nor lists the code of a run.
+fn is_built(set: &CompileSet) -> bool
+    ensures { IsTrue result ↔ IsBuilt set.now }
+{
+    !set.opt && !set.code
 }
 
 /// Reads the text to its end.
@@ -108,6 +116,31 @@ fn mean<S: Source>(alloc: Global, set: &MeanSet, text: &mut S) -> Result<Text, S
     meaning(alloc, set, bytes.as_slice())
 }
 
+/// What is printed of the graphs of the program that a text is.
+fn graphs(alloc: Global, set: &CompileSet, bytes: &[u8]) -> Result<Text, Status>
+    requires { IsBuilt set.now }
+    ensures replies { Replies (command.Compile set.now) bytes.now result }
+    ensures of_bytes { IfErr result IsOfBytes }
+{
+    let program = typed(alloc, bytes)?;
+    let printed = compile(alloc, &program, set)?;
+    Ok(printed)
+}
+
+/// Compiles the program that the text is.
+fn compile_text<S: Source>(alloc: Global, set: &CompileSet, text: &mut S) -> Result<Text, Status>
+    requires { IsBuilt set.now }
+    ensures replies { (told : List ℕ) → S.left text.old ≡ Some told → Replies (command.Compile set.now) told result }
+    ensures reply { IfErr result IsReply }
+    ensures to_the_end { OnOk result (IsAtEnd (S.left text.new)) }
+    ensures read { IfErr result (λ s. IsUnread s ⊎ IsAtEnd (S.left text.new)) }
+    ensures fault { result ≡ Err Status.ReadFault → HasRisen (S.faults text.old) (S.faults text.new) }
+    ensures no_fault { result ≢ Err Status.ReadFault → S.faults text.new ≡ S.faults text.old }
+{
+    let bytes = read(alloc, text)?;
+    graphs(alloc, set, bytes.as_slice())
+}
+
 /// The canonical text of the unit that a text is.
 fn written(alloc: Global, bytes: &[u8]) -> Result<Text, Status>
     ensures replies { Replies command.If1 bytes.now result }
@@ -153,9 +186,14 @@ fn perform<S: Source>(alloc: Global, command: Command, text: &mut S) -> Result<T
         }
         Command::Mean(set) => mean(alloc, &set, text),
         Command::If1 => if1(alloc, text),
-        Command::Compile(_) | Command::Link | Command::Verify(_) | Command::Again(_) => {
-            Err(Status::Later)
+        Command::Compile(set) => {
+            if is_built(&set) {
+                compile_text(alloc, &set, text)
+            } else {
+                Err(Status::Later)
+            }
         }
+        Command::Link | Command::Verify(_) | Command::Again(_) => Err(Status::Later),
     }
 }
 
@@ -174,7 +212,7 @@ fn prepare<S: Source>(alloc: Global, words: &[String], text: &mut S) -> Result<T
     perform(alloc, command, text)
 }
 
-/// Does what the words ask for. For `run`, `mean` and `if1` the text is read to its end, and what is
+/// Does what the words ask for. For `run`, `mean`, `compile` and `if1` the text is read to its end, and what is
 /// printed is written at once.
 pub fn sisal<S: Source, O: Sink, E: Sink>(
     alloc: Global,

@@ -1,12 +1,14 @@
 //! From the bytes of a text to its trees.
 ghost use Rattle.std.specs.Prelude.{◌≡◌, ℕ, List, IfOk, IfErr, IfSome, OnOk, Ok, None};
 ghost use Rattle.typed_tree.specs.declared.program.Program as whole;
+ghost use Rattle.lowered_units.specs.Fitting.{IsFitting};
 ghost use Rattle.sisal_top.specs.Outputs.{HasProgram};
 ghost use Rattle.sisal_top.specs.Program.{IsNotBuilt, IsText, IsUnitOf};
 ghost use Rattle.sisal_top.specs.Refusals.{IsCause, IsNoProgram};
 
 use crate::status::Status;
 use first_form::{Expr, first_form};
+use fitting_texts::programs_of_texts_fit;
 use flow_value::Seq;
 use sisal_check::check;
 use sisal_lex::lex;
@@ -42,6 +44,7 @@ pub fn trees(alloc: Global, text: &[u8]) -> Result<Option<Seq<Expr>>, Status>
 /// The typed program of the unit that a text is.
 pub fn typed(alloc: Global, text: &[u8]) -> Result<Program, Status>
     ensures program { IfOk result (HasProgram text.now) }
+    ensures fits { IfOk result IsFitting }
     ensures refused { IfErr result (IsNoProgram text.now) }
 {
     let unit = unit_of(alloc, text)?;
@@ -52,8 +55,10 @@ pub fn typed(alloc: Global, text: &[u8]) -> Result<Program, Status>
 /// The typed program of a unit.
 fn program_of(alloc: Global, unit: Unit) -> Result<Program, Status>
     ensures program { IfOk result (λ program. (bytes : List ℕ) → IsUnitOf bytes unit → HasProgram bytes program) }
+    ensures fits { IfOk result (λ program. (bytes : List ℕ) → IsUnitOf bytes unit → IsFitting program) }
     ensures refused { IfErr result (λ s. (bytes : List ℕ) → IsUnitOf bytes unit → IsNoProgram bytes s) }
 {
+    programs_of_texts_fit();
     let program = check(alloc, unit)?;
     Ok(program)
 }

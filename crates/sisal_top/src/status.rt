@@ -2,6 +2,7 @@
 ghost use Rattle.std.specs.Prelude.{◌≡◌};
 ghost use Rattle.sisal_top.specs.Status.{code_of};
 
+use compile_call::TranslateFault;
 use flow_value::{Name, NoMemory};
 use if1_graph::If1Fault;
 use mean_call::{ArgumentFault, Refusal};
@@ -27,7 +28,7 @@ pub enum Status {
     Syntax(SyntaxFault),
     /// The unit breaks a rule of typing.
     Typing {
-        /// The number of the rule, from 1.
+        /// The number of the rule, from 1; 24 where the program's graphs would be too large or too many.
         rule: u8,
         /// The line, from 1.
         line: u32,
@@ -154,6 +155,19 @@ impl From<TypeFault> for Status {
         match fault {
             TypeFault::Rule { rule, line } => Status::Typing { rule, line },
             TypeFault::NoMemory => Status::NoMemory,
+        }
+    }
+}
+
+impl From<TranslateFault> for Status {
+    ghost use Rattle.sisal_top.specs.Status.{of_translator};
+
+    ghost from_gives = { λ f s. s ≡ of_translator f };
+
+    fn from(fault: TranslateFault) -> Status {
+        match fault {
+            TranslateFault::TooMany { line } => Status::Typing { rule: 24, line },
+            TranslateFault::NoMemory => Status::NoMemory,
         }
     }
 }

@@ -4,8 +4,8 @@
 //! often. Prints the name, what the call printed and the status. A first word `!read` has the second
 //! read of the text fail, `!write` the second write of results, `!report` the first write of a
 //! refusal; then few bytes move at once. The stored run evaluates the programs of `examples/` and
-//! small ones for each cause of a refusal, has rows for words, tokens, syntax, scalars, folds,
-//! arrays, records, streams and value texts, and checks IF1 texts: units that are right, with and
+//! small ones for each cause of a refusal, compiles some of them, has rows for words, tokens, syntax,
+//! scalars, folds, arrays, records, streams and value texts, and checks IF1 texts: units that are right, with and
 //! without marks, one for each fault, one cut after each byte, and deep ones. What it must print
 //! comes from a separate implementation.
 #![tactic(auto)]

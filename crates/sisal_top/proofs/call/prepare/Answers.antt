@@ -14,3 +14,6 @@ returns-clause-to_the_end g c = λ run.
 pub returns-clause-read : goal.returns-clause-read
 returns-clause-read g c = λ run.
     c.perform.ensures.read (reads_text (bytes_of c.args.words.now) c.in_ok-command.command run c.in_ok-command.ensures.command)
+
+pub returns-clause-unread : goal.returns-clause-unread
+returns-clause-unread g c = λ none. c.perform.ensures.unread (λ reads. none (c.in_ok-command.command, c.in_ok-command.ensures.command, reads))

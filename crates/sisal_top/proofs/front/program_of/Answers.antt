@@ -5,5 +5,12 @@ use Rattle.sisal_top.proofs.front.program_of.Goals as goal
 pub returns-clause-program : goal.returns-clause-program
 returns-clause-program c = λ bytes is. record { unit = c.args.unit; is = is; typed = c.in_ok-program.ensures.typed (is_text bytes c.args.unit is) }
 
+pub returns-clause-fits : goal.returns-clause-fits
+returns-clause-fits c = λ bytes is.
+    let text = is_text bytes c.args.unit is in
+    c.programs_of_texts_fit.ensures bytes c.args.unit c.in_ok-program.program
+    (record { lexed = is.lexed; spelled = is.spelled; typed = c.in_ok-program.ensures.typed text; standing = c.in_ok-program.ensures.standing text })
+    is.shallow c.in_ok-program.ensures.types
+
 pub returns-in_err-program-clause-refused : goal.returns-in_err-program-clause-refused
 returns-in_err-program-clause-refused c = checker_cause c.args.unit c.in_err-program.field-0.0 c.from_residual.result c.in_err-program.ensures.breaks c.from_residual.ensures.1
