@@ -19,9 +19,11 @@ mod sights;
 mod steps;
 mod tagging;
 
+pub use bringing::brought;
+pub use choices::spoil;
 pub use laws::steps_are_for_all;
 pub use loading::{load, operand_at};
 pub use machine::{Machine, OpenCall, Turn};
 pub use moving::{operands_from, unload};
 pub use scalar::operand_of;
-pub use sights::{cell_at, direct, sight};
+pub use sights::{cell_at, counted, direct, sight};

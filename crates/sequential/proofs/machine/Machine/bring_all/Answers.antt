@@ -13,8 +13,8 @@ unload-requires c =
     let size = c.in_ok-load.ensures.size in
     omega (arith, out, width, long, list, size)
 
-pub returns : goal.returns
-returns c =
+pub returns-clause-does : goal.returns-clause-does
+returns-clause-does c =
     let m = c.args.self.now in
     let a = c.args in
     let new : Machine = record { pc = a.next; base = m.base; cells = c.unload.new.cells; calls = m.calls; fires = m.fires; copies = c.load.new.copies; results = c.unload.new.loaded } in
