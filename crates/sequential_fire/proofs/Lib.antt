@@ -7,3 +7,4 @@ pub mod LentSteps
 pub mod TakeSteps
 pub mod RouteSteps
 pub mod UpdateSteps
+pub mod RangeRows

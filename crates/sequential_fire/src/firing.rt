@@ -36,7 +36,8 @@ pub fn fire_lent(
     requires inside { AreInside code.now (length machine.old.cells.items - machine.old.base) (listed code.now ins many) }
     requires width { IsWide row shape width }
     requires out { (machine.old.base + out) + width ≤ length machine.old.cells.items }
-    ensures { IfOk result (λ t. Does code.now limit (step.Fire row written shape ins many out width kept counted) machine.old t machine.new) }
+    ensures does { IfOk result (λ t. Does code.now limit (step.Fire row written shape ins many out width kept counted) machine.old t machine.new) }
+    ensures cells { length machine.new.cells.items ≡ length machine.old.cells.items }
 {
     if machine.fires >= limit {
         return Ok(Turn::Over);

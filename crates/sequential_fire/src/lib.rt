@@ -7,6 +7,7 @@ mod given;
 mod kept;
 mod loaded;
 mod outputs;
+mod ranges;
 mod routes;
 mod taking;
 mod updating;

@@ -1,5 +1,5 @@
 //! The outputs of a simple node, as cells.
-ghost use Rattle.std.specs.Prelude.{◌≡◌, ◌-◌, ◌<◌, length, map, IfOk, OnOk};
+ghost use Rattle.std.specs.Prelude.{◌≡◌, ◌-◌, ◌<◌, ◌∷◌, [], length, map, IfOk, OnOk};
 ghost use Rattle.flow_value.specs.declared.value.Val.TheViews.{out-Val};
 ghost use Rattle.graph_meaning.specs.NodeValues.{op};
 ghost use Rattle.node_ops.specs.Operands.{multiple_in, shape_of};
@@ -9,6 +9,7 @@ ghost use Rattle.sequential.specs.Loading.{AreInside, seen_of};
 ghost use Rattle.sequential_fire.specs.Outputs.{carried_out, AreHeld};
 
 use crate::given::all_given;
+use crate::ranges::range_of;
 use flow_value::{NoMemory, Outputs, Shape, Val};
 use if1_graph::Simple;
 use node_ops::fire;
@@ -19,6 +20,34 @@ use step_code::{Code, Operand};
 /// Makes cells of the outputs of a node on operands that are looked at, in a list that is emptied
 /// first.
 pub fn outputs(
+    alloc: Global,
+    code: &Code,
+    cells: &[Cell],
+    base: usize,
+    row: Simple,
+    shape: Shape,
+    operands: &[Operand],
+    made: &mut Vec<Cell>,
+) -> Result<(), NoMemory>
+    requires inside { AreInside code.now (length cells.now - base) operands.now }
+    requires ports { length operands.now < 4294967296 }
+    ensures { OnOk result (AreHeld made.new.items (op row (shape_of shape) (seen_of code.now base (heap_of cells.now) operands.now))) }
+{
+    match range_of(code, cells, base, row, operands) {
+        Some(cell) => only(cell, made),
+        None => listed_outputs(alloc, code, cells, base, row, shape, operands, made),
+    }
+}
+
+fn only(cell: Cell, made: &mut Vec<Cell>) -> Result<(), NoMemory>
+    ensures { OnOk result (made.new.items ≡ cell ∷ []) }
+{
+    made.clear();
+    made.push(cell)?;
+    Ok(())
+}
+
+fn listed_outputs(
     alloc: Global,
     code: &Code,
     cells: &[Cell],

@@ -1,7 +1,5 @@
-use Rattle.std.proofs.Common.{◌≡◌, ℕ, ◌<◌, ◌≤◌, ◌+◌, ◌-◌, if◌then◌else◌, true, drop, get_or, length, sym, ap, ◌∙◌, subst, arith}
-use Rattle.graph_meaning.specs.Carried.{Carried}
+use Rattle.std.proofs.Common.{◌≡◌, ℕ, ◌≤◌, ◌+◌, ◌-◌, if◌then◌else◌, true, drop, get_or, length, sym, ap, ◌∙◌, subst, arith}
 use Rattle.graph_meaning.specs.Storage.{capped, leaves_of, leaves_at}
-use Rattle.run_cells.specs.declared.cell.Cell.TheVariants as cell
 use Rattle.run_cells.specs.Held.{held}
 use Rattle.run_store.specs.Stored as stored
 use Rattle.sequential.specs.Agrees.{owned_all}

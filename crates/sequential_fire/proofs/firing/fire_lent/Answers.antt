@@ -1,15 +1,15 @@
-use Rattle.std.proofs.Common.{◌≡◌, ◌+◌, length, length-take, drop, subst, refl, sym, ap, ◌∙◌, arith}
+use Rattle.std.proofs.Common.{◌+◌, length, length-take, drop, refl, ap, ◌∙◌, arith}
 use Rattle.graph_meaning.specs.NodeValues.{op}
 use Rattle.node_ops.specs.Operands.{shape_of}
 use Rattle.run_cells.specs.Held.{heap_of}
 use Rattle.step_code.specs.Reading.{listed}
 use Rattle.sequential.specs.Loading.{seen_of}
 use Rattle.sequential.specs.declared.machine.Machine.{Machine}
-use Rattle.sequential_fire.proofs.LentSteps.{lent-goes, lent-over, as-wide, given-there, added-there, outputs_given, operands_read}
+use Rattle.sequential_fire.proofs.LentSteps.{lent-goes, lent-over, as-wide, given-there, added-there}
 use Rattle.sequential_fire.proofs.firing.fire_lent.Goals as goal
 
-pub returns-then-machine-limit : goal.returns-then-machine-limit
-returns-then-machine-limit c =
+pub returns-then-machine-limit-clause-does : goal.returns-then-machine-limit-clause-does
+returns-then-machine-limit-clause-does c =
     let a = c.args in
     let over = c.if-machine-limit.true in
     lent-over a.code.now a.limit a.machine.now a.machine.now a.row a.written a.shape a.ins a.many a.out a.width a.kept a.counted (omega (arith, over))
@@ -31,8 +31,8 @@ unload-requires c =
     let out = c.requires.out in
     omega (arith, out, long)
 
-pub returns : goal.returns
-returns c =
+pub returns-clause-does : goal.returns-clause-does
+returns-clause-does c =
     let m = c.args.machine.now in
     let a = c.args in
     let made = c.outputs.new.made.items in

@@ -1,6 +1,4 @@
-use Rattle.std.proofs.Common.{◌≡◌, ◌<◌, ◌≤◌, ◌+◌, [], ◌∷◌, map, drop, get_or, length, sym, ap, ◌∙◌, subst, arith}
-use Rattle.std.specs.List.{sum}
-use Rattle.graph_meaning.specs.NodeValues.{masked}
+use Rattle.std.proofs.Common.{◌≡◌, ◌≤◌, ◌+◌, ◌∷◌, drop, sym, ap, ◌∙◌, subst, arith}
 use Rattle.graph_meaning.specs.Storage.{capped, leaves_where}
 use Rattle.loop_folds.specs.Masks.{keep_of}
 use Rattle.loop_folds.specs.declared.masking.Masking.TheVariants as masking

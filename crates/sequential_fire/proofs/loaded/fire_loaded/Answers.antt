@@ -1,18 +1,18 @@
-use Rattle.std.proofs.Common.{rules, Fits, w64, ◌+◌, length, subst, refl, sym, arith}
+use Rattle.std.proofs.Common.{rules, Fits, w64, ◌+◌, subst, refl, sym, arith}
 use Rattle.std.specs.Vec.{with_item}
 use Rattle.sequential.specs.Loading.{Loads}
 use Rattle.sequential.specs.declared.machine.Machine.{Machine}
 use Rattle.sequential_fire.proofs.TakeSteps.{take-goes, take-over}
 use Rattle.sequential_fire.proofs.loaded.fire_loaded.Goals as goal
 
-pub returns-then-machine-limit : goal.returns-then-machine-limit
-returns-then-machine-limit c =
+pub returns-then-machine-limit-clause-does : goal.returns-then-machine-limit-clause-does
+returns-then-machine-limit-clause-does c =
     let a = c.args in
     let over = c.if-machine-limit.true in
     take-over a.code.now a.limit a.machine.now a.machine.now a.row a.written a.shape a.ins a.many a.out a.kept a.counted (omega (arith, over))
 
-pub returns : goal.returns
-returns c =
+pub returns-clause-does : goal.returns-clause-does
+returns-clause-does c =
     let m = c.args.machine.now in
     let a = c.args in
     let new : Machine = record { pc = m.pc + 1; base = m.base; cells = with_item c.load.new.cells (m.base + a.out) c.in_ok-cell.cell; calls = m.calls; fires = m.fires + 1; copies = c.sum_of-machine.result; results = c.changed.new.loaded } in

@@ -1,4 +1,4 @@
-use Rattle.std.proofs.Common.{◌≡◌, ◌<◌, ◌≤◌, ◌++◌, ◌+◌, map, drop, get_or, length, sym, ◌∙◌, subst, arith}
+use Rattle.std.proofs.Common.{◌≡◌, ◌<◌, ◌++◌, ◌+◌, map, drop, get_or, length, sym, ◌∙◌, subst, arith}
 use Rattle.flow_value.specs.Lent.{operand_value}
 use Rattle.graph_meaning.specs.Carried.{Unfilled}
 use Rattle.sequential.proofs.MoveSteps.{as-long, same-behind}

@@ -13,8 +13,8 @@ use Rattle.sequential_fire.proofs.TakeSteps.{take-over}
 use Rattle.sequential_fire.proofs.UpdateSteps.{update-goes, are-inside}
 use Rattle.sequential_fire.proofs.updating.fire_update.Goals as goal
 
-pub returns-then-machine-limit : goal.returns-then-machine-limit
-returns-then-machine-limit c =
+pub returns-then-machine-limit-clause-does : goal.returns-then-machine-limit-clause-does
+returns-then-machine-limit-clause-does c =
     let a = c.args in
     let over = c.if-machine-limit.true in
     take-over a.code.now a.limit a.machine.now a.machine.now simple.AReplace a.written a.shape a.ins a.many a.out a.kept a.counted (omega (arith, over))
@@ -61,8 +61,8 @@ box_out-boxed-requires-clause-boxed c =
     let u = a.update in
     (subst (λ xs. IsReady a.code.now m.base u.array u.place u.element xs c.in-Some.change.at c.in-Some.change.value) c.as_slice.ensures.value c.in-Some.ensures).boxed
 
-pub returns-in-Some : goal.returns-in-Some
-returns-in-Some c =
+pub returns-in-Some-clause-does : goal.returns-in-Some-clause-does
+returns-in-Some-clause-does c =
     let a = c.args in
     let m = a.machine.now in
     let u = a.update in
