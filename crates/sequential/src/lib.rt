@@ -24,5 +24,6 @@ pub use choices::spoil;
 pub use laws::steps_are_for_all;
 pub use loading::{load, operand_at};
 pub use machine::{Machine, OpenCall, Turn};
-pub use moving::operands_from;
-pub use sights::{cell_at, counted, sight};
+pub use moving::{operands_from, unload};
+pub use scalar::operand_of;
+pub use sights::{cell_at, counted, direct, sight};

@@ -1,0 +1,9 @@
+pub mod Numbers
+pub mod GivenRows
+pub mod OutputRows
+pub mod Counts
+pub mod CountRows
+pub mod LentSteps
+pub mod TakeSteps
+pub mod RouteSteps
+pub mod UpdateSteps

@@ -1,0 +1,5 @@
+pub mod Given
+pub mod Outputs
+pub mod Taking
+pub mod Routes
+pub mod Updating

@@ -1,0 +1,69 @@
+//! The outputs of a simple node, as cells.
+ghost use Rattle.std.specs.Prelude.{◌≡◌, ◌-◌, ◌<◌, length, map, IfOk, OnOk};
+ghost use Rattle.flow_value.specs.declared.value.Val.TheViews.{out-Val};
+ghost use Rattle.graph_meaning.specs.NodeValues.{op};
+ghost use Rattle.node_ops.specs.Operands.{multiple_in, shape_of};
+ghost use Rattle.run_store.specs.Stored as stored;
+ghost use Rattle.run_cells.specs.Held.{held, heap_of};
+ghost use Rattle.sequential.specs.Loading.{AreInside, seen_of};
+ghost use Rattle.sequential_fire.specs.Outputs.{carried_out, AreHeld};
+
+use crate::given::all_given;
+use flow_value::{NoMemory, Outputs, Shape, Val};
+use if1_graph::Simple;
+use node_ops::fire;
+use run_cells::{Boxed, Cell, cell_of};
+use std::alloc::Global;
+use step_code::{Code, Operand};
+
+/// Makes cells of the outputs of a node on operands that are looked at, in a list that is emptied
+/// first.
+pub fn outputs(
+    alloc: Global,
+    code: &Code,
+    cells: &[Cell],
+    base: usize,
+    row: Simple,
+    shape: Shape,
+    operands: &[Operand],
+    made: &mut Vec<Cell>,
+) -> Result<(), NoMemory>
+    requires inside { AreInside code.now (length cells.now - base) operands.now }
+    requires ports { length operands.now < 4294967296 }
+    ensures { OnOk result (AreHeld made.new.items (op row (shape_of shape) (seen_of code.now base (heap_of cells.now) operands.now))) }
+{
+    let mut ins = all_given(alloc, code, cells, base, row, operands)?;
+    let outs = fire(alloc, row, shape, ins.as_mut_slice())?;
+    cells_of(alloc, row, outs, made)
+}
+
+fn cells_of(alloc: Global, row: Simple, outs: Outputs, made: &mut Vec<Cell>) -> Result<(), NoMemory>
+    ensures { OnOk result (AreHeld made.new.items (map (carried_out row) outs)) }
+{
+    made.clear();
+    let mut values = outs.into_vec().into_iter();
+    while let Some(value) = values.next() {
+        made.push(output_of(alloc, row, value)?)?;
+    }
+    Ok(())
+}
+
+/// A cell with an output of a node.
+pub fn output_of(alloc: Global, row: Simple, value: Val) -> Result<Cell, NoMemory>
+    ensures { IfOk result (λ c. held c ≡ stored.Owns (carried_out row value)) }
+{
+    match row {
+        Simple::RangeGenerate => multiple(alloc, value),
+        Simple::AScatter => multiple(alloc, value),
+        _ => cell_of(alloc, value),
+    }
+}
+
+fn multiple(alloc: Global, value: Val) -> Result<Cell, NoMemory>
+    ensures { IfOk result (λ c. held c ≡ stored.Owns (multiple_in value (out-Val value))) }
+{
+    match value {
+        Val::Err(cause) => Ok(Cell::Spoiled(cause)),
+        _ => Ok(Cell::Many(Boxed::new(alloc, value)?)),
+    }
+}
