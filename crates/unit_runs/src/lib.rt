@@ -3,4 +3,6 @@
 
 mod laws;
 
-pub use laws::{handlings_that_agree_do_the_same, runs_of_unit_code_are_of_record};
+pub use laws::{
+    handlings_that_agree_do_the_same, literals_are_not_copied, runs_of_unit_code_are_of_record,
+};
