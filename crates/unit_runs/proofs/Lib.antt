@@ -1,0 +1,4 @@
+pub mod Alike
+pub mod Literals
+pub mod Uncopied
+pub mod Runs

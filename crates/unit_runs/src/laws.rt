@@ -1,0 +1,21 @@
+//! The laws of runs of the code of a unit.
+ghost use Rattle.unit_runs.specs.Alike.{DoAlike};
+ghost use Rattle.unit_runs.specs.Literals.{AreMadeBare};
+ghost use Rattle.unit_runs.specs.Runs.{AreUnitCodeRunsRecorded};
+
+/// Where two handlings agree by what each step reads, and simple nodes add the same, each step of the
+/// machine whose cells own their values is the same.
+pub fn handlings_that_agree_do_the_same()
+    ensures { DoAlike }
+{}
+
+/// Where in each graph of a plan no port copies a literal that has leaves, nor an input that may be one, no
+/// step of the code that is made of it does.
+pub fn literals_are_not_copied()
+    ensures { AreMadeBare }
+{}
+
+/// So each run of the code of a ready unit with sound marks is decided, and its end is of record.
+pub fn runs_of_unit_code_are_of_record()
+    ensures { AreUnitCodeRunsRecorded }
+{}

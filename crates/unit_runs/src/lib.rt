@@ -1,0 +1,8 @@
+//! Runs of the code of a unit are of record. Laws without code.
+#![tactic(auto)]
+
+mod laws;
+
+pub use laws::{
+    handlings_that_agree_do_the_same, literals_are_not_copied, runs_of_unit_code_are_of_record,
+};
