@@ -3,7 +3,7 @@ ghost use Rattle.std.specs.Prelude.{◌≡◌, ℕ, suc, ◌+◌, ◌-◌, ◌^�
 ghost use Rattle.graph_meaning.specs.Forms as Form;
 ghost use Rattle.graph_meaning.specs.Demand.{Whole};
 ghost use Rattle.run_store.specs.Stored.{Mode, Looks, Takes};
-ghost use Rattle.plan_data.specs.Parts.{AreBelow, AreColumnsBelow, DoColumnsFit, IsFormed, IsWhole, arms_steps, extent_in, for_all_cells, first_given, gives_by, graph_collects, graph_nodes, graph_refolded, graph_results, greatest_of, kind_of, loop_cells, loop_steps, mode_by, nodes_cells, nodes_steps, picks_of, count_true, size_in, work_cells, work_steps};
+ghost use Rattle.plan_data.specs.Parts.{AreBelow, AreColumnsBelow, DoColumnsFit, IsFormed, IsWhole, arms_steps, extent_in, for_all_cells, first_given, gives_by, graph_collects, graph_nodes, graph_refolded, graph_results, greatest_of, kind_of, loop_cells, loop_steps, mode_by, nodes_cells, nodes_steps, own_copies, picks_of, count_true, size_in, work_cells, work_steps};
 ghost use Rattle.code_maker.specs.Makes.{ArmMade, ArmsMade, FirstMade, GraphMade, NodeMade, PartsMade, RowsMade, TurnsMade, loop_work, one_if};
 
 use crate::draft::{Draft, count_of};
@@ -157,7 +157,7 @@ fn emit_node(
     requires below { AreBelow (2 ^ 32 - first) node.now.ins }
     requires columns { DoColumnsFit plan.now node.now.work }
     requires steps { place + work_steps plan.now node.now.work ≤ u32.MAX }
-    requires cells { lo + (node.now.width + (count_true (map picks_of node.now.ins) + work_cells plan.now node.now.work)) ≤ u32.MAX }
+    requires cells { lo + (node.now.width + (own_copies node.now.work node.now.ins + work_cells plan.now node.now.work)) ≤ u32.MAX }
     ensures { OnOk result (NodeMade plan.now room levels args.now first node.now place lo draft.old draft.new) }
 {
     let ports = node.ins.as_slice();

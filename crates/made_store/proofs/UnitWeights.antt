@@ -11,15 +11,14 @@ use Rattle.if1_marks.specs.Given.{consumes}
 use Rattle.graph_meaning.specs.Demand.{EachNode, Kind, Plain, Vertex, Whole}
 use Rattle.graph_meaning.specs.Forms as form
 use Rattle.graph_meaning.specs.Networks.{ins_of, kind_of, net_at, network, source_at, sources, vertex_of}
-use Rattle.graph_meaning.specs.Storage.{Storage, is_left}
+use Rattle.graph_meaning.specs.Storage.{Storage}
 use Rattle.graph_meaning.specs.StorageUnits.{carries_aggregate, storage_of, takes, test_in}
 use Rattle.ordered_meaning.specs.Taking.{first_port}
 use Rattle.run_code.specs.Made.{Plan}
 use Rattle.run_made.proofs.Lying.{eqb-other}
-use Rattle.run_store.specs.Ports.{picks_of}
 use Rattle.made_store.proofs.Weights.{modes-weights}
 use Rattle.made_store.specs.Settings.{Shares}
-use Rattle.made_store.specs.UnitWeights.{AreUnitWeights, marked_shares}
+use Rattle.made_store.specs.UnitWeights.{AreUnitWeights, IsPicked, marked_shares}
 use Rattle.made_store.specs.Weights.{IsNodeMarked, is_copied}
 
 -- ---- ports past the last one
@@ -62,7 +61,7 @@ copies-same true false c m h = refl
 copies-same true true c m h = ap (λ x. not (x || c)) (sym (h refl))
 
 module _ (u : Unit1) (P : Plan) (more : (graph node port : ℕ) → Bool) (owns has : (graph port : ℕ) → Bool) (puts : (returns : ℕ) → List Bool) (apart : (g l p : ℕ) → (storage_of u).is_aggregate g l p ≡ true → more g l p ≡ false)
-    (picks : (g : ℕ) (v : Vertex) → P.picks g v ≡ picks_of (λ p. (storage_of u).is_given g v.label p && is_left (storage_of u) g v.label p) 1 v.ins) where
+    (picks : (g : ℕ) (v : Vertex) → IsPicked (storage_of u) g v v.kind (P.picks g v)) where
   abbrev s : Storage
   s = storage_of u
 
@@ -99,6 +98,9 @@ module _ (u : Unit1) (P : Plan) (more : (graph node port : ℕ) → Bool) (owns 
         let b : length v.ins ≡ length (ins_of u q.graph v.label k) = ap length ins ∙ ap (λ z. length (ins_of u q.graph v.label z)) is in
         omega (arith, a, b, le)
 
+    picked-as : (v : Vertex) (k : Kind) → v.kind ≡ k → IsPicked s g v k (P.picks g v)
+    picked-as v k is = subst (λ z. IsPicked s g v z (P.picks g v)) is (picks g v)
+
     kind-marked : (v : Vertex) (k : Kind) → v.kind ≡ k → v.ins ≡ ins_of u q.graph v.label v.kind → IsNodeMarked P S s g v k
     kind-marked v (Plain row shape) is ins = tt
     kind-marked v (Whole (form.Call f)) is ins = (
@@ -106,11 +108,11 @@ module _ (u : Unit1) (P : Plan) (more : (graph node port : ℕ) → Bool) (owns 
       (λ p le. none-past v.label p (past-ins v (Whole (form.Call f)) is ins p le)),
       ap first_port is,
     )
-    kind-marked v (Whole (form.Select x gs w)) is ins = (picks g v, λ p le. none-past v.label p (past-ins v (Whole (form.Select x gs w)) is ins p le))
-    kind-marked v (Whole (form.TagCase gs w)) is ins = (picks g v, λ p le. none-past v.label p (past-ins v (Whole (form.TagCase gs w)) is ins p le))
-    kind-marked v (Whole (form.LoopA i t b r w)) is ins = (picks g v, λ p le. none-past v.label p (past-ins v (Whole (form.LoopA i t b r w)) is ins p le))
-    kind-marked v (Whole (form.LoopB i t b r w)) is ins = (picks g v, λ p le. none-past v.label p (past-ins v (Whole (form.LoopB i t b r w)) is ins p le))
-    kind-marked v (Whole (form.ForAll x b r m w)) is ins = (picks g v, λ p le. none-past v.label p (past-ins v (Whole (form.ForAll x b r m w)) is ins p le))
+    kind-marked v (Whole (form.Select x gs w)) is ins = (picked-as v (Whole (form.Select x gs w)) is, λ p le. none-past v.label p (past-ins v (Whole (form.Select x gs w)) is ins p le))
+    kind-marked v (Whole (form.TagCase gs w)) is ins = (picked-as v (Whole (form.TagCase gs w)) is, λ p le. none-past v.label p (past-ins v (Whole (form.TagCase gs w)) is ins p le))
+    kind-marked v (Whole (form.LoopA i t b r w)) is ins = (picked-as v (Whole (form.LoopA i t b r w)) is, λ p le. none-past v.label p (past-ins v (Whole (form.LoopA i t b r w)) is ins p le))
+    kind-marked v (Whole (form.LoopB i t b r w)) is ins = (picked-as v (Whole (form.LoopB i t b r w)) is, λ p le. none-past v.label p (past-ins v (Whole (form.LoopB i t b r w)) is ins p le))
+    kind-marked v (Whole (form.ForAll x b r m w)) is ins = (picked-as v (Whole (form.ForAll x b r m w)) is, λ p le. none-past v.label p (past-ins v (Whole (form.ForAll x b r m w)) is ins p le))
 
     nodes-marked : (ns : List Node) → EachNode (λ v. IsNodeMarked P S s g v v.kind) (map (vertex_of u q.graph) ns)
     nodes-marked [] = tt

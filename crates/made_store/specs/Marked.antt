@@ -1,5 +1,5 @@
 -- Runs of code that is made of a plan that takes and copies by the marks of its unit.
-use Rattle.std.specs.Prelude.{◌≡◌, ◌<◌, ◌≤◌, ◌⊎◌, ℕ, ◌&&◌, Bool, List, [], length, false, true}
+use Rattle.std.specs.Prelude.{◌≡◌, ◌<◌, ◌≤◌, ◌⊎◌, ℕ, Bool, List, [], length, false, true}
 use Rattle.if1_graph.specs.declared.graph.Unit1.{Unit1}
 use Rattle.if1_graph.specs.Ready.{IsReady}
 use Rattle.if1_marks.specs.Sound.{IsSound}
@@ -8,25 +8,23 @@ use Rattle.graph_meaning.specs.Demand.{Vertex}
 use Rattle.graph_meaning.specs.Entered.{IsIn}
 use Rattle.graph_meaning.specs.Networks.{network}
 use Rattle.graph_meaning.specs.Plain.{Costs}
-use Rattle.graph_meaning.specs.Storage.{is_left}
 use Rattle.graph_meaning.specs.StorageUnits.{storage_of}
 use Rattle.ordered_meaning.specs.Orders.{AreInOrder}
 use Rattle.run_code.specs.Made.{Plan}
 use Rattle.run_made.specs.Plans.{IsRightPlan, Weighing, laid}
-use Rattle.run_store.specs.Ports.{picks_of}
 use Rattle.run_store.specs.Whole.{EndsStored, IsOfUnit, StopsStored, entered_stored, first_cells}
 use Rattle.made_store.specs.Settings.{Shares}
 use Rattle.made_store.specs.Settled.{functions_settings, handling_of}
 use Rattle.made_store.specs.Shared.{IsShared}
-use Rattle.made_store.specs.UnitWeights.{marked_shares}
+use Rattle.made_store.specs.UnitWeights.{IsPicked, marked_shares}
 use Rattle.made_store.specs.Weights.{by_modes}
 
 -- A plan of a unit that takes and copies by its marks: it is right with the weights of its modes, its shares are right at each graph,
--- what it copies for the parts of a node is what is given and not taken, and it has the results of each graph of the unit.
+-- what it copies for the parts of a compound node is what is given and not taken, and it has the results of each graph of the unit.
 pub record IsMarkedPlan (u : Unit1) (P : Plan) (S : Shares) (W : Weighing) (order : ℕ → List Vertex) (functions : List ℕ) (levels : ℕ) : Type 0 where
   pub right : IsRightPlan P W (network u) order functions levels
   pub shared : (g : ℕ) → IsShared P S W g
-  pub picks : (g : ℕ) (v : Vertex) → P.picks g v ≡ picks_of (λ p. (storage_of u).is_given g v.label p && is_left (storage_of u) g v.label p) 1 v.ins
+  pub picks : (g : ℕ) (v : Vertex) → IsPicked (storage_of u) g v v.kind (P.picks g v)
   pub as_many : (g : ℕ) → (length (P.results g) ≡ length (network u g).results) ⊎ ((network u g).results ≡ [])
 
 -- so nothing is asked of weights

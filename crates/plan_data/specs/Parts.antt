@@ -111,6 +111,12 @@ IsWhole (work.Plain row shape writes copies) = ⊥
 IsWhole (work.Call f) = ⊥
 IsWhole _ = Unit {0}
 
+-- of what fills these ports so many are copied to cells of their own, for the parts of a compound node
+abbrev pub own_copies : Work → List Port → ℕ
+own_copies (work.Plain row shape writes copies) xs = 0
+own_copies (work.Call f) xs = 0
+own_copies _ xs = count_true (map picks_of xs)
+
 module _ (D : PlanData) where
   abbrev pub size_in : ℕ → ℕ
   size_in = table_of D.sizes
@@ -182,7 +188,7 @@ module _ (D : PlanData) where
 
   abbrev pub nodes_cells : List PlanNode → ℕ
   nodes_cells [] = 0
-  nodes_cells (n ∷ ns) = max (n.width + (count_true (map picks_of n.ins) + work_cells n.work)) (n.width + nodes_cells ns)
+  nodes_cells (n ∷ ns) = max (n.width + (own_copies n.work n.ins + work_cells n.work)) (n.width + nodes_cells ns)
 
   -- ---- what fits
 

@@ -101,7 +101,7 @@ module _ (u : Unit1) (order : (graph : ℕ) → List Vertex) (t : Tables) (ready
       hands h q e =
           let le = handed-within u ready p place (label_of n) (suc q) e in
           let same = ins-are u ready sound p place n inside c is in
-          handed-gives u order t g v q (omega (arith, le, same)) e
+          handed-gives u order t g v q c subs (out-Node n).assoc (ap (λ o. kind_as u p.graph n o (simple_at (out-Node n).op)) is) (omega (arith, le, same)) e
 
       owns-given : (h : ℕ) → plain_of u h ≡ None → OwnsHanded u g v h → OwnsGiven P S W g v h
       owns-given h e handed zero o = absurd cc

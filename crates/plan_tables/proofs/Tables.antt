@@ -1,5 +1,5 @@
 -- Tables that are filled from the last graph to the first.
-use Rattle.std.proofs.Common.{◌≡◌, ℕ, zero, suc, ◌+◌, ◌-◌, ◌<◌, ◌≤◌, max, drop, if◌then◌else◌, inl, inr, List, [], ◌∷◌, length, map, get_or, slice_get, refl, sym, ap, ◌∙◌, subst, arith, get_or-set_other, get_or-set_same, set, eqb, Bool, true, false}
+use Rattle.std.proofs.Common.{◌≡◌, ℕ, zero, suc, ◌+◌, ◌-◌, ◌<◌, ◌≤◌, max, drop, if◌then◌else◌, inl, inr, List, [], ◌∷◌, length, get_or, slice_get, refl, sym, ap, ◌∙◌, subst, arith, get_or-set_other, get_or-set_same, set, eqb, Bool, true, false}
 use Rattle.std.proofs.lemmas.Bool.{eq-eqb}
 use Rattle.std.proofs.lemmas.Option.{slice_get_past}
 use Rattle.std.proofs.lemmas.List.{drop_more}
@@ -10,7 +10,7 @@ use Rattle.plan_data.specs.declared.plan.PlanGraph.{PlanGraph}
 use Rattle.plan_data.specs.declared.plan.PlanNode.{PlanNode}
 use Rattle.plan_data.specs.declared.plan.Work.{Work}
 use Rattle.plan_data.specs.declared.plan.Work.TheVariants as work
-use Rattle.plan_data.specs.Parts.{arms_steps, collects_of, count_true, extent_in, graph_refolded, greatest_of, nodes_cells, nodes_of, nodes_steps, picks_of, refolded_of, results_of, size_in, table_of, work_cells, work_steps}
+use Rattle.plan_data.specs.Parts.{arms_steps, collects_of, extent_in, graph_refolded, greatest_of, nodes_cells, nodes_of, nodes_steps, own_copies, refolded_of, results_of, size_in, table_of, work_cells, work_steps}
 use Rattle.plan_tables.specs.Above.{AllAbove, AreAbove, IsPartAbove, entry_at, roomed, tabled}
 
 module _ (D E : PlanData) (same_graphs : D.graphs ≡ E.graphs) (k : ℕ) where
@@ -74,8 +74,8 @@ module _ (D E : PlanData) (same_graphs : D.graphs ≡ E.graphs) (k : ℕ) where
     pub cells-same : (ns : List PlanNode) → AreAbove D.graphs k ns → nodes_cells D ns ≡ nodes_cells E ns
     cells-same [] up = refl
     cells-same (n ∷ ns) up =
-        ap (λ x. max (n.width + (count_true (map picks_of n.ins) + x)) (n.width + nodes_cells D ns)) (work-alike n.work up.0)
-        ∙ ap (λ x. max (n.width + (count_true (map picks_of n.ins) + work_cells E n.work)) (n.width + x)) (cells-same ns up.1)
+        ap (λ x. max (n.width + (own_copies n.work n.ins + x)) (n.width + nodes_cells D ns)) (work-alike n.work up.0)
+        ∙ ap (λ x. max (n.width + (own_copies n.work n.ins + work_cells E n.work)) (n.width + x)) (cells-same ns up.1)
 
 -- a table that is right from a number on, one number more
 pub table-more : (F : List ℕ → ℕ → ℕ) → ((k : ℕ) (xs ys : List ℕ) → ((h : ℕ) → k < h → table_of xs h ≡ table_of ys h) → F xs k ≡ F ys k)

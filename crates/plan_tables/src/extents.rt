@@ -1,7 +1,7 @@
 //! How many cells graphs take.
 ghost use Rattle.std.specs.Prelude.{◌≡◌, ℕ, ◌+◌, max, map, length, IfOk};
 ghost use Rattle.plan_data.specs.declared.plan.PlanData.{PlanData};
-ghost use Rattle.plan_data.specs.Parts.{count_true, extent_in, for_all_cells, graph_nodes, greatest_of, loop_cells, nodes_cells, picks_of, work_cells};
+ghost use Rattle.plan_data.specs.Parts.{count_true, extent_in, for_all_cells, graph_nodes, greatest_of, loop_cells, nodes_cells, own_copies, picks_of, work_cells};
 ghost use Rattle.plan_tables.specs.Above.{ArePartsAbove, roomed};
 
 use crate::sizes::{plus, zeros};
@@ -96,13 +96,23 @@ fn copied(ports: &[Port]) -> usize
     many
 }
 
+fn own_copies(work: &Work, ports: &[Port]) -> usize
+    ensures { result ≡ own_copies work.now ports.now }
+{
+    match work {
+        Work::Plain(..) | Work::Call(_) => 0,
+        Work::Select(..) | Work::TagCase(_) | Work::LoopA(_) | Work::LoopB(_) | Work::ForAll(..) =>
+            copied(ports),
+    }
+}
+
 fn nodes_most(graphs: &[PlanGraph], extents: &[u32], nodes: &[PlanNode]) -> Result<u32, NoMemory>
     ensures { IfOk result (λ n. n ≡ nodes_cells (roomed graphs.now extents.now) nodes.now) }
 {
     let mut most = 0;
     let mut outputs = 0;
     for node in nodes {
-        let own = count_of(copied(node.ins.as_slice()))?;
+        let own = count_of(own_copies(&node.work, node.ins.as_slice()))?;
         let inner = plus(own, work_most(graphs, extents, &node.work)?)?;
         most = greater(most, plus(outputs, plus(node.width, inner)?)?);
         outputs = plus(outputs, node.width)?;

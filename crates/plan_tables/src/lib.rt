@@ -9,5 +9,5 @@ mod sizes;
 
 pub use entries::entries_of;
 pub use extents::extents_of;
-pub use laws::tables_are_of_plans;
+pub use laws::{plans_are_sized_by_tables, tables_are_of_plans};
 pub use sizes::sizes_of;

@@ -7,19 +7,21 @@ use Rattle.if1_marks.specs.Orders.{AreOrdersRight}
 use Rattle.graph_meaning.proofs.Finding.{all-found}
 use Rattle.graph_meaning.proofs.Units.{units-orderly}
 use Rattle.graph_meaning.specs.Carried.{Carried}
-use Rattle.graph_meaning.specs.Demand.{EachNode, Vertex, at_label}
+use Rattle.graph_meaning.specs.Demand.{EachNode, Kind, Plain, Vertex, Whole, at_label}
+use Rattle.graph_meaning.specs.Forms as form
 use Rattle.graph_meaning.specs.Networks.{network}
-use Rattle.graph_meaning.specs.Storage.{copying, is_left, node_written, writing}
+use Rattle.graph_meaning.specs.Storage.{Storage, copying, is_left, node_written, writing}
 use Rattle.graph_meaning.specs.StorageUnits.{storage_of}
 use Rattle.run_code.specs.Made.{Plan}
 use Rattle.run_laws.specs.Weighing.{AreAlike}
 use Rattle.made_store.proofs.UnitWeights.{unit-weights}
 use Rattle.made_store.proofs.Units.{made-unit-decided, made-writes}
 use Rattle.made_store.specs.Settings.{Shares}
+use Rattle.made_store.specs.UnitWeights.{IsPicked, IsUnpicked}
 use Rattle.made_store.specs.Weights.{by_modes, node_weight}
 use Rattle.unit_plan.proofs.Right.{plans-right, writes-right}
-use Rattle.unit_plan.specs.Laws.{AreUnitPlanWritesRecorded, AreUnitPlansDecided}
-use Rattle.unit_plan.specs.Plans.{Tables, functions_of, levels_of, plain_of, plan_of}
+use Rattle.unit_plan.specs.Laws.{AreUnitPlanWritesRecorded, AreUnitPlansDecided, DoUnitPlansPickForParts}
+use Rattle.unit_plan.specs.Plans.{Tables, functions_of, levels_of, picks_by, plain_of, plan_of}
 use Rattle.unit_plan.specs.Shares.{has_of, kind_or, owns_of, reads_by, shares_of, takes_collected, takes_more, weighing, writing_of}
 
 -- no aggregate is taken without its mark
@@ -36,6 +38,27 @@ none-more u order g (suc l) p e = go (plain_of u g)
     go None = refl
     go (Some plain) = not-both (reads_by plain (is_left (storage_of u) g) (at_label (network u g).nodes (suc l)) p) ((storage_of u).is_aggregate g (suc l) p) e
 
+pub picks-marked : (s : Storage) (g : ℕ) (v : Vertex) (k : Kind) → IsPicked s g v k (picks_by s g v k)
+picks-marked s g v (Plain row shape) = tt
+picks-marked s g v (Whole (form.Call f)) = tt
+picks-marked s g v (Whole (form.Select x gs w)) = refl
+picks-marked s g v (Whole (form.TagCase gs w)) = refl
+picks-marked s g v (Whole (form.LoopA i t b r w)) = refl
+picks-marked s g v (Whole (form.LoopB i t b r w)) = refl
+picks-marked s g v (Whole (form.ForAll x b r m w)) = refl
+
+none-picked : (s : Storage) (g : ℕ) (v : Vertex) (k : Kind) → IsUnpicked k (picks_by s g v k)
+none-picked s g v (Plain row shape) = refl
+none-picked s g v (Whole (form.Call f)) = refl
+none-picked s g v (Whole (form.Select x gs w)) = tt
+none-picked s g v (Whole (form.TagCase gs w)) = tt
+none-picked s g v (Whole (form.LoopA i t b r w)) = tt
+none-picked s g v (Whole (form.LoopB i t b r w)) = tt
+none-picked s g v (Whole (form.ForAll x b r m w)) = tt
+
+pub plans-unpicked : DoUnitPlansPickForParts
+plans-unpicked u order t g v = none-picked (storage_of u) g v v.kind
+
 module _ (u : Unit1) (order : ℕ → List Vertex) (t : Tables) (ready : IsReady u) (lists : AreOrdersRight u) where
   abbrev P : Plan
   P = plan_of u order t
@@ -44,7 +67,7 @@ module _ (u : Unit1) (order : ℕ → List Vertex) (t : Tables) (ready : IsReady
   S = shares_of u order
 
   modes-alike : AreAlike (network u) (by_modes P S (storage_of u)).weights (copying (storage_of u))
-  modes-alike = unit-weights u P (takes_more u order) (owns_of u order) (has_of u) (λ r. []) (none-more u order) (λ g v. refl) (λ g. inl refl)
+  modes-alike = unit-weights u P (takes_more u order) (owns_of u order) (has_of u) (λ r. []) (none-more u order) (λ g v. picks-marked (storage_of u) g v v.kind) (λ g. inl refl)
 
   -- a node of the graph weighs by what it does
   nodes-alike : (g : ℕ) (vs : List Vertex) → EachNode (λ v. at_label (network u g).nodes v.label ≡ Some v) vs

@@ -16,6 +16,7 @@ use Rattle.run_store.specs.Sums.{EndsAddingStored}
 use Rattle.run_store.specs.Whole.{EndsStored, IsOfUnit, StopsStored, entered_stored, first_cells}
 use Rattle.made_store.specs.Settled.{functions_settings, handling_of}
 use Rattle.made_store.specs.Shared.{IsShared}
+use Rattle.made_store.specs.UnitWeights.{ArePicksForParts}
 use Rattle.unit_plan.specs.Plans.{AreTables, Tables, functions_of, levels_of, plan_of}
 use Rattle.unit_plan.specs.Shares.{shares_of, weighing, writing_of}
 
@@ -32,6 +33,10 @@ AreUnitWritesRight = (u : Unit1) (order : (graph : ℕ) → List Vertex) (t : Ta
 -- and such tables are there
 abbrev pub AreUnitTablesThere : Type 0
 AreUnitTablesThere = (u : Unit1) (order : (graph : ℕ) → List Vertex) → IsReady u → IsSound u → AreInOrder (network u) order → (t : Tables) × AreTables u order t
+
+-- it copies inputs for the parts of compound nodes alone
+abbrev pub DoUnitPlansPickForParts : Type 0
+DoUnitPlansPickForParts = (u : Unit1) (order : (graph : ℕ) → List Vertex) (t : Tables) → ArePicksForParts (plan_of u order t)
 
 -- Where the shares of the plan are right at each graph, a run of the code that is made of it, begun with its arguments in the first
 -- cells, is decided: it ends with the results, cost and copies of record, or every cost is beyond the limit.

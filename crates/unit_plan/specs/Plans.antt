@@ -1,7 +1,7 @@
 -- The plan of a unit, with the nodes of each graph in an order.
 --
 -- A returns is done on what is collected under its own number. All else stands as it does in the unit.
-use Rattle.std.specs.Prelude.{◌≡◌, ℕ, suc, ◌+◌, ◌&&◌, List, [], map, length, find, Option, Some, None, ◌==◌, unwrap_or}
+use Rattle.std.specs.Prelude.{◌≡◌, ℕ, suc, ◌+◌, ◌&&◌, Bool, List, [], map, length, find, Option, Some, None, ◌==◌, unwrap_or}
 use Rattle.if1_graph.specs.declared.graph.Graph.{Graph}
 use Rattle.if1_graph.specs.declared.graph.Graph.TheViews.{out-Graph}
 use Rattle.if1_graph.specs.declared.graph.Node.{Node, out-Node}
@@ -19,7 +19,7 @@ use Rattle.graph_meaning.specs.Forms as form
 use Rattle.graph_meaning.specs.Forms.{outputs_of}
 use Rattle.graph_meaning.specs.Laws.{outputs_by}
 use Rattle.graph_meaning.specs.Networks.{network}
-use Rattle.graph_meaning.specs.Storage.{is_left}
+use Rattle.graph_meaning.specs.Storage.{Storage, is_left}
 use Rattle.graph_meaning.specs.StorageUnits.{storage_of}
 use Rattle.run_code.specs.Collections.{Collect}
 use Rattle.run_code.specs.Made.{IsSized, Plan, entry_from}
@@ -72,6 +72,12 @@ outputs_in u (Plain row shape) = outputs_by (row_of row).gives shape
 outputs_in u (Whole (form.Call f)) = length (network u f).results
 outputs_in u (Whole form) = outputs_of form
 
+-- what is given to a compound node and not taken is copied for its parts
+abbrev pub picks_by : Storage → (graph : ℕ) → Vertex → Kind → List Bool
+picks_by s g v (Plain row shape) = []
+picks_by s g v (Whole (form.Call f)) = []
+picks_by s g v (Whole form) = picks_of (λ p. s.is_given g v.label p && is_left s g v.label p) 1 v.ins
+
 -- ---- the plan
 
 -- the functions of a unit in their order
@@ -94,7 +100,7 @@ plan_of u order t =
       nodes = λ g. nodes_by u g (plain_of u g) (order g);
       results = λ g. (network u g).results;
       width = λ v. outputs_in u v.kind;
-      picks = λ g v. picks_of (λ p. (storage_of u).is_given g v.label p && is_left (storage_of u) g v.label p) 1 v.ins;
+      picks = λ g v. picks_by (storage_of u) g v v.kind;
       collects = λ g. collects_in u g (plain_of u g) (order g);
       refolded = λ r. r;
       params = λ f. inputs_in u (place_of u f);

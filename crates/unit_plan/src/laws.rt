@@ -5,6 +5,7 @@ ghost use Rattle.unit_plan.specs.Laws.{
   AreUnitPlansRight,
   AreUnitTablesThere,
   AreUnitWritesRight,
+  DoUnitPlansPickForParts,
 };
 
 /// The plan of a ready unit with sound marks is right, with tables that are right.
@@ -20,6 +21,11 @@ pub fn writes_of_plans_are_right()
 /// Such tables are there.
 pub fn tables_of_units_are_there()
     ensures { AreUnitTablesThere }
+{}
+
+/// It copies inputs for the parts of compound nodes alone.
+pub fn plans_of_units_pick_for_parts()
+    ensures { DoUnitPlansPickForParts }
 {}
 
 /// So a run of the code that is made of the plan is decided, where its shares are right.

@@ -4,6 +4,6 @@
 mod laws;
 
 pub use laws::{
-    plans_of_units_are_right, runs_of_plans_of_units_are_decided, tables_of_units_are_there,
-    writes_of_plans_are_right, writes_of_plans_of_units_are_of_record,
+    plans_of_units_are_right, plans_of_units_pick_for_parts, runs_of_plans_of_units_are_decided,
+    tables_of_units_are_there, writes_of_plans_are_right, writes_of_plans_of_units_are_of_record,
 };

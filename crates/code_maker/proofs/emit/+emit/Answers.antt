@@ -121,7 +121,7 @@ emit_graph-loop-node-preserved t c =
     let cells = inv.cells in
     let size = ap (parts.nodes_steps plan) e in
     let extent = ap (parts.nodes_cells plan) e in
-    let second = le-max_right (n.width + (parts.count_true (map parts.picks_of n.ins) + parts.work_cells plan n.work)) (n.width + parts.nodes_cells plan ns) in
+    let second = le-max_right (n.width + (parts.own_copies n.work n.ins + parts.work_cells plan n.work)) (n.width + parts.nodes_cells plan ns) in
     let w : c.work_steps-here.result ≡ parts.work_steps plan n.work = c.work_steps-here.ensures in
     record {
       below = below.2;
@@ -166,7 +166,7 @@ emit_graph-emit_node-requires t c =
     let cells = inv.cells in
     let size = ap (parts.nodes_steps plan) e in
     let extent = ap (parts.nodes_cells plan) e in
-    let first = le-max_left (n.width + (parts.count_true (map parts.picks_of n.ins) + parts.work_cells plan n.work)) (n.width + parts.nodes_cells plan ns) in
+    let first = le-max_left (n.width + (parts.own_copies n.work n.ins + parts.work_cells plan n.work)) (n.width + parts.nodes_cells plan ns) in
     let room = c.requires.cells in
     let some = c.if-levels-eq0.false in (
       omega (arith, c.decreases, some),
