@@ -1,1 +1,3 @@
 pub mod Outlets
+pub mod Feeds
+pub mod Laws

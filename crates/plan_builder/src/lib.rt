@@ -2,6 +2,12 @@
 //! stand, and what fills each port.
 #![tactic(auto)]
 
+mod feeds;
+mod laws;
 mod outlets;
+mod widths;
 
+pub use feeds::{literal_feed, port_feed, unfilled_feed};
+pub use laws::outlets_are_of_units;
 pub use outlets::{Outlets, outlet, outlets_of};
+pub use widths::plain_width;

@@ -98,7 +98,8 @@ pub fn outlets_of(
 pub fn outlet(outlets: &Outlets, node: u32, port: u32) -> u32
     requires are { AreOutlets outlets.now }
     requires there { IsOutlet outlets.now node port }
-    ensures { (P : Plan) (vs : List Vertex) → AreLaid P outlets.now vs → (lo : ℕ) → put P vs lo node port ≡ At (lo + result) }
+    ensures here { (P : Plan) (vs : List Vertex) → AreLaid P outlets.now vs → (lo : ℕ) → put P vs lo node port ≡ At (lo + result) }
+    ensures below { result < cells_of outlets.now.widths outlets.now.order }
 {
     match place_of(outlets.labels.as_slice(), node) {
         Some(place) => outlets.starts.as_slice()[place] + (port - 1),
