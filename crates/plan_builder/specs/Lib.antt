@@ -1,0 +1,4 @@
+pub mod Outlets
+pub mod Feeds
+pub mod Nodes
+pub mod Laws
