@@ -5,7 +5,7 @@ use Rattle.node_ops.specs.Operands.{shape_of}
 use Rattle.flow_value.specs.declared.operands.Shape.{Shape}
 use Rattle.if1_graph.specs.declared.op.Simple.{Simple}
 use Rattle.run_code.specs.Cells.{cells_at}
-use Rattle.run_code.specs.Made.{Origin, line}
+use Rattle.run_code.specs.Made.{Origin, Plan, line}
 use Rattle.run_code.specs.Steps as made
 use Rattle.run_store.specs.Stored.{Looks}
 use Rattle.made_store.specs.Settings.{Cells_of, takes_all}
@@ -23,7 +23,7 @@ use Rattle.plan_data.specs.Parts.{IsFormed, mode_by, mode_of}
 use Rattle.code_maker.specs.declared.draft.Draft.{Draft}
 use Rattle.code_maker.specs.declared.seats.Seat.{Seat}
 use Rattle.code_maker.specs.Seats.{at_seat, at_seats, laid, looked_at, put_as, seats_at, with_mode}
-use Rattle.code_maker.specs.Grows.{Grows, read_as}
+use Rattle.code_maker.specs.Grows.{Grows, IsToldOf, read_as}
 use Rattle.code_maker.proofs.Reading.{collects-are, kept-by, looked-read, more-read, operand-is, operands-are, ports-kept, ports-read, puts-are, puts-none, read-one, taken-same, unmarked}
 use Rattle.code_maker.proofs.Growing.{collects-named, grows-one, operands-named, targets-named}
 
@@ -31,79 +31,84 @@ looked-long : (i n : ℕ) → length (looked_at i n) ≡ n
 looked-long i zero = refl
 looked-long i (suc n) = ap suc (looked-long (suc i) n)
 
-module _ (D : PlanData) (old new : Draft) (o : Origin) (lives owns : Cells_of) where
+module _ (D : PlanData) (P : Plan) (old new : Draft) (o : Origin) (lives owns : Cells_of) where
   pub count-grows : new.steps ≡ old.steps ++ step.Count ∷ [] → new.operands ≡ old.operands → new.targets ≡ old.targets → new.collects ≡ old.collects
-      → Grows D old new (line o made.Count ∷ []) (setting [] [] lives owns ∷ [])
+      → Grows D P old new (line o made.Count ∷ []) (setting [] [] lives owns ∷ [])
   count-grows a b c d =
-      grows-one D old new step.Count (line o made.Count) (setting [] [] lives owns) [] [] [] a (b ∙ sym (append-nil old.operands)) (c ∙ sym (append-nil old.targets)) (d ∙ sym (append-nil old.collects))
-      (λ code h. record { step = refl; modes = refl; puts = λ k. refl; keeps = λ k. refl })
+      grows-one D P old new step.Count (line o made.Count) (setting [] [] lives owns) [] [] [] a (b ∙ sym (append-nil old.operands)) (c ∙ sym (append-nil old.targets)) (d ∙ sym (append-nil old.collects))
+      (λ code h. record { step = refl; modes = refl; puts = λ k. refl; keeps = λ k. refl; told = tt })
 
-  pub fire-grows : (args : List Seat) (first : ℕ) (xs : List Port) (row : Simple) (shape : Shape) (writes : Written) (copies : Counted) (out w : ℕ) (i n : ℕ) → IsFormed D → new.steps ≡ old.steps ++ step.Fire row writes shape i n out w (2 ^ 32 - 1) copies ∷ [] → new.operands ≡ old.operands ++ map (laid args first) xs → new.targets ≡ old.targets → new.collects ≡ old.collects
-      → i ≡ length old.operands → n ≡ length xs → Grows D old new (line o (made.Fire row (shape_of shape) (at_seats D (seats_at args first xs)) out w) ∷ []) (setting (map mode_of xs) [] lives owns ∷ [])
-  fire-grows args first xs row shape writes copies out w i n formed a b c d i_is n_is =
+  pub fire-grows : (args : List Seat) (first : ℕ) (xs : List Port) (row : Simple) (shape : Shape) (writes : Written) (copies : Counted) (out w : ℕ) (i n : ℕ) → IsFormed D → IsToldOf D P row writes copies w (map mode_of xs) o → new.steps ≡ old.steps ++ step.Fire row writes shape i n out w (2 ^ 32 - 1) copies ∷ [] → new.operands ≡ old.operands ++ map (laid args first) xs → new.targets ≡ old.targets → new.collects ≡ old.collects
+      → i ≡ length old.operands → n ≡ length xs → Grows D P old new (line o (made.Fire row (shape_of shape) (at_seats D (seats_at args first xs)) out w) ∷ []) (setting (map mode_of xs) [] lives owns ∷ [])
+  fire-grows args first xs row shape writes copies out w i n formed told a b c d i_is n_is =
       let os = map (laid args first) xs in
-      grows-one D old new (step.Fire row writes shape i n out w (2 ^ 32 - 1) copies) (line o (made.Fire row (shape_of shape) (at_seats D (seats_at args first xs)) out w)) (setting (map mode_of xs) [] lives owns) os [] [] a b (c ∙ sym (append-nil old.targets)) (d ∙ sym (append-nil old.collects))
+      grows-one D P old new (step.Fire row writes shape i n out w (2 ^ 32 - 1) copies) (line o (made.Fire row (shape_of shape) (at_seats D (seats_at args first xs)) out w)) (setting (map mode_of xs) [] lives owns) os [] [] a b (c ∙ sym (append-nil old.targets)) (d ∙ sym (append-nil old.collects))
       (λ code h.
       let there : so_many i n code.operands ≡ os = operands-named D old new code os i n h b i_is (n_is ∙ sym (length-map xs (laid args first))) in
       record {
         step = ap (λ l. made.Fire row (shape_of shape) (map (operand_in code) l) out w) there ∙ ap (λ l. made.Fire row (shape_of shape) l out w) (operands-are D code h.literals args first xs);
         modes = ap (λ l. read_as (map (mode_in code) l) (at_seats D (seats_at args first xs))) there ∙ ports-read D code h.literals args first xs;
         puts = λ k. refl;
+        told = told;
         keeps = λ k.
             let marks : length code.marks ≤ 2 ^ 32 - 1 = subst (λ ms. length ms ≤ 2 ^ 32 - 1) (sym h.marks) formed.marks in
             kept-by (so_many (2 ^ 32 - 1) w code.marks) (unmarked (2 ^ 32 - 1) w code.marks marks) out k;
       })
 
   pub call-grows : (args : List Seat) (first : ℕ) (xs : List Port) (entry size room out w : ℕ) (i n : ℕ) → new.steps ≡ old.steps ++ step.Call entry size room i n out w ∷ [] → new.operands ≡ old.operands ++ map (laid args first) xs → new.targets ≡ old.targets → new.collects ≡ old.collects
-      → i ≡ length old.operands → n ≡ length xs → Grows D old new (line o (made.Call entry size (at_seats D (seats_at args first xs)) out w) ∷ []) (setting (map mode_of xs) [] lives owns ∷ [])
+      → i ≡ length old.operands → n ≡ length xs → Grows D P old new (line o (made.Call entry size (at_seats D (seats_at args first xs)) out w) ∷ []) (setting (map mode_of xs) [] lives owns ∷ [])
   call-grows args first xs entry size room out w i n a b c d i_is n_is =
       let os = map (laid args first) xs in
-      grows-one D old new (step.Call entry size room i n out w) (line o (made.Call entry size (at_seats D (seats_at args first xs)) out w)) (setting (map mode_of xs) [] lives owns) os [] [] a b (c ∙ sym (append-nil old.targets)) (d ∙ sym (append-nil old.collects))
+      grows-one D P old new (step.Call entry size room i n out w) (line o (made.Call entry size (at_seats D (seats_at args first xs)) out w)) (setting (map mode_of xs) [] lives owns) os [] [] a b (c ∙ sym (append-nil old.targets)) (d ∙ sym (append-nil old.collects))
       (λ code h.
       let there : so_many i n code.operands ≡ os = operands-named D old new code os i n h b i_is (n_is ∙ sym (length-map xs (laid args first))) in
       record {
         step = ap (λ l. made.Call entry size (map (operand_in code) l) out w) there ∙ ap (λ l. made.Call entry size l out w) (operands-are D code h.literals args first xs);
         modes = ap (λ l. read_as (map (mode_in code) l) (at_seats D (seats_at args first xs))) there ∙ ports-read D code h.literals args first xs;
         puts = λ k. refl;
+        told = tt;
         keeps = λ k. refl;
       })
 
   pub return-grows : (args : List Seat) (first : ℕ) (xs : List Port) (i n : ℕ) → new.steps ≡ old.steps ++ step.Return i n ∷ [] → new.operands ≡ old.operands ++ map (laid args first) xs → new.targets ≡ old.targets → new.collects ≡ old.collects
-      → i ≡ length old.operands → n ≡ length xs → Grows D old new (line o (made.Return (at_seats D (seats_at args first xs))) ∷ []) (setting (map mode_of xs) [] lives owns ∷ [])
+      → i ≡ length old.operands → n ≡ length xs → Grows D P old new (line o (made.Return (at_seats D (seats_at args first xs))) ∷ []) (setting (map mode_of xs) [] lives owns ∷ [])
   return-grows args first xs i n a b c d i_is n_is =
       let os = map (laid args first) xs in
-      grows-one D old new (step.Return i n) (line o (made.Return (at_seats D (seats_at args first xs)))) (setting (map mode_of xs) [] lives owns) os [] [] a b (c ∙ sym (append-nil old.targets)) (d ∙ sym (append-nil old.collects))
+      grows-one D P old new (step.Return i n) (line o (made.Return (at_seats D (seats_at args first xs)))) (setting (map mode_of xs) [] lives owns) os [] [] a b (c ∙ sym (append-nil old.targets)) (d ∙ sym (append-nil old.collects))
       (λ code h.
       let there : so_many i n code.operands ≡ os = operands-named D old new code os i n h b i_is (n_is ∙ sym (length-map xs (laid args first))) in
       record {
         step = ap (λ l. made.Return (map (operand_in code) l)) there ∙ ap (λ l. made.Return l) (operands-are D code h.literals args first xs);
         modes = ap (λ l. read_as (map (mode_in code) l) (at_seats D (seats_at args first xs))) there ∙ ports-read D code h.literals args first xs;
         puts = λ k. refl;
+        told = tt;
         keeps = λ k. refl;
       })
 
   pub move-grows : (args : List Seat) (first : ℕ) (xs : List Port) (out w next : ℕ) (i n : ℕ) → new.steps ≡ old.steps ++ step.Move i n out w next ∷ [] → new.operands ≡ old.operands ++ map (laid args first) xs → new.targets ≡ old.targets → new.collects ≡ old.collects
-      → i ≡ length old.operands → n ≡ length xs → Grows D old new (line o (made.Move (at_seats D (seats_at args first xs)) out w next) ∷ []) (setting (map mode_of xs) [] lives owns ∷ [])
+      → i ≡ length old.operands → n ≡ length xs → Grows D P old new (line o (made.Move (at_seats D (seats_at args first xs)) out w next) ∷ []) (setting (map mode_of xs) [] lives owns ∷ [])
   move-grows args first xs out w next i n a b c d i_is n_is =
       let os = map (laid args first) xs in
-      grows-one D old new (step.Move i n out w next) (line o (made.Move (at_seats D (seats_at args first xs)) out w next)) (setting (map mode_of xs) [] lives owns) os [] [] a b (c ∙ sym (append-nil old.targets)) (d ∙ sym (append-nil old.collects))
+      grows-one D P old new (step.Move i n out w next) (line o (made.Move (at_seats D (seats_at args first xs)) out w next)) (setting (map mode_of xs) [] lives owns) os [] [] a b (c ∙ sym (append-nil old.targets)) (d ∙ sym (append-nil old.collects))
       (λ code h.
       let there : so_many i n code.operands ≡ os = operands-named D old new code os i n h b i_is (n_is ∙ sym (length-map xs (laid args first))) in
       record {
         step = ap (λ l. made.Move (map (operand_in code) l) out w next) there ∙ ap (λ l. made.Move l out w next) (operands-are D code h.literals args first xs);
         modes = ap (λ l. read_as (map (mode_in code) l) (at_seats D (seats_at args first xs))) there ∙ ports-read D code h.literals args first xs;
         puts = λ k. refl;
+        told = tt;
         keeps = λ k. refl;
       })
 
   pub branch-grows : (h : Handled) (s : Seat) (ts : List ℕ) (i n out w next : ℕ) → new.steps ≡ old.steps ++ step.Branch (with_mode h s) i n out w next ∷ [] → new.operands ≡ old.operands → new.targets ≡ old.targets ++ ts → new.collects ≡ old.collects → i ≡ length old.targets → n ≡ length ts
-      → Grows D old new (line o (made.Branch (at_seat D s) ts out w next) ∷ []) (setting (mode_by h ∷ []) [] lives owns ∷ [])
+      → Grows D P old new (line o (made.Branch (at_seat D s) ts out w next) ∷ []) (setting (mode_by h ∷ []) [] lives owns ∷ [])
   branch-grows h s ts i n out w next a b c d i_is n_is =
-      grows-one D old new (step.Branch (with_mode h s) i n out w next) (line o (made.Branch (at_seat D s) ts out w next)) (setting (mode_by h ∷ []) [] lives owns) [] ts [] a (b ∙ sym (append-nil old.operands)) c (d ∙ sym (append-nil old.collects))
+      grows-one D P old new (step.Branch (with_mode h s) i n out w next) (line o (made.Branch (at_seat D s) ts out w next)) (setting (mode_by h ∷ []) [] lives owns) [] ts [] a (b ∙ sym (append-nil old.operands)) c (d ∙ sym (append-nil old.collects))
       (λ code g. record {
         step = ap (λ q. made.Branch q (so_many i n code.targets) out w next) (operand-is D code g.literals h s) ∙ ap (λ q. made.Branch (at_seat D s) q out w next) (targets-named D old new code ts i n g c i_is n_is);
         modes = read-one D code g.literals h s [] [] [] refl;
         puts = λ k. refl;
+        told = tt;
         keeps = λ k. refl;
       })
 
@@ -112,33 +117,35 @@ module _ (D : PlanData) (old new : Draft) (o : Origin) (lives owns : Cells_of) w
   true-kept (suc k) = refl
 
   pub tag-grows : (h : Handled) (s : Seat) (ts : List ℕ) (i n content out w next : ℕ) → new.steps ≡ old.steps ++ step.Tag (with_mode h s) i n content true out w next ∷ [] → new.operands ≡ old.operands → new.targets ≡ old.targets ++ ts → new.collects ≡ old.collects → i ≡ length old.targets → n ≡ length ts
-      → Grows D old new (line o (made.Tag (at_seat D s) ts content out w next) ∷ []) (setting (mode_by h ∷ []) [] lives owns ∷ [])
+      → Grows D P old new (line o (made.Tag (at_seat D s) ts content out w next) ∷ []) (setting (mode_by h ∷ []) [] lives owns ∷ [])
   tag-grows h s ts i n content out w next a b c d i_is n_is =
-      grows-one D old new (step.Tag (with_mode h s) i n content true out w next) (line o (made.Tag (at_seat D s) ts content out w next)) (setting (mode_by h ∷ []) [] lives owns) [] ts [] a (b ∙ sym (append-nil old.operands)) c (d ∙ sym (append-nil old.collects))
+      grows-one D P old new (step.Tag (with_mode h s) i n content true out w next) (line o (made.Tag (at_seat D s) ts content out w next)) (setting (mode_by h ∷ []) [] lives owns) [] ts [] a (b ∙ sym (append-nil old.operands)) c (d ∙ sym (append-nil old.collects))
       (λ code g. record {
         step = ap (λ q. made.Tag q (so_many i n code.targets) content out w next) (operand-is D code g.literals h s) ∙ ap (λ q. made.Tag (at_seat D s) q content out w next) (targets-named D old new code ts i n g c i_is n_is);
         modes = read-one D code g.literals h s [] [] [] refl;
         puts = λ k. refl;
+        told = tt;
         keeps = λ k. kept-by (true ∷ []) true-kept content k;
       })
 
   pub test-grows : (h : Handled) (s : Seat) (turn leave out w next : ℕ) → new.steps ≡ old.steps ++ step.Test (with_mode h s) turn leave out w next ∷ [] → new.operands ≡ old.operands → new.targets ≡ old.targets → new.collects ≡ old.collects
-      → Grows D old new (line o (made.Test (at_seat D s) turn leave out w next) ∷ []) (setting (mode_by h ∷ []) [] lives owns ∷ [])
+      → Grows D P old new (line o (made.Test (at_seat D s) turn leave out w next) ∷ []) (setting (mode_by h ∷ []) [] lives owns ∷ [])
   test-grows h s turn leave out w next a b c d =
-      grows-one D old new (step.Test (with_mode h s) turn leave out w next) (line o (made.Test (at_seat D s) turn leave out w next)) (setting (mode_by h ∷ []) [] lives owns) [] [] [] a (b ∙ sym (append-nil old.operands)) (c ∙ sym (append-nil old.targets)) (d ∙ sym (append-nil old.collects))
+      grows-one D P old new (step.Test (with_mode h s) turn leave out w next) (line o (made.Test (at_seat D s) turn leave out w next)) (setting (mode_by h ∷ []) [] lives owns) [] [] [] a (b ∙ sym (append-nil old.operands)) (c ∙ sym (append-nil old.targets)) (d ∙ sym (append-nil old.collects))
       (λ code g. record {
         step = ap (λ q. made.Test q turn leave out w next) (operand-is D code g.literals h s);
         modes = read-one D code g.literals h s [] [] [] refl;
         puts = λ k. refl;
+        told = tt;
         keeps = λ k. refl;
       })
 
   pub begin-grows : (args : List Seat) (first : ℕ) (xs : List Port) (cs : List Collect) (out next : ℕ) (i n j k : ℕ) → new.steps ≡ old.steps ++ step.Keep true j k i n out next ∷ [] → new.operands ≡ old.operands ++ map (laid args first) xs → new.targets ≡ old.targets → new.collects ≡ old.collects ++ map (put_as false) cs
       → i ≡ length old.operands → n ≡ length xs → j ≡ length old.collects → k ≡ length cs
-      → Grows D old new (line o (made.Keep true (map collect_in cs) (at_seats D (seats_at args first xs)) out next) ∷ []) (setting (map mode_of xs) [] lives owns ∷ [])
+      → Grows D P old new (line o (made.Keep true (map collect_in cs) (at_seats D (seats_at args first xs)) out next) ∷ []) (setting (map mode_of xs) [] lives owns ∷ [])
   begin-grows args first xs cs out next i n j k a b c d i_is n_is j_is k_is =
       let os = map (laid args first) xs in
-      grows-one D old new (step.Keep true j k i n out next) (line o (made.Keep true (map collect_in cs) (at_seats D (seats_at args first xs)) out next)) (setting (map mode_of xs) [] lives owns) os [] (map (put_as false) cs) a b (c ∙ sym (append-nil old.targets)) d
+      grows-one D P old new (step.Keep true j k i n out next) (line o (made.Keep true (map collect_in cs) (at_seats D (seats_at args first xs)) out next)) (setting (map mode_of xs) [] lives owns) os [] (map (put_as false) cs) a b (c ∙ sym (append-nil old.targets)) d
       (λ code h.
       let there : so_many i n code.operands ≡ os = operands-named D old new code os i n h b i_is (n_is ∙ sym (length-map xs (laid args first))) in
       let here : so_many j k code.collects ≡ map (put_as false) cs = collects-named D old new code (map (put_as false) cs) j k h d j_is (k_is ∙ sym (length-map cs (put_as false))) in
@@ -149,15 +156,16 @@ module _ (D : PlanData) (old new : Draft) (o : Origin) (lives owns : Cells_of) w
             ∙ ap (λ l. made.Keep true (map collect_in cs) l out next) (operands-are D code h.literals args first xs)));
         modes = ap (λ l. read_as (l ++ []) (at_seats D (seats_at args first xs))) (ap (map (mode_in code)) there) ∙ (ap (λ l. read_as l (at_seats D (seats_at args first xs))) (append-nil (map (mode_in code) os)) ∙ ports-read D code h.literals args first xs);
         puts = λ q. ap (λ l. get_or (map puts_of l) q false) here ∙ puts-none cs q;
+        told = tt;
         keeps = λ k. refl;
       })
 
   pub keep-grows : (args : List Seat) (first : ℕ) (xs : List Port) (cs : List Collect) (out next : ℕ) (i n j k : ℕ) → new.steps ≡ old.steps ++ step.Keep false j k i n out next ∷ [] → new.operands ≡ old.operands ++ map (laid args first) xs → new.targets ≡ old.targets → new.collects ≡ old.collects ++ map (put_as false) cs
       → i ≡ length old.operands → n ≡ length xs → j ≡ length old.collects → k ≡ length cs
-      → Grows D old new (line o (made.Keep false (map collect_in cs) (at_seats D (seats_at args first xs)) out next) ∷ []) (setting (map mode_of xs ++ takes_all (length cs)) [] lives owns ∷ [])
+      → Grows D P old new (line o (made.Keep false (map collect_in cs) (at_seats D (seats_at args first xs)) out next) ∷ []) (setting (map mode_of xs ++ takes_all (length cs)) [] lives owns ∷ [])
   keep-grows args first xs cs out next i n j k a b c d i_is n_is j_is k_is =
       let os = map (laid args first) xs in
-      grows-one D old new (step.Keep false j k i n out next) (line o (made.Keep false (map collect_in cs) (at_seats D (seats_at args first xs)) out next)) (setting (map mode_of xs ++ takes_all (length cs)) [] lives owns) os [] (map (put_as false) cs) a b (c ∙ sym (append-nil old.targets)) d
+      grows-one D P old new (step.Keep false j k i n out next) (line o (made.Keep false (map collect_in cs) (at_seats D (seats_at args first xs)) out next)) (setting (map mode_of xs ++ takes_all (length cs)) [] lives owns) os [] (map (put_as false) cs) a b (c ∙ sym (append-nil old.targets)) d
       (λ code h.
       let there : so_many i n code.operands ≡ os = operands-named D old new code os i n h b i_is (n_is ∙ sym (length-map xs (laid args first))) in
       let here : so_many j k code.collects ≡ map (put_as false) cs = collects-named D old new code (map (put_as false) cs) j k h d j_is (k_is ∙ sym (length-map cs (put_as false))) in
@@ -170,15 +178,16 @@ module _ (D : PlanData) (old new : Draft) (o : Origin) (lives owns : Cells_of) w
             ∙ (more-read D code h.literals args first xs (taken_all k) (taken_all k) (cells_at (out + length (at_seats D (seats_at args first xs))) (length (map collect_in cs))) refl
             ∙ ap (λ q. read_as (map mode_of xs ++ q) (at_seats D (seats_at args first xs) ++ cells_at (out + length (at_seats D (seats_at args first xs))) (length (map collect_in cs)))) (taken-same k ∙ ap takes_all k_is));
         puts = λ q. ap (λ l. get_or (map puts_of l) q false) here ∙ puts-none cs q;
+        told = tt;
         keeps = λ k. refl;
       })
 
   pub put-grows : (args : List Seat) (first : ℕ) (xs : List Port) (cs : List Collect) (out next : ℕ) (i n j k : ℕ) → new.steps ≡ old.steps ++ step.Add j k i n out next ∷ [] → new.operands ≡ old.operands ++ map (laid args first) xs → new.targets ≡ old.targets → new.collects ≡ old.collects ++ map (put_as true) cs
       → i ≡ length old.operands → n ≡ length xs → j ≡ length old.collects → k ≡ length cs
-      → Grows D old new (line o (made.Add (map collect_in cs) (at_seats D (seats_at args first xs)) out next) ∷ []) (setting (map mode_of xs ++ takes_all (length cs)) (map puts_of cs) lives owns ∷ [])
+      → Grows D P old new (line o (made.Add (map collect_in cs) (at_seats D (seats_at args first xs)) out next) ∷ []) (setting (map mode_of xs ++ takes_all (length cs)) (map puts_of cs) lives owns ∷ [])
   put-grows args first xs cs out next i n j k a b c d i_is n_is j_is k_is =
       let os = map (laid args first) xs in
-      grows-one D old new (step.Add j k i n out next) (line o (made.Add (map collect_in cs) (at_seats D (seats_at args first xs)) out next)) (setting (map mode_of xs ++ takes_all (length cs)) (map puts_of cs) lives owns) os [] (map (put_as true) cs) a b (c ∙ sym (append-nil old.targets)) d
+      grows-one D P old new (step.Add j k i n out next) (line o (made.Add (map collect_in cs) (at_seats D (seats_at args first xs)) out next)) (setting (map mode_of xs ++ takes_all (length cs)) (map puts_of cs) lives owns) os [] (map (put_as true) cs) a b (c ∙ sym (append-nil old.targets)) d
       (λ code h.
       let there : so_many i n code.operands ≡ os = operands-named D old new code os i n h b i_is (n_is ∙ sym (length-map xs (laid args first))) in
       let here : so_many j k code.collects ≡ map (put_as true) cs = collects-named D old new code (map (put_as true) cs) j k h d j_is (k_is ∙ sym (length-map cs (put_as true))) in
@@ -191,15 +200,16 @@ module _ (D : PlanData) (old new : Draft) (o : Origin) (lives owns : Cells_of) w
             ∙ (more-read D code h.literals args first xs (taken_all k) (taken_all k) (cells_at out (length (map collect_in cs))) refl
             ∙ ap (λ q. read_as (map mode_of xs ++ q) (at_seats D (seats_at args first xs) ++ cells_at out (length (map collect_in cs)))) (taken-same k ∙ ap takes_all k_is));
         puts = λ q. ap (λ l. get_or (map puts_of l) q false) here ∙ ap (λ l. get_or l q false) (puts-are cs);
+        told = tt;
         keeps = λ k. refl;
       })
 
   pub spread-grows : (args : List Seat) (first : ℕ) (xs : List Port) (cs : List Collect) (to turns out w next : ℕ) (i n j k : ℕ) → new.steps ≡ old.steps ++ step.Spread i n j k to turns out w next ∷ [] → new.operands ≡ old.operands ++ map (laid args first) xs → new.targets ≡ old.targets → new.collects ≡ old.collects ++ map (put_as true) cs
       → i ≡ length old.operands → n ≡ length xs → j ≡ length old.collects → k ≡ length cs
-      → Grows D old new (line o (made.Spread (at_seats D (seats_at args first xs)) (map collect_in cs) to turns out w next) ∷ []) (setting (map mode_of xs) [] lives owns ∷ [])
+      → Grows D P old new (line o (made.Spread (at_seats D (seats_at args first xs)) (map collect_in cs) to turns out w next) ∷ []) (setting (map mode_of xs) [] lives owns ∷ [])
   spread-grows args first xs cs to turns out w next i n j k a b c d i_is n_is j_is k_is =
       let os = map (laid args first) xs in
-      grows-one D old new (step.Spread i n j k to turns out w next) (line o (made.Spread (at_seats D (seats_at args first xs)) (map collect_in cs) to turns out w next)) (setting (map mode_of xs) [] lives owns) os [] (map (put_as true) cs) a b (c ∙ sym (append-nil old.targets)) d
+      grows-one D P old new (step.Spread i n j k to turns out w next) (line o (made.Spread (at_seats D (seats_at args first xs)) (map collect_in cs) to turns out w next)) (setting (map mode_of xs) [] lives owns) os [] (map (put_as true) cs) a b (c ∙ sym (append-nil old.targets)) d
       (λ code h.
       let there : so_many i n code.operands ≡ os = operands-named D old new code os i n h b i_is (n_is ∙ sym (length-map xs (laid args first))) in
       let here : so_many j k code.collects ≡ map (put_as true) cs = collects-named D old new code (map (put_as true) cs) j k h d j_is (k_is ∙ sym (length-map cs (put_as true))) in
@@ -210,19 +220,21 @@ module _ (D : PlanData) (old new : Draft) (o : Origin) (lives owns : Cells_of) w
             ∙ ap (λ l. made.Spread l (map collect_in cs) to turns out w next) (operands-are D code h.literals args first xs)));
         modes = ap (λ l. read_as (map (mode_in code) l) (at_seats D (seats_at args first xs))) there ∙ ports-read D code h.literals args first xs;
         puts = λ q. refl;
+        told = tt;
         keeps = λ q. kept-by (map is_kept (so_many i n code.operands)) (λ m. ap (λ l. get_or (map is_kept l) m true) there ∙ ports-kept args first xs m) to q;
       })
 
   pub each-grows : (many from count turn leave i : ℕ) → IsFormed D → new.steps ≡ old.steps ++ step.Each i many from count (2 ^ 32 - 1) turn leave ∷ [] → new.operands ≡ old.operands ++ looked_at from many → new.targets ≡ old.targets → new.collects ≡ old.collects → i ≡ length old.operands
-      → Grows D old new (line o (made.Each many from count turn leave) ∷ []) (setting [] [] lives owns ∷ [])
+      → Grows D P old new (line o (made.Each many from count turn leave) ∷ []) (setting [] [] lives owns ∷ [])
   each-grows many from count turn leave i formed a b c d i_is =
-      grows-one D old new (step.Each i many from count (2 ^ 32 - 1) turn leave) (line o (made.Each many from count turn leave)) (setting [] [] lives owns) (looked_at from many) [] [] a b (c ∙ sym (append-nil old.targets)) (d ∙ sym (append-nil old.collects))
+      grows-one D P old new (step.Each i many from count (2 ^ 32 - 1) turn leave) (line o (made.Each many from count turn leave)) (setting [] [] lives owns) (looked_at from many) [] [] a b (c ∙ sym (append-nil old.targets)) (d ∙ sym (append-nil old.collects))
       (λ code h.
       let there : so_many i many code.operands ≡ looked_at from many = operands-named D old new code (looked_at from many) i many h b i_is (sym (looked-long from many)) in
       record {
         step = refl;
         modes = ap (λ l. Looks ∷ read_as (map (mode_in code) l) (cells_at from many)) there ∙ ap (λ l. Looks ∷ l) (looked-read D code h.literals from many);
         puts = λ k. refl;
+        told = tt;
         keeps = λ k.
             let marks : length code.marks ≤ 2 ^ 32 - 1 = subst (λ ms. length ms ≤ 2 ^ 32 - 1) (sym h.marks) formed.marks in
             kept-by (so_many (2 ^ 32 - 1) many code.marks) (unmarked (2 ^ 32 - 1) many code.marks marks) (suc count) k;

@@ -1,7 +1,7 @@
 -- Drafts that grow, one part behind another.
 use Rattle.std.proofs.Common.{◌≡◌, ℕ, List, [], ◌∷◌, ◌++◌, length, sym, ap, ◌∙◌, append_assoc}
 use Rattle.std.proofs.lemmas.List.{append-nil}
-use Rattle.run_code.specs.Made.{Line}
+use Rattle.run_code.specs.Made.{Line, Plan}
 use Rattle.made_store.specs.Settled.{Setting}
 use Rattle.step_code.specs.declared.code.Code.{Code}
 use Rattle.step_code.specs.declared.code.Operand.{Operand}
@@ -13,13 +13,13 @@ use Rattle.code_maker.specs.declared.draft.Draft.{Draft}
 use Rattle.code_maker.specs.Grows.{AreLaid, Begins, Grows, IsLaid}
 use Rattle.code_maker.proofs.Reading.{so-many-here}
 
-laid-then : (code : Code) (xs ys : List Step) (ls ms : List Line) (ss ts : List Setting) → AreLaid code xs ls ss → AreLaid code ys ms ts → AreLaid code (xs ++ ys) (ls ++ ms) (ss ++ ts)
-laid-then code [] ys [] ms [] ts a b = b
-laid-then code (x ∷ xs) ys (l ∷ ls) ms (s ∷ ss) ts a b = (a.0, laid-then code xs ys ls ms ss ts a.1 b)
-laid-then code [] ys (l ∷ ls) ms ss ts a b = absurd a
-laid-then code [] ys [] ms (s ∷ ss) ts a b = absurd a
-laid-then code (x ∷ xs) ys [] ms ss ts a b = absurd a
-laid-then code (x ∷ xs) ys (l ∷ ls) ms [] ts a b = absurd a
+laid-then : (D : PlanData) (P : Plan) (code : Code) (xs ys : List Step) (ls ms : List Line) (ss ts : List Setting) → AreLaid D P code xs ls ss → AreLaid D P code ys ms ts → AreLaid D P code (xs ++ ys) (ls ++ ms) (ss ++ ts)
+laid-then D P code [] ys [] ms [] ts a b = b
+laid-then D P code (x ∷ xs) ys (l ∷ ls) ms (s ∷ ss) ts a b = (a.0, laid-then D P code xs ys ls ms ss ts a.1 b)
+laid-then D P code [] ys (l ∷ ls) ms ss ts a b = absurd a
+laid-then D P code [] ys [] ms (s ∷ ss) ts a b = absurd a
+laid-then D P code (x ∷ xs) ys [] ms ss ts a b = absurd a
+laid-then D P code (x ∷ xs) ys (l ∷ ls) ms [] ts a b = absurd a
 
 -- what was added, and what stands behind it
 behind : {A : Type 0} (a b : List A) (c m n : List A) → b ≡ a ++ m → c ≡ b ++ n → c ≡ a ++ (m ++ n)
@@ -36,8 +36,8 @@ begins-less D old new code os a ts b cs c h =
       literals = h.literals;
     }
 
-pub grows-none : (D : PlanData) (d : Draft) → Grows D d d [] []
-grows-none D d =
+pub grows-none : (D : PlanData) (P : Plan) (d : Draft) → Grows D P d d [] []
+grows-none D P d =
     record {
       steps = ([], sym (append-nil d.steps), λ code b. tt);
       operands = ([], sym (append-nil d.operands));
@@ -45,13 +45,13 @@ grows-none D d =
       collects = ([], sym (append-nil d.collects));
     }
 
-pub grows-then : (D : PlanData) (a b c : Draft) (ls ms : List Line) (ss ts : List Setting) → Grows D a b ls ss → Grows D b c ms ts → Grows D a c (ls ++ ms) (ss ++ ts)
-grows-then D a b c ls ms ss ts f g =
+pub grows-then : (D : PlanData) (P : Plan) (a b c : Draft) (ls ms : List Line) (ss ts : List Setting) → Grows D P a b ls ss → Grows D P b c ms ts → Grows D P a c (ls ++ ms) (ss ++ ts)
+grows-then D P a b c ls ms ss ts f g =
     record {
       steps = (
         f.steps.0 ++ g.steps.0,
         behind a.steps b.steps c.steps f.steps.0 g.steps.0 f.steps.1 g.steps.1,
-        λ code h. laid-then code f.steps.0 g.steps.0 ls ms ss ts
+        λ code h. laid-then D P code f.steps.0 g.steps.0 ls ms ss ts
             (f.steps.2 code (begins-less D b c code g.operands.0 g.operands.1 g.targets.0 g.targets.1 g.collects.0 g.collects.1 h)) (g.steps.2 code h),
       );
       operands = (f.operands.0 ++ g.operands.0, behind a.operands b.operands c.operands f.operands.0 g.operands.0 f.operands.1 g.operands.1);
@@ -60,10 +60,10 @@ grows-then D a b c ls ms ss ts f g =
     }
 
 -- one step more
-pub grows-one : (D : PlanData) (old new : Draft) (x : Step) (l : Line) (s : Setting) (os : List Operand) (ts : List ℕ) (cs : List Collect)
+pub grows-one : (D : PlanData) (P : Plan) (old new : Draft) (x : Step) (l : Line) (s : Setting) (os : List Operand) (ts : List ℕ) (cs : List Collect)
     → new.steps ≡ old.steps ++ x ∷ [] → new.operands ≡ old.operands ++ os → new.targets ≡ old.targets ++ ts → new.collects ≡ old.collects ++ cs
-    → ((code : Code) → Begins D new code → IsLaid code x l s) → Grows D old new (l ∷ []) (s ∷ [])
-grows-one D old new x l s os ts cs a b c d h =
+    → ((code : Code) → Begins D new code → IsLaid D P code x l s) → Grows D P old new (l ∷ []) (s ∷ [])
+grows-one D P old new x l s os ts cs a b c d h =
     record {
       steps = (x ∷ [], a, λ code begins. (h code begins, tt));
       operands = (os, b);

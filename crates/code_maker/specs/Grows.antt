@@ -1,16 +1,25 @@
 -- Steps that are added to code are these lines, with these settings, whatever is added behind them.
-use Rattle.std.specs.Prelude.{◌≡◌, ℕ, true, false, List, [], ◌∷◌, ◌++◌, get_or}
+use Rattle.std.specs.Prelude.{◌≡◌, ◌⊎◌, ℕ, map, true, false, List, [], ◌∷◌, ◌++◌, get_or}
+use Rattle.flow_value.specs.declared.operands.Shape.{Shape}
+use Rattle.if1_graph.specs.declared.op.Simple.{Simple}
+use Rattle.graph_meaning.specs.Demand.{Vertex}
 use Rattle.run_code.specs.Cells as cells
-use Rattle.run_code.specs.Made.{Line}
+use Rattle.run_code.specs.Made.{Line, OfNode, Origin, Plan}
 use Rattle.run_store.specs.Effects.{reads_of}
 use Rattle.run_store.specs.Stored.{Mode, Looks, mode_at, tail}
 use Rattle.made_store.specs.Settled.{Setting}
 use Rattle.step_code.specs.declared.code.Code.{Code}
 use Rattle.step_code.specs.declared.code.Operand.{Operand}
 use Rattle.step_code.specs.declared.step.Collect.{Collect}
+use Rattle.step_code.specs.declared.step.Counted.{Counted}
 use Rattle.step_code.specs.declared.step.Step.{Step}
+use Rattle.step_code.specs.declared.step.Step.TheVariants as step
+use Rattle.step_code.specs.declared.step.Written.{Written}
 use Rattle.step_code.specs.Laid.{handling_in, step_in}
 use Rattle.plan_data.specs.declared.plan.PlanData.{PlanData}
+use Rattle.plan_data.specs.declared.plan.PlanNode.{PlanNode}
+use Rattle.plan_data.specs.declared.plan.Work.TheVariants as work
+use Rattle.plan_data.specs.Parts.{graph_nodes, mode_of}
 use Rattle.code_maker.specs.declared.draft.Draft.{Draft}
 
 -- how operands are read in these modes: literals are looked at
@@ -19,17 +28,46 @@ read_as ms [] = []
 read_as ms (cells.At c ∷ os) = mode_at ms ∷ read_as (tail ms) os
 read_as ms (cells.Lit k ∷ os) = Looks ∷ read_as (tail ms) os
 
--- the step is that of this line, and handles what it reads as its setting says
-pub record IsLaid (code : Code) (x : Step) (l : Line) (s : Setting) : Type 0 where
+-- ---- what is told of a simple node
+
+-- a node of the data and one of the plan that stand at the same place
+abbrev pub IsPair : List PlanNode → List Vertex → PlanNode → Vertex → Type 0
+IsPair [] vs n v = ⊥
+IsPair (m ∷ ms) [] n v = ⊥
+IsPair (m ∷ ms) (w ∷ ws) n v = ((n ≡ m) × (v ≡ w)) ⊎ IsPair ms ws n v
+
+module _ (D : PlanData) (P : Plan) where
+  -- what these are is so in the graph
+  abbrev pub ArePairs : (graph : ℕ) → List PlanNode → List Vertex → Type 0
+  ArePairs g ns vs = (n : PlanNode) (v : Vertex) → IsPair ns vs n v → IsPair (graph_nodes D g) (P.nodes g) n v
+
+  -- a step that fires a node writes and copies what the data tells of the node, whose ports are handled so
+  abbrev pub IsToldOf : Simple → Written → Counted → (width : ℕ) → List Mode → Origin → Type 0
+  IsToldOf row writes copies w ms (OfNode g v) =
+      (n : PlanNode) × (shape : Shape) × IsPair (graph_nodes D g) (P.nodes g) n v × (n.work ≡ work.Plain row shape writes copies) × (w ≡ n.width) × (ms ≡ map mode_of n.ins)
+  IsToldOf row writes copies w ms o = ⊥
+
+  -- no step of scalars is made
+  abbrev pub IsTold : Step → List Mode → Origin → Type 0
+  IsTold (step.One op a out) ms o = ⊥
+  IsTold (step.Two op a b out) ms o = ⊥
+  IsTold (step.Fire row writes shape ins n out w kept copies) ms o = IsToldOf row writes copies w ms o
+  IsTold x ms o = Unit {0}
+
+-- ---- lines
+
+-- The step is that of this line, and handles what it reads as its setting says. It writes and copies what is told of its node.
+pub record IsLaid (D : PlanData) (P : Plan) (code : Code) (x : Step) (l : Line) (s : Setting) : Type 0 where
   pub step : step_in code x ≡ l.step
   pub modes : read_as (handling_in code x).modes (reads_of l.step) ≡ read_as s.modes (reads_of l.step)
   pub puts : (i : ℕ) → get_or (handling_in code x).puts i false ≡ get_or s.puts i false
   pub keeps : (c : ℕ) → (handling_in code x).keeps c ≡ true
+  pub told : IsTold D P x s.modes l.origin
 
-abbrev pub AreLaid : Code → List Step → List Line → List Setting → Type 0
-AreLaid code [] [] [] = Unit {0}
-AreLaid code (x ∷ xs) (l ∷ ls) (s ∷ ss) = IsLaid code x l s × AreLaid code xs ls ss
-AreLaid code _ _ _ = ⊥
+abbrev pub AreLaid : PlanData → Plan → Code → List Step → List Line → List Setting → Type 0
+AreLaid D P code [] [] [] = Unit {0}
+AreLaid D P code (x ∷ xs) (l ∷ ls) (s ∷ ss) = IsLaid D P code x l s × AreLaid D P code xs ls ss
+AreLaid D P code _ _ _ = ⊥
 
 -- the lists of a draft stand at the beginning of those of code
 pub record Begins (D : PlanData) (draft : Draft) (code : Code) : Type 0 where
@@ -39,8 +77,8 @@ pub record Begins (D : PlanData) (draft : Draft) (code : Code) : Type 0 where
   pub marks : code.marks ≡ D.marks
   pub literals : code.literals ≡ D.literals
 
-pub record Grows (D : PlanData) (old new : Draft) (ls : List Line) (ss : List Setting) : Type 0 where
-  pub steps : (more : List Step) × (new.steps ≡ old.steps ++ more) × ((code : Code) → Begins D new code → AreLaid code more ls ss)
+pub record Grows (D : PlanData) (P : Plan) (old new : Draft) (ls : List Line) (ss : List Setting) : Type 0 where
+  pub steps : (more : List Step) × (new.steps ≡ old.steps ++ more) × ((code : Code) → Begins D new code → AreLaid D P code more ls ss)
   pub operands : (more : List Operand) × (new.operands ≡ old.operands ++ more)
   pub targets : (more : List ℕ) × (new.targets ≡ old.targets ++ more)
   pub collects : (more : List Collect) × (new.collects ≡ old.collects ++ more)

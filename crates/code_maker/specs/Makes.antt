@@ -5,9 +5,10 @@ use Rattle.run_code.specs.Made.{OfNothing, OfResults, OfRows, Plan, arm_code, ar
 use Rattle.run_code.specs.Steps.{Add, Keep, Test}
 use Rattle.ordered_meaning.specs.Taking.{Taken}
 use Rattle.run_code.specs.Known.{Known}
-use Rattle.run_made.specs.Plans.{code_at}
+use Rattle.run_made.specs.Plans.{code_at, last_line}
 use Rattle.run_store.specs.Effects.{reads_of}
 use Rattle.step_code.specs.declared.code.Code.{Code}
+use Rattle.step_code.specs.declared.step.Step.TheVariants as step
 use Rattle.step_code.specs.Laid.{code_of, handling_of}
 use Rattle.run_store.specs.Stored.{Mode, Looks, Takes}
 use Rattle.made_store.specs.Settings.{Cells_of, Shares, result_modes, takes_all}
@@ -18,11 +19,11 @@ use Rattle.plan_data.specs.declared.plan.LoopParts.{LoopParts}
 use Rattle.plan_data.specs.declared.plan.PlanNode.{PlanNode}
 use Rattle.plan_data.specs.declared.plan.Work.{Work}
 use Rattle.plan_data.specs.declared.plan.Work.TheVariants as work
-use Rattle.plan_data.specs.Parts.{kind_of}
+use Rattle.plan_data.specs.Parts.{graph_nodes, kind_of}
 use Rattle.plan_data.specs.Stands.{AreNodes, IsNode, Stands}
 use Rattle.code_maker.specs.declared.draft.Draft.{Draft}
 use Rattle.code_maker.specs.declared.seats.Seat.{Seat}
-use Rattle.code_maker.specs.Grows.{Grows, read_as}
+use Rattle.code_maker.specs.Grows.{ArePairs, Grows, IsPair, IsTold, read_as}
 use Rattle.code_maker.specs.Seats.{at_seats, seats_at}
 
 -- a loop with its body before its first test, or after it
@@ -43,49 +44,49 @@ module _ (D : PlanData) (room levels : ℕ) where
   -- a graph on these inputs, from a place and a cell on
   abbrev pub GraphMade : List Seat → (graph place lo : ℕ) → (old new : Draft) → Type 0
   GraphMade args g a lo old new =
-      (P : Plan) (S : Shares) (keep hold : Cells_of) → Stands D P S → Grows D old new (graph_code P levels room (at_seats D args) g a lo) (graph_settings P S levels keep hold (at_seats D args) g lo)
+      (P : Plan) (S : Shares) (keep hold : Cells_of) → Stands D P S → Grows D P old new (graph_code P levels room (at_seats D args) g a lo) (graph_settings P S levels keep hold (at_seats D args) g lo)
 
   -- these nodes of a graph, from a place and a cell on
   abbrev pub NodesMade : (P : Plan) (S : Shares) (keep hold : Cells_of) → List Seat → (graph first : ℕ) → List PlanNode → (place lo : ℕ) → (old new : Draft) → Type 0
   NodesMade P S keep hold args g first ns a lo old new =
-      (vs : List Vertex) (known : Known) (taken : Taken) → AreNodes D P S g ns vs
-      → Grows D old new (nodes_code P (graph_code P levels) room g (placed P (at_seats D args) (P.nodes g) first) vs a lo) (nodes_settings P S (graph_settings P S levels) keep hold (at_seats D args) g first known taken vs lo)
+      (vs : List Vertex) (known : Known) (taken : Taken) → AreNodes D P S g ns vs → ArePairs D P g ns vs
+      → Grows D P old new (nodes_code P (graph_code P levels) room g (placed P (at_seats D args) (P.nodes g) first) vs a lo) (nodes_settings P S (graph_settings P S levels) keep hold (at_seats D args) g first known taken vs lo)
 
   -- a node of a graph
   abbrev pub NodeMade : List Seat → (first : ℕ) → PlanNode → (place lo : ℕ) → (old new : Draft) → Type 0
   NodeMade args first n a lo old new =
-      (P : Plan) (S : Shares) (g : ℕ) (v : Vertex) (lives owns keep hold : Cells_of) → Stands D P S → IsNode D P S g n v
-      → Grows D old new (kind_code P (graph_code P levels) room g v (at_seats D (seats_at args first n.ins)) (kind_of n.work n.width) n.width a lo) (kind_settings P S (graph_settings P S levels) g v lives owns keep hold (at_seats D (seats_at args first n.ins)) (kind_of n.work n.width) lo)
+      (P : Plan) (S : Shares) (g : ℕ) (v : Vertex) (lives owns keep hold : Cells_of) → Stands D P S → IsNode D P S g n v → IsPair (graph_nodes D g) (P.nodes g) n v
+      → Grows D P old new (kind_code P (graph_code P levels) room g v (at_seats D (seats_at args first n.ins)) (kind_of n.work n.width) n.width a lo) (kind_settings P S (graph_settings P S levels) g v lives owns keep hold (at_seats D (seats_at args first n.ins)) (kind_of n.work n.width) lo)
 
   -- the parts of a node, which are given so
   abbrev pub PartsMade : (union : Mode) → List Seat → Kind → (place w b lo mid : ℕ) → (old new : Draft) → Type 0
   PartsMade m own kind a w b lo mid old new =
       (P : Plan) (S : Shares) (keep hold : Cells_of) (given : ℕ → Bool) → Stands D P S → (if given 1 then Takes else Looks) ≡ m
-      → Grows D old new (parts_code P (graph_code P levels) room (at_seats D own) kind a w b lo mid) (parts_settings P S (graph_settings P S levels) keep hold given (at_seats D own) kind mid)
+      → Grows D P old new (parts_code P (graph_code P levels) room (at_seats D own) kind a w b lo mid) (parts_settings P S (graph_settings P S levels) keep hold given (at_seats D own) kind mid)
 
   -- an arm, whose results are brought to cells
   abbrev pub ArmMade : List Seat → (graph place w b lo up : ℕ) → (old new : Draft) → Type 0
   ArmMade args g a w b lo up old new =
       (P : Plan) (S : Shares) (keep hold : Cells_of) → Stands D P S
-      → Grows D old new (arm_code P (graph_code P levels) room (at_seats D args) g a w b lo up) (part_settings P S (graph_settings P S levels) keep hold (at_seats D args) g up (result_modes P S g) [])
+      → Grows D P old new (arm_code P (graph_code P levels) room (at_seats D args) g a w b lo up) (part_settings P S (graph_settings P S levels) keep hold (at_seats D args) g up (result_modes P S g) [])
 
   abbrev pub ArmsMade : List Seat → List ℕ → (place w b lo up : ℕ) → (old new : Draft) → Type 0
   ArmsMade args gs a w b lo up old new =
       (P : Plan) (S : Shares) (keep hold : Cells_of) → Stands D P S
-      → Grows D old new (arms_code P (graph_code P levels) room (at_seats D args) gs a w b lo up) (arms_settings P S (graph_settings P S levels) keep hold (at_seats D args) gs up)
+      → Grows D P old new (arms_code P (graph_code P levels) room (at_seats D args) gs a w b lo up) (arms_settings P S (graph_settings P S levels) keep hold (at_seats D args) gs up)
 
   -- the first loop values
   abbrev pub FirstMade : List Seat → LoopParts → (place starts mid : ℕ) → (old new : Draft) → Type 0
   FirstMade own p a starts mid old new =
       (P : Plan) (S : Shares) (keep hold : Cells_of) → Stands D P S
-      → Grows D old new (graph_code P levels room (at_seats D own) p.init a mid ++ (line (OfResults p.init) (Keep true (P.collects p.returns) (ends_at P (at_seats D own) p.init mid) mid starts) ∷ []))
+      → Grows D P old new (graph_code P levels room (at_seats D own) p.init a mid ++ (line (OfResults p.init) (Keep true (P.collects p.returns) (ends_at P (at_seats D own) p.init mid) mid starts) ∷ []))
       (part_settings P S (graph_settings P S levels) keep hold (at_seats D own) p.init mid (result_modes P S p.init) [])
 
   -- the body of a loop and its test, on its inputs and loop values
   abbrev pub TurnsMade : List Seat → LoopParts → (turn tests leave w b lo mid top : ℕ) → (old new : Draft) → Type 0
   TurnsMade x p turn tests leave w b lo mid top old new =
       (P : Plan) (S : Shares) (keep hold keeps holds : Cells_of) → Stands D P S
-      → Grows D old new
+      → Grows D P old new
       ((graph_code P levels room (at_seats D x) p.body turn top ++ (line (OfResults p.body) (Keep false (P.collects p.returns) (ends_at P (at_seats D x) p.body top) mid tests) ∷ []))
       ++ (graph_code P levels room (at_seats D x) p.test tests top ++ (line OfNothing (Test (end_at P (at_seats D x) p.test top) turn leave lo w b) ∷ [])))
       (part_settings P S (graph_settings P S levels) keep hold (at_seats D x) p.body top (result_modes P S p.body ++ takes_all (length (P.collects p.returns))) []
@@ -95,15 +96,15 @@ module _ (D : PlanData) (room levels : ℕ) where
   abbrev pub RowsMade : List Seat → (body returns place turns into up : ℕ) → (old new : Draft) → Type 0
   RowsMade x body r a turns into up old new =
       (P : Plan) (S : Shares) (keep hold : Cells_of) → Stands D P S
-      → Grows D old new (graph_code P levels room (at_seats D x) body a up ++ (line (OfRows body r) (Add (P.collects r) (ends_at P (at_seats D x) body up) into turns) ∷ []))
+      → Grows D P old new (graph_code P levels room (at_seats D x) body a up ++ (line (OfRows body r) (Add (P.collects r) (ends_at P (at_seats D x) body up) into turns) ∷ []))
       (part_settings P S (graph_settings P S levels) keep hold (at_seats D x) body up (result_modes P S body ++ takes_all (length (P.collects r))) (S.puts r))
 
 -- a function from a place on, in a block of its own
 abbrev pub FunctionMade : PlanData → (levels function place : ℕ) → (old new : Draft) → Type 0
-FunctionMade D levels f a old new = (P : Plan) (S : Shares) → Stands D P S → Grows D old new (function_lines P levels f a) (function_settings P S levels f)
+FunctionMade D levels f a old new = (P : Plan) (S : Shares) → Stands D P S → Grows D P old new (function_lines P levels f a) (function_settings P S levels f)
 
 abbrev pub FunctionsMade : PlanData → (levels : ℕ) → List ℕ → Draft → Type 0
-FunctionsMade D levels fs new = (P : Plan) (S : Shares) → Stands D P S → Grows D none_made new (functions_lines P levels fs 0) (functions_settings P S levels fs)
+FunctionsMade D levels fs new = (P : Plan) (S : Shares) → Stands D P S → Grows D P none_made new (functions_lines P levels fs 0) (functions_settings P S levels fs)
 
 -- Each place of code has the step of its line. The step handles what it reads as its setting says, where literals are looked at, keeps
 -- what it writes, and copies to the same collections.
@@ -112,3 +113,9 @@ pub record IsCodeOf (P : Plan) (S : Shares) (levels : ℕ) (functions : List ℕ
   pub modes : (pc : ℕ) → read_as (handling_of code pc).modes (reads_of (code_of code pc)) ≡ read_as (settled.handling_of (functions_settings P S levels functions) pc).modes (reads_of (code_of code pc))
   pub puts : (pc i : ℕ) → get_or (handling_of code pc).puts i false ≡ get_or (settled.handling_of (functions_settings P S levels functions) pc).puts i false
   pub keeps : (pc c : ℕ) → (handling_of code pc).keeps c ≡ true
+
+-- The step at each place that fires a node writes and copies what the data tells of this node, whose ports are handled as its setting
+-- says.
+pub record AreTold (D : PlanData) (P : Plan) (S : Shares) (levels : ℕ) (functions : List ℕ) (code : Code) : Type 0 where
+  pub steps : (pc : ℕ) → IsTold D P (get_or code.steps pc (step.Return 0 0)) (settled.handling_of (functions_settings P S levels functions) pc).modes (get_or (functions_lines P levels functions 0) pc last_line).origin
+  pub marks : code.marks ≡ D.marks

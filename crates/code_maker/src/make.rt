@@ -5,7 +5,7 @@ ghost use Rattle.made_store.specs.Settings.{Shares};
 ghost use Rattle.plan_data.specs.Parts.{IsFormed, arms_steps, size_in};
 ghost use Rattle.plan_data.specs.Stands.{Stands};
 ghost use Rattle.code_maker.specs.Makes.{FunctionMade, FunctionsMade};
-ghost use Rattle.code_maker.specs.Makes.{IsCodeOf};
+ghost use Rattle.code_maker.specs.Makes.{AreTold, IsCodeOf};
 
 use crate::draft::Draft;
 use crate::emit::emit_graph;
@@ -67,7 +67,8 @@ fn draft_of(
 
 /// The code of these functions, one behind another, where graphs are followed down to so many
 /// levels: of each plan, with its shares, that stands in the data, each step is that of its line, and
-/// handles what it reads as its setting says.
+/// handles what it reads as its setting says; a step that fires a node writes and copies what the data
+/// tells of it.
 pub fn code_of(
     alloc: Global,
     plan: PlanData,
@@ -76,7 +77,8 @@ pub fn code_of(
 ) -> Result<Code, NoMemory>
     requires formed { IsFormed plan }
     requires steps { arms_steps plan functions.now ≤ u32.MAX }
-    ensures { IfOk result (λ code. (P : Plan) (S : Shares) → Stands plan P S → IsCodeOf P S levels functions.now code) }
+    ensures made { IfOk result (λ code. (P : Plan) (S : Shares) → Stands plan P S → IsCodeOf P S levels functions.now code) }
+    ensures told { IfOk result (λ code. (P : Plan) (S : Shares) → Stands plan P S → AreTold plan P S levels functions.now code) }
 {
     let draft = draft_of(alloc, &plan, levels, functions)?;
     let Draft {

@@ -1,7 +1,7 @@
 //! Steps that are added, one at a time.
 ghost use Rattle.std.specs.Prelude.{◌≡◌, ◌+◌, ◌-◌, ◌^◌, ◌≤◌, ◌++◌, [], ◌∷◌, true, false, if◌then◌else◌, map, length, OnOk};
 ghost use Rattle.node_ops.specs.Operands.{shape_of};
-ghost use Rattle.run_code.specs.Made.{Origin, line};
+ghost use Rattle.run_code.specs.Made.{Origin, Plan, line};
 ghost use Rattle.run_code.specs.Steps as Made;
 ghost use Rattle.run_store.specs.Stored.{Looks};
 ghost use Rattle.made_store.specs.Settings.{Cells_of, takes_all};
@@ -10,7 +10,7 @@ ghost use Rattle.step_code.specs.Laid.{collect_in, puts_of};
 ghost use Rattle.plan_data.specs.declared.plan.PlanData.{PlanData};
 ghost use Rattle.plan_data.specs.Parts.{AreBelow, IsFormed, arms_steps, mode_by, mode_of};
 ghost use Rattle.code_maker.specs.Seats.{at_seat, at_seats, copied_ports, seats_at, starts_from};
-ghost use Rattle.code_maker.specs.Grows.{Grows};
+ghost use Rattle.code_maker.specs.Grows.{Grows, IsToldOf};
 
 use crate::draft::{Draft, add_collects, add_copied, add_looked, add_ports, add_starts, count_of};
 use crate::seats::{Seat, operand};
@@ -21,14 +21,14 @@ use step_code::{Collect, Counted, Step, Written};
 
 /// Adds a step that counts.
 pub fn add_count(draft: &mut Draft) -> Result<(), NoMemory>
-    ensures { OnOk result ((D : PlanData) (o : Origin) (lives owns : Cells_of) → Grows D draft.old draft.new (line o Made.Count ∷ []) (setting [] [] lives owns ∷ [])) }
+    ensures { OnOk result ((D : PlanData) (P : Plan) (o : Origin) (lives owns : Cells_of) → Grows D P draft.old draft.new (line o Made.Count ∷ []) (setting [] [] lives owns ∷ [])) }
 {
     draft.steps.add(Step::Count)
 }
 
 /// Adds a step that counts the first turn of a loop, if its body comes before its first test.
 pub fn add_early(draft: &mut Draft, early: bool) -> Result<(), NoMemory>
-    ensures { OnOk result ((D : PlanData) (o : Origin) (lives owns : Cells_of) → Grows D draft.old draft.new (if early then line o Made.Count ∷ [] else []) (if early then setting [] [] lives owns ∷ [] else [])) }
+    ensures { OnOk result ((D : PlanData) (P : Plan) (o : Origin) (lives owns : Cells_of) → Grows D P draft.old draft.new (if early then line o Made.Count ∷ [] else []) (if early then setting [] [] lives owns ∷ [] else [])) }
 {
     if early { add_count(draft) } else { Ok(()) }
 }
@@ -47,7 +47,7 @@ pub fn add_fire(
     width: u32,
 ) -> Result<(), NoMemory>
     requires { AreBelow (2 ^ 32 - first) ports.now }
-    ensures { OnOk result ((D : PlanData) (o : Origin) (lives owns : Cells_of) → IsFormed D → Grows D draft.old draft.new (line o (Made.Fire row (shape_of shape) (at_seats D (seats_at args.now first ports.now)) out width) ∷ []) (setting (map mode_of ports.now) [] lives owns ∷ [])) }
+    ensures { OnOk result ((D : PlanData) (P : Plan) (o : Origin) (lives owns : Cells_of) → IsFormed D → IsToldOf D P row written counted width (map mode_of ports.now) o → Grows D P draft.old draft.new (line o (Made.Fire row (shape_of shape) (at_seats D (seats_at args.now first ports.now)) out width) ∷ []) (setting (map mode_of ports.now) [] lives owns ∷ [])) }
 {
     let ins = count_of(draft.operands.len())?;
     let many = count_of(ports.len())?;
@@ -79,7 +79,7 @@ pub fn add_call(
     width: u32,
 ) -> Result<(), NoMemory>
     requires { AreBelow (2 ^ 32 - first) ports.now }
-    ensures { OnOk result ((D : PlanData) (o : Origin) (lives owns : Cells_of) → Grows D draft.old draft.new (line o (Made.Call entry size (at_seats D (seats_at args.now first ports.now)) out width) ∷ []) (setting (map mode_of ports.now) [] lives owns ∷ [])) }
+    ensures { OnOk result ((D : PlanData) (P : Plan) (o : Origin) (lives owns : Cells_of) → Grows D P draft.old draft.new (line o (Made.Call entry size (at_seats D (seats_at args.now first ports.now)) out width) ∷ []) (setting (map mode_of ports.now) [] lives owns ∷ [])) }
 {
     let start = count_of(draft.operands.len())?;
     let many = count_of(ports.len())?;
@@ -103,7 +103,7 @@ pub fn add_return(
     ports: &[Port],
 ) -> Result<(), NoMemory>
     requires { AreBelow (2 ^ 32 - first) ports.now }
-    ensures { OnOk result ((D : PlanData) (o : Origin) (lives owns : Cells_of) → Grows D draft.old draft.new (line o (Made.Return (at_seats D (seats_at args.now first ports.now))) ∷ []) (setting (map mode_of ports.now) [] lives owns ∷ [])) }
+    ensures { OnOk result ((D : PlanData) (P : Plan) (o : Origin) (lives owns : Cells_of) → Grows D P draft.old draft.new (line o (Made.Return (at_seats D (seats_at args.now first ports.now))) ∷ []) (setting (map mode_of ports.now) [] lives owns ∷ [])) }
 {
     let froms = count_of(draft.operands.len())?;
     let many = count_of(ports.len())?;
@@ -122,7 +122,7 @@ pub fn add_move(
     next: u32,
 ) -> Result<(), NoMemory>
     requires { AreBelow (2 ^ 32 - first) ports.now }
-    ensures { OnOk result ((D : PlanData) (o : Origin) (lives owns : Cells_of) → Grows D draft.old draft.new (line o (Made.Move (at_seats D (seats_at args.now first ports.now)) out width next) ∷ []) (setting (map mode_of ports.now) [] lives owns ∷ [])) }
+    ensures { OnOk result ((D : PlanData) (P : Plan) (o : Origin) (lives owns : Cells_of) → Grows D P draft.old draft.new (line o (Made.Move (at_seats D (seats_at args.now first ports.now)) out width next) ∷ []) (setting (map mode_of ports.now) [] lives owns ∷ [])) }
 {
     let froms = count_of(draft.operands.len())?;
     let many = count_of(ports.len())?;
@@ -148,7 +148,7 @@ pub fn add_copies(
 ) -> Result<(), NoMemory>
     requires below { AreBelow (2 ^ 32 - first) ports.now }
     requires many { many ≡ length (copied_ports ports.now) }
-    ensures { OnOk result ((D : PlanData) (o : Origin) (lives owns : Cells_of) → Grows D draft.old draft.new (line o (Made.Move (at_seats D (seats_at args.now first (copied_ports ports.now))) out many next) ∷ []) (setting (map mode_of (copied_ports ports.now)) [] lives owns ∷ [])) }
+    ensures { OnOk result ((D : PlanData) (P : Plan) (o : Origin) (lives owns : Cells_of) → Grows D P draft.old draft.new (line o (Made.Move (at_seats D (seats_at args.now first (copied_ports ports.now))) out many next) ∷ []) (setting (map mode_of (copied_ports ports.now)) [] lives owns ∷ [])) }
 {
     let froms = count_of(draft.operands.len())?;
     add_copied(&mut draft.operands, args, first, ports)?;
@@ -173,7 +173,7 @@ pub fn add_branch(
     next: u32,
 ) -> Result<(), NoMemory>
     requires { begin + arms_steps plan.now arms.now ≤ u32.MAX }
-    ensures { OnOk result ((o : Origin) (lives owns : Cells_of) → Grows plan.now draft.old draft.new (line o (Made.Branch (at_seat plan.now selector) (starts_from plan.now arms.now begin) out width next) ∷ []) (setting (Looks ∷ []) [] lives owns ∷ [])) }
+    ensures { OnOk result ((P : Plan) (o : Origin) (lives owns : Cells_of) → Grows plan.now P draft.old draft.new (line o (Made.Branch (at_seat plan.now selector) (starts_from plan.now arms.now begin) out width next) ∷ []) (setting (Looks ∷ []) [] lives owns ∷ [])) }
 {
     let targets = count_of(draft.targets.len())?;
     let many = count_of(arms.len())?;
@@ -202,7 +202,7 @@ pub fn add_tag(
     next: u32,
 ) -> Result<(), NoMemory>
     requires { begin + arms_steps plan.now arms.now ≤ u32.MAX }
-    ensures { OnOk result ((o : Origin) (lives owns : Cells_of) → Grows plan.now draft.old draft.new (line o (Made.Tag (at_seat plan.now union) (starts_from plan.now arms.now begin) content out width next) ∷ []) (setting (mode_by handled ∷ []) [] lives owns ∷ [])) }
+    ensures { OnOk result ((P : Plan) (o : Origin) (lives owns : Cells_of) → Grows plan.now P draft.old draft.new (line o (Made.Tag (at_seat plan.now union) (starts_from plan.now arms.now begin) content out width next) ∷ []) (setting (mode_by handled ∷ []) [] lives owns ∷ [])) }
 {
     let targets = count_of(draft.targets.len())?;
     let many = count_of(arms.len())?;
@@ -229,7 +229,7 @@ pub fn add_test(
     width: u32,
     next: u32,
 ) -> Result<(), NoMemory>
-    ensures { OnOk result ((D : PlanData) (o : Origin) (lives owns : Cells_of) → Grows D draft.old draft.new (line o (Made.Test (at_seat D test) turn leave out width next) ∷ []) (setting (Looks ∷ []) [] lives owns ∷ [])) }
+    ensures { OnOk result ((D : PlanData) (P : Plan) (o : Origin) (lives owns : Cells_of) → Grows D P draft.old draft.new (line o (Made.Test (at_seat D test) turn leave out width next) ∷ []) (setting (Looks ∷ []) [] lives owns ∷ [])) }
 {
     draft.steps.add(Step::Test {
         test: operand(Handled::Looks, test),
@@ -252,7 +252,7 @@ pub fn add_begin(
     next: u32,
 ) -> Result<(), NoMemory>
     requires { AreBelow (2 ^ 32 - first) ports.now }
-    ensures { OnOk result ((D : PlanData) (o : Origin) (lives owns : Cells_of) → Grows D draft.old draft.new (line o (Made.Keep true (map collect_in collects.now) (at_seats D (seats_at args.now first ports.now)) out next) ∷ []) (setting (map mode_of ports.now) [] lives owns ∷ [])) }
+    ensures { OnOk result ((D : PlanData) (P : Plan) (o : Origin) (lives owns : Cells_of) → Grows D P draft.old draft.new (line o (Made.Keep true (map collect_in collects.now) (at_seats D (seats_at args.now first ports.now)) out next) ∷ []) (setting (map mode_of ports.now) [] lives owns ∷ [])) }
 {
     let froms = count_of(draft.operands.len())?;
     let many = count_of(ports.len())?;
@@ -282,7 +282,7 @@ pub fn add_keep(
     next: u32,
 ) -> Result<(), NoMemory>
     requires { AreBelow (2 ^ 32 - first) ports.now }
-    ensures { OnOk result ((D : PlanData) (o : Origin) (lives owns : Cells_of) → Grows D draft.old draft.new (line o (Made.Keep false (map collect_in collects.now) (at_seats D (seats_at args.now first ports.now)) out next) ∷ []) (setting (map mode_of ports.now ++ takes_all (length collects.now)) [] lives owns ∷ [])) }
+    ensures { OnOk result ((D : PlanData) (P : Plan) (o : Origin) (lives owns : Cells_of) → Grows D P draft.old draft.new (line o (Made.Keep false (map collect_in collects.now) (at_seats D (seats_at args.now first ports.now)) out next) ∷ []) (setting (map mode_of ports.now ++ takes_all (length collects.now)) [] lives owns ∷ [])) }
 {
     let froms = count_of(draft.operands.len())?;
     let many = count_of(ports.len())?;
@@ -315,7 +315,7 @@ pub fn add_spread(
     next: u32,
 ) -> Result<(), NoMemory>
     requires { AreBelow (2 ^ 32 - first) ports.now }
-    ensures { OnOk result ((D : PlanData) (o : Origin) (lives owns : Cells_of) → Grows D draft.old draft.new (line o (Made.Spread (at_seats D (seats_at args.now first ports.now)) (map collect_in collects.now) to turns out width next) ∷ []) (setting (map mode_of ports.now) [] lives owns ∷ [])) }
+    ensures { OnOk result ((D : PlanData) (P : Plan) (o : Origin) (lives owns : Cells_of) → Grows D P draft.old draft.new (line o (Made.Spread (at_seats D (seats_at args.now first ports.now)) (map collect_in collects.now) to turns out width next) ∷ []) (setting (map mode_of ports.now) [] lives owns ∷ [])) }
 {
     let froms = count_of(draft.operands.len())?;
     let many = count_of(ports.len())?;
@@ -346,7 +346,7 @@ pub fn add_each(
     leave: u32,
 ) -> Result<(), NoMemory>
     requires { from + many ≤ u32.MAX }
-    ensures { OnOk result ((D : PlanData) (o : Origin) (lives owns : Cells_of) → IsFormed D → Grows D draft.old draft.new (line o (Made.Each many from count turn leave) ∷ []) (setting [] [] lives owns ∷ [])) }
+    ensures { OnOk result ((D : PlanData) (P : Plan) (o : Origin) (lives owns : Cells_of) → IsFormed D → Grows D P draft.old draft.new (line o (Made.Each many from count turn leave) ∷ []) (setting [] [] lives owns ∷ [])) }
 {
     let multiples = count_of(draft.operands.len())?;
     add_looked(&mut draft.operands, from, many)?;
@@ -372,7 +372,7 @@ pub fn add_put(
     next: u32,
 ) -> Result<(), NoMemory>
     requires { AreBelow (2 ^ 32 - first) ports.now }
-    ensures { OnOk result ((D : PlanData) (o : Origin) (lives owns : Cells_of) → Grows D draft.old draft.new (line o (Made.Add (map collect_in collects.now) (at_seats D (seats_at args.now first ports.now)) out next) ∷ []) (setting (map mode_of ports.now ++ takes_all (length collects.now)) (map puts_of collects.now) lives owns ∷ [])) }
+    ensures { OnOk result ((D : PlanData) (P : Plan) (o : Origin) (lives owns : Cells_of) → Grows D P draft.old draft.new (line o (Made.Add (map collect_in collects.now) (at_seats D (seats_at args.now first ports.now)) out next) ∷ []) (setting (map mode_of ports.now ++ takes_all (length collects.now)) (map puts_of collects.now) lives owns ∷ [])) }
 {
     let froms = count_of(draft.operands.len())?;
     let many = count_of(ports.len())?;

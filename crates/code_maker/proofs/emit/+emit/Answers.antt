@@ -4,7 +4,7 @@ use Rattle.std.proofs.lemmas.Result.{on_ok_weaker}
 use Rattle.std.proofs.Math.Nat.{le-max_left, le-max_right}
 use Rattle.run_code.specs.Made.{arms_code, graph_code}
 use Rattle.made_store.specs.Settled.{arms_settings, graph_settings}
-use Rattle.code_maker.specs.Grows.{Grows}
+use Rattle.code_maker.specs.Grows.{ArePairs, Grows}
 use Rattle.code_maker.specs.Makes.{ArmMade, NodesMade, PartsMade}
 use Rattle.code_maker.specs.Seats.{at_seats}
 use Rattle.plan_data.specs.declared.plan.PlanNode.{PlanNode}
@@ -93,7 +93,7 @@ emit_arms-loop-arm-preserved t c =
       cells = omega (arith, cells, extent, second);
       made = λ P S keep hold stands new rest.
           inv.made P S keep hold stands new
-          (subst (λ q. Grows plan c.loop-arm.draft new (arms_code P (graph_code P c.args.levels) c.args.room (at_seats plan c.args.args.now) q c.loop-arm.here c.args.width c.args.next c.args.lo c.args.up) (arms_settings P S (graph_settings P S c.args.levels) keep hold (at_seats plan c.args.args.now) q c.args.up)) (sym e)
+          (subst (λ q. Grows plan P c.loop-arm.draft new (arms_code P (graph_code P c.args.levels) c.args.room (at_seats plan c.args.args.now) q c.loop-arm.here c.args.width c.args.next c.args.lo c.args.up) (arms_settings P S (graph_settings P S c.args.levels) keep hold (at_seats plan c.args.args.now) q c.args.up)) (sym e)
           (arm-more plan c.requires.formed c.args.room c.args.levels P S keep hold stands c.args.args.now g gs c.loop-arm.here (c.loop-arm.here + (c.number_at.result + 1)) c.args.width c.args.next c.args.lo c.args.up c.loop-arm.draft c.emit_arm.new.draft new (omega (arith, n)) c.in_ok-emit_arm.ensures rest));
     }
 
@@ -104,8 +104,8 @@ emit_arms-returns t c =
     let xs = at_seats plan c.args.args.now in
     let d = c.loop-arm.draft in
     c.loop-arm.invariant.made P S keep hold stands d
-    (subst (λ q. Grows plan d d (arms_code P (graph_code P c.args.levels) c.args.room xs q c.loop-arm.here c.args.width c.args.next c.args.lo c.args.up) (arms_settings P S (graph_settings P S c.args.levels) keep hold xs q c.args.up))
-    (sym (drop-all c.loop-arm.arm-index c.args.arms.now c.loop-arm-test.false)) (grows-none plan d))
+    (subst (λ q. Grows plan P d d (arms_code P (graph_code P c.args.levels) c.args.room xs q c.loop-arm.here c.args.width c.args.next c.args.lo c.args.up) (arms_settings P S (graph_settings P S c.args.levels) keep hold xs q c.args.up))
+    (sym (drop-all c.loop-arm.arm-index c.args.arms.now c.loop-arm-test.false)) (grows-none plan P d))
 
 pub emit_graph-loop-node-preserved : goal.emit_graph-loop-node-preserved
 emit_graph-loop-node-preserved t c =
@@ -147,10 +147,11 @@ emit_graph-returns t c =
     let up : c.args.levels ≡ suc below = omega (arith, some) in
     let nodes_are : nodes ≡ parts.graph_nodes plan c.args.graph = c.nodes_in-nodes.ensures ∙ ap (λ x. nodes_of (slice_get x c.args.graph)) c.as_slice.ensures in
     let are : AreNodes plan P S c.args.graph nodes (P.nodes c.args.graph) = subst (λ q. AreNodes plan P S c.args.graph q (P.nodes c.args.graph)) (sym nodes_are) (stands.nodes c.args.graph) in
+    let pairs : ArePairs plan P c.args.graph nodes (P.nodes c.args.graph) = subst (λ q. ArePairs plan P c.args.graph q (P.nodes c.args.graph)) (sym nodes_are) (λ n v h. h) in
     let rest = subst (λ q. NodesMade plan c.args.room below P S keep hold c.args.args.now c.args.graph c.args.lo q c.loop-node.here c.loop-node.cell d d) (sym (drop-all i nodes c.loop-node-test.false))
     (nodes-none plan c.requires.formed c.args.room below P S keep hold c.args.args.now c.args.graph c.args.lo c.loop-node.here c.loop-node.cell d) in
-    subst (λ n. Grows plan c.args.draft.now d (graph_code P n c.args.room xs c.args.graph c.args.place c.args.lo) (graph_settings P S n keep hold xs c.args.graph c.args.lo)) (sym up)
-    (c.loop-node.invariant.made P S keep hold stands d rest (P.nodes c.args.graph) [] [] are)
+    subst (λ n. Grows plan P c.args.draft.now d (graph_code P n c.args.room xs c.args.graph c.args.place c.args.lo) (graph_settings P S n keep hold xs c.args.graph c.args.lo)) (sym up)
+    (c.loop-node.invariant.made P S keep hold stands d rest (P.nodes c.args.graph) [] [] are pairs)
 
 pub emit_graph-emit_node-requires : goal.emit_graph-emit_node-requires
 emit_graph-emit_node-requires t c =
@@ -178,7 +179,7 @@ emit_node-returns-in-Plain t c =
     let plan = c.args.plan.now in
     on_ok_weaker c.add_fire.result
     (λ e. fire-made plan c.requires.formed c.args.room c.args.levels c.args.node.now c.args.args.now c.args.first c.in-Plain.row c.in-Plain.shape c.in-Plain.written c.in-Plain.counted c.args.place c.args.lo c.args.draft.now c.add_fire.new.draft
-    c.as_slice-ports.result.now c.as_slice-ports.ensures c.in-Plain.is (λ o lives owns. e plan o lives owns c.requires.formed))
+    c.as_slice-ports.result.now c.as_slice-ports.ensures c.in-Plain.is (λ P o lives owns told. e plan P o lives owns c.requires.formed told))
     c.add_fire.ensures
 
 pub emit_node-returns-in-Call : goal.emit_node-returns-in-Call
@@ -255,7 +256,7 @@ emit_for_all-returns t c =
     c.args.draft.now c.emit_graph.new.draft c.add_spread.new.draft c.emit_rows.new.draft c.add_each.new.draft c.emit_arm.new.draft c.results_in-ports.result.now c.collects_in-collects.result.now ports_are cs_are
     (ap length ports_are) (ap length cs_are) (omega (arith, rg)) (omega (arith, rb)) (omega arith) (omega arith) refl (omega arith)
     (c.as_slice-turned.ensures ∙ (c.in_ok-lent.ensures ∙ ap (λ q. c.args.own.now ++ cells_from q n) up)) (c.as_slice.ensures ∙ c.in_ok-listed.ensures) (c.as_slice-folds.ensures ∙ c.in_ok-all.ensures)
-    c.in_ok-emit_graph.ensures (c.in_ok-add_spread.ensures plan) c.in_ok-emit_rows.ensures (λ o lives owns. c.in_ok-add_each.ensures plan o lives owns c.requires.formed)
+    c.in_ok-emit_graph.ensures (c.in_ok-add_spread.ensures plan) c.in_ok-emit_rows.ensures (λ P o lives owns. c.in_ok-add_each.ensures plan P o lives owns c.requires.formed)
     (subst (λ q. ArmMade plan c.args.room c.args.levels c.as_slice-folds.result.now q (turns + 1) c.args.width c.args.next c.args.lo top c.add_each.new.draft c.emit_arm.new.draft) (c.refolded_in-last.ensures ∙ ap (λ x. refolded_of r (slice_get x r)) c.as_slice-graphs.ensures) e))
     c.emit_arm.ensures
 

@@ -67,6 +67,6 @@ invariant-emit_arms-loop-arm l =
       steps : l.here + arms_steps l.plan (drop l.arm-index l.arms) ≤ 2 ^ 32 - 1;
       cells : l.up + greatest_of l.plan (drop l.arm-index l.arms) ≤ 2 ^ 32 - 1;
       made : (P : Plan) (S : Shares) (keep hold : Cells_of) → Stands l.plan P S → (new : Draft)
-          → Grows l.plan l.draft new (arms_code P (graph_code P l.levels) l.room (at_seats l.plan l.args) (drop l.arm-index l.arms) l.here l.width l.next l.lo l.up) (arms_settings P S (graph_settings P S l.levels) keep hold (at_seats l.plan l.args) (drop l.arm-index l.arms) l.up)
-          → Grows l.plan l.initial.draft new (arms_code P (graph_code P l.levels) l.room (at_seats l.plan l.args) l.arms l.place l.width l.next l.lo l.up) (arms_settings P S (graph_settings P S l.levels) keep hold (at_seats l.plan l.args) l.arms l.up);
+          → Grows l.plan P l.draft new (arms_code P (graph_code P l.levels) l.room (at_seats l.plan l.args) (drop l.arm-index l.arms) l.here l.width l.next l.lo l.up) (arms_settings P S (graph_settings P S l.levels) keep hold (at_seats l.plan l.args) (drop l.arm-index l.arms) l.up)
+          → Grows l.plan P l.initial.draft new (arms_code P (graph_code P l.levels) l.room (at_seats l.plan l.args) l.arms l.place l.width l.next l.lo l.up) (arms_settings P S (graph_settings P S l.levels) keep hold (at_seats l.plan l.args) l.arms l.up);
     }

@@ -25,7 +25,7 @@ loop-function-preserved c =
       steps = omega (arith, steps, size, n);
       made = λ P S stands new more.
           inv.made P S stands new
-          (subst (λ q. Grows plan c.loop-function.draft new (functions_lines P c.args.levels q c.loop-function.place) (functions_settings P S c.args.levels q)) (sym e)
+          (subst (λ q. Grows plan P c.loop-function.draft new (functions_lines P c.args.levels q c.loop-function.place) (functions_settings P S c.args.levels q)) (sym e)
           (function-more plan c.requires.formed c.args.levels P S stands f rest c.loop-function.place (c.loop-function.place + (c.number_at.result + 1)) c.loop-function.draft c.emit_function.new.draft new (omega (arith, n)) c.in_ok-emit_function.ensures more));
     }
 
@@ -35,4 +35,4 @@ returns c =
     let plan = c.args.plan.now in
     let d = c.loop-function.draft in
     c.loop-function.invariant.made P S stands d
-    (subst (λ q. Grows plan d d (functions_lines P c.args.levels q c.loop-function.place) (functions_settings P S c.args.levels q)) (sym (drop-all c.loop-function.function-index c.args.functions.now c.loop-function-test.false)) (grows-none plan d))
+    (subst (λ q. Grows plan P d d (functions_lines P c.args.levels q c.loop-function.place) (functions_settings P S c.args.levels q)) (sym (drop-all c.loop-function.function-index c.args.functions.now c.loop-function-test.false)) (grows-none plan P d))

@@ -14,6 +14,6 @@ invariant-loop-function l =
     record {
       steps : l.place + arms_steps l.plan (drop l.function-index l.functions) ≤ 2 ^ 32 - 1;
       made : (P : Plan) (S : Shares) → Stands l.plan P S → (new : Draft)
-          → Grows l.plan l.draft new (functions_lines P l.levels (drop l.function-index l.functions) l.place) (functions_settings P S l.levels (drop l.function-index l.functions))
-          → Grows l.plan none_made new (functions_lines P l.levels l.functions 0) (functions_settings P S l.levels l.functions);
+          → Grows l.plan P l.draft new (functions_lines P l.levels (drop l.function-index l.functions) l.place) (functions_settings P S l.levels (drop l.function-index l.functions))
+          → Grows l.plan P none_made new (functions_lines P l.levels l.functions 0) (functions_settings P S l.levels l.functions);
     }

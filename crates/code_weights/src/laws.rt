@@ -1,0 +1,13 @@
+//! The laws of what steps add.
+ghost use Rattle.code_weights.specs.Laws.{AreCodeCopiesOfPlans, AreCodeWritesOfPlans};
+
+/// A step that fires a node writes what its line adds by the weights of what is written, where the
+/// data tells so of each node.
+pub fn writes_of_code_are_of_plans()
+    ensures { AreCodeWritesOfPlans }
+{}
+
+/// So it copies what its line adds by the weights of copies, where no literal is copied.
+pub fn copies_of_code_are_of_plans()
+    ensures { AreCodeCopiesOfPlans }
+{}
