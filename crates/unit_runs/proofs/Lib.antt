@@ -1,4 +1,5 @@
 pub mod Alike
 pub mod Literals
 pub mod Uncopied
+pub mod Ports
 pub mod Runs

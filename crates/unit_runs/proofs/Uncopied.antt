@@ -19,7 +19,7 @@ use Rattle.made_store.specs.Settings.{Cells_of, Shares, cells_where, either_of, 
 use Rattle.made_store.specs.Settled.{Setting, Settles, arms_settings, begin_settings, for_all_settings, function_settings, functions_settings, graph_settings, kind_settings, last_setting, loop_settings, nodes_settings, part_settings, parts_settings, setting}
 use Rattle.unit_runs.proofs.Literals.{cells-bare}
 use Rattle.unit_runs.specs.Alike.{AreLiteralsBare, IsOfLiteral}
-use Rattle.unit_runs.specs.Literals.{AreMadeBare, ArePicksBare, AreSourcesBare, AreSourcesPassed, IsGraphBare, IsKindPassed, IsSourceBare, IsSourcePassed}
+use Rattle.unit_runs.specs.Literals.{AreMadeBare, ArePicksBare, AreSourcesBare, AreSourcesPassed, IsGraphBare, IsKindPassed, IsKindPicked, IsSourceBare, IsSourcePassed}
 
 -- ---- lines beside settings
 
@@ -302,7 +302,7 @@ module _ (P : Plan) (S : Shares) (may : (graph input : ℕ) → Bool) where
         parts-bare v (Whole (form.ForAll e body r n w')) keep hold given c a w b out mid h =
             for-all-bare keep hold (own_of_node v c) e body r (suc (a + P.size e)) a w b out mid (length (P.results e)) (length (P.collects r)) (passed v c e h.0) (passed v c body h.1) (passed v c (P.refolded r) h.2)
 
-        node-bare : (v : Vertex) (kind : Kind) → v.kind ≡ kind → AreSourcesBare P S may (S.copies g v.label) g (first_port v.kind) v.ins × ArePicksBare P S may g (P.picks g v) v.ins × IsKindPassed P S may g v kind
+        node-bare : (v : Vertex) (kind : Kind) → v.kind ≡ kind → AreSourcesBare P S may (S.copies g v.label) g (first_port v.kind) v.ins × IsKindPicked P S may g v kind × IsKindPassed P S may g v kind
             → (lives owns keep hold : Cells_of) (a out : ℕ) → AllBare (kind_code P make room g v (ops v) kind (P.width v) a out) (kind_settings P S settles g v lives owns keep hold (ops v) kind out)
         node-bare v (Plain row shape) is h lives owns keep hold a out = (modes-bare g args (P.nodes g) lo m (S.takes g v.label) (S.copies g v.label) (first_port v.kind) v.ins h.0, tt)
         node-bare v (Whole (form.Call f)) is h lives owns keep hold a out = (modes-bare g args (P.nodes g) lo m (S.takes g v.label) (S.copies g v.label) (first_port v.kind) v.ins h.0, tt)
@@ -313,7 +313,7 @@ module _ (P : Plan) (S : Shares) (may : (graph input : ℕ) → Bool) where
         node-bare v (Whole (form.ForAll e' b r n w')) is h lives owns keep hold a out = (tt, (picks-bare g args (P.nodes g) lo m (P.picks g v) v.ins h.1, parts-bare v (Whole (form.ForAll e' b r n w')) keep hold (gives P S g v) (out + P.width v) (suc (suc a)) (P.width v) (a + kind_size P (Whole (form.ForAll e' b r n w'))) out ((out + P.width v) + length (picked (P.picks g v) (ops v))) h.2))
 
         nodes-bare : (keep hold : Cells_of) (vs : List Vertex) (known : Known) (taken : Taken) (a out : ℕ)
-            → EachNode (λ v. AreSourcesBare P S may (S.copies g v.label) g (first_port v.kind) v.ins × ArePicksBare P S may g (P.picks g v) v.ins × IsKindPassed P S may g v v.kind) vs
+            → EachNode (λ v. AreSourcesBare P S may (S.copies g v.label) g (first_port v.kind) v.ins × IsKindPicked P S may g v v.kind × IsKindPassed P S may g v v.kind) vs
             → AllBare (nodes_code P make room g (placed P args (P.nodes g) lo) vs a out) (nodes_settings P S settles keep hold args g lo known taken vs out)
         nodes-bare keep hold [] known taken a out h = tt
         nodes-bare keep hold (v ∷ vs) known taken a out h =

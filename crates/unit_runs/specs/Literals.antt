@@ -27,6 +27,12 @@ module _ (P : Plan) (S : Shares) (may : (graph input : ℕ) → Bool) where
   ArePicksBare g (b ∷ bs) [] = Unit {0}
   ArePicksBare g (b ∷ bs) (o ∷ os) = IsSourceBare g b o × ArePicksBare g bs os
 
+  -- what a compound node copies for its parts
+  abbrev pub IsKindPicked : (graph : ℕ) → Vertex → Kind → Type 0
+  IsKindPicked g v (Plain row shape) = Unit {0}
+  IsKindPicked g v (Whole (form.Call f)) = Unit {0}
+  IsKindPicked g v (Whole form) = ArePicksBare g (P.picks g v) v.ins
+
   -- what fills a port of a node may be a literal where it is an input of a part
   abbrev pub IsSourcePassed : (graph part input : ℕ) → Source → Type 0
   IsSourcePassed g h i (Fixed c) = (leaves_of c ≡ 0) ⊎ (may h i ≡ true)
@@ -49,7 +55,7 @@ module _ (P : Plan) (S : Shares) (may : (graph input : ℕ) → Bool) where
 
   -- no port of the graph copies a literal that has leaves
   pub record IsGraphBare (g : ℕ) : Type 0 where
-    pub nodes : EachNode (λ v. AreSourcesBare (S.copies g v.label) g (first_port v.kind) v.ins × ArePicksBare g (P.picks g v) v.ins × IsKindPassed g v v.kind) (P.nodes g)
+    pub nodes : EachNode (λ v. AreSourcesBare (S.copies g v.label) g (first_port v.kind) v.ins × IsKindPicked g v v.kind × IsKindPassed g v v.kind) (P.nodes g)
     pub results : AreSourcesBare (S.copies g 0) g 1 (P.results g)
 
 -- so no step of the code that is made of the plan copies one

@@ -2,6 +2,7 @@
 ghost use Rattle.unit_runs.specs.Alike.{DoAlike};
 ghost use Rattle.unit_runs.specs.Literals.{AreMadeBare};
 ghost use Rattle.unit_runs.specs.Runs.{AreUnitCodeRunsRecorded};
+ghost use Rattle.unit_runs.specs.Units.{AreUnitPortsBare};
 
 /// Where two handlings agree by what each step reads, and simple nodes add the same, each step of the
 /// machine whose cells own their values is the same.
@@ -13,6 +14,12 @@ pub fn handlings_that_agree_do_the_same()
 /// step of the code that is made of it does.
 pub fn literals_are_not_copied()
     ensures { AreMadeBare }
+{}
+
+/// No port of a node or boundary of a ready unit copies a literal that has leaves, or an input that may be
+/// one: an input from which no edge of an aggregate leaves.
+pub fn ports_of_units_copy_no_literal()
+    ensures { AreUnitPortsBare }
 {}
 
 /// So each run of the code of a ready unit with sound marks is decided, and its end is of record.

@@ -4,5 +4,6 @@
 mod laws;
 
 pub use laws::{
-    handlings_that_agree_do_the_same, literals_are_not_copied, runs_of_unit_code_are_of_record,
+    handlings_that_agree_do_the_same, literals_are_not_copied, ports_of_units_copy_no_literal,
+    runs_of_unit_code_are_of_record,
 };
