@@ -1,3 +1,4 @@
 pub mod Standing
 pub mod Units
 pub mod Handling
+pub mod Multiples

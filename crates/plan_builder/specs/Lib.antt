@@ -1,4 +1,5 @@
 pub mod Outlets
 pub mod Feeds
 pub mod Nodes
+pub mod Ways
 pub mod Laws
