@@ -2,3 +2,4 @@ pub mod Standing
 pub mod Units
 pub mod Handling
 pub mod Multiples
+pub mod Collected

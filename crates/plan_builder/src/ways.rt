@@ -23,7 +23,8 @@ pub enum Reading {
     Whole,
 }
 
-fn multiple_of(plain: u32, feed: Feed) -> Option<u32>
+/// Which multiple fills a port, counted from 0 behind the inputs that are none.
+pub fn multiple_of(plain: u32, feed: Feed) -> Option<u32>
     ensures { result ≡ multiple_by plain feed }
 {
     match feed {
