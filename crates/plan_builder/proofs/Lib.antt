@@ -1,3 +1,5 @@
 pub mod Standing
 pub mod Units
 pub mod Handling
+pub mod Multiples
+pub mod Collected

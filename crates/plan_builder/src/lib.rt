@@ -2,14 +2,18 @@
 //! stand, what fills each port, and nodes with their ports.
 #![tactic(auto)]
 
+mod collects;
 mod feeds;
 mod laws;
 mod nodes;
 mod outlets;
+mod ways;
 mod widths;
 
+pub use collects::add_collects;
 pub use feeds::{literal_feed, port_feed, unfilled_feed};
-pub use laws::outlets_are_of_units;
+pub use laws::{collects_are_of_ways, outlets_are_of_units};
 pub use nodes::{call_node, compound_node, given_port, port_of, simple_node};
 pub use outlets::{Outlets, outlet, outlets_of};
+pub use ways::{Reading, multiple_of, reading_of};
 pub use widths::plain_width;
