@@ -80,7 +80,7 @@ module _ (u : Unit1) (order : (graph : ℕ) → List Vertex) (t : Tables) (ready
       ∙ any-there (λ e. leaves 0 p e.from && is_aggregate u.types e.ty) (out-Graph q.graph).edges e there
       (both (leaves 0 p e.from) (is_aggregate u.types e.ty) (ap (leaves 0 p) from ∙ both (0 == 0) (p == p) (eq-eqb 0 0 refl) (eq-eqb p p refl)) whole)
 
-  no-input : (e : Edge) → Contains (out-Graph q.graph).edges e → (p : ℕ) → e.from ≡ origin.Port 0 p → is_aggregate u.types e.ty ≡ true → may_be_literal u g (suc (p - 1)) ≡ true → ⊥
+  pub no-input : (e : Edge) → Contains (out-Graph q.graph).edges e → (p : ℕ) → e.from ≡ origin.Port 0 p → is_aggregate u.types e.ty ≡ true → may_be_literal u g (suc (p - 1)) ≡ true → ⊥
   no-input e there zero from whole m =
       let f : IsOrigin u q.graph e (origin.Port 0 0) = subst (IsOrigin u q.graph e) from (edge-formed u ready q x.there e there).source in
       let le = f.1.0 in absurd (omega (arith, le))

@@ -18,6 +18,7 @@ use Rattle.run_code.specs.Made.{Plan}
 use Rattle.run_code.specs.Steps as steps
 use Rattle.run_laws.specs.Facts.{Fact, Preserves}
 use Rattle.run_made.specs.Plans.{IsRightPlan, Weighing, laid}
+use Rattle.run_store.specs.Effects.{reads_of}
 use Rattle.run_store.specs.Lively.{IsLively, Live}
 use Rattle.run_store.specs.Refines.{IsHandled}
 use Rattle.run_store.specs.Stored as stored
@@ -43,9 +44,12 @@ use Rattle.step_code.specs.Laid as laid_code
 use Rattle.sequential.specs.Loading.{AreLentBelow}
 use Rattle.sequential_run.specs.Runs.{IsDecided, LendsBelow, weigh_of}
 use Rattle.unit_runs.proofs.Alike.{do-alike}
+use Rattle.unit_runs.proofs.Graphs.{graphs-bare}
 use Rattle.unit_runs.proofs.Literals.{step-bare}
-use Rattle.unit_runs.specs.Alike.{AreAlike}
-use Rattle.unit_runs.specs.Runs.{AreUnitCodeRunsRecorded, CopiesNoLiteral, CountsCopies, IsRunOf, IsUnitCode}
+use Rattle.unit_runs.proofs.Uncopied.{made-bare}
+use Rattle.unit_runs.specs.Alike.{AreAlike, AreLiteralsBare}
+use Rattle.unit_runs.specs.Units.{may_be_literal}
+use Rattle.unit_runs.specs.Runs.{AreUnitCodeRunsRecorded, CountsCopies, IsRunOf, IsUnitCode}
 
 -- ---- machines of which each step is the same
 
@@ -112,12 +116,17 @@ begins u P S W order functions n right shared f ins in_f as_many =
 
 -- ---- the code of a unit
 
-module _ (u : Unit1) (order : (graph : ℕ) → List Vertex) (t : Tables) (code : Code) (limit : ℕ) (is : IsUnitCode u order t code) (counts : CountsCopies u order t code) (bare : CopiesNoLiteral u order t code) where
+module _ (u : Unit1) (order : (graph : ℕ) → List Vertex) (t : Tables) (code : Code) (limit : ℕ) (is : IsUnitCode u order t code) (counts : CountsCopies u order t code) (ready : IsReady u) (along : AreInOrder (network u) order) where
   abbrev X : Layout
   X = laid (plan_of u order t) (weighing u order t) (network u) order (functions_of u) (levels_of u)
 
   abbrev handling : ℕ → stored.Handling
   handling = handling_of (functions_settings (plan_of u order t) (shares_of u order) (levels_of u) (functions_of u))
+
+  bare : (pc : ℕ) → AreLiteralsBare (handling pc).modes (reads_of (laid_code.code_of code pc))
+  bare pc =
+      subst (λ z. AreLiteralsBare (handling pc).modes (reads_of z)) (sym (is.steps pc))
+      (made-bare (plan_of u order t) (shares_of u order) (may_be_literal u) (levels_of u) (functions_of u) (graphs-bare u order t ready along) pc)
 
   code-alike : AreAlike (weigh_of code) X.weigh (laid_code.code_of code) X.code (laid_code.handling_of code) handling
   code-alike =
@@ -179,7 +188,7 @@ module _ (u : Unit1) (order : (graph : ℕ) → List Vertex) (t : Tables) (code 
     stop-recorded (inr x) r b e = x.1
 
 pub runs-recorded : AreUnitCodeRunsRecorded
-runs-recorded u order t code limit ready sound along tables is counts bare f ins in_f as_many =
+runs-recorded u order t code limit ready sound along tables is counts f ins in_f as_many =
     let P = plan_of u order t in
     let S = shares_of u order in
     let W = weighing u order t in
@@ -193,11 +202,11 @@ runs-recorded u order t code limit ready sound along tables is counts bare f ins
     let b = begins u P S W order fs n right shared f ins in_f as_many in
     let d = runs-decided u order t limit ready sound along tables f ins in_f as_many in
     record {
-      decided = code-decided u order t code limit is counts bare f ins d;
+      decided = code-decided u order t code limit is counts ready along f ins d;
       lends = λ r reach. below-all Y.weigh limit Y.code (handling_of ss) (λ pc. []) (live_of ss) (own_of ss) st.handled st.preserves st.lively
-          (entered_stored Y f (first_cells ins)) r (to-plan u order t code limit is counts bare (entered_stored Y f (first_cells ins)) r reach)
+          (entered_stored Y f (first_cells ins)) r (to-plan u order t code limit is counts ready along (entered_stored Y f (first_cells ins)) r reach)
           (start (storage_of u) Y (handling_of ss) (λ pc. []) (live_of ss) (own_of ss) limit st f ins (first_cells ins) (λ i. get_or ins i Unfilled) b)
           (alike (storage_of u) Y (handling_of ss) (λ pc. []) (live_of ss) (own_of ss) limit st f ins (first_cells ins) (λ i. get_or ins i Unfilled) b);
-      ends = λ rs c copies e. end-recorded u order t code limit is counts bare f ins d rs c copies e.0 (to-plan u order t code limit is counts bare (entered_stored Y f (first_cells ins)) e.0 e.1) (sym (one u order t code limit is counts bare e.0) ∙ e.2);
-      stops = λ e. stop-recorded u order t code limit is counts bare f ins d e.0 (to-plan u order t code limit is counts bare (entered_stored Y f (first_cells ins)) e.0 e.1) (sym (one u order t code limit is counts bare e.0) ∙ e.2);
+      ends = λ rs c copies e. end-recorded u order t code limit is counts ready along f ins d rs c copies e.0 (to-plan u order t code limit is counts ready along (entered_stored Y f (first_cells ins)) e.0 e.1) (sym (one u order t code limit is counts ready along e.0) ∙ e.2);
+      stops = λ e. stop-recorded u order t code limit is counts ready along f ins d e.0 (to-plan u order t code limit is counts ready along (entered_stored Y f (first_cells ins)) e.0 e.1) (sym (one u order t code limit is counts ready along e.0) ∙ e.2);
     }

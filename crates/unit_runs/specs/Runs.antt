@@ -10,9 +10,7 @@ use Rattle.graph_meaning.specs.Networks.{network}
 use Rattle.graph_meaning.specs.Plain.{Costs}
 use Rattle.ordered_meaning.specs.Orders.{AreInOrder}
 use Rattle.run_made.specs.Plans.{code_at, lines_of, weigh_at}
-use Rattle.run_store.specs.Effects.{reads_of}
 use Rattle.run_store.specs.Whole.{IsOfUnit}
-use Rattle.made_store.specs.Settled.{functions_settings, handling_of}
 use Rattle.unit_plan.specs.Plans.{AreTables, Tables, functions_of, levels_of, plan_of}
 use Rattle.unit_plan.specs.Shares.{shares_of, weighing}
 use Rattle.step_code.specs.declared.code.Code.{Code}
@@ -20,7 +18,7 @@ use Rattle.step_code.specs.Laid.{code_of}
 use Rattle.code_maker.specs.Makes.{IsCodeOf}
 use Rattle.sequential_run.specs.Runs.{Ends, IsDecided, LendsBelow, Stops, weigh_of}
 use Rattle.sequential_run.specs.Totals.{entered_at}
-use Rattle.unit_runs.specs.Alike.{AddsAlike, AreLiteralsBare}
+use Rattle.unit_runs.specs.Alike.{AddsAlike}
 
 module _ (u : Unit1) (order : (graph : ℕ) → List Vertex) (t : Tables) (code : Code) where
   -- it is made of the unit's plan
@@ -31,11 +29,6 @@ module _ (u : Unit1) (order : (graph : ℕ) → List Vertex) (t : Tables) (code 
   abbrev pub CountsCopies : Type 0
   CountsCopies =
       (pc : ℕ) → AddsAlike (weigh_of code) (weigh_at (weighing u order t) (lines_of (plan_of u order t) (weighing u order t) (network u) order (functions_of u) (levels_of u))) pc (code_of code pc)
-
-  -- the settings of the plan copy no literal
-  abbrev pub CopiesNoLiteral : Type 0
-  CopiesNoLiteral =
-      (pc : ℕ) → AreLiteralsBare (handling_of (functions_settings (plan_of u order t) (shares_of u order) (levels_of u) (functions_of u)) pc).modes (reads_of (code_of code pc))
 
 -- A run from the entry of a function with these arguments is decided, and what it lends stands below. Where it ends, its results, firings
 -- and copies are of record; where it comes to the limit, every cost is beyond it.
@@ -48,5 +41,5 @@ pub record IsRunOf (u : Unit1) (code : Code) (limit function entry : ℕ) (ins :
 -- So is each run of the code of a ready unit with sound marks, in any order along its edges and with right tables.
 abbrev pub AreUnitCodeRunsRecorded : Type 0
 AreUnitCodeRunsRecorded = (u : Unit1) (order : (graph : ℕ) → List Vertex) (t : Tables) (code : Code) (limit : ℕ) → IsReady u → IsSound u → AreInOrder (network u) order → AreTables u order t
-    → IsUnitCode u order t code → CountsCopies u order t code → CopiesNoLiteral u order t code
+    → IsUnitCode u order t code → CountsCopies u order t code
     → (f : ℕ) (ins : List Carried) → IsIn f (functions_of u) → length ins ≡ (plan_of u order t).params f → IsRunOf u code limit f (t.entry f) ins

@@ -9,10 +9,11 @@ use Rattle.if1_marks.specs.Aggregates.{is_aggregate}
 use Rattle.graph_meaning.specs.Demand.{EachNode, Vertex}
 use Rattle.graph_meaning.specs.Networks.{network}
 use Rattle.graph_meaning.specs.StorageUnits.{in_graph}
+use Rattle.ordered_meaning.specs.Orders.{AreInOrder}
 use Rattle.ordered_meaning.specs.Taking.{first_port}
 use Rattle.unit_plan.specs.Plans.{Tables, plain_of, plan_of}
 use Rattle.unit_plan.specs.Shares.{shares_of}
-use Rattle.unit_runs.specs.Literals.{AreSourcesBare, IsKindPicked}
+use Rattle.unit_runs.specs.Literals.{AreSourcesBare, IsGraphBare, IsKindPassed, IsKindPicked}
 
 module _ (u : Unit1) where
   -- an edge leaves this input that carries an aggregate
@@ -37,3 +38,11 @@ IsNodeBare u order t g v =
 abbrev pub AreUnitPortsBare : Type 0
 AreUnitPortsBare = (u : Unit1) (order : (graph : ℕ) → List Vertex) (t : Tables) → IsReady u → (g : ℕ)
     → EachNode (IsNodeBare u order t g) (network u g).nodes × AreSourcesBare (plan_of u order t) (shares_of u order) (may_be_literal u) ((shares_of u order).copies g 0) g 1 (network u g).results
+
+-- And what is passed to the parts of its nodes by a literal, or by an input that may be one, is an input that may be one.
+abbrev pub AreUnitPartsPassed : Type 0
+AreUnitPartsPassed = (u : Unit1) (order : (graph : ℕ) → List Vertex) (t : Tables) → IsReady u → (g : ℕ) → EachNode (λ v. IsKindPassed (plan_of u order t) (shares_of u order) (may_be_literal u) g v v.kind) (network u g).nodes
+
+-- So no port of the plan copies a literal that has leaves, in any order of its nodes.
+abbrev pub AreUnitGraphsBare : Type 0
+AreUnitGraphsBare = (u : Unit1) (order : (graph : ℕ) → List Vertex) (t : Tables) → IsReady u → AreInOrder (network u) order → (g : ℕ) → IsGraphBare (plan_of u order t) (shares_of u order) (may_be_literal u) g

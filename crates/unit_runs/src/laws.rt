@@ -2,7 +2,7 @@
 ghost use Rattle.unit_runs.specs.Alike.{DoAlike};
 ghost use Rattle.unit_runs.specs.Literals.{AreMadeBare};
 ghost use Rattle.unit_runs.specs.Runs.{AreUnitCodeRunsRecorded};
-ghost use Rattle.unit_runs.specs.Units.{AreUnitPortsBare};
+ghost use Rattle.unit_runs.specs.Units.{AreUnitGraphsBare, AreUnitPartsPassed, AreUnitPortsBare};
 
 /// Where two handlings agree by what each step reads, and simple nodes add the same, each step of the
 /// machine whose cells own their values is the same.
@@ -20,6 +20,17 @@ pub fn literals_are_not_copied()
 /// one: an input from which no edge of an aggregate leaves.
 pub fn ports_of_units_copy_no_literal()
     ensures { AreUnitPortsBare }
+{}
+
+/// What a node of a ready unit passes to its parts by a literal, or by an input that may be one, no edge of
+/// an aggregate leaves there.
+pub fn parts_of_units_pass_literals_on()
+    ensures { AreUnitPartsPassed }
+{}
+
+/// So no port of the plan of a ready unit copies a literal that has leaves.
+pub fn plans_of_units_copy_no_literal()
+    ensures { AreUnitGraphsBare }
 {}
 
 /// So each run of the code of a ready unit with sound marks is decided, and its end is of record.
