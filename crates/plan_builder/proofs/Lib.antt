@@ -3,3 +3,4 @@ pub mod Units
 pub mod Handling
 pub mod Multiples
 pub mod Collected
+pub mod Extents

@@ -12,7 +12,7 @@ mod widths;
 
 pub use collects::add_collects;
 pub use feeds::{literal_feed, port_feed, unfilled_feed};
-pub use laws::{collects_are_of_ways, outlets_are_of_units};
+pub use laws::{collects_are_of_ways, outlets_are_of_units, outputs_are_in_extents};
 pub use nodes::{call_node, compound_node, given_port, port_of, simple_node};
 pub use outlets::{Outlets, outlet, outlets_of};
 pub use ways::{Reading, multiple_of, reading_of};
