@@ -1,0 +1,25 @@
+//! Flags of the edges of a unit, by the numbers of the graphs.
+ghost use Rattle.std.specs.Prelude.{◌≡◌, suc, length, IfOk};
+ghost use Rattle.if1_graph.specs.Units.{places};
+ghost use Rattle.graph_meaning.specs.StorageUnits.{storage_of};
+ghost use Rattle.storage_flags.specs.Flags.{aggregates_of, AreRows, AreFlags};
+
+use crate::rows::{Flags, aggregate_rows};
+use flow_value::NoMemory;
+use if1_sound::Sound;
+use mark_check::all_graphs;
+use std::alloc::Global;
+
+/// Of each graph of a unit, by its number, and each of its edges, in order, whether it carries an
+/// aggregate. Row 0 is empty, since numbers begin with 1. Takes for each edge the time of two searches
+/// among the types.
+pub fn aggregate_edges(alloc: Global, unit: &Sound) -> Result<Vec<Flags>, NoMemory>
+    ensures fit { IfOk result (λ r. length r.items ≡ suc (length (places unit.now))) }
+    ensures rows { IfOk result (λ r. AreRows unit.now (aggregates_of unit.now.types) r.items) }
+    ensures flags { IfOk result (λ r. AreFlags unit.now (storage_of unit.now).is_aggregate r.items) }
+{
+    let whole = unit.unit();
+    let graphs = all_graphs(alloc, whole)?;
+    let rows = aggregate_rows(alloc, whole.types.as_slice(), graphs.as_slice())?;
+    Ok(rows)
+}
