@@ -1,18 +1,16 @@
 -- Handlings that agree by what each step reads do the same.
-use Rattle.std.proofs.Common.{◌≡◌, ℕ, zero, suc, ◌+◌, ◌&&◌, if◌then◌else◌, Bool, true, false, List, [], ◌∷◌, ◌++◌, get_or, length, refl, sym, ap, ◌∙◌, subst}
+use Rattle.std.proofs.Common.{◌≡◌, ℕ, zero, suc, ◌+◌, ◌&&◌, if◌then◌else◌, Bool, false, List, [], ◌∷◌, get_or, refl, sym, ap, ◌∙◌}
 use Rattle.graph_meaning.specs.Carried.{Carried, Unfilled}
-use Rattle.graph_meaning.specs.NodeValues.{op}
-use Rattle.graph_meaning.specs.Storage.{leaves_of}
-use Rattle.run_code.specs.Cells.{At, Lit, Operand, cells_at}
+use Rattle.run_code.specs.Cells.{At, Lit, Operand}
 use Rattle.run_code.specs.Collecting.{put_leaves}
 use Rattle.run_code.specs.Collections.{Collect}
 use Rattle.run_code.specs.Machine.{Frame, Weigh}
-use Rattle.run_code.specs.Steps.{Add, Branch, Call, Code, Count, Each, Fire, Keep, Move, Return, Spread, Step, Tag, Test}
+use Rattle.run_code.specs.Steps.{Add, Branch, Call, Count, Each, Fire, Keep, Move, Return, Spread, Step, Tag, Test}
 use Rattle.run_store.specs.Effects.{Effect, Enters, Leaves, Writes, effect, reads_of}
 use Rattle.run_store.specs.Stored as stored
 use Rattle.run_store.specs.Stored.{Copies, CopiesOf, Hand, Handling, Heap, Looks, LooksAt, Mode, Stored, StoredOutcome, Takes, Onward, apply_stored, are_ready, can_be, copied, copied_as, copied_by_step, counted_stored, doing_stored, hand_in, handed, handed_by, left_by, mode_at, on, put_copied, put_from, seen, seen_all, set, step_stored, tail, taken, where_ready}
 use Rattle.code_maker.specs.Grows.{read_as}
-use Rattle.unit_runs.specs.Alike.{AddsAlike, AreAlike, AreLiteralsBare, AreRead, DoAlike, IsHandledAlike, IsOfLiteral}
+use Rattle.unit_runs.specs.Alike.{AddsAlike, AreLiteralsBare, AreRead, DoAlike, IsHandledAlike, IsOfLiteral}
 
 -- ---- a literal
 

@@ -1,14 +1,12 @@
 -- In the plan of a ready unit no port copies a literal that has leaves.
-use Rattle.std.proofs.Common.{◌≡◌, ℕ, zero, suc, ◌+◌, ◌-◌, ◌≤◌, leb, Bool, true, List, [], ◌∷◌, Option, Some, None, refl, sym, ap, ◌∙◌, subst, arith}
+use Rattle.std.proofs.Common.{◌≡◌, ℕ, suc, ◌+◌, ◌-◌, leb, Bool, true, List, Option, Some, None, refl, sym, ap, ◌∙◌, subst, arith}
 use Rattle.std.proofs.lemmas.Bool.{leb-true}
 use Rattle.if1_graph.specs.declared.graph.Unit1.{Unit1}
-use Rattle.if1_graph.specs.Ready.{IsReady}
 use Rattle.if1_marks.proofs.Tests.{both-right}
 use Rattle.graph_meaning.specs.Demand.{EachNode, Kind, Plain, Source, Vertex, Whole}
 use Rattle.graph_meaning.specs.Networks.{network}
 use Rattle.graph_meaning.specs.Storage.{is_left}
 use Rattle.graph_meaning.specs.StorageUnits.{storage_of}
-use Rattle.ordered_meaning.specs.Orders.{AreInOrder}
 use Rattle.ordered_meaning.specs.Taking.{first_port}
 use Rattle.run_code.specs.Collections.{Collect}
 use Rattle.run_code.specs.Made.{Plan}
@@ -20,8 +18,8 @@ use Rattle.plan_shares.proofs.Graphs.{IsAt, each-both, each-of, each-refolded, i
 use Rattle.plan_shares.proofs.Replacing.{IsWholePlain, Replaced, collected, cut, kept, node-replaced}
 use Rattle.unit_runs.proofs.Passing.{parts-passed}
 use Rattle.unit_runs.proofs.Ports.{ports-bare}
-use Rattle.unit_runs.specs.Literals.{AreSourcesBare, IsGraphBare, IsKindPassed, IsKindPicked}
-use Rattle.unit_runs.specs.Units.{AreUnitGraphsBare, IsNodeBare, is_plain_by, may_be_literal, reads_aggregate}
+use Rattle.unit_runs.specs.Literals.{AreSourcesBare, IsKindPassed, IsKindPicked}
+use Rattle.unit_runs.specs.Units.{AreUnitGraphsBare, IsNodeBare, is_plain_by, may_be_literal}
 
 module _ (u : Unit1) (order : (graph : ℕ) → List Vertex) (t : Tables) (g : ℕ) where
   abbrev P : Plan

@@ -1,14 +1,14 @@
 -- Literals in code are looked at.
-use Rattle.std.proofs.Common.{ℕ, zero, suc, ◌+◌, Bool, true, false, List, [], ◌∷◌, ◌++◌, map, length, get_or}
+use Rattle.std.proofs.Common.{ℕ, zero, suc, ◌+◌, true, false, List, [], ◌∷◌, ◌++◌, map, length}
 use Rattle.run_code.specs.Cells as cells
 use Rattle.run_store.specs.Effects.{reads_of}
-use Rattle.run_store.specs.Stored.{Looks, Mode, tail}
+use Rattle.run_store.specs.Stored.{Mode, tail}
 use Rattle.step_code.specs.declared.code.Code.{Code}
 use Rattle.step_code.specs.declared.code.Operand.{Operand}
 use Rattle.step_code.specs.declared.code.Operand.TheVariants as operand
 use Rattle.step_code.specs.declared.step.Step.{Step}
 use Rattle.step_code.specs.declared.step.Step.TheVariants as step
-use Rattle.step_code.specs.Laid.{collects_in, handling_in, step_in, taken_all, taken_unless}
+use Rattle.step_code.specs.Laid.{collects_in, handling_in, step_in, taken_all}
 use Rattle.step_code.specs.Reading.{listed, mode_in, modes_in, operand_in, operands_in}
 use Rattle.unit_runs.specs.Alike.{AreLiteralsBare}
 

@@ -1,5 +1,5 @@
 -- What the parts of the nodes of a ready unit are given by literals is no aggregate.
-use Rattle.std.proofs.Common.{◌≡◌, ◌⊎◌, inl, inr, ℕ, zero, suc, ◌+◌, ◌-◌, ◌<◌, ◌≤◌, ◌&&◌, not, leb, Bool, true, false, List, [], ◌∷◌, drop, map, Option, Some, None, Contains, refl, sym, ap, ◌∙◌, subst, arith, ◌==◌}
+use Rattle.std.proofs.Common.{◌≡◌, inl, inr, ℕ, zero, suc, ◌+◌, ◌-◌, ◌<◌, ◌≤◌, ◌&&◌, not, true, false, List, drop, map, Option, Some, None, Contains, refl, sym, ap, ◌∙◌, subst, arith, ◌==◌}
 use Rattle.std.specs.Prelude.{nat_le, slice_get, MatchBool, MatchOption}
 use Rattle.std.specs.List.{list_any}
 use Rattle.std.proofs.lemmas.Bool.{le-leb}
@@ -23,11 +23,11 @@ use Rattle.if1_graph.specs.Ports.{carried, leaves, part_of}
 use Rattle.if1_graph.specs.Ready.{IsReady}
 use Rattle.if1_graph.specs.Types.{Sort, sort_at}
 use Rattle.if1_graph.specs.Typing.{FitsInput, FitsNodeInput, FitsOwnInput, FitsPartInput}
-use Rattle.if1_graph.specs.Units.{Inside, Place, edge_into, label_of, places, width}
+use Rattle.if1_graph.specs.Units.{Inside, Place, edge_into, label_of, width}
 use Rattle.if1_marks.proofs.Tests.{any-found, both, both-left, both-right, no-both}
 use Rattle.if1_marks.specs.Aggregates.{is_aggregate}
 use Rattle.graph_meaning.proofs.Lists.{found-in}
-use Rattle.graph_meaning.specs.Demand.{Kind, Plain, Source, Vertex, Whole}
+use Rattle.graph_meaning.specs.Demand.{Source, Vertex, Whole}
 use Rattle.graph_meaning.specs.Networks.{form_of, ins_of, kind_as, kind_of, number_or_zero, part as part_number, simple_kind, source_at, source_by, source_from, sources, vertex_of}
 use Rattle.graph_meaning.specs.StorageUnits.{carries_aggregate, test_in}
 use Rattle.run_code.specs.Made.{Plan}
@@ -36,13 +36,13 @@ use Rattle.made_store.specs.Settings.{Shares}
 use Rattle.unit_laws.proofs.TypedEdges.{bound}
 use Rattle.unit_laws.proofs.TypedParts.{part-is}
 use Rattle.unit_laws.proofs.TypedPlans.{part-place}
-use Rattle.unit_plan.specs.Plans.{Tables, place_of, plain_by, plain_in, plain_of, plan_of}
+use Rattle.unit_plan.specs.Plans.{Tables, plain_by, plain_in, plain_of, plan_of}
 use Rattle.unit_plan.specs.Shares.{shares_of}
 use Rattle.plan_shares.proofs.Graphs.{IsPlaced, network-each}
 use Rattle.plan_shares.proofs.Handed.{none-zero}
 use Rattle.plan_shares.proofs.Inputs.{IsNodeInput, of-input}
 use Rattle.plan_shares.proofs.OwnedParts.{all-graphs, all-parts, false-or, slice-later}
-use Rattle.plan_shares.proofs.Places.{IsNoReturns, graph-home, graph-plain, returns-plain}
+use Rattle.plan_shares.proofs.Places.{graph-home, graph-plain, returns-plain}
 use Rattle.plan_shares.proofs.Sorts.{aggregates-same}
 use Rattle.unit_runs.proofs.Ports.{literal-edge, no-input}
 use Rattle.unit_runs.specs.Literals.{AreSourcesPassed, IsKindPassed, IsSourcePassed}

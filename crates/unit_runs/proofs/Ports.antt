@@ -1,11 +1,10 @@
 -- Ports of the graphs of a ready unit copy no literal.
-use Rattle.std.proofs.Common.{◌≡◌, ◌⊎◌, inl, inr, ℕ, zero, suc, ◌+◌, ◌-◌, ◌≤◌, ◌&&◌, not, leb, Bool, true, false, List, [], ◌∷◌, drop, map, Option, Some, None, Contains, refl, sym, ap, ◌∙◌, subst, arith, ◌==◌}
+use Rattle.std.proofs.Common.{◌≡◌, ℕ, zero, suc, ◌-◌, ◌&&◌, not, Bool, true, false, List, drop, Option, Some, None, Contains, refl, sym, ap, ◌∙◌, subst, arith, ◌==◌}
 use Rattle.std.specs.List.{list_any}
 use Rattle.std.proofs.lemmas.Bool.{eq-eqb}
 use Rattle.if1_graph.specs.declared.graph.Edge.{Edge}
 use Rattle.if1_graph.specs.declared.graph.Graph.{Graph}
 use Rattle.if1_graph.specs.declared.graph.Graph.TheViews.{out-Graph}
-use Rattle.if1_graph.specs.declared.graph.Node.{Node, out-Node}
 use Rattle.if1_graph.specs.declared.graph.Origin.{Origin}
 use Rattle.if1_graph.specs.declared.graph.Origin.TheVariants as origin
 use Rattle.if1_graph.specs.declared.graph.TypeEntry.{TypeEntry}
@@ -22,10 +21,10 @@ use Rattle.if1_graph.specs.Ready.{IsReady}
 use Rattle.if1_graph.specs.Types.{entry_at}
 use Rattle.if1_graph.specs.Units.{Place, edge_into, label_of, places, width}
 use Rattle.if1_graph.specs.Units as units
-use Rattle.if1_marks.proofs.Tests.{any-there, both, both-left, both-right, no-both}
+use Rattle.if1_marks.proofs.Tests.{any-there, both, both-left, both-right}
 use Rattle.if1_marks.specs.Aggregates.{is_aggregate, is_carried_by, is_carrying}
 use Rattle.graph_meaning.proofs.Lists.{found-in}
-use Rattle.graph_meaning.specs.Demand.{Kind, Plain, Port, Source, Vertex, Whole}
+use Rattle.graph_meaning.specs.Demand.{Kind, Plain, Vertex, Whole}
 use Rattle.graph_meaning.specs.Forms as form
 use Rattle.graph_meaning.specs.Networks.{ins_of, kind_of, net_at, network, source_at, source_by, source_from, sources, vertex_of}
 use Rattle.graph_meaning.specs.Storage.{is_left}

@@ -1,8 +1,7 @@
 -- Runs of the code of a unit are those of the code that is made of its plan.
-use Rattle.std.proofs.Common.{◌≡◌, ℕ, suc, ◌<◌, ◌≤◌, ◌⊎◌, inl, inr, Bool, true, List, [], length, get_or, refl, sym, ap, ◌∙◌, subst, arith}
+use Rattle.std.proofs.Common.{◌≡◌, ℕ, suc, ◌<◌, ◌≤◌, ◌⊎◌, inl, inr, Bool, true, List, [], length, get_or, refl, sym, ◌∙◌, subst, arith}
 use Rattle.if1_graph.specs.declared.graph.Unit1.{Unit1}
 use Rattle.if1_graph.specs.Ready.{IsReady}
-use Rattle.if1_marks.specs.Sound.{IsSound}
 use Rattle.if1_marks.proofs.Taken.{sound-in-order}
 use Rattle.graph_meaning.specs.Carried.{Carried, Unfilled}
 use Rattle.graph_meaning.specs.Demand.{Network, Vertex}
@@ -34,7 +33,7 @@ use Rattle.made_store.specs.Shared.{IsShared}
 use Rattle.made_store.specs.Settled.{functions_settings, handling_of, live_of, own_of}
 use Rattle.unit_plan.proofs.Right.{plans-right}
 use Rattle.unit_plan.proofs.Weights.{weights-alike}
-use Rattle.unit_plan.specs.Plans.{AreTables, Tables, functions_of, levels_of, plan_of}
+use Rattle.unit_plan.specs.Plans.{Tables, functions_of, levels_of, plan_of}
 use Rattle.unit_plan.specs.Shares.{shares_of, weighing}
 use Rattle.plan_shares.proofs.Right.{shares-right}
 use Rattle.plan_shares.proofs.Runs.{runs-decided}
@@ -42,14 +41,14 @@ use Rattle.step_code.specs.declared.code.Code.{Code}
 use Rattle.step_code.specs.declared.step.Step.TheVariants as step
 use Rattle.step_code.specs.Laid as laid_code
 use Rattle.sequential.specs.Loading.{AreLentBelow}
-use Rattle.sequential_run.specs.Runs.{IsDecided, LendsBelow, weigh_of}
+use Rattle.sequential_run.specs.Runs.{IsDecided, weigh_of}
 use Rattle.unit_runs.proofs.Alike.{do-alike}
 use Rattle.unit_runs.proofs.Graphs.{graphs-bare}
 use Rattle.unit_runs.proofs.Literals.{step-bare}
 use Rattle.unit_runs.proofs.Uncopied.{made-bare}
 use Rattle.unit_runs.specs.Alike.{AreAlike, AreLiteralsBare}
 use Rattle.unit_runs.specs.Units.{may_be_literal}
-use Rattle.unit_runs.specs.Runs.{AreUnitCodeRunsRecorded, CountsCopies, IsRunOf, IsUnitCode}
+use Rattle.unit_runs.specs.Runs.{AreUnitCodeRunsRecorded, CountsCopies, IsUnitCode}
 
 -- ---- machines of which each step is the same
 

@@ -9,14 +9,14 @@ use Rattle.run_code.specs.Cells.{At, Lit, Operand, cells_at, own_cells, picked}
 use Rattle.run_code.specs.Coded.{Places, operand}
 use Rattle.run_code.specs.Collections.{Collect, Final, Sifts}
 use Rattle.run_code.specs.Known.{Known}
-use Rattle.run_code.specs.Made.{Line, Makes, OfNothing, OfResults, OfRows, Plan, arm_code, arms_at, arms_code, end_at, ends_at, for_all_code, function_lines, functions_lines, graph_code, kind_code, kind_size, line, loop_code, nodes_code, parts_code, placed, put, room_of, select_code, stand, tag_code}
-use Rattle.run_code.specs.Steps.{Add, Branch, Count, Each, Keep, Move, Return, Spread, Tag, Test}
+use Rattle.run_code.specs.Made.{Line, Makes, OfNothing, Plan, arm_code, arms_code, end_at, ends_at, for_all_code, function_lines, functions_lines, graph_code, kind_code, kind_size, line, loop_code, nodes_code, parts_code, placed, put, room_of, select_code, stand, tag_code}
+use Rattle.run_code.specs.Steps.{Count}
 use Rattle.run_made.specs.Plans.{All, last_line}
 use Rattle.run_store.specs.Effects.{reads_of}
 use Rattle.run_store.specs.Ports.{copies_of, mode_of, modes_of}
-use Rattle.run_store.specs.Stored.{Copies, Looks, Mode, Takes, mode_at, tail}
-use Rattle.made_store.specs.Settings.{Cells_of, Shares, cells_where, either_of, gives, live_in, modes_at, none_of, own_in, range_of, result_modes, takes_all}
-use Rattle.made_store.specs.Settled.{Setting, Settles, arms_settings, begin_settings, for_all_settings, function_settings, functions_settings, graph_settings, kind_settings, last_setting, loop_settings, nodes_settings, part_settings, parts_settings, setting}
+use Rattle.run_store.specs.Stored.{Copies, Looks, Mode, Takes}
+use Rattle.made_store.specs.Settings.{Cells_of, Shares, cells_where, either_of, gives, live_in, none_of, own_in, range_of, result_modes, takes_all}
+use Rattle.made_store.specs.Settled.{Setting, Settles, arms_settings, begin_settings, for_all_settings, function_settings, functions_settings, graph_settings, kind_settings, last_setting, loop_settings, nodes_settings, part_settings, parts_settings}
 use Rattle.unit_runs.proofs.Literals.{cells-bare}
 use Rattle.unit_runs.specs.Alike.{AreLiteralsBare, IsOfLiteral}
 use Rattle.unit_runs.specs.Literals.{AreMadeBare, ArePicksBare, AreSourcesBare, AreSourcesPassed, IsGraphBare, IsKindPassed, IsKindPicked, IsSourceBare, IsSourcePassed}

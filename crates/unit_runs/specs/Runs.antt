@@ -9,7 +9,7 @@ use Rattle.graph_meaning.specs.Entered.{IsIn}
 use Rattle.graph_meaning.specs.Networks.{network}
 use Rattle.graph_meaning.specs.Plain.{Costs}
 use Rattle.ordered_meaning.specs.Orders.{AreInOrder}
-use Rattle.run_made.specs.Plans.{code_at, lines_of, weigh_at}
+use Rattle.run_made.specs.Plans.{lines_of, weigh_at}
 use Rattle.run_store.specs.Whole.{IsOfUnit}
 use Rattle.unit_plan.specs.Plans.{AreTables, Tables, functions_of, levels_of, plan_of}
 use Rattle.unit_plan.specs.Shares.{shares_of, weighing}

@@ -1,5 +1,5 @@
 -- Which inputs of the graphs of a unit may be literals.
-use Rattle.std.specs.Prelude.{◌≡◌, ℕ, ◌&&◌, not, leb, Bool, true, List, Option, Some, None}
+use Rattle.std.specs.Prelude.{ℕ, ◌&&◌, not, leb, Bool, true, List, Option, Some, None}
 use Rattle.std.specs.List.{list_any}
 use Rattle.if1_graph.specs.declared.graph.Graph.TheViews.{out-Graph}
 use Rattle.if1_graph.specs.declared.graph.Unit1.{Unit1}
