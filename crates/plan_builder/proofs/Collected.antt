@@ -1,5 +1,5 @@
 -- What is collected for the nodes of a returns.
-use Rattle.std.proofs.Common.{◌≡◌, ℕ, zero, suc, ◌<◌, false, List, [], ◌∷◌, ◌++◌, map, length, All, Option, Some, None, slice_index_or, refl, sym, ap, ◌∙◌, arith}
+use Rattle.std.proofs.Common.{◌≡◌, ℕ, zero, suc, false, List, [], ◌∷◌, ◌++◌, map, All, Option, Some, None, refl, sym, ap, ◌∙◌, arith}
 use Rattle.graph_meaning.specs.Demand.{Source}
 use Rattle.run_code.specs.Made.{Plan}
 use Rattle.made_store.specs.Settings.{Shares}

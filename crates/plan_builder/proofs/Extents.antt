@@ -1,5 +1,5 @@
 -- The outputs of nodes stand in the cells that these take.
-use Rattle.std.proofs.Common.{◌≡◌, ◌≤◌, ℕ, ◌+◌, max, map, List, [], ◌∷◌, slice_index, arith}
+use Rattle.std.proofs.Common.{◌≤◌, ℕ, ◌+◌, map, List, [], ◌∷◌, arith}
 use Rattle.std.proofs.Math.Nat.{le-max_right}
 use Rattle.graph_meaning.specs.Demand.{Vertex}
 use Rattle.run_code.specs.Made.{Plan}

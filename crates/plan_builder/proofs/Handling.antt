@@ -1,20 +1,15 @@
 -- How the nodes of plans handle what fills their ports.
-use Rattle.std.proofs.Common.{◌≡◌, ℕ, suc, ◌-◌, ◌||◌, if◌then◌else◌, Bool, true, false, List, [], ◌∷◌, map, get_or, refl, sym, ap, ◌∙◌, subst}
-use Rattle.if1_graph.specs.Rows.{row_of}
+use Rattle.std.proofs.Common.{◌≡◌, ℕ, suc, ◌||◌, if◌then◌else◌, Bool, true, false, List, [], ◌∷◌, map, get_or, refl, sym, ap, ◌∙◌}
 use Rattle.graph_meaning.specs.Demand.{Source, Vertex}
-use Rattle.graph_meaning.specs.Demand as demand
-use Rattle.graph_meaning.specs.Forms as form
-use Rattle.ordered_meaning.specs.Taking.{first_port}
 use Rattle.run_code.specs.Made.{Plan}
 use Rattle.run_store.specs.Ports as ports
-use Rattle.run_store.specs.Stored.{Looks, Mode, Takes}
-use Rattle.made_store.specs.Settings.{Shares, gives, modes_at}
-use Rattle.plan_data.specs.declared.plan.Handled.{Handled}
+use Rattle.run_store.specs.Stored.{Looks, Takes}
+use Rattle.made_store.specs.Settings.{Shares, gives}
 use Rattle.plan_data.specs.declared.plan.Port.{Port}
 use Rattle.plan_data.specs.declared.plan.Work.{Work}
 use Rattle.plan_data.specs.declared.plan.Work.TheVariants as work
 use Rattle.plan_data.specs.declared.plan.PlanData.{PlanData}
-use Rattle.plan_data.specs.Parts.{IsWhole, first_given, gives_by, kind_of, mode_by, mode_of, picks_by, picks_of}
+use Rattle.plan_data.specs.Parts.{IsWhole, first_given, gives_by, mode_by, mode_of, picks_by, picks_of}
 use Rattle.plan_data.specs.Stands.{AreFed, IsHandled}
 use Rattle.plan_builder.specs.Nodes.{AreHandled, given_by, handled_by}
 

@@ -1,17 +1,16 @@
 -- The nodes of a graph of a unit, in an order by their places.
-use Rattle.std.proofs.Common.{◌≡◌, ℕ, zero, suc, ◌+◌, ◌<◌, Bool, List, [], ◌∷◌, map, length, get_or, slice_get, slice_index, Option, Some, None, Contains, refl, sym, ap, ◌∙◌, subst, arith}
+use Rattle.std.proofs.Common.{◌≡◌, ℕ, zero, suc, ◌+◌, ◌<◌, Bool, List, [], ◌∷◌, map, length, slice_get, slice_index, Option, Some, None, Contains, refl, sym, ap, ◌∙◌, subst, arith}
 use Rattle.std.proofs.lemmas.List.{length-map}
-use Rattle.std.proofs.lemmas.Option.{slice_get-get_or}
 use Rattle.if1_graph.specs.declared.graph.Graph.TheViews.{out-Graph}
 use Rattle.if1_graph.specs.declared.graph.Node.{Node}
 use Rattle.if1_graph.specs.declared.graph.Unit1.{Unit1}
 use Rattle.if1_graph.specs.declared.op.Simple.{Simple}
 use Rattle.if1_graph.specs.Rows.{row_of}
-use Rattle.if1_graph.specs.Units.{Place, label_of, number_of, places}
+use Rattle.if1_graph.specs.Units.{Place, label_of, number_of}
 use Rattle.if1_order.proofs.Members.{contains_here, contains_there}
 use Rattle.graph_meaning.specs.Demand.{Kind, Plain, Source, Vertex, Whole}
 use Rattle.graph_meaning.specs.Laws.{outputs_by}
-use Rattle.graph_meaning.specs.Networks.{kind_of, vertex_of}
+use Rattle.graph_meaning.specs.Networks.{kind_of}
 use Rattle.graph_meaning.specs.NodeValues.{Shape}
 use Rattle.graph_meaning.specs.Storage.{is_left}
 use Rattle.graph_meaning.specs.StorageUnits.{storage_of}
@@ -23,7 +22,7 @@ use Rattle.unit_plan.proofs.Found.{place-found}
 use Rattle.unit_plan.proofs.Ways.{WayIs, is_last, is_final, is_gather, is_reduce, is_whole, way-is}
 use Rattle.plan_builder.specs.declared.outlets.Outlets.{Outlets}
 use Rattle.plan_builder.specs.Laws.{AreOfGraph, AreOutletsOfUnits}
-use Rattle.plan_builder.specs.Outlets.{AreNodesAt, AreOutlets}
+use Rattle.plan_builder.specs.Outlets.{AreNodesAt}
 
 some-is : {A : Type 0} (a b : A) → Some a ≡ Some b → a ≡ b
 some-is a b e = cc

@@ -1,4 +1,4 @@
-use Rattle.std.proofs.Common.{◌≡◌, ℕ, map, sym, ap, ◌∙◌, subst}
+use Rattle.std.proofs.Common.{ap, ◌∙◌}
 use Rattle.run_store.specs.Ports.{modes_of}
 use Rattle.ordered_meaning.specs.Taking.{first_port}
 use Rattle.plan_builder.proofs.Handling.{modes-are}

@@ -1,4 +1,4 @@
-use Rattle.std.proofs.Common.{◌≡◌, ℕ, ◌+◌, ◌-◌, slice_index, Contains, sym, ap, ◌∙◌, subst, arith}
+use Rattle.std.proofs.Common.{◌≡◌, ◌+◌, ◌-◌, slice_index, sym, ap, ◌∙◌, subst, arith}
 use Rattle.run_code.specs.Cells.{At}
 use Rattle.if1_order.specs.Feeders.{IsPlace}
 use Rattle.plan_builder.specs.Outlets.{start_of}

@@ -1,4 +1,4 @@
-use Rattle.std.proofs.Common.{◌≡◌, ℕ, ◌<◌, length, All, subst, sym, arith}
+use Rattle.std.proofs.Common.{◌<◌, length, All, subst, sym}
 use Rattle.plan_builder.proofs.Standing.{all-inside}
 use Rattle.plan_builder.proofs.outlets.outlets_of.Goals as goal
 

@@ -1,4 +1,4 @@
-use Rattle.std.proofs.Common.{◌≡◌, ℕ, suc, ◌+◌, ◌-◌, ◌≤◌, length, get_or, slice_index, drop, sym, ap, ◌∙◌, subst, arith, Contains}
+use Rattle.std.proofs.Common.{◌≡◌, ℕ, suc, ◌+◌, ◌-◌, length, get_or, slice_index, drop, sym, ap, ◌∙◌, subst, arith, Contains}
 use Rattle.std.proofs.lemmas.List.{length-set}
 use Rattle.plan_builder.specs.Outlets.{cells_of, start_of}
 use Rattle.plan_builder.proofs.Standing.{at-index, begin-fits, start-fits, starts-more}

@@ -1,4 +1,4 @@
-use Rattle.std.proofs.Common.{◌≡◌, sym, ap, ◌∙◌}
+use Rattle.std.proofs.Common.{sym, ap, ◌∙◌}
 use Rattle.plan_builder.specs.Ways.{read_by}
 use Rattle.plan_builder.proofs.Multiples.{way-so}
 use Rattle.plan_builder.proofs.ways.reading_of.Goals as goal
