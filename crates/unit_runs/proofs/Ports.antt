@@ -34,7 +34,7 @@ use Rattle.run_code.specs.Made.{Plan}
 use Rattle.run_store.specs.Ports.{picks_of}
 use Rattle.made_store.specs.Settings.{Shares}
 use Rattle.unit_laws.proofs.TypedEdges.{edge-formed}
-use Rattle.unit_plan.specs.Plans.{Tables, place_of, plain_of, plan_of}
+use Rattle.unit_plan.specs.Plans.{Tables, place_of, plain_of, plan_of, picks_by}
 use Rattle.unit_plan.specs.Shares.{shares_of}
 use Rattle.plan_shares.proofs.Graphs.{IsPlaced, network-each, placed-at}
 use Rattle.plan_shares.proofs.OwnedParts.{false-or}
@@ -134,23 +134,29 @@ module _ (u : Unit1) (order : (graph : ℕ) → List Vertex) (t : Tables) (ready
   picks-bare l first zero = tt
   picks-bare l first (suc count) = (port-bare l first ((storage_of u).is_given g l first && is_left (storage_of u) g l first) (given-whole l first), picks-bare l (suc first) count)
 
-  by : (v : Vertex) → v.ins ≡ sources u q.graph v.label 1 (width q.graph v.label) → ArePicksBare P S (may_be_literal u) g (P.picks g v) v.ins
-  by v e =
-      subst (λ z. ArePicksBare P S (may_be_literal u) g (picks_of (λ p. (storage_of u).is_given g v.label p && is_left (storage_of u) g v.label p) 1 z) z) (sym e) (picks-bare v.label 1 (width q.graph v.label))
+  abbrev Picked : Vertex → List Bool → Type 0
+  Picked v picks = ArePicksBare P S (may_be_literal u) g picks v.ins
 
-  pub kind-picked : (v : Vertex) (k : Kind) → v.ins ≡ ins_of u q.graph v.label k → IsKindPicked P S (may_be_literal u) g v k
-  kind-picked v (Plain row shape) e = tt
-  kind-picked v (Whole (form.Call f)) e = tt
-  kind-picked v (Whole (form.Select s gs n)) e = by v e
-  kind-picked v (Whole (form.TagCase gs n)) e = by v e
-  kind-picked v (Whole (form.LoopA i y b r n)) e = by v e
-  kind-picked v (Whole (form.LoopB i y b r n)) e = by v e
-  kind-picked v (Whole (form.ForAll i b r m n)) e = by v e
+  by : (v : Vertex) (k : Kind) → v.kind ≡ k → picks_by (storage_of u) g v k ≡ picks_of (λ p. (storage_of u).is_given g v.label p && is_left (storage_of u) g v.label p) 1 v.ins
+      → v.ins ≡ sources u q.graph v.label 1 (width q.graph v.label) → Picked v (P.picks g v)
+  by v k same whole e =
+      subst (λ z. Picked v (picks_by (storage_of u) g v z)) (sym same)
+      (subst (Picked v) (sym whole)
+      (subst (λ z. ArePicksBare P S (may_be_literal u) g (picks_of (λ p. (storage_of u).is_given g v.label p && is_left (storage_of u) g v.label p) 1 z) z) (sym e) (picks-bare v.label 1 (width q.graph v.label))))
+
+  pub kind-picked : (v : Vertex) (k : Kind) → v.kind ≡ k → v.ins ≡ ins_of u q.graph v.label k → IsKindPicked P S (may_be_literal u) g v k
+  kind-picked v (Plain row shape) same e = tt
+  kind-picked v (Whole (form.Call f)) same e = tt
+  kind-picked v (Whole (form.Select s gs n)) same e = by v (Whole (form.Select s gs n)) same refl e
+  kind-picked v (Whole (form.TagCase gs n)) same e = by v (Whole (form.TagCase gs n)) same refl e
+  kind-picked v (Whole (form.LoopA i y b r n)) same e = by v (Whole (form.LoopA i y b r n)) same refl e
+  kind-picked v (Whole (form.LoopB i y b r n)) same e = by v (Whole (form.LoopB i y b r n)) same refl e
+  kind-picked v (Whole (form.ForAll i b r m n)) same e = by v (Whole (form.ForAll i b r m n)) same refl e
 
 pub ports-bare : AreUnitPortsBare
 ports-bare u order t ready g = (
   network-each u g (IsNodeBare u order t g)
-      (λ q x n inside. (ins-bare u order t ready g q x (label_of n) (kind_of u q.graph n), kind-picked u order t ready g q x (vertex_of u q.graph n) (kind_of u q.graph n) refl)),
+      (λ q x n inside. (ins-bare u order t ready g q x (label_of n) (kind_of u q.graph n), kind-picked u order t ready g q x (vertex_of u q.graph n) (kind_of u q.graph n) refl refl)),
   results,
 )
   where
