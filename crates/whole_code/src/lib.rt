@@ -1,0 +1,13 @@
+//! Whether code is whole: whether each number in a step is inside, and each step goes on in its
+//! block.
+#![tactic(auto)]
+
+mod collections;
+mod listing;
+mod operands;
+mod ready;
+
+pub use collections::{are_collected, are_columns, are_sparing};
+pub use listing::are_listed;
+pub use operands::{all_uncopied, is_inside, is_uncopied};
+pub use ready::{brings_inside, chooses_inside};
