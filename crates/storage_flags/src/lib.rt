@@ -6,7 +6,10 @@ mod rows;
 mod tables;
 mod types;
 
-pub use laws::marks_tell_what_is_taken;
+pub use laws::{
+    consuming_edges_tell_what_is_given, consuming_rows_tell_what_is_given,
+    marks_tell_what_is_taken, rows_stand_by_numbers,
+};
 pub use rows::Flags;
 pub use tables::aggregate_edges;
 pub use types::{has_aggregate_elements, is_aggregate};
