@@ -1,12 +1,16 @@
 -- Flags of the edges of a unit, a row for each number of a graph and a flag for each of its edges.
-use Rattle.std.specs.Prelude.{◌≡◌, ◌&&◌, ℕ, Bool, List, [], ◌∷◌, map, slice_get, slice_index_or, Some, Contains}
+use Rattle.std.specs.Prelude.{◌≡◌, ◌&&◌, ℕ, Bool, List, [], ◌∷◌, map, slice_get, slice_index_or, Option, Some, Contains}
 use Rattle.if1_graph.specs.declared.graph.Edge.{Edge}
 use Rattle.if1_graph.specs.declared.graph.Graph.{Graph}
 use Rattle.if1_graph.specs.declared.graph.Graph.TheViews.{out-Graph}
+use Rattle.if1_graph.specs.declared.graph.Node.{Node, out-Node}
 use Rattle.if1_graph.specs.declared.graph.TypeEntry.{TypeEntry}
 use Rattle.if1_graph.specs.declared.graph.Unit1.{Unit1}
 use Rattle.if1_graph.specs.Formed.{IsFormed}
 use Rattle.if1_graph.specs.Normal.{IsNormal}
+use Rattle.if1_graph.specs.declared.op.Simple.{Simple}
+use Rattle.if1_graph.specs.Ops.{simple_at}
+use Rattle.if1_graph.specs.Tables.{◌>>=◌}
 use Rattle.if1_graph.specs.Units.{Place, edge_into, number_of, places}
 use Rattle.if1_marks.specs.Aggregates.{is_aggregate}
 use Rattle.if1_marks.specs.Given.{is_consuming}
@@ -54,3 +58,7 @@ DoConsumerRowsTell =
 -- flags that stand in the order of the graphs, behind a first row, are in the rows of the graphs' numbers
 abbrev pub DoRowsStand : Type 0
 DoRowsStand = (u : Unit1) → IsFormed u → IsNormal u → (flags : Graph → List Bool) → AreRows u flags ([] ∷ map (λ p. flags p.graph) (places u))
+
+-- what a node does, if it is a simple one
+abbrev pub operation_by : Option Node → Option Simple
+operation_by o = o >>= λ n. simple_at (out-Node n).op
