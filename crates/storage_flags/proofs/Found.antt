@@ -1,5 +1,5 @@
 -- What is known of a port, by the edge that is found there.
-use Rattle.std.proofs.Common.{◌≡◌, ℕ, zero, suc, Bool, List, [], ◌∷◌, map, slice_get, slice_index_or, option_map, Some, sym, ap, subst, ◌∙◌}
+use Rattle.std.proofs.Common.{◌≡◌, ◌==◌, ◌&&◌, ℕ, zero, suc, Bool, true, false, List, [], ◌∷◌, map, slice_get, slice_index_or, option_map, Some, refl, sym, ap, subst, ◌∙◌}
 use Rattle.std.specs.Borrow.{Bor}
 use Rattle.std.proofs.lemmas.Option.{slice_get-map, slice_get-get_or, get_or_from_slice_get}
 use Rattle.if1_graph.specs.declared.graph.Edge.{Edge}
@@ -11,17 +11,49 @@ use Rattle.if1_graph.specs.Formed.{IsFormed}
 use Rattle.if1_graph.specs.Normal.{IsNormal}
 use Rattle.if1_graph.specs.Units.{Place, edge_into, places}
 use Rattle.if1_marks.specs.Aggregates.{is_aggregate}
+use Rattle.if1_marks.specs.Given.{consumes, is_consuming}
+use Rattle.if1_marks.proofs.Tests.{same-number}
+use Rattle.graph_meaning.proofs.Lists.{found-in}
 use Rattle.graph_meaning.specs.StorageUnits.{carries_aggregate, takes, test_in, storage_of}
 use Rattle.mark_check.specs.Graphs.{lent, unit_graphs}
 use Rattle.unit_plan.proofs.Found.{place-found}
 use Rattle.unit_orders.proofs.Numbered.{number-at}
-use Rattle.storage_flags.specs.Flags.{aggregates_of, AreRows, AreFlags, DoMarksTell}
+use Rattle.storage_flags.specs.Flags.{aggregates_of, AreRows, AreFlags, DoConsumersTell, DoConsumerRowsTell, DoMarksTell, DoRowsStand}
 
 pub marks-tell : DoMarksTell
 marks-tell u formed p there l port e found =
     ap (λ o. test_in o (λ g. takes (edge_into g l port))) (place-found u formed p there) ∙ ap takes found
 
+pub consumers-tell : DoConsumersTell
+consumers-tell u formed p there l port e found =
+    let at = place-found u formed p there in
+    let f = (found-in (λ x. (x.node == l) && (x.port == port)) (out-Graph p.graph).edges e found).1 in
+    let both = no-other (e.node == l) (e.port == port) f in
+    ap (λ o. test_in o (λ g. carries_aggregate u (edge_into g l port)) && test_in o (λ g. consumes u g l port)) at
+    ∙ (ap (λ o. carries_aggregate u o && consumes u p.graph l port) found
+    ∙ (ap (λ k. is_aggregate u.types e.ty && consumes u p.graph k port) (sym (same-number e.node l both.0))
+    ∙ ap (λ k. is_aggregate u.types e.ty && consumes u p.graph e.node k) (sym (same-number e.port port both.1))))
+  where
+    no-other : (a b : Bool) → a && b ≡ true → (a ≡ true) × (b ≡ true)
+    no-other true true h = (refl, refl)
+    no-other true false h = absurd cc
+    no-other false b h = absurd cc
+
 -- ---- rows
+
+pub consumer-rows : DoConsumerRowsTell
+consumer-rows u formed rows are p there l port i e found at =
+    ap (λ (r : List Bool). slice_get r i) (are p there)
+    ∙ (slice_get-map (is_consuming u p.graph) (out-Graph p.graph).edges i
+    ∙ (ap (option_map (is_consuming u p.graph)) at
+    ∙ ap Some (sym (consumers-tell u formed p there l port e found))))
+
+pub rows-stand : DoRowsStand
+rows-stand u formed normal flags p there =
+    ap (λ n. slice_index_or ([] ∷ map (λ (q : Place). flags q.graph) (places u)) n []) (number-at u formed normal p there)
+    ∙ get_or_from_slice_get (map (λ (q : Place). flags q.graph) (places u)) there.0 (flags p.graph) []
+    (slice_get-map (λ (q : Place). flags q.graph) (places u) there.0
+    ∙ ap (option_map (λ (q : Place). flags q.graph)) (slice_get-get_or (places u) there.0 p there.1 ∙ ap Some there.2))
 
 module _ (u : Unit1) (formed : IsFormed u) where
   pub aggregate-flags : (rows : List (List Bool)) → AreRows u (aggregates_of u.types) rows → AreFlags u (storage_of u).is_aggregate rows
