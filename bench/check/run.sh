@@ -3,12 +3,7 @@
 # lexes and parses it, or checks it too, and the difference is the checker's time. It prints seconds, the least of
 # some rounds, and the memory of both a byte of text. All times are of the whole program without its start. Run it at the
 # top of the repository, on an idle machine; the argument is the rounds.
-set -e
-rounds=${1:-5}
-build=$(mktemp -d)
-trap 'rm -rf "$build"' EXIT
-python3 bench/parse/texts.py "$build/long.sis" "$build/long.py"
-printf 'define f\nfunction f(returns integer) 1 end function\n' >"$build/short.sis"
+source bench/long_text.sh
 
 program=${BENCH_TEXTS:-$(bench/texts.sh)}
 [ -x "$program" ] || exit 1

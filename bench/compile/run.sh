@@ -4,12 +4,7 @@
 # then how long a loop that is nested 20 deep in the clauses of others is refused in, with a large phrase inside and without.
 # All times are of the whole program without its start. Run it at the top of the repository, on an idle machine; the argument is
 # the rounds. SISAL and BENCH_TEXTS may name programs that are built already.
-set -e
-rounds=${1:-5}
-build=$(mktemp -d)
-trap 'rm -rf "$build"' EXIT
-python3 bench/parse/texts.py "$build/long.sis" "$build/long.py"
-printf 'define f\nfunction f(returns integer) 1 end function\n' >"$build/short.sis"
+source bench/long_text.sh
 python3 - "$build" <<'PY'
 import sys
 def nested(phrase):
