@@ -21,7 +21,7 @@ use Rattle.type_table.specs.declared.form.Member.{Member as NumberedMember}
 use Rattle.typed_tree.specs.Types.{Member, deepest, depth_of, IsNumber, boolean, character, integer, null, array, stream, a_record, a_union, AreMembers, no_member, a_member}
 use Rattle.typed_tree.proofs.Depths.{depth_array, depth_stream, depth_record, depth_union, depth_basic}
 
-and_both : (a b : Bool) → (a && b) ≡ true → (a ≡ true) × (b ≡ true)
+pub and_both : (a b : Bool) → (a && b) ≡ true → (a ≡ true) × (b ≡ true)
 and_both true b e = (refl, e)
 and_both false b e = cc
 

@@ -1,5 +1,5 @@
 -- The results of functions of texts are read from what is printed of them.
-use Rattle.std.proofs.Common.{◌≡◌, ℕ, zero, suc, ◌+◌, ◌<◌, ◌≤◌, Bool, true, false, not, ◌&&◌, ◌||◌, eqb, List, [], ◌∷◌, All, map, length, Some, refl, sym, ap, subst, arith, slice_get, if◌then◌else◌, Ok, Err, nat_lt, nat_eq}
+use Rattle.std.proofs.Common.{◌≡◌, ℕ, zero, suc, ◌+◌, ◌<◌, ◌≤◌, Bool, true, false, not, ◌||◌, eqb, List, [], ◌∷◌, map, length, Some, refl, sym, ap, subst, arith, slice_get, if◌then◌else◌, Ok, Err, nat_lt, nat_eq}
 use Rattle.std.specs.Prelude.{fold, Result}
 use Rattle.std.specs.List.{list_any, IsDistinct, AllByRecursion}
 use Rattle.std.proofs.lemmas.Map.Steps.{length-le_from_distinct_below}
@@ -33,7 +33,8 @@ use Rattle.std.specs.Prelude.{◌++◌, bytes_eq}
 use Rattle.std.proofs.lemmas.List.{length-append}
 use Rattle.bound_trees.proofs.Told.{lexed_sound}
 use Rattle.fitting_texts.specs.Laws.{AreReadAs, AreResultsRead}
-use Rattle.fitting_texts.proofs.Printed.{number_flat}
+use Rattle.fitting_texts.proofs.Printed.{and_both, number_flat}
+use Rattle.fitting_texts.proofs.Texts.{all_at}
 use Rattle.fitting_texts.proofs.Typed.{texts_typed}
 
 -- ---- names are few
@@ -69,10 +70,6 @@ names_few text t e = by (nat_lt 4194304 (length text)) refl e
 
 -- ---- unions have few tags
 
-and_both : (a b : Bool) → (a && b) ≡ true → (a ≡ true) × (b ≡ true)
-and_both true b e = (refl, e)
-and_both false b e = cc
-
 none_of : (x : ℕ) (xs : List ℕ) → not (list_any (nat_eq x) xs) ≡ true → AllByRecursion (λ y. eqb x y ≡ false) xs
 none_of x [] e = tt
 none_of x (y ∷ ys) e = by (nat_eq x y) refl e (none_of x ys)
@@ -98,11 +95,6 @@ members_below forms names (a_member {x = x} {name = name} {ms = ms} s p more) q 
     by : (b : Bool) → eqb q x ≡ b → (b || list_any (eqb q) (map (λ m. m.name) ms)) ≡ true → (list_any (eqb q) (map (λ m. m.name) ms) ≡ true → q < length names) → q < length names
     by true h e rest = let same = eqb-true q x h in subst (λ k. k < length names) (sym same) (there_below names x name s)
     by false h e rest = rest e
-
-all_at : {A : Type 0} (P : A → Type 0) (xs : List A) (n : ℕ) (x : A) → All P xs → slice_get xs n ≡ Some x → P x
-all_at P [] n x h e = cc
-all_at P (y ∷ ys) zero x h e = let s : y ≡ x = cc in subst P s (h 0 y (omega arith))
-all_at P (y ∷ ys) (suc n) x h e = all_at P ys n x (λ k z l. h (suc k) z (omega (arith, l))) e
 
 union_members : (forms : List Form) (names : List (List ℕ)) (n : ℕ) (ms : List NumberedMember) (t : Ty) → slice_get forms n ≡ Some (form.Union ms) → IsNumber forms names n t → (fs : List Member) × AreMembers forms names ms fs
 union_members forms names n ms _ e (boolean h) = cc

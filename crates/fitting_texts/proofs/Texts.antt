@@ -23,7 +23,7 @@ use Rattle.fitting_texts.proofs.Written.{program_written}
 use Rattle.fitting_texts.proofs.Names.{names_once, names_visible, names_quotable}
 use Rattle.fitting_texts.proofs.Functions.{functions_once, functions_named, functions_give}
 
-all_at : {A : Type 0} (P : A → Type 0) (xs : List A) (n : ℕ) (x : A) → All P xs → slice_get xs n ≡ Some x → P x
+pub all_at : {A : Type 0} (P : A → Type 0) (xs : List A) (n : ℕ) (x : A) → All P xs → slice_get xs n ≡ Some x → P x
 all_at P [] n x h e = cc
 all_at P (y ∷ ys) zero x h e = let s : y ≡ x = cc in subst P s (All-head P y ys h)
 all_at P (y ∷ ys) (suc n) x h e = all_at P ys n x (All-tail P y ys h) e
