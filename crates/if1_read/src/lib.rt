@@ -16,4 +16,5 @@ mod reals;
 mod table;
 
 pub use laws::accepted_has_no_fault;
+pub use literal::literal;
 pub use read::read_if1;
