@@ -7,3 +7,4 @@ pub mod Placing
 pub mod Seen
 pub mod Laid
 pub mod Steps
+pub mod Behind

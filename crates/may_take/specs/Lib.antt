@@ -4,3 +4,4 @@ pub mod Around
 pub mod Consuming
 pub mod Owned
 pub mod Looked
+pub mod Inner

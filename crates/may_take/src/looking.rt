@@ -42,7 +42,8 @@ pub struct LookedNodes {
     pub inside: Vec<Flags>,
 }
 
-fn looked_by(
+/// What is known of a graph, by what is known of its nodes.
+pub fn looked_by(
     alloc: Global,
     unit: &Unit1,
     functions: &Functions,
@@ -140,7 +141,8 @@ fn add_parts(
     Ok(())
 }
 
-fn add_node(
+/// Adds what is known of the next node, by what is known of its graphs.
+pub fn add_node(
     alloc: Global,
     unit: &Unit1,
     functions: &Functions,
@@ -171,7 +173,8 @@ fn add_node(
     Ok(())
 }
 
-fn no_nodes(alloc: Global, unit: &Unit1, functions: &Functions, graph: &Graph) -> LookedNodes
+/// What is known of no nodes.
+pub fn no_nodes(alloc: Global, unit: &Unit1, functions: &Functions, graph: &Graph) -> LookedNodes
     ensures { AreNodesLooked unit.now functions.now graph.now [] result }
 {
     let _ = unit;

@@ -15,7 +15,8 @@ use flow_value::NoMemory;
 use if1_graph::{Graph, Unit1};
 use std::alloc::Global;
 
-fn functions_of(alloc: Global, unit: &Unit1) -> Result<Functions, NoMemory>
+/// What the functions of a unit do with their inputs.
+pub fn functions_of(alloc: Global, unit: &Unit1) -> Result<Functions, NoMemory>
     requires types { IsStrictlyIncreasing (map (λ e. e.label) unit.now.types) }
     requires laid { AreLaid unit.now.graphs }
     ensures { IfOk result (Tells unit.now) }

@@ -18,7 +18,7 @@ use Rattle.graph_meaning.specs.StorageUnits.{carries_aggregate, takes, test_in, 
 use Rattle.mark_check.specs.Graphs.{lent, unit_graphs}
 use Rattle.unit_plan.proofs.Found.{place-found}
 use Rattle.unit_orders.proofs.Numbered.{number-at}
-use Rattle.storage_flags.specs.Flags.{aggregates_of, AreRows, AreFlags, DoConsumersTell, DoConsumerRowsTell, DoMarksTell, DoRowsStand}
+use Rattle.storage_flags.specs.Flags.{aggregates_of, consumers_of, AreRows, AreFlags, DoConsumersTell, DoConsumerRowsTell, DoMarksTell, DoRowsStand}
 
 pub marks-tell : DoMarksTell
 marks-tell u formed p there l port e found =
@@ -88,3 +88,8 @@ module _ (u : Unit1) (formed : IsFormed u) where
       → rows ≡ [] ∷ map (λ (g : Bor Graph). aggregates_of ts g.now) gs → AreRows u (aggregates_of u.types) rows
   rows-told normal ts gs rows same are is =
       subst (AreRows u (aggregates_of u.types)) (sym (is ∙ ap (λ (xs : List TypeEntry). [] ∷ map (λ (g : Bor Graph). aggregates_of xs g.now) gs) same)) (rows-are normal (aggregates_of u.types) gs are)
+
+-- rows of edges that consume, behind a first one
+pub consumers-told : (u v : Unit1) → v ≡ u → IsFormed u → IsNormal u → (known rows : List (List Bool)) → known ≡ map (λ (p : Place). consumers_of v p.graph) (places v) → rows ≡ [] ∷ known → AreRows u (consumers_of u) rows
+consumers-told u v same formed normal known rows are is =
+    subst (AreRows u (consumers_of u)) (sym (is ∙ (ap (λ ks. [] ∷ ks) are ∙ ap (λ (w : Unit1). [] ∷ map (λ (p : Place). consumers_of w p.graph) (places w)) same))) (rows-stand u formed normal (consumers_of u))

@@ -13,5 +13,5 @@ pub use laws::{
     marks_tell_what_is_taken, rows_stand_by_numbers,
 };
 pub use rows::Flags;
-pub use tables::aggregate_edges;
+pub use tables::{aggregate_edges, consumed_edges};
 pub use types::{has_aggregate_elements, is_aggregate};
