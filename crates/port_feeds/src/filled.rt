@@ -1,14 +1,12 @@
 //! What fills the ports of a node, or of the boundary of a graph.
-ghost use Rattle.std.specs.Prelude.{◌≡◌, ◌&&◌, ℕ, false, Option, Some, length, map, slice_get, All, Contains, IfOk};
+ghost use Rattle.std.specs.Prelude.{◌≡◌, ◌&&◌, ℕ, false, Option, length, map, All, Contains, IfOk};
 ghost use Rattle.std.specs.List.Sorted.{IsStrictlyIncreasing};
 ghost use Rattle.if1_graph.specs.declared.graph.Graph.TheViews.{out-Graph};
 ghost use Rattle.if1_graph.specs.declared.graph.Origin.TheVariants as origin;
 ghost use Rattle.if1_graph.specs.declared.graph.Unit1.{Unit1};
 ghost use Rattle.if1_graph.specs.Formed.{want_at};
-ghost use Rattle.if1_graph.specs.Normal.{IsNormal};
 ghost use Rattle.if1_graph.specs.Ports.{IsUpTo, inputs};
-ghost use Rattle.if1_graph.specs.Ready.{IsReady};
-ghost use Rattle.if1_graph.specs.Units.{Place, edge_into, label_of, places, width};
+ghost use Rattle.if1_graph.specs.Units.{Place, label_of, places, width};
 ghost use Rattle.graph_meaning.specs.Carried.{Unfilled};
 ghost use Rattle.graph_meaning.specs.Demand.{Fixed};
 ghost use Rattle.graph_meaning.specs.Networks.{source_from, sources};
@@ -21,7 +19,7 @@ ghost use Rattle.plan_data.specs.Stands.{IsFed};
 ghost use Rattle.plan_builder.specs.Feeds.{HasLiterals, IsInput, IsSource};
 ghost use Rattle.plan_builder.specs.Outlets.{AreLaid, AreOutlets, cells_of};
 ghost use Rattle.storage_flags.specs.Flags.{AreFlags};
-ghost use Rattle.port_feeds.specs.Filled.{AreFilled, ArePorts, AreTold, IsGraphOf, IsPort};
+ghost use Rattle.port_feeds.specs.Filled.{AreFilled, AreTold, IsGraphOf, IsPort};
 
 use crate::edges::{edge_at, place_of};
 use crate::flags::flag_at;
@@ -166,7 +164,7 @@ pub fn ports_of(
 {
     let _whole = unit.unit();
     let width = greatest_port(edges_into(graph.edges.as_slice(), label));
-    let mut ports = Seq::new(alloc);
+    let mut ports = Seq::with_room(alloc, width as usize)?;
     for place in 0..width {
         let port = port_at(
             alloc,

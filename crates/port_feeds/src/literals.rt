@@ -5,7 +5,6 @@ ghost use Rattle.std.specs.Option.{option_copied};
 ghost use Rattle.if1_graph.specs.declared.graph.Graph.TheViews.{out-Graph};
 ghost use Rattle.if1_graph.specs.declared.graph.Unit1.{Unit1};
 ghost use Rattle.if1_graph.specs.Formed.{want_at};
-ghost use Rattle.if1_graph.specs.Types.{entry_at};
 ghost use Rattle.if1_graph.specs.Units.{label_of};
 ghost use Rattle.graph_meaning.specs.Carried.{Value};
 ghost use Rattle.graph_meaning.specs.Networks.{fixed, or_explicit};

@@ -1,7 +1,6 @@
 use Rattle.std.proofs.Common.{◌≡◌, ℕ, sym, ap, ◌∙◌, subst}
 use Rattle.std.proofs.lemmas.Result.{IfOk-weaker}
 use Rattle.if1_graph.specs.declared.graph.Unit1.{Unit1}
-use Rattle.if1_graph.specs.declared.graph.Origin.TheVariants as origin
 use Rattle.if1_graph.specs.Formed.{want_at}
 use Rattle.graph_meaning.specs.Demand.{Fixed}
 use Rattle.graph_meaning.specs.Networks.{fixed, source_from}
@@ -30,7 +29,7 @@ returns-in_ok-cell-in-Lit-clause-fed c =
     (λ (feed : Feed). (D : PlanData) (P : Plan) (S : Shares) (g : ℕ) → HasLiterals c.literal_feed.new.literals D → IsFed D P S g feed (Fixed (owned_in (held c.in_ok-cell-in-Lit.cell))))
     (λ (feed : Feed). (u : Unit1) (D : PlanData) (P : Plan) (S : Shares) (g : ℕ) → u.types ≡ c.args.types.now → HasLiterals c.literal_feed.new.literals D → AreLaid P c.args.outlets.now (P.nodes g) → IsFed D P S g feed (source_from u w e.ty e.from))
     (λ feed fed u D P S g same lits laid.
-        let carried : owned_in (held c.in_ok-cell-in-Lit.cell) ≡ fixed u w e.ty text =
-        c.in_ok-cell-in-Lit.ensures u same ∙ (ap (λ v. fixed u v e.ty c.as_slice.result.now) c.want_at-want.ensures ∙ ap (fixed u w e.ty) c.as_slice.ensures) in
-        subst (λ o. IsFed D P S g feed (source_from u w e.ty o)) (sym c.in-Lit.is) (subst (λ k. IsFed D P S g feed (Fixed k)) carried (fed D P S g lits)))
+    let carried : owned_in (held c.in_ok-cell-in-Lit.cell) ≡ fixed u w e.ty text =
+    c.in_ok-cell-in-Lit.ensures u same ∙ (ap (λ v. fixed u v e.ty c.as_slice.result.now) c.want_at-want.ensures ∙ ap (fixed u w e.ty) c.as_slice.ensures) in
+    subst (λ o. IsFed D P S g feed (source_from u w e.ty o)) (sym c.in-Lit.is) (subst (λ k. IsFed D P S g feed (Fixed k)) carried (fed D P S g lits)))
     c.literal_feed.ensures.fed
