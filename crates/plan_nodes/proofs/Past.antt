@@ -11,7 +11,7 @@ use Rattle.graph_meaning.specs.StorageUnits.{carries_aggregate, storage_of, take
 use Rattle.run_made.proofs.Lying.{eqb-other}
 use Rattle.unit_plan.proofs.Found.{place-found}
 use Rattle.port_feeds.specs.declared.filled.Filled.{Filled}
-use Rattle.port_feeds.specs.Ports.{AreTold}
+use Rattle.port_feeds.specs.Filled.{AreTold}
 use Rattle.plan_nodes.specs.Ports.{has_left, has_whole, left_at}
 
 past : (es : List Edge) (l p : ℕ) → greatest (map (λ e. e.port) (filter (λ e. e.node == l) es)) < p → find (λ e. (e.node == l) && (e.port == p)) es ≡ None

@@ -20,7 +20,8 @@ use Rattle.plan_builder.specs.Nodes.{AreHandled, handled_by}
 use Rattle.plan_builder.specs.Ways.{behind_by, kept_by, last_by, multiple_by, read_by, reading_by}
 use Rattle.plan_builder.proofs.Multiples.{multiple-so}
 use Rattle.port_feeds.specs.declared.filled.Filled.{Filled}
-use Rattle.port_feeds.specs.Ports.{AreFilled, AreTold}
+use Rattle.port_feeds.specs.Filled.{AreTold}
+use Rattle.plan_nodes.proofs.Handling.{AreSources}
 use Rattle.plan_nodes.specs.Ports.{collected_by, if_multiple, number_after, port_by, read_ports, row_read, whole_by, whole_ports}
 
 -- ---- how a node of a row reads what fills its ports
@@ -85,7 +86,7 @@ module _ (D : PlanData) (P : Plan) (S : Shares) (g plain : ℕ) where
   whole-step k f fs o os fed rest None = (fed.0, rest k)
   whole-step k f fs o os fed rest (Some j) = (refl, rest (suc k))
 
-  pub whole-fed : (k : ℕ) (fs : List Filled) (os : List Source) → AreFilled D P S g fs os → AreFed D P S g (whole_ports plain k fs) (whole_ins plain k os)
+  pub whole-fed : (k : ℕ) (fs : List Filled) (os : List Source) → AreSources D P S g fs os → AreFed D P S g (whole_ports plain k fs) (whole_ins plain k os)
   whole-fed k [] [] h = tt
   whole-fed k [] (o ∷ os) h = absurd h
   whole-fed k (f ∷ fs) [] h = absurd h
@@ -93,7 +94,7 @@ module _ (D : PlanData) (P : Plan) (S : Shares) (g plain : ℕ) where
       subst (λ x. AreFed D P S g (whole_by plain k f ∷ whole_ports plain (number_after plain k f) fs) (whole_in plain k o x (λ i. whole_ins plain i os))) (sym (multiple-so D P S g plain f.feed o h.0))
       (whole-step k f fs o os (h.0, tt) (λ i. whole-fed i fs os h.1) (multiple_by plain f.feed))
 
-  pub reads-fed : (k : ℕ) (row : Simple) (fs : List Filled) (r : Reading) → ReadsIs plain row fs r → (os : List Source) → AreFilled D P S g fs os → AreFed D P S g (read_ports r plain k fs) (ins_by (read_by r os) plain k os)
+  pub reads-fed : (k : ℕ) (row : Simple) (fs : List Filled) (r : Reading) → ReadsIs plain row fs r → (os : List Source) → AreSources D P S g fs os → AreFed D P S g (read_ports r plain k fs) (ins_by (read_by r os) plain k os)
   reads-fed k _ _ _ (is_final f j) [] h = absurd h
   reads-fed k _ _ _ (is_final f j) (o ∷ os) h = (refl, tt)
   reads-fed k _ _ _ (is_kept f m j q e) [] h = absurd h
@@ -114,12 +115,6 @@ module _ (D : PlanData) (P : Plan) (S : Shares) (g plain : ℕ) where
 
 -- ---- how they go
 
-swapped : (a b : Bool) → a && b ≡ b && a
-swapped true true = refl
-swapped true false = refl
-swapped false true = refl
-swapped false false = refl
-
 turned : (a b : Bool) → a || b ≡ b || a
 turned true true = refl
 turned true false = refl
@@ -133,7 +128,7 @@ module _ (plain : ℕ) (m : (port : ℕ) → Bool) where
   ReadsThere i (f ∷ fs) = (m i ≡ is_some (multiple_by plain f.feed)) × ReadsThere (suc i) fs
 
   module _ (D : PlanData) (P : Plan) (S : Shares) (g : ℕ) where
-    pub reads-there : (i : ℕ) (fs : List Filled) (os : List Source) → AreFilled D P S g fs os → ((j : ℕ) → m (i + j) ≡ is_some (multiple plain (get_or os j (Fixed Unfilled)))) → ReadsThere i fs
+    pub reads-there : (i : ℕ) (fs : List Filled) (os : List Source) → AreSources D P S g fs os → ((j : ℕ) → m (i + j) ≡ is_some (multiple plain (get_or os j (Fixed Unfilled)))) → ReadsThere i fs
     reads-there i [] [] h e = tt
     reads-there i [] (o ∷ os) h e = absurd h
     reads-there i (f ∷ fs) [] h e = absurd h
@@ -150,12 +145,9 @@ module _ (plain : ℕ) (m : (port : ℕ) → Bool) where
     TakesMore = (port : ℕ) → T port ≡ (m port && not (s.is_aggregate g l port)) || s.is_taken g l port
 
     module _ (more : TakesMore) where
-      consumes-so : (i : ℕ) (f : Filled) → f.consumed ≡ s.is_aggregate g l i && s.is_given g l i → f.consumed ≡ C i
-      consumes-so i f e = e ∙ swapped (s.is_aggregate g l i) (s.is_given g l i)
-
       plain-port : (i : ℕ) (f : Filled) (fs : List Filled) → AreTold s g l i (f ∷ fs) → m i ≡ false → (port_by f).handled ≡ handled_by (T i) (C i)
       plain-port i f fs told e =
-          ap (λ b. handled_by b f.consumed) (told.0.takes ∙ sym (more i ∙ ap (λ b. (b && not (s.is_aggregate g l i)) || s.is_taken g l i) e)) ∙ ap (handled_by (T i)) (consumes-so i f told.0.consumed)
+          ap (λ b. handled_by b f.consumed) (told.0.takes ∙ sym (more i ∙ ap (λ b. (b && not (s.is_aggregate g l i)) || s.is_taken g l i) e)) ∙ ap (handled_by (T i)) told.0.consumed
 
       collected-port : (i k : ℕ) (f : Filled) (fs : List Filled) → AreTold s g l i (f ∷ fs) → m i ≡ true → (collected_by plain k f).handled ≡ handled_by (T i) (C i)
       collected-port i k f fs told e =
@@ -163,7 +155,7 @@ module _ (plain : ℕ) (m : (port : ℕ) → Bool) where
           (ap (λ b. b || not f.aggregate) told.0.takes
           ∙ (ap (λ b. s.is_taken g l i || not b) told.0.aggregate
           ∙ (turned (s.is_taken g l i) (not (s.is_aggregate g l i)) ∙ sym (more i ∙ ap (λ b. (b && not (s.is_aggregate g l i)) || s.is_taken g l i) e))))
-          ∙ ap (handled_by (T i)) (consumes-so i f told.0.consumed)
+          ∙ ap (handled_by (T i)) told.0.consumed
 
       any-step : (i k : ℕ) (f : Filled) (fs : List Filled) → AreTold s g l i (f ∷ fs) → ((n : ℕ) → AreHandled handled_by T C (suc i) (whole_ports plain n fs))
           → (x : Option ℕ) → m i ≡ is_some x → AreHandled handled_by T C i (if_multiple x (collected_by plain k f) (port_by f) ∷ whole_ports plain (if_multiple x (suc k) k) fs)

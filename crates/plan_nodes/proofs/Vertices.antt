@@ -48,7 +48,7 @@ use Rattle.plan_builder.proofs.Collected.{collects-are}
 use Rattle.plan_builder.proofs.Made.{call-stands, compound-stands, simple-stands}
 use Rattle.plan_builder.proofs.Multiples.{way-so}
 use Rattle.port_feeds.specs.declared.filled.Filled.{Filled}
-use Rattle.port_feeds.specs.Ports.{AreFilled, AreTold}
+use Rattle.port_feeds.specs.Filled.{AreTold}
 use Rattle.node_works.specs.declared.task.Task.{Task}
 use Rattle.node_works.specs.declared.task.Task.TheVariants as task
 use Rattle.node_works.specs.Tasks.{IsCallOrWhole, IsTask, task_kind}
@@ -57,7 +57,7 @@ use Rattle.plan_nodes.specs.declared.parts.NodeParts.{NodeParts}
 use Rattle.plan_nodes.specs.Made.{AreOutputsMarked, IsOfNode}
 use Rattle.plan_nodes.specs.Nodes.{plain_collects, plain_node, reading_in, task_collects, task_node, whole_node}
 use Rattle.plan_nodes.specs.Ports.{given_port_by, left_at, port_by, read_ports, row_read, told_in}
-use Rattle.plan_nodes.proofs.Handling.{filled-behind, given-fed, given-handled, simple-fed, simple-handled, told-behind}
+use Rattle.plan_nodes.proofs.Handling.{AreSources, filled-behind, given-fed, given-handled, simple-fed, simple-handled, sources-are, told-behind}
 use Rattle.plan_nodes.proofs.Past.{left-from, taken-past, whole-from, whole-past}
 use Rattle.plan_nodes.proofs.Readings.{AreReads, ReadsIs, ReadsThere, TakesMore, is_final, is_gather, is_kept, is_reduce, is_whole, reads-fed, reads-handled, reads-is, reads-there, row-so}
 
@@ -84,7 +84,7 @@ abbrev pub vertex_collects : (left : (node port : ℕ) → Bool) → Option ℕ 
 vertex_collects left None v kind = []
 vertex_collects left (Some plain) v kind = node_collects plain left v kind
 
-filled-long : (D : PlanData) (P : Plan) (S : Shares) (g : ℕ) (fs : List Filled) (os : List Source) → AreFilled D P S g fs os → length fs ≡ length os
+filled-long : (D : PlanData) (P : Plan) (S : Shares) (g : ℕ) (fs : List Filled) (os : List Source) → AreSources D P S g fs os → length fs ≡ length os
 filled-long D P S g [] [] h = refl
 filled-long D P S g [] (o ∷ os) h = absurd h
 filled-long D P S g (f ∷ fs) [] h = absurd h
@@ -126,8 +126,11 @@ module _ (D : PlanData) (u : Unit1) (order : (graph : ℕ) → List Vertex) (t :
 
   -- ---- its ports
 
+  fills : AreSources D P S g x.ports os
+  fills = sources-are D P S s g l 1 x.ports os are.filled
+
   long : length x.ports ≡ width p.graph l
-  long = filled-long D P S g x.ports os are.filled ∙ sources-long u p.graph l 1 (width p.graph l)
+  long = filled-long D P S g x.ports os fills ∙ sources-long u p.graph l 1 (width p.graph l)
 
   none-past : (port : ℕ) → 1 + length x.ports ≤ port → s.is_aggregate g l port ≡ false
   none-past port le = whole-past u ready.formed p are.place l port (let e = long in omega (arith, e, le))
@@ -189,7 +192,7 @@ module _ (D : PlanData) (u : Unit1) (order : (graph : ℕ) → List Vertex) (t :
     counted-so m k h = subst (λ z. IsCountedOf D u g l m (counted_by_row row (told_in x.ports row) x.marks) z) (e ∙ sym (own k)) (told_in x.ports row, x.marks, refl, (told-so row, h))
 
     fed : AreFed D P S g (map port_by x.ports) os
-    fed = simple-fed D P S g x.ports os are.filled
+    fed = simple-fed D P S g x.ports os fills
 
     -- in a graph that is no returns
     plain-stands : plain_of u g ≡ None → (k : ℕ) → IsNode D P S g (plain_node x.ports x.joined x.marks None k row shape) v
@@ -235,13 +238,13 @@ module _ (D : PlanData) (u : Unit1) (order : (graph : ℕ) → List Vertex) (t :
       are-reads : (q : Reading) → ((j : ℕ) → m (1 + j) ≡ not (is_last (read_by q os)) && is_some (multiple plain (get_or os j (Fixed Unfilled)))) → AreReads plain m s g l (S.takes g l) takes-more q x.ports
       are-reads (reading.Last j) h = h 0
       are-reads (reading.Kept i q) h =
-          reads-there plain m D P S g 1 x.ports os are.filled (λ j. h j ∙ ap (λ b. not b && is_some (multiple plain (get_or os j (Fixed Unfilled)))) (kept-last i q os))
-      are-reads reading.Whole h = reads-there plain m D P S g 1 x.ports os are.filled h
+          reads-there plain m D P S g 1 x.ports os fills (λ j. h j ∙ ap (λ b. not b && is_some (multiple plain (get_or os j (Fixed Unfilled)))) (kept-last i q os))
+      are-reads reading.Whole h = reads-there plain m D P S g 1 x.ports os fills h
 
       returned-stands : IsNode D P S g (plain_node x.ports x.joined x.marks (Some plain) k row shape) w
       returned-stands =
           simple-stands D P S g w (row_read r row) shape (written_by_row row x.joined) (counted_by_row row (told_in x.ports row) x.marks) (read_ports r plain k x.ports) kind-so (ap (outputs_in u) kind-so)
-          (subst (AreFed D P S g (read_ports r plain k x.ports)) (sym ins-so) (reads-fed D P S g plain k row x.ports r reads os are.filled))
+          (subst (AreFed D P S g (read_ports r plain k x.ports)) (sym ins-so) (reads-fed D P S g plain k row x.ports r reads os fills))
           (reads-handled plain m s g l (S.takes g l) takes-more k row x.ports r reads are.told (are-reads r m-so))
 
       returned-told : AreOutputsTold s g l D.marks (outputs_by (row_of (row_read r row)).gives (shape_of shape)) x.marks row
@@ -292,13 +295,13 @@ module _ (D : PlanData) (u : Unit1) (order : (graph : ℕ) → List Vertex) (t :
     compound z whole h ins picked =
         let ins-whole : v.ins ≡ os = ap (ins_of u p.graph l) (sym h) ∙ ins in
         compound-stands D P S g v z x.width (map given_port_by x.ports) Given whole (sym h) wide-whole (ap (picks_by s g v) (sym h) ∙ picked) (λ none. none-taken (sym ins-whole ∙ none))
-        (subst (AreFed D P S g (map given_port_by x.ports)) (sym ins-whole) (given-fed D P S g x.ports os are.filled)) (given-handled s g l (S.takes g l) same 1 x.ports are.told)
+        (subst (AreFed D P S g (map given_port_by x.ports)) (sym ins-whole) (given-fed D P S g x.ports os fills)) (given-handled s g l (S.takes g l) same 1 x.ports are.told)
 
     whole-stands : (z : Work) → IsCallOrWhole z → parts.kind_of z x.width ≡ kind_of u p.graph n → IsNode D P S g (whole_node z x.width x.ports) v
     whole-stands (work.Plain row shape writes copies) c h = absurd c
     whole-stands (work.Call f) c h =
         call-stands D P S g v f x.width (map port_by (drop 1 x.ports)) (sym h) wide-whole
-        (subst (AreFed D P S g (map port_by (drop 1 x.ports))) (sym (ap (ins_of u p.graph l) (sym h))) (simple-fed D P S g (drop 1 x.ports) (drop 1 os) (filled-behind D P S g x.ports os are.filled)))
+        (subst (AreFed D P S g (map port_by (drop 1 x.ports))) (sym (ap (ins_of u p.graph l) (sym h))) (simple-fed D P S g (drop 1 x.ports) (drop 1 os) (filled-behind D P S g x.ports os fills)))
         (simple-handled s g l (S.takes g l) same 2 (drop 1 x.ports) (told-behind s g l x.ports are.told))
     whole-stands (work.Select a gs) c h = compound (work.Select a gs) tt h refl refl
     whole-stands (work.TagCase gs) c h = compound (work.TagCase gs) tt h refl refl
