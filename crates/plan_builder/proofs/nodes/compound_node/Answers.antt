@@ -1,8 +1,8 @@
 use Rattle.plan_builder.proofs.Handling.{given-so}
 use Rattle.plan_builder.proofs.nodes.compound_node.Goals as goal
 
-pub returns : goal.returns
-returns c D P S g v copies kind wide picked none fed handled =
+pub returns-clause-stands : goal.returns-clause-stands
+returns-clause-stands c D P S g v copies kind wide picked none fed handled =
     record {
       width = wide;
       kind = kind;

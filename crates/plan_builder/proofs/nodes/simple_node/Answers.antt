@@ -4,8 +4,8 @@ use Rattle.ordered_meaning.specs.Taking.{first_port}
 use Rattle.plan_builder.proofs.Handling.{modes-are}
 use Rattle.plan_builder.proofs.nodes.simple_node.Goals as goal
 
-pub returns : goal.returns
-returns c D P S g v kind wide fed handled =
+pub returns-clause-stands : goal.returns-clause-stands
+returns-clause-stands c D P S g v kind wide fed handled =
     record {
       width = wide ∙ sym c.plain_width.ensures;
       kind = kind;
