@@ -1,0 +1,5 @@
+mod Places
+mod Parts
+mod Results
+mod Walked
+mod Whole
