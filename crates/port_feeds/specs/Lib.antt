@@ -1,1 +1,3 @@
-pub mod Ports
+pub mod Found
+pub mod Wanted
+pub mod Filled
