@@ -2,4 +2,7 @@ mod Places
 mod Parts
 mod Results
 mod Walked
+mod Known
+mod Nodes
+mod Graphs
 mod Whole

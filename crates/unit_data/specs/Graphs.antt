@@ -21,11 +21,14 @@ use Rattle.plan_tables.specs.Above.{entry_at}
 abbrev pub HasMarks : List Bool → PlanData → Type 0
 HasMarks ms D = (more : List Bool) × (D.marks ≡ ms ++ more)
 
--- the data has these literals and marks, and more, and its first literal is what an unfilled port has
+-- the data has these literals and marks, and more
 pub record GoesOn (cells : List Cell) (marks : List Bool) (D : PlanData) : Type 0 where
   pub literals : HasLiterals cells D
   pub marks : HasMarks marks D
-  pub unfilled : literal_in D 0 ≡ Unfilled
+
+-- its first literal is what an unfilled port has
+abbrev pub IsBegun : PlanData → Type 0
+IsBegun D = literal_in D 0 ≡ Unfilled
 
 -- outputs that fill the ports of these nodes stand below so many cells
 abbrev pub AreAllBelow : (cells : ℕ) → List PlanNode → Type 0

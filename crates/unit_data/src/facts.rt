@@ -77,6 +77,7 @@ fn outlets_in(
     ensures own { IfOk result (λ x. (p : Place) → Contains (places unit.now) p → p.graph ≡ graph.now → AreOfGraph unit.now p x) }
     ensures order { IfOk result (λ x. x.order ≡ order) }
 {
+    let _whole = unit.unit();
     let labels = labels_of(alloc, graph.nodes.as_slice())?;
     let widths = widths_of(alloc, unit, &facts.tables, graph)?;
     outlets_of(alloc, labels, widths, order)
@@ -96,10 +97,11 @@ pub fn graph_facts(
     ensures are { IfOk result (AreFactsAt unit.now graph.now) }
     ensures order { IfOk result (λ x. x.outlets.order ≡ order) }
 {
+    let whole = unit.unit();
     let outlets = outlets_in(alloc, unit, facts, graph, order)?;
     let types = output_types(alloc, unit, graph)?;
     let joined = joined_nodes(alloc, graph)?;
-    let outputs = aggregate_outputs(alloc, unit.unit().types.as_slice(), graph)?;
+    let outputs = aggregate_outputs(alloc, whole.types.as_slice(), graph)?;
     Ok(GraphFacts {
         outlets,
         types,

@@ -1,5 +1,5 @@
 //! The graphs of the data of a unit.
-ghost use Rattle.std.specs.Prelude.{◌≡◌, ◌≤◌, ℕ, suc, [], List, map, length, slice_index_or, Contains, IfOk, OnOk};
+ghost use Rattle.std.specs.Prelude.{◌≡◌, ◌≤◌, ℕ, suc, [], List, Some, map, length, slice_index_or, Contains, IfOk, OnOk};
 ghost use Rattle.if1_graph.specs.Units.{Place, number_of, places};
 ghost use Rattle.firing_order.specs.Orders.{IsFiringOrder};
 ghost use Rattle.unit_plan.specs.Plans.{Tables, plain_of};
@@ -9,7 +9,7 @@ ghost use Rattle.plan_data.specs.declared.plan.PlanData.{PlanData};
 ghost use Rattle.node_works.specs.Tables.{IsGraphOf};
 ghost use Rattle.plan_nodes.specs.Ports.{port_by};
 ghost use Rattle.unit_data.specs.Facts.{AreFacts};
-ghost use Rattle.unit_data.specs.Graphs.{AreGraphsAt, GoesOn, IsGraphAt};
+ghost use Rattle.unit_data.specs.Graphs.{AreGraphsAt, GoesOn, IsBegun, IsGraphAt};
 
 use crate::facts::{Facts, graph_facts};
 use crate::nodes::nodes_of;
@@ -61,8 +61,9 @@ fn graph_of(
     requires here { IsGraphOf unit.now graph.now }
     requires order { IsFiringOrder graph.now order }
     ensures kept { OnOk result ((D : PlanData) → GoesOn literals.new marks.new D → GoesOn literals.old marks.old D) }
-    ensures made { IfOk result (λ x. (D : PlanData) (os : (graph : ℕ) → List ℕ) (t : Tables) (p : Place) → GoesOn literals.new marks.new D → Contains (places unit.now) p → p.graph ≡ graph.now → plain_of unit.now (number_of p) ≡ plain → order ≡ os (number_of p) → IsGraphAt D unit.now os t (number_of p) (Some x)) }
+    ensures made { IfOk result (λ x. (D : PlanData) (os : (graph : ℕ) → List ℕ) (t : Tables) (p : Place) → GoesOn literals.new marks.new D → IsBegun D → Contains (places unit.now) p → p.graph ≡ graph.now → plain_of unit.now (number_of p) ≡ plain → order ≡ os (number_of p) → IsGraphAt D unit.now os t (number_of p) (Some x)) }
 {
+    let _whole = unit.unit();
     let known = graph_facts(alloc, unit, facts, graph, order)?;
     let made = nodes_of(
         alloc, unit, facts, graph, &known, plain, literals, marks,
@@ -114,8 +115,9 @@ fn graph_at(
     requires inside { number ≤ length graphs.now }
     requires order { (p : Place) → Contains (places unit.now) p → number_of p ≡ number → IsFiringOrder p.graph order }
     ensures kept { OnOk result ((D : PlanData) → GoesOn literals.new marks.new D → GoesOn literals.old marks.old D) }
-    ensures made { IfOk result (λ x. (D : PlanData) (os : (graph : ℕ) → List ℕ) (t : Tables) → GoesOn literals.new marks.new D → order ≡ os number → IsGraphAt D unit.now os t number (Some x)) }
+    ensures made { IfOk result (λ x. (D : PlanData) (os : (graph : ℕ) → List ℕ) (t : Tables) → GoesOn literals.new marks.new D → IsBegun D → order ≡ os number → IsGraphAt D unit.now os t number (Some x)) }
 {
+    let _whole = unit.unit();
     if number == 0 {
         return Ok(no_graph(alloc));
     }
@@ -140,7 +142,7 @@ pub fn graphs_of(
     requires orders { AreFiringOrders unit.now orders.items }
     ensures long { IfOk result (λ x. length x.graphs ≡ suc (length (places unit.now))) }
     ensures made { IfOk result (λ x. (D : PlanData) (t : Tables) → D.literals ≡ x.literals → D.marks ≡ x.marks → AreGraphsAt D unit.now (λ g. slice_index_or orders.items g []) t x.graphs) }
-    ensures unfilled { IfOk result (λ x. (D : PlanData) → D.literals ≡ x.literals → literal_in D 0 ≡ Unfilled) }
+    ensures unfilled { IfOk result (λ x. (D : PlanData) → D.literals ≡ x.literals → IsBegun D) }
 {
     let mut made = MadeGraphs {
         graphs: Seq::with_room(alloc, orders.len())?,

@@ -14,7 +14,7 @@ ghost use Rattle.node_works.specs.Tables.{IsGraphOf};
 ghost use Rattle.node_works.specs.Tasks.{IsTask, task_kind};
 ghost use Rattle.plan_nodes.specs.Made.{AreMade, AreOutputsMarked, IsOfNode};
 ghost use Rattle.unit_data.specs.Facts.{AreFacts, AreFactsAt};
-ghost use Rattle.unit_data.specs.Graphs.{AreAllBelow, GoesOn, HasMarks};
+ghost use Rattle.unit_data.specs.Graphs.{AreAllBelow, GoesOn, HasMarks, IsBegun};
 
 use crate::facts::{Facts, GraphFacts};
 use flow_value::{NoMemory, Seq};
@@ -50,12 +50,14 @@ fn marks_for(
 ) -> Result<u32, NoMemory>
     requires here { IsGraphOf unit.now graph.now }
     requires known { AreFactsAt unit.now graph.now known.now }
+    requires task { IsTask task.now }
     ensures kept { OnOk result ((D : PlanData) → HasMarks marks.new D → HasMarks marks.old D) }
-    ensures told { IfOk result (λ first. (D : PlanData) (p : Place) (n : Node) → HasMarks marks.new D → Contains (places unit.now) p → p.graph ≡ graph.now → Contains (out-Graph p.graph).nodes n → label_of n ≡ label → task_kind task.now width ≡ kind_of unit.now p.graph n → AreOutputsMarked (storage_of unit.now) (number_of p) label D.marks width first (kind_of unit.now p.graph n)) }
+    ensures told { IfOk result (λ first. (D : PlanData) (p : Place) (n : Node) → HasMarks marks.new D → Contains (places unit.now) p → p.graph ≡ graph.now → Contains (out-Graph graph.now).nodes n → label_of n ≡ label → kind_of unit.now graph.now n ≡ task_kind task.now width → AreOutputsMarked (storage_of unit.now) (number_of p) label D.marks width first (kind_of unit.now graph.now n)) }
 {
+    let whole = unit.unit();
     match task {
         Task::Plain(row, _) => add_marks(
-            unit.unit(),
+            whole,
             graph,
             &known.outputs,
             label,
@@ -84,9 +86,10 @@ fn parts_of(
     requires inside { place < length (out-Graph graph.now).nodes }
     ensures kept { OnOk result ((D : PlanData) → GoesOn literals.new marks.new D → GoesOn literals.old marks.old D) }
     ensures task { IfOk result (λ x. IsTask x.task) }
-    ensures parts { IfOk result (λ x. (D : PlanData) (os : (graph : ℕ) → List ℕ) (t : Tables) (p : Place) (n : Node) → GoesOn literals.new marks.new D → Contains (places unit.now) p → p.graph ≡ graph.now → known.now.outlets.order ≡ os (number_of p) → slice_get (out-Graph p.graph).nodes place ≡ Some n → IsOfNode D unit.now (order_by unit.now os) t p n x) }
+    ensures parts { IfOk result (λ x. (D : PlanData) (os : (graph : ℕ) → List ℕ) (t : Tables) (p : Place) (n : Node) → GoesOn literals.new marks.new D → IsBegun D → Contains (places unit.now) p → p.graph ≡ graph.now → known.now.outlets.order ≡ os (number_of p) → slice_get (out-Graph p.graph).nodes place ≡ Some n → IsOfNode D unit.now (order_by unit.now os) t p n x) }
     ensures below { IfOk result (λ x. All (λ f. IsBelow (cells_of known.now.outlets.widths known.now.outlets.order) f.feed) x.ports) }
 {
+    let _whole = unit.unit();
     let label = graph.nodes.as_slice()[place].label;
     let task = task_of(
         alloc,
@@ -134,9 +137,10 @@ pub fn nodes_of(
     requires here { IsGraphOf unit.now graph.now }
     requires known { AreFactsAt unit.now graph.now known.now }
     ensures kept { OnOk result ((D : PlanData) → GoesOn literals.new marks.new D → GoesOn literals.old marks.old D) }
-    ensures made { IfOk result (λ x. (D : PlanData) (os : (graph : ℕ) → List ℕ) (t : Tables) (p : Place) → GoesOn literals.new marks.new D → Contains (places unit.now) p → p.graph ≡ graph.now → plain_of unit.now (number_of p) ≡ plain → known.now.outlets.order ≡ os (number_of p) → AreMade D unit.now (order_by unit.now os) t (number_of p) (order_by unit.now os (number_of p)) x.nodes x.collects) }
+    ensures made { IfOk result (λ x. (D : PlanData) (os : (graph : ℕ) → List ℕ) (t : Tables) (p : Place) → GoesOn literals.new marks.new D → IsBegun D → Contains (places unit.now) p → p.graph ≡ graph.now → plain_of unit.now (number_of p) ≡ plain → known.now.outlets.order ≡ os (number_of p) → AreMade D unit.now (order_by unit.now os) t (number_of p) (order_by unit.now os (number_of p)) x.nodes x.collects) }
     ensures below { IfOk result (λ x. AreAllBelow (cells_of known.now.outlets.widths known.now.outlets.order) x.nodes) }
 {
+    let _whole = unit.unit();
     let mut made = MadeNodes {
         nodes: Seq::with_room(alloc, graph.nodes.len())?,
         collects: Seq::new(alloc),

@@ -17,11 +17,12 @@ use unit_orders::firing_orders;
 pub fn data_of(alloc: Global, unit: &Sound) -> Result<PlanData, NoMemory>
     ensures { IfOk result (λ d. IsDataOf unit.now d) }
 {
+    let whole = unit.unit();
     let facts = facts_of(alloc, unit)?;
-    let graphs = all_graphs(alloc, unit.unit())?;
+    let graphs = all_graphs(alloc, whole)?;
     let orders = firing_orders(alloc, unit)?;
     let made = graphs_of(alloc, unit, &facts, graphs.as_slice(), orders)?;
-    let functions = functions_of(alloc, unit.unit().graphs.as_slice())?;
+    let functions = functions_of(alloc, whole.graphs.as_slice())?;
     let params = params_of(alloc, facts.inputs.as_slice())?;
     data_with(alloc, made, functions.as_slice(), params)
 }
