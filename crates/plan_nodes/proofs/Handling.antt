@@ -1,5 +1,5 @@
 -- The ports of nodes are fed and handled as what is known of them tells.
-use Rattle.std.proofs.Common.{◌≡◌, ℕ, suc, ◌&&◌, ◌||◌, not, Bool, true, false, List, [], ◌∷◌, map, drop, All, refl, sym, ap, ◌∙◌, arith}
+use Rattle.std.proofs.Common.{◌≡◌, ℕ, suc, ◌&&◌, not, Bool, true, false, List, [], ◌∷◌, map, drop, All, refl, sym, ap, ◌∙◌}
 use Rattle.std.proofs.lemmas.List.Elements.{All-head, All-tail}
 use Rattle.graph_meaning.specs.Demand.{Source}
 use Rattle.graph_meaning.specs.Storage.{Storage, is_left}

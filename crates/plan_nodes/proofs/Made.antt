@@ -14,7 +14,6 @@ use Rattle.step_code.specs.declared.step.Collect.{Collect}
 use Rattle.step_code.specs.Laid.{collect_in, puts_of}
 use Rattle.plan_data.specs.declared.plan.PlanData.{PlanData}
 use Rattle.plan_data.specs.declared.plan.PlanNode.{PlanNode}
-use Rattle.plan_data.specs.declared.plan.Work.{Work}
 use Rattle.plan_data.specs.declared.plan.Work.TheVariants as work
 use Rattle.plan_data.specs.Parts.{AreBelow, IsBelow}
 use Rattle.plan_data.specs.Stands.{AreNodes}
@@ -22,13 +21,12 @@ use Rattle.unit_plan.specs.Plans.{Tables, collects_in, nodes_by, plain_of, plan_
 use Rattle.unit_plan.specs.Shares.{shares_of}
 use Rattle.node_works.specs.declared.task.Task.{Task}
 use Rattle.node_works.specs.declared.task.Task.TheVariants as task
-use Rattle.node_works.specs.Tasks.{IsCallOrWhole, IsTask}
-use Rattle.port_feeds.specs.declared.filled.Filled.{Filled}
+use Rattle.node_works.specs.Tasks.{IsTask}
 use Rattle.code_maker.specs.Grows.{IsPair}
 use Rattle.told_rows.specs.Rows.{IsCountedByRow, IsWrittenByRow}
 use Rattle.plan_nodes.specs.declared.parts.NodeParts.{NodeParts}
 use Rattle.plan_nodes.specs.Made.{AreMade, IsMadeOf, IsNothingMade, IsOfNode, IsWorkOf}
-use Rattle.plan_nodes.specs.Nodes.{collects_by, node_by, reading_in, task_node, whole_node}
+use Rattle.plan_nodes.specs.Nodes.{collects_by, node_by, reading_in, task_node}
 use Rattle.plan_nodes.proofs.Handling.{below-behind, given-below, simple-below}
 use Rattle.plan_nodes.proofs.Lists.{collects-more, nodes-more, pairs-more, vertices-more}
 use Rattle.plan_nodes.proofs.Vertices.{IsRight, collects-right, node-right, vertex_as, vertex_collects}

@@ -1,7 +1,6 @@
 -- Nothing is known of ports past the last one that is filled.
 use Rattle.std.proofs.Common.{◌≡◌, ℕ, zero, suc, ◌+◌, ◌<◌, ◌≤◌, ◌&&◌, not, cond, Bool, true, false, List, [], ◌∷◌, map, filter, find, length, slice_get, Some, None, Contains, ◌==◌, refl, sym, ap, ◌∙◌, arith}
 use Rattle.if1_graph.specs.declared.graph.Edge.{Edge}
-use Rattle.if1_graph.specs.declared.graph.Graph.{Graph}
 use Rattle.if1_graph.specs.declared.graph.Graph.TheViews.{out-Graph}
 use Rattle.if1_graph.specs.declared.graph.Unit1.{Unit1}
 use Rattle.if1_graph.specs.Formed.{IsFormed}
@@ -12,7 +11,7 @@ use Rattle.run_made.proofs.Lying.{eqb-other}
 use Rattle.unit_plan.proofs.Found.{place-found}
 use Rattle.port_feeds.specs.declared.filled.Filled.{Filled}
 use Rattle.port_feeds.specs.Filled.{AreTold}
-use Rattle.plan_nodes.specs.Ports.{has_left, has_whole, left_at}
+use Rattle.plan_nodes.specs.Ports.{has_left, has_whole}
 
 past : (es : List Edge) (l p : ℕ) → greatest (map (λ e. e.port) (filter (λ e. e.node == l) es)) < p → find (λ e. (e.node == l) && (e.port == p)) es ≡ None
 past [] l p lt = refl

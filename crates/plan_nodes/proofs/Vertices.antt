@@ -1,18 +1,16 @@
 -- Nodes of which so much is known stand for the vertices of the plan, and what is told of them is right.
-use Rattle.std.proofs.Common.{◌≡◌, ℕ, zero, suc, ◌+◌, ◌-◌, ◌<◌, ◌≤◌, ◌&&◌, ◌||◌, not, Bool, true, false, List, [], ◌∷◌, map, drop, get_or, length, slice_get, All, Contains, Option, Some, None, refl, sym, ap, ◌∙◌, subst, arith}
+use Rattle.std.proofs.Common.{◌≡◌, ℕ, zero, suc, ◌+◌, ◌-◌, ◌≤◌, ◌&&◌, ◌||◌, not, Bool, false, List, [], ◌∷◌, map, drop, get_or, length, All, Option, Some, None, refl, sym, ap, ◌∙◌, subst, arith}
 use Rattle.std.specs.Prelude.{is_some}
 use Rattle.flow_value.specs.declared.operands.Shape.{Shape}
-use Rattle.if1_graph.specs.declared.graph.Graph.{Graph}
-use Rattle.if1_graph.specs.declared.graph.Graph.TheViews.{out-Graph}
 use Rattle.if1_graph.specs.declared.graph.Node.{Node}
 use Rattle.if1_graph.specs.declared.graph.Unit1.{Unit1}
 use Rattle.if1_graph.specs.declared.op.Simple.{Simple}
 use Rattle.if1_graph.specs.declared.op.Simple.TheVariants as simple
 use Rattle.if1_graph.specs.Ready.{IsReady}
 use Rattle.if1_graph.specs.Rows.{row_of}
-use Rattle.if1_graph.specs.Units.{Place, label_of, number_of, places, width}
+use Rattle.if1_graph.specs.Units.{Place, label_of, number_of, width}
 use Rattle.graph_meaning.specs.Carried.{Unfilled}
-use Rattle.graph_meaning.specs.Demand.{Fixed, Kind, Plain, Source, Vertex, Whole, at_label}
+use Rattle.graph_meaning.specs.Demand.{Fixed, Kind, Plain, Source, Vertex, at_label}
 use Rattle.graph_meaning.specs.Laws.{outputs_by}
 use Rattle.graph_meaning.specs.Networks.{ins_of, kind_of, network, sources, vertex_of}
 use Rattle.graph_meaning.specs.NodeValues as node
@@ -23,8 +21,6 @@ use Rattle.run_code.specs.Collections.{Collect}
 use Rattle.run_code.specs.Made.{Plan}
 use Rattle.run_store.specs.Ports.{picks_of}
 use Rattle.made_store.specs.Settings.{Shares}
-use Rattle.step_code.specs.declared.step.Counted.{Counted}
-use Rattle.step_code.specs.declared.step.Written.{Written}
 use Rattle.step_code.specs.Laid.{collect_in, puts_of}
 use Rattle.row_counts.specs.Counts.{AreOutputsTold, counted_by_row, told_by, written_by_row}
 use Rattle.plan_data.specs.declared.plan.PlanData.{PlanData}
@@ -39,7 +35,7 @@ use Rattle.unit_plan.proofs.Found.{at-own}
 use Rattle.unit_plan.proofs.Outputs.{sources-long}
 use Rattle.unit_plan.specs.Plans.{Tables, outputs_in, picks_by, plain_of, plan_of}
 use Rattle.unit_plan.specs.Returns.{collects_by, ins_by, multiple, node_collects, refolded_node, row_by, way_of}
-use Rattle.unit_plan.specs.Shares.{is_last, kind_or, kind_there, reads_by, reads_multiple, shares_of, takes_collected, takes_more}
+use Rattle.unit_plan.specs.Shares.{is_last, kind_or, reads_by, reads_multiple, shares_of, takes_collected, takes_more}
 use Rattle.plan_builder.specs.declared.ways.Reading.{Reading}
 use Rattle.plan_builder.specs.declared.ways.Reading.TheVariants as reading
 use Rattle.plan_builder.specs.Nodes.{made_node}
@@ -48,7 +44,6 @@ use Rattle.plan_builder.proofs.Collected.{collects-are}
 use Rattle.plan_builder.proofs.Made.{call-stands, compound-stands, simple-stands}
 use Rattle.plan_builder.proofs.Multiples.{way-so}
 use Rattle.port_feeds.specs.declared.filled.Filled.{Filled}
-use Rattle.port_feeds.specs.Filled.{AreTold}
 use Rattle.node_works.specs.declared.task.Task.{Task}
 use Rattle.node_works.specs.declared.task.Task.TheVariants as task
 use Rattle.node_works.specs.Tasks.{IsCallOrWhole, IsTask, task_kind}
@@ -59,7 +54,7 @@ use Rattle.plan_nodes.specs.Nodes.{plain_collects, plain_node, reading_in, task_
 use Rattle.plan_nodes.specs.Ports.{given_port_by, left_at, port_by, read_ports, row_read, told_in}
 use Rattle.plan_nodes.proofs.Handling.{AreSources, filled-behind, given-fed, given-handled, simple-fed, simple-handled, sources-are, told-behind}
 use Rattle.plan_nodes.proofs.Past.{left-from, taken-past, whole-from, whole-past}
-use Rattle.plan_nodes.proofs.Readings.{AreReads, ReadsIs, ReadsThere, TakesMore, is_final, is_gather, is_kept, is_reduce, is_whole, reads-fed, reads-handled, reads-is, reads-there, row-so}
+use Rattle.plan_nodes.proofs.Readings.{AreReads, ReadsIs, TakesMore, is_final, is_gather, is_kept, is_reduce, is_whole, reads-fed, reads-handled, reads-is, reads-there, row-so}
 
 no-moves : All (λ c. puts_of c ≡ false) []
 no-moves k d lt = absurd (omega (arith, lt))
