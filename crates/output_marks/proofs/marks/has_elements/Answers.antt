@@ -12,8 +12,8 @@ returns-in-Some c =
     let g = c.args.graph.now in
     let l = c.args.label in
     let found : edge_into g l 1 ≡ Some c.in-Some.edge.now =
-        sym (c.in-Some.ensures ∙ (ap (find (λ (e : Edge). e.port == 1)) (c.edges_into.ensures ∙ ap (filter (λ (e : Edge). e.node == l)) c.as_slice.ensures)
-        ∙ found-filtered (λ (e : Edge). e.node == l) (λ (e : Edge). e.port == 1) (out-Graph g).edges)) in
+    sym (c.in-Some.ensures ∙ (ap (find (λ (e : Edge). e.port == 1)) (c.edges_into.ensures ∙ ap (filter (λ (e : Edge). e.node == l)) c.as_slice.ensures)
+    ∙ found-filtered (λ (e : Edge). e.node == l) (λ (e : Edge). e.port == 1) (out-Graph g).edges)) in
     c.has_aggregate_elements.ensures ∙ (ap (λ ts. elements_by ts (entry_at ts c.in-Some.edge.now.ty)) c.as_slice-in-Some.ensures ∙ sym (ap (carries_elements c.args.unit.now) found))
 
 pub returns-in-None : goal.returns-in-None
@@ -21,6 +21,6 @@ returns-in-None c =
     let g = c.args.graph.now in
     let l = c.args.label in
     let found : edge_into g l 1 ≡ None =
-        sym (c.in-None.ensures ∙ (ap (find (λ (e : Edge). e.port == 1)) (c.edges_into.ensures ∙ ap (filter (λ (e : Edge). e.node == l)) c.as_slice.ensures)
-        ∙ found-filtered (λ (e : Edge). e.node == l) (λ (e : Edge). e.port == 1) (out-Graph g).edges)) in
+    sym (c.in-None.ensures ∙ (ap (find (λ (e : Edge). e.port == 1)) (c.edges_into.ensures ∙ ap (filter (λ (e : Edge). e.node == l)) c.as_slice.ensures)
+    ∙ found-filtered (λ (e : Edge). e.node == l) (λ (e : Edge). e.port == 1) (out-Graph g).edges)) in
     sym (ap (carries_elements c.args.unit.now) found)
