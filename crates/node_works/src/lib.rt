@@ -1,6 +1,7 @@
 //! What each node of a graph of a unit does, as data, and how many outputs it has.
 #![tactic(auto)]
 
+mod counts;
 mod functions;
 mod outputs;
 mod tables;
@@ -10,7 +11,7 @@ mod works;
 
 pub use functions::Callee;
 pub use outputs::output_types;
-pub use tables::{UnitTables, tables_of};
+pub use tables::{UnitTables, function_inputs, tables_of};
 pub use task::Task;
 pub use widths::widths_of;
 pub use works::task_of;

@@ -30,7 +30,7 @@ pub fn task_of(
     requires inside { place < length (out-Graph graph.now).nodes }
     ensures kind { IfOk
         result
-        (λ t. (n : Node) → slice_get (out-Graph graph.now).nodes place ≡ Some n → task_kind t (outputs_in unit.now (kind_of unit.now graph.now n)) ≡ kind_of unit.now graph.now n) }
+        (λ t. (n : Node) → slice_get (out-Graph graph.now).nodes place ≡ Some n → kind_of unit.now graph.now n ≡ task_kind t (outputs_in unit.now (kind_of unit.now graph.now n))) }
     ensures whole { IfOk result IsTask }
     ensures above { IfOk result (IsTaskAbove (out-Graph graph.now).number) }
     ensures calls { IfOk result (IsTaskCalling (functions_of unit.now)) }
