@@ -22,7 +22,7 @@ use Rattle.unit_plan.specs.Plans.{Tables, collects_in, nodes_by, outputs_in, pla
 use Rattle.unit_plan.specs.Shares.{shares_of}
 use Rattle.code_maker.specs.Grows.{IsPair}
 use Rattle.told_rows.specs.Rows.{IsCountedByRow, IsWrittenByRow}
-use Rattle.port_feeds.specs.Ports.{AreFilled, AreTold}
+use Rattle.port_feeds.specs.Filled.{AreFilled, AreTold}
 use Rattle.node_works.specs.declared.task.Task.{Task}
 use Rattle.node_works.specs.declared.task.Task.TheVariants as task
 use Rattle.node_works.specs.Tasks.{task_kind}
@@ -43,7 +43,7 @@ module _ (D : PlanData) (u : Unit1) (order : (graph : ℕ) → List Vertex) (t :
     pub node : Contains (out-Graph p.graph).nodes n
     pub kind : task_kind x.task x.width ≡ kind_of u p.graph n
     pub width : x.width ≡ outputs_in u (kind_of u p.graph n)
-    pub filled : AreFilled D (plan_of u order t) (shares_of u order) (number_of p) x.ports (sources u p.graph (label_of n) 1 (units.width p.graph (label_of n)))
+    pub filled : AreFilled D (plan_of u order t) (shares_of u order) (storage_of u) (number_of p) (label_of n) 1 x.ports (sources u p.graph (label_of n) 1 (units.width p.graph (label_of n)))
     pub told : AreTold (storage_of u) (number_of p) (label_of n) 1 x.ports
     pub joined : x.joined ≡ (storage_of u).is_joined (number_of p) (label_of n)
     pub marks : AreOutputsMarked (storage_of u) (number_of p) (label_of n) D.marks x.width x.marks (kind_of u p.graph n)

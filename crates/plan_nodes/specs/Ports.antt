@@ -2,7 +2,6 @@
 use Rattle.std.specs.Prelude.{ℕ, suc, ◌+◌, ◌-◌, ◌&&◌, ◌||◌, not, Bool, false, List, [], ◌∷◌, slice_get, Option, Some, None}
 use Rattle.if1_graph.specs.declared.op.Simple.{Simple}
 use Rattle.if1_graph.specs.declared.op.Simple.TheVariants as simple
-use Rattle.plan_data.specs.declared.plan.Feed.{Feed}
 use Rattle.plan_data.specs.declared.plan.Feed.TheVariants as feed
 use Rattle.plan_data.specs.declared.plan.Port.{Port}
 use Rattle.port_feeds.specs.declared.filled.Filled.{Filled}

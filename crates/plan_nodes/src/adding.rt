@@ -12,6 +12,7 @@ ghost use Rattle.unit_plan.specs.Plans.{Tables, plain_of};
 ghost use Rattle.node_works.specs.Tasks.{IsTask};
 ghost use Rattle.plan_nodes.specs.Made.{AreMade, IsMadeOf, IsOfNode};
 
+use crate::nodes::node_of;
 use crate::parts::NodeParts;
 use flow_value::{NoMemory, Seq};
 use plan_data::PlanNode;
@@ -32,5 +33,7 @@ pub fn add_node(
     ensures made { OnOk result ((D : PlanData) (u : Unit1) (order : (graph : ℕ) → List Vertex) (t : Tables) (p : Place) (n : Node) (vs : List Vertex) → IsReady u → plain_of u (number_of p) ≡ plain → IsOfNode D u order t p n parts → AreMade D u order t (number_of p) vs nodes.old collects.old → AreMade D u order t (number_of p) (vs ++ vertex_of u p.graph n ∷ []) nodes.new collects.new) }
     ensures added { OnOk result ((node : PlanNode) × (nodes.new ≡ nodes.old ++ node ∷ []) × IsMadeOf parts node) }
 {
-    Err(NoMemory)
+    let node = node_of(alloc, plain, parts, collects)?;
+    nodes.add(node)?;
+    Ok(())
 }

@@ -3,8 +3,12 @@
 #![tactic(auto)]
 
 mod adding;
+mod collected;
 mod laws;
+mod nodes;
 mod parts;
+mod ports;
+mod told;
 
 pub use adding::add_node;
 pub use laws::nothing_is_made_of_no_vertices;
