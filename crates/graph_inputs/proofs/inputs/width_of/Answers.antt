@@ -1,4 +1,4 @@
-use Rattle.std.proofs.Common.{◌≡◌, ◌==◌, ◌∙◌, filter, ap}
+use Rattle.std.proofs.Common.{◌==◌, ◌∙◌, filter, ap}
 use Rattle.if1_graph.specs.declared.graph.Edge.{Edge}
 use Rattle.if1_graph.specs.Units.{greatest}
 use Rattle.if1_ports.specs.Fed.{ports_of}

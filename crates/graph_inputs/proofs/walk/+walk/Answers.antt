@@ -1,14 +1,14 @@
-use Rattle.std.proofs.Common.{◌≡◌, ℕ, suc, List, All, AllPairs, Contains, ◌<◌, ◌≤◌, ◌∙◌, ◌++◌, length, get_or, sym, ap, subst, map, arith, refl}
+use Rattle.std.proofs.Common.{◌≡◌, ℕ, suc, List, Contains, ◌<◌, ◌≤◌, ◌∙◌, ◌++◌, length, get_or, sym, ap, subst, map, arith}
 use Rattle.if1_graph.specs.declared.graph.Graph.{Graph}
 use Rattle.if1_graph.specs.declared.graph.Graph.TheViews.{out-Graph}
-use Rattle.if1_graph.specs.declared.graph.Node.{Node, out-Node}
+use Rattle.if1_graph.specs.declared.graph.Node.{Node}
 use Rattle.if1_graph.specs.Units.{Inside, level_below, levels, places_of}
 use Rattle.if1_order.specs.Within.{whole}
 use Rattle.if1_order.proofs.Within.{levels_out, parts_below, below}
 use Rattle.if1_ports.proofs.Walks.{edges_of, parts_in_order}
 use Rattle.if1_ports.specs.Inside.{AreInOrder}
-use Rattle.graph_inputs.proofs.Listed.{each-more, each-all, flat-more, flat-all, graph-added, part-known}
-use Rattle.graph_inputs.specs.Inputs.{inputs_by, inputs_of}
+use Rattle.graph_inputs.proofs.Listed.{each-more, each-all, flat-more, flat-all, graph-added, part-own}
+use Rattle.graph_inputs.specs.Inputs.{inputs_of}
 use Rattle.graph_inputs.specs.Walks.{node_places, part_places}
 use Rattle.graph_inputs.proofs.walk.+walk.Goals as goal
 
@@ -20,8 +20,8 @@ add_graph-returns t c = λ u home more own deep.
     graph-added u c.args.graph.now c.args.all.now c.add.new.self c.add_nodes.new.all c.args.own home own c.in_ok-add.ensures.ok
     (λ more deep. c.in_ok-add_nodes.ensures u more deep) more deep
 
-pub add_nodes-width_of-width-requires : goal.add_nodes-width_of-width-requires
-add_nodes-width_of-width-requires t c = (c.requires c.args.graph.now whole).edges
+pub add_nodes-width_of-count-requires : goal.add_nodes-width_of-count-requires
+add_nodes-width_of-count-requires t c = (c.requires c.args.graph.now whole).edges
 
 pub add_nodes-add_parts-requires : goal.add_nodes-add_parts-requires
 add_nodes-add_parts-requires t c =
@@ -43,7 +43,7 @@ add_nodes-loop-node-preserved t c = λ u more deep.
     omega (arith, deep, parts_below (out-Graph g).nodes n there, levels_out g, ap (λ (z : List Graph). level_below (map levels z)) c.as_slice.ensures) in
     flat-more u (node_places more g) (out-Graph g).nodes i n (subst (λ ns. i < length ns) c.as_slice-node-items.ensures c.loop-node-test.true) (subst (λ ns. n ≡ get_or ns i n) c.as_slice-node-items.ensures c.node-item.is)
     c.args.all.now c.loop-node.all c.add_parts.new.all (c.loop-node.invariant u more deep)
-    (c.in_ok-add_parts.ensures u g n more c.as_slice.ensures c.compound_of-compound.ensures c.width_of-width.ensures flat ∙ ap (λ gs. c.loop-node.all ++ map (inputs_of u) (part_places more g n 0 gs)) c.as_slice.ensures)
+    (c.in_ok-add_parts.ensures u g n more c.as_slice.ensures c.compound_of-compound.ensures c.width_of-count.ensures flat ∙ ap (λ gs. c.loop-node.all ++ map (inputs_of u) (part_places more g n 0 gs)) c.as_slice.ensures)
 
 pub add_nodes-returns : goal.add_nodes-returns
 add_nodes-returns t c = λ u more deep.
@@ -66,7 +66,7 @@ add_parts-loop-place-preserved t c = λ u outer n more are compound wide deep.
     let k = c.loop-place.place in
     let gs = c.args.graphs.now in
     let there : Contains gs s = (k, c.loop-place-test.true, sym c.index-graphs-place.is) in
-    let own = c.in_ok-own.ensures ∙ (ap (λ o. inputs_by o k c.args.width gs) compound ∙ (ap (λ w. inputs_by _ k w gs) wide ∙ (ap (λ gs. inputs_by _ k _ gs) are ∙ part-known u outer n k s))) in
+    let own = part-own u outer n k s c.in_ok-own.own c.args.compound c.args.count gs c.in_ok-own.ensures are compound wide in
     each-more u (λ k s. places_of more (Inside outer n k) s) gs k s c.loop-place-test.true c.index-graphs-place.is c.args.all.now c.loop-place.all c.add_graph.new.all
     (c.loop-place.invariant u outer n more are compound wide deep)
     (c.in_ok-add_graph.ensures u (Inside outer n k) more own (omega (arith, deep, below gs s there)))

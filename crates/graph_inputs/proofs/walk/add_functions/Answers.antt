@@ -1,4 +1,4 @@
-use Rattle.std.proofs.Common.{◌≡◌, ◌≤◌, ◌∙◌, ℕ, All, Contains, sym, ap, arith}
+use Rattle.std.proofs.Common.{◌≤◌, Contains, sym}
 use Rattle.std.proofs.lemmas.List.Elements.{All-contains}
 use Rattle.if1_graph.specs.Units.{Function, levels, most_levels, places_of}
 use Rattle.graph_inputs.proofs.Listed.{each-more, each-all}

@@ -1,4 +1,4 @@
-use Rattle.std.proofs.Common.{◌≡◌, ◌∙◌, None, unwrap_or, sym, ap}
+use Rattle.std.proofs.Common.{◌∙◌, None, unwrap_or, sym, ap}
 use Rattle.if1_graph.specs.declared.graph.Graph.TheViews.{out-Graph}
 use Rattle.if1_graph.specs.Types.{sort_at}
 use Rattle.if1_ports.specs.Outlines.{arguments_in}

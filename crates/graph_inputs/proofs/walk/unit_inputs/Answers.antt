@@ -1,4 +1,4 @@
-use Rattle.std.proofs.Common.{◌≡◌, ◌≤◌, ◌∙◌, ◌++◌, ℕ, List, All, map, sym, ap, subst}
+use Rattle.std.proofs.Common.{◌≤◌, ◌∙◌, ◌++◌, List, All, map, sym, ap, subst}
 use Rattle.if1_graph.specs.declared.graph.Graph.{Graph}
 use Rattle.if1_graph.specs.Units.{levels, most_levels}
 use Rattle.if1_ports.proofs.EachPlace.{all_in_order}
