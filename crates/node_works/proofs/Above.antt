@@ -1,5 +1,5 @@
 -- The graphs inside a node of a ready unit have greater numbers, and what it calls is a function of the unit.
-use Rattle.std.proofs.Common.{◌≡◌, ℕ, zero, suc, ◌<◌, ◌≤◌, List, [], ◌∷◌, map, drop, length, get_or, slice_get, All, Contains, Option, Some, None, inl, inr, refl, sym, ap, ◌∙◌, subst, arith}
+use Rattle.std.proofs.Common.{◌≡◌, ℕ, zero, suc, ◌<◌, List, [], ◌∷◌, map, drop, length, get_or, slice_get, All, Contains, Option, Some, None, inl, inr, refl, sym, ap, subst, arith}
 use Rattle.std.proofs.lemmas.List.Elements.{All-map}
 use Rattle.std.proofs.lemmas.Option.{slice_get-get_or}
 use Rattle.if1_graph.specs.declared.graph.Graph.{Graph}
@@ -11,15 +11,14 @@ use Rattle.if1_graph.specs.declared.op.Compound.TheVariants as compound
 use Rattle.if1_graph.specs.declared.op.Simple.{Simple}
 use Rattle.if1_graph.specs.declared.op.Simple.TheVariants as simple
 use Rattle.if1_graph.specs.Ops.{compound_at, simple_at}
-use Rattle.if1_graph.specs.Parts.{HasParts}
-use Rattle.if1_graph.specs.Ports.{IsAssociation, IsCompoundFilled, carried, tags_of}
+use Rattle.if1_graph.specs.Ports.{IsAssociation, carried, tags_of}
 use Rattle.if1_graph.specs.Ready.{IsReady}
 use Rattle.if1_graph.specs.Types.{Member}
 use Rattle.if1_graph.specs.Units.{Place, label_of, number_of, places}
 use Rattle.graph_meaning.specs.Demand.{Kind, Plain, Whole}
 use Rattle.graph_meaning.specs.Entered.{IsIn}
 use Rattle.graph_meaning.specs.Forms as form
-use Rattle.graph_meaning.specs.Networks.{callee_number, form_of, kind_as, kind_of, number_or_zero, part as part_number, simple_kind}
+use Rattle.graph_meaning.specs.Networks.{form_of, kind_as, kind_of, number_or_zero, part as part_number, simple_kind}
 use Rattle.plan_data.specs.declared.plan.Work.TheVariants as work
 use Rattle.unit_laws.proofs.TypedCalls.{called}
 use Rattle.unit_laws.proofs.TypedParts.{compound-filled}

@@ -1,5 +1,5 @@
 -- What outlines tell of a simple node is what the types on its edges tell.
-use Rattle.std.proofs.Common.{◌≡◌, ℕ, Bool, true, false, if◌then◌else◌, List, [], ◌∷◌, length, ◌⊎◌, inl, inr, Option, Some, None, option_map, refl, sym, ap, ◌∙◌}
+use Rattle.std.proofs.Common.{◌≡◌, ℕ, List, [], ◌∷◌, ◌⊎◌, inl, inr, refl, sym, ap}
 use Rattle.if1_graph.specs.declared.graph.Edge.{Edge}
 use Rattle.if1_graph.specs.declared.graph.Graph.{Graph}
 use Rattle.if1_graph.specs.declared.graph.Node.{Node}
@@ -7,15 +7,9 @@ use Rattle.if1_graph.specs.declared.graph.Unit1.{Unit1}
 use Rattle.if1_graph.specs.declared.op.Grouping.{Grouping}
 use Rattle.if1_graph.specs.declared.op.Simple.{Simple}
 use Rattle.if1_graph.specs.declared.op.Simple.TheVariants as simple
-use Rattle.if1_graph.specs.Ports.{edges_from, fields_of, is_stream, tags_of}
-use Rattle.if1_graph.specs.Tables.{◌>>=◌}
-use Rattle.if1_graph.specs.Types.{Member, Sort, sort_at}
+use Rattle.if1_graph.specs.Ports.{edges_from}
 use Rattle.if1_graph.specs.Units.{label_of}
-use Rattle.if1_ports.specs.declared.outline.Outline.{Outline}
-use Rattle.if1_ports.specs.Outlines.{fields_in, is_stream_outline, outline_of, tags_in}
-use Rattle.if1_ports.proofs.Known.{fields_known, stream_known, tags_known}
-use Rattle.graph_meaning.specs.NodeValues as shape
-use Rattle.graph_meaning.specs.Networks.{fields_shape, first_type, output_type, shape_of, stream_shape, union_shape}
+use Rattle.graph_meaning.specs.Networks.{first_type, output_type, shape_of, stream_shape}
 use Rattle.node_works.specs.Tables.{first_label, output_label, sort_by}
 
 -- ---- what leaves a node

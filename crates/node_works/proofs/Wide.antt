@@ -1,5 +1,5 @@
 -- How many outputs a simple node has.
-use Rattle.std.proofs.Common.{◌≡◌, ◌==◌, ℕ, List, [], find, length, slice_get, bytes_eq, option_map, Option, Some, None, refl, sym, ap, ◌∙◌, arith}
+use Rattle.std.proofs.Common.{◌≡◌, ◌==◌, ℕ, List, find, length, bytes_eq, option_map, Option, Some, None, refl, sym, ap, ◌∙◌, arith}
 use Rattle.std.specs.Prelude.{unwrap_or}
 use Rattle.flow_value.specs.declared.operation.Scalar1.TheVariants as one
 use Rattle.flow_value.specs.declared.operation.Scalar2.TheVariants as two
@@ -13,7 +13,7 @@ use Rattle.if1_graph.specs.Ports.{carried, fields_of, literal_at}
 use Rattle.if1_graph.specs.Ready.{IsReady}
 use Rattle.if1_graph.specs.Rows.{row_of}
 use Rattle.if1_graph.specs.Tables.{◌>>=◌}
-use Rattle.if1_graph.specs.Types.{Member, Sort}
+use Rattle.if1_graph.specs.Types.{Member}
 use Rattle.if1_graph.specs.Units.{Function, Place, number_of, places}
 use Rattle.if1_marks.proofs.Tests.{same-number}
 use Rattle.if1_order.proofs.Members.{got_contained}
