@@ -88,9 +88,10 @@ stand-held cells base top mid n ls rows (Sifts j mask ∷ cs) [] own a within fi
 stand-held cells base top mid n ls rows (Final j ∷ cs) [] own a within first h = absurd a
 stand-held cells base top mid n ls rows (Sifts j mask ∷ cs) (o ∷ os) own a within first h =
     (subst (λ q. Holds cells base top q (made (Sifts j mask) (rows ++ ls ∷ []))) (sym a.0) h.0, stand-held cells base top mid n ls rows cs os (suc own) a.1 within.1 first h.1)
-stand-held cells base top mid n ls rows (Final j ∷ cs) (o ∷ os) own a within first h =
-    (subst (λ q. Holds cells base top q (made (Final j) (rows ++ ls ∷ []))) (sym a.0) (subst (Holds cells base top (At (mid + j))) (sym (last-put j rows ls (none_in (Final j)))) (at-row cells base top mid n ls j first within.0)),
-    stand-held cells base top mid n ls rows cs os own a.1 within.1 first h)
+stand-held cells base top mid n ls rows (Final j ∷ cs) (o ∷ os) own a within first h = (
+  subst (λ q. Holds cells base top q (made (Final j) (rows ++ ls ∷ []))) (sym a.0) (subst (Holds cells base top (At (mid + j))) (sym (last-put j rows ls (none_in (Final j)))) (at-row cells base top mid n ls j first within.0)),
+  stand-held cells base top mid n ls rows cs os own a.1 within.1 first h,
+)
 
 module _ (X : Layout) (limit : ℕ) where
   pub record Loop (room : ℕ) (early : Bool) (args : List Operand) (init test body returns : ℕ) (own : List Carried → List Carried → ℕ) (w a b lo : ℕ) : Type 0 where
