@@ -9,6 +9,7 @@ use Rattle.graph_meaning.specs.Demand.{Kind, Plain, Whole, Vertex}
 use Rattle.ordered_meaning.specs.Taking.{Taken, first_port, taken_by}
 use Rattle.run_code.specs.Cells.{Operand, At, Lit, cells_at, own_cells, picked}
 use Rattle.run_code.specs.Coded.{Places, operand}
+use Rattle.run_code.specs.Collections.{sifts_in}
 use Rattle.run_code.specs.Known.{Known, known_after}
 use Rattle.run_code.specs.Made.{Plan, kind_size, placed, put, stand}
 use Rattle.run_store.specs.Lively.{Live}
@@ -63,6 +64,10 @@ takes_all zero = []
 takes_all (suc n) = Takes ∷ takes_all n
 
 module _ (P : Plan) where
+  -- how many collections a loop keeps for its returns
+  abbrev pub sifts_of : (returns : ℕ) → ℕ
+  sifts_of r = length (sifts_in (P.collects r))
+
   -- where ports stand, where inputs stand whose ports pass
   abbrev pub seats : (test : (port : ℕ) → Bool) → List Operand → List Vertex → (lo : ℕ) → Places
   seats test args vs lo zero zero = Lit Unfilled
@@ -156,9 +161,9 @@ module _ (P : Plan) where
         abbrev pub LoopSet : (early : Bool) → (keep hold : Cells_of) → List Operand → (init test body returns : ℕ) → (turn place mid n k : ℕ) → Type 0
         LoopSet early keep hold args i t b r turn a mid n k =
             PartSet keep hold args i a mid (result_modes i) []
-            × BeginSet early (either_of keep (range_of mid (n + k))) (either_of hold (range_of mid (n + k))) (suc (a + P.size i))
-            × PartSet (either_of keep (range_of (mid + n) k)) (either_of hold (range_of (mid + n) k)) (args ++ cells_at mid n) b turn (mid + (n + k)) (result_modes b ++ takes_all k) []
-            × PartSet (either_of keep (range_of mid (n + k))) (either_of hold (range_of mid (n + k))) (args ++ cells_at mid n) t (suc (turn + P.size b)) (mid + (n + k)) (Looks ∷ []) []
+            × BeginSet early (either_of keep (range_of mid (n + sifts_of r))) (either_of hold (range_of mid (n + sifts_of r))) (suc (a + P.size i))
+            × PartSet (either_of keep (range_of (mid + n) (sifts_of r))) (either_of hold (range_of (mid + n) (sifts_of r))) (args ++ cells_at mid n) b turn (mid + (n + k)) (result_modes b ++ takes_all (sifts_of r)) []
+            × PartSet (either_of keep (range_of mid (n + sifts_of r))) (either_of hold (range_of mid (n + sifts_of r))) (args ++ cells_at mid n) t (suc (turn + P.size b)) (mid + (n + k)) (Looks ∷ []) []
             × PartSet keep hold (args ++ stand P (P.collects r) (mid + n) mid) (P.refolded r) (suc (suc (turn + P.size b) + P.size t)) (mid + (n + k)) (result_modes (P.refolded r)) []
 
         abbrev pub ForAllSet : (keep hold : Cells_of) → List Operand → (generator body returns : ℕ) → (turn place mid n k : ℕ) → Type 0

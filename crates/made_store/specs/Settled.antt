@@ -10,7 +10,7 @@ use Rattle.run_code.specs.Made.{Plan, placed, stand}
 use Rattle.run_store.specs.Lively.{Live}
 use Rattle.run_store.specs.Ports.{copies_of}
 use Rattle.run_store.specs.Stored.{Handling, Looks, Mode, Takes}
-use Rattle.made_store.specs.Settings.{Cells_of, Shares, cells_where, either_of, gives, live_behind, live_in, modes_at, none_of, own_behind, own_in, range_of, result_modes, takes_all}
+use Rattle.made_store.specs.Settings.{Cells_of, Shares, cells_where, either_of, gives, live_behind, live_in, modes_at, none_of, own_behind, own_in, range_of, result_modes, sifts_of, takes_all}
 
 -- how a step handles its operands, which collections it copies to, and which cells are live there and own what they have
 pub record Setting : Type 0 where
@@ -43,9 +43,9 @@ module _ (P : Plan) (S : Shares) where
     abbrev pub loop_settings : (early : Bool) → (keep hold : Cells_of) → List Operand → (init test body returns mid n k : ℕ) → List Setting
     loop_settings early keep hold args i t b r mid n k =
         part_settings keep hold args i mid (result_modes P S i) []
-        ++ (begin_settings early (either_of keep (range_of mid (n + k))) (either_of hold (range_of mid (n + k)))
-        ++ (part_settings (either_of keep (range_of (mid + n) k)) (either_of hold (range_of (mid + n) k)) (args ++ cells_at mid n) b (mid + (n + k)) (result_modes P S b ++ takes_all k) []
-        ++ (part_settings (either_of keep (range_of mid (n + k))) (either_of hold (range_of mid (n + k))) (args ++ cells_at mid n) t (mid + (n + k)) (Looks ∷ []) []
+        ++ (begin_settings early (either_of keep (range_of mid (n + sifts_of P r))) (either_of hold (range_of mid (n + sifts_of P r)))
+        ++ (part_settings (either_of keep (range_of (mid + n) (sifts_of P r))) (either_of hold (range_of (mid + n) (sifts_of P r))) (args ++ cells_at mid n) b (mid + (n + k)) (result_modes P S b ++ takes_all (sifts_of P r)) []
+        ++ (part_settings (either_of keep (range_of mid (n + sifts_of P r))) (either_of hold (range_of mid (n + sifts_of P r))) (args ++ cells_at mid n) t (mid + (n + k)) (Looks ∷ []) []
         ++ part_settings keep hold (args ++ stand P (P.collects r) (mid + n) mid) (P.refolded r) (mid + (n + k)) (result_modes P S (P.refolded r)) [])))
 
     abbrev pub for_all_settings : (keep hold : Cells_of) → List Operand → (generator body returns mid n k : ℕ) → List Setting

@@ -14,7 +14,7 @@ use Rattle.graph_meaning.specs.Storage.{Weights}
 use Rattle.ordered_meaning.specs.Ordered.{Rest, Total, Yields, GraphYields}
 use Rattle.ordered_meaning.specs.Laws.{counting}
 use Rattle.run_code.specs.Cells.{Operand, At, Lit, cells_at, picked, own_cells}
-use Rattle.run_code.specs.Collections.{Collect, Sifts, Final, AreWithin}
+use Rattle.run_code.specs.Collections.{Collect, Sifts, Final, AreWithin, sifts_in}
 use Rattle.run_code.specs.Known.{AreReadable}
 use Rattle.run_code.specs.Machine.{Weigh}
 use Rattle.run_code.specs.Refolds.{Refolds}
@@ -65,11 +65,11 @@ AreOf [] [] [] = Unit {0}
 AreOf (a ∷ as₁) (b ∷ bs) (x ∷ xs) = ((x ≡ a) ⊎ (x ≡ b)) × AreOf as₁ bs xs
 AreOf _ _ _ = ⊥
 
--- a collection stands in its own cell, from `own` on, or a last value in the cell of its loop value, from `first` on
+-- what is sifted stands in cells of its own, from `own` on, and a last value in the cell of its loop value, from `first` on
 abbrev pub AreAt : List Collect → List Operand → (own first : ℕ) → Type 0
 AreAt [] [] own first = Unit {0}
 AreAt (Sifts j mask ∷ cs) (o ∷ os) own first = (o ≡ At own) × AreAt cs os (suc own) first
-AreAt (Final j ∷ cs) (o ∷ os) own first = ((o ≡ At own) ⊎ (o ≡ At (first + j))) × AreAt cs os (suc own) first
+AreAt (Final j ∷ cs) (o ∷ os) own first = (o ≡ At (first + j)) × AreAt cs os own first
 AreAt _ _ own first = ⊥
 
 module _ (X : Layout) where
@@ -129,7 +129,7 @@ module _ (X : Layout) where
           → X.code (suc (suc a)) ≡ Tag union targets mid lo w b
           → ArmsAre room (At mid ∷ others) gs targets w b lo (suc mid)
           → NodeIs room args (Whole (form.TagCase gs w)) own w a b lo
-      -- From `mid` on stand n loop values and k collections of them. The body stands before the test and goes on into it, so the one
+      -- From `mid` on stand n loop values and what is sifted of k collections of them. The body stands before the test and goes on into it, so the one
       -- step back counts the turn. The returns is done as other nodes, whose inputs are the collections; nothing is added for them
       -- in the turns, since a loop may leave with errors.
       a_loop : (early : Bool) (args : List Operand) (init test body returns : ℕ) (own : List Carried → List Carried → ℕ) (w a b lo : ℕ)
@@ -144,7 +144,7 @@ module _ (X : Layout) where
           (picks : List Bool) (mid n k begun starts turn turned tests tested leave left other : ℕ) (nodes : List Vertex) (results : List Source) (cs : List Collect) (extra : List Carried → ℕ) (go : Operand) (firsts nexts lasts for_test for_body for_returns stand : List Operand)
           → Starts a lo w picks args own mid
           → PartIs room (own_cells picks args (lo + w)) init (X.order init) (X.network init).results (suc (suc a)) begun mid firsts
-          → X.code begun ≡ Keep true cs firsts mid starts → Weighs init begun → length firsts ≡ n → length cs ≡ k
+          → X.code begun ≡ Keep true (sifts_in cs) firsts mid starts → Weighs init begun → length firsts ≡ n → length cs ≡ k
           → GoesIn early starts turn tests
           → AreOf args (own_cells picks args (lo + w)) for_test
           → PartIs room (for_test ++ cells_at mid n) test (X.order test) (X.network test).results tests tested (mid + (n + k)) (go ∷ [])
@@ -152,7 +152,7 @@ module _ (X : Layout) where
           → X.code tested ≡ Test go turn leave lo w b
           → AreOf args (own_cells picks args (lo + w)) for_body
           → PartIs room (for_body ++ cells_at mid n) body (X.order body) (X.network body).results turn turned (mid + (n + k)) nexts
-          → X.code turned ≡ Keep false cs nexts mid tests → Weighs body turned → length nexts ≡ n
+          → X.code turned ≡ Keep false (sifts_in cs) nexts mid tests → Weighs body turned → length nexts ≡ n
           → AreWithin n cs → Refolds X.weights (length args) n cs returns other (X.order returns) (X.network returns).results nodes results extra → ((row : List Carried) → extra row ≡ 0)
           → AreOf args (own_cells picks args (lo + w)) for_returns
           → AreAt cs stand (mid + n) mid

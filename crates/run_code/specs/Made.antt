@@ -8,7 +8,7 @@ use Rattle.graph_meaning.specs.Forms as form
 use Rattle.graph_meaning.specs.Demand.{Source, Kind, Plain, Whole, Vertex}
 use Rattle.run_code.specs.Cells.{Operand, At, Lit, cells_at, picked, own_cells}
 use Rattle.run_code.specs.Coded.{Places, operand}
-use Rattle.run_code.specs.Collections.{Collect, Sifts, Final}
+use Rattle.run_code.specs.Collections.{Collect, Sifts, Final, sifts_in}
 use Rattle.run_code.specs.Steps.{Step, Fire, Count, Move, Tag, Branch, Test, Keep, Spread, Each, Add, Call, Return}
 
 -- What code is made of: the nodes of each graph in their order and its results, how many outputs a node has, which inputs of a
@@ -75,6 +75,7 @@ module _ (P : Plan) where
   greatest_extent [] = 0
   greatest_extent (g ∷ gs) = max (P.extent g) (greatest_extent gs)
 
+  -- a loop's parts stand behind a cell for each collection; where it collects last values, some of these are not used
   abbrev pub loop_extent : (init test body returns : ℕ) → ℕ
   loop_extent i t b r = max (P.extent i) (length (P.results i) + (length (P.collects r) + greatest_extent (t ∷ b ∷ P.refolded r ∷ [])))
 
@@ -121,11 +122,11 @@ module _ (P : Plan) where
   abbrev pub end_at : List Operand → (graph lo : ℕ) → Operand
   end_at args g lo = get_or (ends_at args g lo) 0 (Lit Unfilled)
 
-  -- collections stand from one cell on; a last value stands in the cell of its loop value
+  -- what is sifted stands from one cell on; a last value stands in the cell of its loop value
   abbrev pub stand : List Collect → (own first : ℕ) → List Operand
   stand [] own first = []
   stand (Sifts j mask ∷ cs) own first = At own ∷ stand cs (suc own) first
-  stand (Final j ∷ cs) own first = At (first + j) ∷ stand cs (suc own) first
+  stand (Final j ∷ cs) own first = At (first + j) ∷ stand cs own first
 
   -- ---- steps
 
@@ -162,10 +163,10 @@ module _ (P : Plan) where
     abbrev pub loop_code : List Operand → (init test body returns : ℕ) → (begin : List Line) → (starts turn a w b lo mid n k : ℕ) → List Line
     loop_code own i t body r begin starts turn a w b lo mid n k =
         make room own i a mid
-        ++ (line (OfResults i) (Keep true (P.collects r) (ends_at own i mid) mid starts)
+        ++ (line (OfResults i) (Keep true (sifts_in (P.collects r)) (ends_at own i mid) mid starts)
         ∷ (begin
         ++ (make room (own ++ cells_at mid n) body turn (mid + (n + k))
-        ++ (line (OfResults body) (Keep false (P.collects r) (ends_at (own ++ cells_at mid n) body (mid + (n + k))) mid (suc (turn + P.size body)))
+        ++ (line (OfResults body) (Keep false (sifts_in (P.collects r)) (ends_at (own ++ cells_at mid n) body (mid + (n + k))) mid (suc (turn + P.size body)))
         ∷ (make room (own ++ cells_at mid n) t (suc (turn + P.size body)) (mid + (n + k))
         ++ (line OfNothing (Test (end_at (own ++ cells_at mid n) t (mid + (n + k))) turn (suc (suc (turn + P.size body) + P.size t)) lo w b)
         ∷ arm_code (own ++ stand (P.collects r) (mid + n) mid) (P.refolded r) (suc (suc (turn + P.size body) + P.size t)) w b lo (mid + (n + k))))))))
