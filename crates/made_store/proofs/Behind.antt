@@ -4,7 +4,7 @@ use Rattle.flow_value.specs.Leaves.{leaf_count}
 use Rattle.graph_meaning.specs.Carried.{Carried, Unfilled, val_of}
 use Rattle.run_code.specs.Cells.{Operand, At, Lit, cells_at}
 use Rattle.run_code.specs.Collecting.{put_leaves}
-use Rattle.run_code.specs.Collections.{AreWithin, Collect, Final, IsWithin, Sifts}
+use Rattle.run_code.specs.Collections.{AreWithin, Collect, Final, IsWithin, Sifts, sifts_in}
 use Rattle.run_code.specs.Made.{Plan, stand}
 use Rattle.run_store.specs.Lively.{AllMayBe, Live}
 use Rattle.run_store.specs.Refines.{IsTaken}
@@ -70,19 +70,25 @@ behind-scene S g args ys c up keeps holds fits low range past own kept held =
 
 -- ---- where collections stand
 
-pub stand-is : (P : Plan) (cs : List Collect) (own first j i : ℕ) → get_or (stand P cs own first) j (Lit Unfilled) ≡ At i → (j < length cs) × ((i ≡ own + j) ⊎ ((c : ℕ) × (slice_get cs j ≡ Some (Final c)) × (i ≡ first + c)))
+-- behind one another where they are sifted, or a last value in the cell of its loop value
+pub stand-is : (P : Plan) (cs : List Collect) (own first j i : ℕ) → get_or (stand P cs own first) j (Lit Unfilled) ≡ At i → ((own ≤ i) × (i < own + length (sifts_in cs))) ⊎ ((c : ℕ) × (slice_get cs j ≡ Some (Final c)) × (i ≡ first + c))
 stand-is P [] own first j i e = absurd (lit-no i e)
-stand-is P (Sifts c mask ∷ cs) own first zero i e = let s = same-cell own i e in (omega arith, inl (omega (arith, s)))
-stand-is P (Final c ∷ cs) own first zero i e = let s = same-cell (first + c) i e in (omega arith, inr (c, refl, sym s))
-stand-is P (Sifts c mask ∷ cs) own first (suc j) i e = let x = stand-is P cs (suc own) first j i e in let lt = x.0 in (omega (arith, lt), later x.1)
+stand-is P (Sifts c mask ∷ cs) own first zero i e = let s = same-cell own i e in inl (omega (arith, s), omega (arith, s))
+stand-is P (Final c ∷ cs) own first zero i e = let s = same-cell (first + c) i e in inr (c, refl, sym s)
+stand-is P (Sifts c mask ∷ cs) own first (suc j) i e = later (stand-is P cs (suc own) first j i e)
   where
-    later : (i ≡ suc own + j) ⊎ ((c : ℕ) × (slice_get cs j ≡ Some (Final c)) × (i ≡ first + c)) → (i ≡ own + suc j) ⊎ ((d : ℕ) × (slice_get (Sifts c mask ∷ cs) (suc j) ≡ Some (Final d)) × (i ≡ first + d))
-    later (inl s) = inl (omega (arith, s))
+    later : ((suc own ≤ i) × (i < suc own + length (sifts_in cs))) ⊎ ((c : ℕ) × (slice_get cs j ≡ Some (Final c)) × (i ≡ first + c))
+        → ((own ≤ i) × (i < own + suc (length (sifts_in cs)))) ⊎ ((d : ℕ) × (slice_get (Sifts c mask ∷ cs) (suc j) ≡ Some (Final d)) × (i ≡ first + d))
+    later (inl s) =
+        let le = s.0 in
+        let lt = s.1 in
+        inl (omega (arith, le), omega (arith, lt))
     later (inr s) = inr s
-stand-is P (Final c ∷ cs) own first (suc j) i e = let x = stand-is P cs (suc own) first j i e in let lt = x.0 in (omega (arith, lt), later x.1)
+stand-is P (Final c ∷ cs) own first (suc j) i e = later (stand-is P cs own first j i e)
   where
-    later : (i ≡ suc own + j) ⊎ ((c : ℕ) × (slice_get cs j ≡ Some (Final c)) × (i ≡ first + c)) → (i ≡ own + suc j) ⊎ ((d : ℕ) × (slice_get (Final c ∷ cs) (suc j) ≡ Some (Final d)) × (i ≡ first + d))
-    later (inl s) = inl (omega (arith, s))
+    later : ((own ≤ i) × (i < own + length (sifts_in cs))) ⊎ ((c : ℕ) × (slice_get cs j ≡ Some (Final c)) × (i ≡ first + c))
+        → ((own ≤ i) × (i < own + length (sifts_in cs))) ⊎ ((d : ℕ) × (slice_get (Final c ∷ cs) (suc j) ≡ Some (Final d)) × (i ≡ first + d))
+    later (inl s) = inl s
     later (inr s) = inr s
 
 pub last-within : (n : ℕ) (cs : List Collect) (j c : ℕ) → AreWithin n cs → slice_get cs j ≡ Some (Final c) → c < n
@@ -99,6 +105,33 @@ last-within n (Final d ∷ cs) zero c h e = let lt = h.0 in let s = same e in om
     same : Some (Final d) ≡ Some (Final c) → d ≡ c
     same e = cc
 last-within n (x ∷ cs) (suc j) c h e = last-within n cs j c h.1 e
+
+behind-own : (P : Plan) (n : ℕ) (cs : List Collect) (own first j i : ℕ) → AreWithin n cs → first + n ≤ i → own ≡ i → get_or (stand P cs (suc own) first) j (Lit Unfilled) ≡ At i → ⊥
+behind-own P n cs own first j i h le s e = go (stand-is P cs (suc own) first j i e)
+  where
+    go : ((suc own ≤ i) × (i < suc own + length (sifts_in cs))) ⊎ ((c : ℕ) × (slice_get cs j ≡ Some (Final c)) × (i ≡ first + c)) → ⊥
+    go (inl z) = let more = z.0 in omega (arith, more, s)
+    go (inr z) =
+        let lt = last-within n cs j z.0 h z.1 in
+        let w = z.2 in
+        omega (arith, lt, w, le)
+
+-- what stands behind the loop values is of one collection
+pub stand-alone : (P : Plan) (n : ℕ) (cs : List Collect) (own first j q i : ℕ) → AreWithin n cs → first + n ≤ i → get_or (stand P cs own first) j (Lit Unfilled) ≡ At i → get_or (stand P cs own first) q (Lit Unfilled) ≡ At i → q ≡ j
+stand-alone P n [] own first j q i h le e f = absurd (lit-no i e)
+stand-alone P n (Sifts c mask ∷ cs) own first zero zero i h le e f = refl
+stand-alone P n (Sifts c mask ∷ cs) own first zero (suc q) i h le e f = absurd (behind-own P n cs own first q i h.1 le (same-cell own i e) f)
+stand-alone P n (Sifts c mask ∷ cs) own first (suc j) zero i h le e f = absurd (behind-own P n cs own first j i h.1 le (same-cell own i f) e)
+stand-alone P n (Sifts c mask ∷ cs) own first (suc j) (suc q) i h le e f = ap suc (stand-alone P n cs (suc own) first j q i h.1 le e f)
+stand-alone P n (Final c ∷ cs) own first zero q i h le e f =
+    let lt = h.0 in
+    let s = same-cell (first + c) i e in
+    absurd (omega (arith, lt, s, le))
+stand-alone P n (Final c ∷ cs) own first (suc j) zero i h le e f =
+    let lt = h.0 in
+    let s = same-cell (first + c) i f in
+    absurd (omega (arith, lt, s, le))
+stand-alone P n (Final c ∷ cs) own first (suc j) (suc q) i h le e f = ap suc (stand-alone P n cs own first j q i h.1 le e f)
 
 -- ---- collections that are taken
 

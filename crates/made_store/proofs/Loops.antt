@@ -3,9 +3,10 @@ use Rattle.std.proofs.Common.{◌≡◌, ℕ, zero, suc, ◌+◌, ◌<◌, ◌�
 use Rattle.std.proofs.lemmas.List.{length-map}
 use Rattle.std.proofs.Math.Nat.{le-max_left, le-max_right}
 use Rattle.graph_meaning.specs.Carried.{Unfilled}
+use Rattle.run_code.proofs.Folding.{sifts-fewer}
 use Rattle.run_code.specs.Cells.{Operand, At, Lit, cells_at}
 use Rattle.run_code.specs.Coded.{operand}
-use Rattle.run_code.specs.Collections.{AreWithin, Final}
+use Rattle.run_code.specs.Collections.{AreWithin, Final, sifts_in}
 use Rattle.run_code.specs.Made.{Plan, Line, Makes, OfNothing, OfResults, arm_code, end_at, ends_at, greatest_extent, line, loop_code, placed, stand}
 use Rattle.run_code.specs.Steps.{Keep, Test}
 use Rattle.run_made.proofs.Lengths.{IsLong}
@@ -15,12 +16,12 @@ use Rattle.run_store.specs.Refines.{IsTaken}
 use Rattle.run_store.specs.Stored.{Handling, Looks, Mode}
 use Rattle.made_store.proofs.Alive.{or-either, or-left, or-right, range-so, range-sound, true-false, where-sound}
 use Rattle.made_store.proofs.Around.{taken-index}
-use Rattle.made_store.proofs.Behind.{all-copied, behind-scene, both-low, front-copied, last-within, may-take-all, none-put, none-scene, stand-is, takes-range}
+use Rattle.made_store.proofs.Behind.{all-copied, behind-scene, both-low, front-copied, last-within, may-take-all, none-put, none-scene, stand-alone, stand-is, takes-range}
 use Rattle.made_store.proofs.Flows.{AllFine, ArePlain, FineAt, Opens, fine-at, fine-both, follow, look-copied, look-untaken, may-both, may-look-one, may-modes, modes-long, plain-both, plain-modes, taken-of}
 use Rattle.made_store.proofs.Owned.{IsGivenTo, cells-is, get-split, part-scene}
 use Rattle.made_store.proofs.Parts.{DoesFine, EndsSo, arm-fine, begins-all, end-flows}
 use Rattle.made_store.proofs.Scenes.{IsScene}
-use Rattle.made_store.specs.Settings.{Cells_of, PartSet, Sets, Shares, cells_where, either_of, live_behind, own_behind, range_of, result_modes, takes_all}
+use Rattle.made_store.specs.Settings.{Cells_of, PartSet, Sets, Shares, cells_where, either_of, live_behind, own_behind, range_of, result_modes, sifts_of, takes_all}
 use Rattle.made_store.specs.Shared.{IsShared}
 
 pub plain-takes : (k : ℕ) → ArePlain (takes_all k)
@@ -79,24 +80,31 @@ module _ (P : Plan) (S : Shares) (W : Weighing) (handling : ℕ → Handling) (l
       abbrev y : List Operand
       y = args ++ stand P (P.collects r) (mid + n) mid
 
+      -- what a loop keeps of it
+      abbrev few : ℕ
+      few = sifts_of P r
+
+      fewer : few ≤ k
+      fewer = sifts-fewer (P.collects r)
+
       abbrev V : Cells_of
-      V = either_of keep (range_of mid (n + k))
+      V = either_of keep (range_of mid (n + few))
 
       abbrev VO : Cells_of
-      VO = either_of hold (range_of mid (n + k))
+      VO = either_of hold (range_of mid (n + few))
 
       abbrev KB : Cells_of
-      KB = either_of keep (range_of (mid + n) k)
+      KB = either_of keep (range_of (mid + n) few)
 
       abbrev HB : Cells_of
-      HB = either_of hold (range_of (mid + n) k)
+      HB = either_of hold (range_of (mid + n) few)
 
       -- loop values and collections stand in the range
-      v-so : (c : ℕ) → mid ≤ c → c < top → V c ≡ true
-      v-so c a b = or-right (keep c) (range_of mid (n + k) c) (range-so mid (n + k) c a b)
+      v-so : (c : ℕ) → mid ≤ c → c < mid + (n + few) → V c ≡ true
+      v-so c a b = or-right (keep c) (range_of mid (n + few) c) (range-so mid (n + few) c a b)
 
-      vo-so : (c : ℕ) → mid ≤ c → c < top → VO c ≡ true
-      vo-so c a b = or-right (hold c) (range_of mid (n + k) c) (range-so mid (n + k) c a b)
+      vo-so : (c : ℕ) → mid ≤ c → c < mid + (n + few) → VO c ≡ true
+      vo-so c a b = or-right (hold c) (range_of mid (n + few) c) (range-so mid (n + few) c a b)
 
       low-of : (some : Cells_of) (c m : ℕ) → ((j : ℕ) → some j ≡ true → j < mid) → mid ≤ c → c + m ≤ top → (j : ℕ) → either_of some (range_of c m) j ≡ true → j < top
       low-of some c m less le fits j e = go (or-either (some j) (range_of c m j) e)
@@ -114,32 +122,32 @@ module _ (P : Plan) (S : Shares) (W : Weighing) (handling : ℕ → Handling) (l
           omega (arith, lt, s)) e
 
       kb-v : (c : ℕ) → KB c ≡ true → V c ≡ true
-      kb-v c e = go (or-either (keep c) (range_of (mid + n) k c) e)
+      kb-v c e = go (or-either (keep c) (range_of (mid + n) few c) e)
         where
-          go : (keep c ≡ true) ⊎ (range_of (mid + n) k c ≡ true) → V c ≡ true
-          go (inl z) = or-left (keep c) (range_of mid (n + k) c) z
+          go : (keep c ≡ true) ⊎ (range_of (mid + n) few c ≡ true) → V c ≡ true
+          go (inl z) = or-left (keep c) (range_of mid (n + few) c) z
           go (inr z) =
-              let w = range-sound (mid + n) k c z in
+              let w = range-sound (mid + n) few c z in
               let le = w.0 in
               let lt = w.1 in
               v-so c (omega (arith, le)) (omega (arith, lt))
 
       hb-v : (c : ℕ) → HB c ≡ true → VO c ≡ true
-      hb-v c e = go (or-either (hold c) (range_of (mid + n) k c) e)
+      hb-v c e = go (or-either (hold c) (range_of (mid + n) few c) e)
         where
-          go : (hold c ≡ true) ⊎ (range_of (mid + n) k c ≡ true) → VO c ≡ true
-          go (inl z) = or-left (hold c) (range_of mid (n + k) c) z
+          go : (hold c ≡ true) ⊎ (range_of (mid + n) few c ≡ true) → VO c ≡ true
+          go (inl z) = or-left (hold c) (range_of mid (n + few) c) z
           go (inr z) =
-              let w = range-sound (mid + n) k c z in
+              let w = range-sound (mid + n) few c z in
               let le = w.0 in
               let lt = w.1 in
               vo-so c (omega (arith, le)) (omega (arith, lt))
 
       kept-v : (c : ℕ) → keep c ≡ true → V c ≡ true
-      kept-v c e = or-left (keep c) (range_of mid (n + k) c) e
+      kept-v c e = or-left (keep c) (range_of mid (n + few) c) e
 
       held-v : (c : ℕ) → hold c ≡ true → VO c ≡ true
-      held-v c e = or-left (hold c) (range_of mid (n + k) c) e
+      held-v c e = or-left (hold c) (range_of mid (n + few) c) e
 
       -- the operands of a part that has none that is given
       x-live : (g : ℕ) → ((p : ℕ) → S.has g p ≡ true → p ≤ length args → given p ≡ false) → (c : ℕ) → cells_where (S.has g) x c ≡ true → V c ≡ true
@@ -168,29 +176,30 @@ module _ (P : Plan) (S : Shares) (W : Weighing) (handling : ℕ → Handling) (l
               vo-so c (omega (arith, s)) (omega (arith, lt, s))
 
       -- where collections and last values stand
-      stand-range : (j c : ℕ) → get_or (stand P (P.collects r) (mid + n) mid) j (Lit Unfilled) ≡ At c → (mid ≤ c) × (c < top)
-      stand-range j c e = let z = stand-is P (P.collects r) (mid + n) mid j c e in go z.0 z.1
+      stand-range : (j c : ℕ) → get_or (stand P (P.collects r) (mid + n) mid) j (Lit Unfilled) ≡ At c → (mid ≤ c) × (c < mid + (n + few))
+      stand-range j c e = go (stand-is P (P.collects r) (mid + n) mid j c e)
         where
-          go : j < k → (c ≡ (mid + n) + j) ⊎ ((d : ℕ) × (slice_get (P.collects r) j ≡ Some (Final d)) × (c ≡ mid + d)) → (mid ≤ c) × (c < top)
-          go lt (inl s) = (omega (arith, s), omega (arith, s, lt))
-          go lt (inr w) =
+          go : ((mid + n ≤ c) × (c < (mid + n) + few)) ⊎ ((d : ℕ) × (slice_get (P.collects r) j ≡ Some (Final d)) × (c ≡ mid + d)) → (mid ≤ c) × (c < mid + (n + few))
+          go (inl s) =
+              let le = s.0 in
+              let lt = s.1 in
+              (omega (arith, le), omega (arith, lt))
+          go (inr w) =
               let less = last-within n (P.collects r) j w.0 within w.1 in
               let s = w.2 in
               (omega (arith, s), omega (arith, s, less))
 
       stand-once : (j c q : ℕ) → S.owns (P.refolded r) (suc (length args + j)) ≡ true → get_or (stand P (P.collects r) (mid + n) mid) j (Lit Unfilled) ≡ At c → get_or (stand P (P.collects r) (mid + n) mid) q (Lit Unfilled) ≡ At c → q ≡ j
-      stand-once j c q o e f = go (stand-is P (P.collects r) (mid + n) mid j c e).1 (stand-is P (P.collects r) (mid + n) mid q c f).1
+      stand-once j c q o e f = go (stand-is P (P.collects r) (mid + n) mid j c e) (stand-is P (P.collects r) (mid + n) mid q c f)
         where
-          go : (c ≡ (mid + n) + j) ⊎ ((d : ℕ) × (slice_get (P.collects r) j ≡ Some (Final d)) × (c ≡ mid + d)) → (c ≡ (mid + n) + q) ⊎ ((d : ℕ) × (slice_get (P.collects r) q ≡ Some (Final d)) × (c ≡ mid + d)) → q ≡ j
-          go (inl s) (inl z) = omega (arith, s, z)
-          go (inl s) (inr z) =
-              let less = last-within n (P.collects r) q z.0 within z.1 in
-              let w = z.2 in
-              absurd (omega (arith, s, w, less))
+          go : ((mid + n ≤ c) × (c < (mid + n) + few)) ⊎ ((d : ℕ) × (slice_get (P.collects r) j ≡ Some (Final d)) × (c ≡ mid + d))
+              → ((mid + n ≤ c) × (c < (mid + n) + few)) ⊎ ((d : ℕ) × (slice_get (P.collects r) q ≡ Some (Final d)) × (c ≡ mid + d)) → q ≡ j
+          go (inl s) z = stand-alone P n (P.collects r) (mid + n) mid j q c within s.0 e f
           go (inr s) (inl z) =
               let less = last-within n (P.collects r) j s.0 within s.1 in
               let w = s.2 in
-              absurd (omega (arith, z, w, less))
+              let le = z.0 in
+              absurd (omega (arith, le, w, less))
           go (inr s) (inr z) =
               let a = s.2 in
               let b = z.2 in
@@ -217,7 +226,7 @@ module _ (P : Plan) (S : Shares) (W : Weighing) (handling : ℕ → Handling) (l
       -- ---- scenes
 
       test-scene : IsScene S V VO x t top
-      test-scene = none-scene S t x top V VO none_t below-x (λ c e. low-of keep mid (n + k) under (omega arith) (omega arith) c e) (λ c e. low-of hold mid (n + k) under-own (omega arith) (omega arith) c e)
+      test-scene = none-scene S t x top V VO none_t below-x (λ c e. low-of keep mid (n + few) under (omega arith) (omega (arith, fewer)) c e) (λ c e. low-of hold mid (n + few) under-own (omega arith) (omega (arith, fewer)) c e)
 
       body-scene : IsScene S KB HB x b top
       body-scene =
@@ -234,28 +243,28 @@ module _ (P : Plan) (S : Shares) (W : Weighing) (handling : ℕ → Handling) (l
                 let w = (cells-is mid n q c f).1 in
                 omega (arith, z, w),
           ))
-          (λ c e. low-of keep (mid + n) k under (omega arith) (omega arith) c e) (λ c e. low-of hold (mid + n) k under-own (omega arith) (omega arith) c e)
+          (λ c e. low-of keep (mid + n) few under (omega arith) (omega (arith, fewer)) c e) (λ c e. low-of hold (mid + n) few under-own (omega arith) (omega (arith, fewer)) c e)
         where
-          apart : (some : Cells_of) (j c : ℕ) → ((c : ℕ) → some c ≡ true → c < mid) → get_or (cells_at mid n) j (Lit Unfilled) ≡ At c → either_of some (range_of (mid + n) k) c ≡ true → ⊥
-          apart some j c less e z = go (or-either (some c) (range_of (mid + n) k c) z)
+          apart : (some : Cells_of) (j c : ℕ) → ((c : ℕ) → some c ≡ true → c < mid) → get_or (cells_at mid n) j (Lit Unfilled) ≡ At c → either_of some (range_of (mid + n) few) c ≡ true → ⊥
+          apart some j c less e z = go (or-either (some c) (range_of (mid + n) few c) z)
             where
               at : (j < n) × (c ≡ mid + j)
               at = cells-is mid n j c e
 
-              go : (some c ≡ true) ⊎ (range_of (mid + n) k c ≡ true) → ⊥
+              go : (some c ≡ true) ⊎ (range_of (mid + n) few c ≡ true) → ⊥
               go (inl z) =
                   let lt = less c z in
                   let s = at.1 in
                   omega (arith, lt, s)
               go (inr z) =
-                  let le = (range-sound (mid + n) k c z).0 in
+                  let le = (range-sound (mid + n) few c z).0 in
                   let lt = at.0 in
                   let s = at.1 in
                   omega (arith, le, lt, s)
 
       returns-scene : IsScene S keep hold y (P.refolded r) top
       returns-scene =
-          behind-scene S (P.refolded r) args (stand P (P.collects r) (mid + n) mid) mid top keep hold (omega arith) h.below stand-range past_o
+          behind-scene S (P.refolded r) args (stand P (P.collects r) (mid + n) mid) mid top keep hold (omega arith) h.below (λ j c e. let z = stand-range j c e in let lt = z.1 in (z.0, omega (arith, lt, fewer))) past_o
           (λ j c o e. (
             (λ z.
                 let lt = under c z in
@@ -272,49 +281,49 @@ module _ (P : Plan) (S : Shares) (W : Weighing) (handling : ℕ → Handling) (l
 
       -- the first values go to their cells
       begins-fine : (a starts : ℕ) → PartSet P S handling live own sets keep hold args i a mid (result_modes P S i) [] → Opens W handling live own starts V VO
-          → FineAt W handling live own (a + P.size i) (line (OfResults i) (Keep true (P.collects r) (ends_at P args i mid) mid starts))
+          → FineAt W handling live own (a + P.size i) (line (OfResults i) (Keep true (sifts_in (P.collects r)) (ends_at P args i mid) mid starts))
       begins-fine a starts set next =
           let froms = ends_at P args i mid in
           let m = a + P.size i in
           let scene = part-scene S lives owns keep hold given args lo begin mid h i mid (omega arith) gives in
           let e = ends keep hold args i mid right_i scene in
           let many : length froms ≡ length (P.results i) = length-map (P.results i) (operand (placed P args (P.nodes i) mid)) in
-          let f = end-flows P S W handling live own room shared keep hold args i mid mid (length froms + k) scene V VO e (λ c z. split keep c (or-either (keep c) (range_of mid (n + k) c) z)) (λ c z. split hold c (or-either (hold c) (range_of mid (n + k) c) z)) under under-own in
-          fine-at W handling live own m (line (OfResults i) (Keep true (P.collects r) froms mid starts)) (result_modes P S i) [] (live_behind P S keep args i mid) (own_behind P S hold args i mid) set.1 (plain-modes (S.takes i 0) (S.copies i 0) 1 (P.results i)) tt
+          let f = end-flows P S W handling live own room shared keep hold args i mid mid (length froms + few) scene V VO e (λ c z. split keep c (or-either (keep c) (range_of mid (n + few) c) z)) (λ c z. split hold c (or-either (hold c) (range_of mid (n + few) c) z)) under under-own in
+          fine-at W handling live own m (line (OfResults i) (Keep true (sifts_in (P.collects r)) froms mid starts)) (result_modes P S i) [] (live_behind P S keep args i mid) (own_behind P S hold args i mid) set.1 (plain-modes (S.takes i 0) (S.copies i 0) 1 (P.results i)) tt
           (λ ks.
-          let z = none-put (P.collects r) ks in
+          let z = none-put (sifts_in (P.collects r)) ks in
           let w = all-copied (result_modes P S i) (length froms) ks (many ∙ sym (modes-long (S.takes i 0) (S.copies i 0) 1 (P.results i))) in
           let q = (shared i).results (take (length froms) ks) in
           omega (arith, z, w, q))
           (may-modes live own m (S.takes i 0) (S.copies i 0) (P.results i) froms 1 many (λ j c z. set.1.1 c ∙ e.looks j c z) (λ j c o z. set.1.2 c ∙ (e.takes j c o z).0))
-          (follow W handling live own m starts mid (length froms + k) (result_modes P S i) [] froms (live_behind P S keep args i mid) (own_behind P S hold args i mid) V VO set.1 next f.0 f.1, tt) tt
+          (follow W handling live own m starts mid (length froms + few) (result_modes P S i) [] froms (live_behind P S keep args i mid) (own_behind P S hold args i mid) V VO set.1 next f.0 f.1, tt) tt
         where
-          split : (some : Cells_of) (c : ℕ) → (some c ≡ true) ⊎ (range_of mid (n + k) c ≡ true) → (range_of mid (length (ends_at P args i mid) + k) c ≡ true) ⊎ (some c ≡ true)
+          split : (some : Cells_of) (c : ℕ) → (some c ≡ true) ⊎ (range_of mid (n + few) c ≡ true) → (range_of mid (length (ends_at P args i mid) + few) c ≡ true) ⊎ (some c ≡ true)
           split some c (inl z) = inr z
           split some c (inr z) =
-              let w = range-sound mid (n + k) c z in
+              let w = range-sound mid (n + few) c z in
               let lt = w.1 in
               let many = length-map (P.results i) (operand (placed P args (P.nodes i) mid)) in
-              inl (range-so mid (length (ends_at P args i mid) + k) c w.0 (omega (arith, lt, many, n_is)))
+              inl (range-so mid (length (ends_at P args i mid) + few) c w.0 (omega (arith, lt, many, n_is)))
 
       -- and the next ones
-      turns-fine : (turn tests : ℕ) → PartSet P S handling live own sets KB HB x b turn top (result_modes P S b ++ takes_all k) [] → Opens W handling live own tests V VO
-          → FineAt W handling live own (turn + P.size b) (line (OfResults b) (Keep false (P.collects r) (ends_at P x b top) mid tests))
+      turns-fine : (turn tests : ℕ) → PartSet P S handling live own sets KB HB x b turn top (result_modes P S b ++ takes_all few) [] → Opens W handling live own tests V VO
+          → FineAt W handling live own (turn + P.size b) (line (OfResults b) (Keep false (sifts_in (P.collects r)) (ends_at P x b top) mid tests))
       turns-fine turn tests set next =
           let e = ends KB HB x b top right_b body-scene in
-          fine-at W handling live own m (line (OfResults b) (Keep false (P.collects r) froms mid tests)) (result_modes P S b ++ takes_all k) [] lives' owns' set.1
-          (plain-both (result_modes P S b) (takes_all k) (plain-modes (S.takes b 0) (S.copies b 0) 1 (P.results b)) (plain-takes k)) tt
+          fine-at W handling live own m (line (OfResults b) (Keep false (sifts_in (P.collects r)) froms mid tests)) (result_modes P S b ++ takes_all few) [] lives' owns' set.1
+          (plain-both (result_modes P S b) (takes_all few) (plain-modes (S.takes b 0) (S.copies b 0) 1 (P.results b)) (plain-takes few)) tt
           (λ ks.
-          let z = none-put (P.collects r) ks in
-          let w = front-copied (result_modes P S b) k (length froms) ks (many ∙ sym (modes-long (S.takes b 0) (S.copies b 0) 1 (P.results b))) in
+          let z = none-put (sifts_in (P.collects r)) ks in
+          let w = front-copied (result_modes P S b) few (length froms) ks (many ∙ sym (modes-long (S.takes b 0) (S.copies b 0) 1 (P.results b))) in
           let q = (shared b).results (take (length froms) ks) in
           omega (arith, z, w, q))
-          (may-both live own m (result_modes P S b) (takes_all k) froms (cells_at (mid + length froms) k) (modes-long (S.takes b 0) (S.copies b 0) 1 (P.results b) ∙ sym many)
+          (may-both live own m (result_modes P S b) (takes_all few) froms (cells_at (mid + length froms) few) (modes-long (S.takes b 0) (S.copies b 0) 1 (P.results b) ∙ sym many)
           (may-modes live own m (S.takes b 0) (S.copies b 0) (P.results b) froms 1 many (λ j c z. set.1.1 c ∙ e.looks j c z) (λ j c o z. set.1.2 c ∙ (e.takes j c o z).0))
-          (may-take-all live own m (mid + length froms) k (λ c u v. set.1.2 c ∙ or-left (HB c) _ (or-right (hold c) (range_of (mid + n) k c) (range-so (mid + n) k c (omega (arith, u, many, same)) (omega (arith, v, many, same))))))) (
-            follow W handling live own m tests mid (length froms + k) (result_modes P S b ++ takes_all k) [] (froms ++ cells_at (mid + length froms) k) lives' owns' V VO set.1 next
-                (λ c z. go keep lives' c (or-either (keep c) (range_of mid (n + k) c) z) (λ z. or-left (KB c) _ (or-left (keep c) (range_of (mid + n) k c) z)) (λ z. under c z) (λ o z. (e.takes o.0 c o.1 o.2).1 (or-left (keep c) (range_of (mid + n) k c) z)))
-                (λ c z. go hold owns' c (or-either (hold c) (range_of mid (n + k) c) z) (λ z. or-left (HB c) _ (or-left (hold c) (range_of (mid + n) k c) z)) (λ z. under-own c z) (λ o z. (e.takes o.0 c o.1 o.2).2 (or-left (hold c) (range_of (mid + n) k c) z))),
+          (may-take-all live own m (mid + length froms) few (λ c u v. set.1.2 c ∙ or-left (HB c) _ (or-right (hold c) (range_of (mid + n) few c) (range-so (mid + n) few c (omega (arith, u, many, same)) (omega (arith, v, many, same))))))) (
+            follow W handling live own m tests mid (length froms + few) (result_modes P S b ++ takes_all few) [] (froms ++ cells_at (mid + length froms) few) lives' owns' V VO set.1 next
+                (λ c z. go keep lives' c (or-either (keep c) (range_of mid (n + few) c) z) (λ z. or-left (KB c) _ (or-left (keep c) (range_of (mid + n) few c) z)) (λ z. under c z) (λ o z. (e.takes o.0 c o.1 o.2).1 (or-left (keep c) (range_of (mid + n) few c) z)))
+                (λ c z. go hold owns' c (or-either (hold c) (range_of mid (n + few) c) z) (λ z. or-left (HB c) _ (or-left (hold c) (range_of (mid + n) few c) z)) (λ z. under-own c z) (λ o z. (e.takes o.0 c o.1 o.2).2 (or-left (hold c) (range_of (mid + n) few c) z))),
             tt,
           ) tt
         where
@@ -333,19 +342,19 @@ module _ (P : Plan) (S : Shares) (W : Weighing) (handling : ℕ → Handling) (l
           many : length froms ≡ length (P.results b)
           many = length-map (P.results b) (operand (placed P x (P.nodes b) top))
 
-          go : (some all : Cells_of) (c : ℕ) → (some c ≡ true) ⊎ (range_of mid (n + k) c ≡ true) → (some c ≡ true → all c ≡ true) → (some c ≡ true → c < mid)
+          go : (some all : Cells_of) (c : ℕ) → (some c ≡ true) ⊎ (range_of mid (n + few) c ≡ true) → (some c ≡ true → all c ≡ true) → (some c ≡ true → c < mid)
               → ((j : ℕ) × (S.takes b 0 (1 + j) ≡ true) × (get_or froms j (Lit Unfilled) ≡ At c) → some c ≡ true → ⊥)
-              → ((mid ≤ c) × (c < mid + (length froms + k))) ⊎ ((all c ≡ true) × (IsTaken (result_modes P S b ++ takes_all k) (froms ++ cells_at (mid + length froms) k) c → ⊥) × ((c < mid) ⊎ (mid + (length froms + k) ≤ c)))
+              → ((mid ≤ c) × (c < mid + (length froms + few))) ⊎ ((all c ≡ true) × (IsTaken (result_modes P S b ++ takes_all few) (froms ++ cells_at (mid + length froms) few) c → ⊥) × ((c < mid) ⊎ (mid + (length froms + few) ≤ c)))
           go some all c (inr z) there less gone =
-              let w = range-sound mid (n + k) c z in
+              let w = range-sound mid (n + few) c z in
               let lt = w.1 in
               inl (w.0, omega (arith, lt, many, same))
-          go some all c (inl z) there less gone = inr (there z, (λ o. split (taken-of (result_modes P S b) (takes_all k) froms (cells_at (mid + length froms) k) c (modes-long (S.takes b 0) (S.copies b 0) 1 (P.results b) ∙ sym many) o)), inl (less z))
+          go some all c (inl z) there less gone = inr (there z, (λ o. split (taken-of (result_modes P S b) (takes_all few) froms (cells_at (mid + length froms) few) c (modes-long (S.takes b 0) (S.copies b 0) 1 (P.results b) ∙ sym many) o)), inl (less z))
             where
-              split : IsTaken (result_modes P S b) froms c ⊎ IsTaken (takes_all k) (cells_at (mid + length froms) k) c → ⊥
+              split : IsTaken (result_modes P S b) froms c ⊎ IsTaken (takes_all few) (cells_at (mid + length froms) few) c → ⊥
               split (inl o) = gone (taken-index (S.takes b 0) (S.copies b 0) (P.results b) froms 1 c many o) z
               split (inr o) =
-                  let le = (takes-range (mid + length froms) k c o).0 in
+                  let le = (takes-range (mid + length froms) few c o).0 in
                   let lt = less z in
                   omega (arith, le, lt)
 
@@ -383,7 +392,7 @@ module _ (P : Plan) (S : Shares) (W : Weighing) (handling : ℕ → Handling) (l
       -- ---- the whole
 
       pub loop-fine : (first : List Line) (starts turn a w past : ℕ) → PartSet P S handling live own sets keep hold args i a mid (result_modes P S i) []
-          → PartSet P S handling live own sets KB HB x b turn top (result_modes P S b ++ takes_all k) [] → PartSet P S handling live own sets V VO x t (suc (turn + P.size b)) top (Looks ∷ []) []
+          → PartSet P S handling live own sets KB HB x b turn top (result_modes P S b ++ takes_all few) [] → PartSet P S handling live own sets V VO x t (suc (turn + P.size b)) top (Looks ∷ []) []
           → PartSet P S handling live own sets keep hold y (P.refolded r) (suc (suc (turn + P.size b) + P.size t)) top (result_modes P S (P.refolded r)) []
           → mid + max (P.extent i) (n + (k + greatest_extent P (t ∷ b ∷ P.refolded r ∷ []))) ≤ room → turn ≡ suc (a + P.size i) + length first
           → (Opens W handling live own turn V VO → Opens W handling live own (suc (turn + P.size b)) V VO → AllFine W handling live own (suc (a + P.size i)) first × Opens W handling live own starts V VO)
@@ -408,7 +417,7 @@ module _ (P : Plan) (S : Shares) (W : Weighing) (handling : ℕ → Handling) (l
           let l1 = long room x b turn top right_b in
           let l2 = long room x t tests top right_t in
           let p_i = part-fine keep hold args i a mid (result_modes P S i) [] right_i (part-scene S lives owns keep hold given args lo begin mid h i mid (omega arith) gives) s_i (omega (arith, fits, m0)) in
-          let p_b = part-fine KB HB x b turn top (result_modes P S b ++ takes_all k) [] right_b body-scene s_b (omega (arith, fits, m1, m3, m4)) in
+          let p_b = part-fine KB HB x b turn top (result_modes P S b ++ takes_all few) [] right_b body-scene s_b (omega (arith, fits, m1, m3, m4)) in
           let p_t = part-fine V VO x t tests top (Looks ∷ []) [] right_t test-scene s_t (omega (arith, fits, m1, m2)) in
           let arm = arm-fine P S W handling live own room shared make sets lays long fine ends keep hold y o leave w past lo top right_o returns-scene s_o (omega (arith, fits, m1, m3, m5, m6)) (λ c z. (h.kept c z).1) (λ c z. (h.held c z).1) next in
           let o_turn = shrink turn KB HB (cells_where (S.has b) x) (cells_where (S.owns b) x) V VO kb-v (x-live b has_b) hb-v (x-own b past_b) p_b.1 in
@@ -418,9 +427,9 @@ module _ (P : Plan) (S : Shares) (W : Weighing) (handling : ℕ → Handling) (l
           let f = firsts o_turn o_tests in
           let c4 = arm_code P make room y o leave w past lo top in
           let c3 = line OfNothing (Test (end_at P x t top) turn leave lo w past) ∷ c4 in
-          let c2 = line (OfResults b) (Keep false (P.collects r) (ends_at P x b top) mid tests) ∷ (make room x t tests top ++ c3) in
+          let c2 = line (OfResults b) (Keep false (sifts_in (P.collects r)) (ends_at P x b top) mid tests) ∷ (make room x t tests top ++ c3) in
           let c1 = make room x b turn top ++ c2 in
-          let c0 = line (OfResults i) (Keep true (P.collects r) (ends_at P args i mid) mid starts) ∷ (first ++ c1) in
+          let c0 = line (OfResults i) (Keep true (sifts_in (P.collects r)) (ends_at P args i mid) mid starts) ∷ (first ++ c1) in
           let a3 = fine-both W handling live own tests tested (make room x t tests top) c3 (omega (arith, l2)) p_t.0 (test-fine turn tests leave w past s_t o_turn o_leave next, arm.0) in
           let a2 = fine-both W handling live own turn turned (make room x b turn top) c2 (omega (arith, l1)) p_b.0 (turns-fine turn tests s_b o_tests, a3) in
           let a1 = fine-both W handling live own (suc begun) turn first c1 goes f.0 a2 in (

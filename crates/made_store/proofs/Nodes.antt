@@ -31,7 +31,7 @@ use Rattle.made_store.proofs.Plain.{call-fine, plain-fine}
 use Rattle.made_store.proofs.Scenes.{IsScene}
 use Rattle.made_store.proofs.Tags.{tag-fine}
 use Rattle.made_store.proofs.Walks.{IsOn, begins-live, begins-own, behind-node, node-around, on-first, on-next, puts-owned, puts-there, seats_owned, seats_there, the-end}
-use Rattle.made_store.specs.Settings.{Cells_of, GraphSet, IsSet, KindSet, NodesSet, Sets, Shares, cells_where, either_of, gives, live_in, modes_at, own_in, range_of, taken_in}
+use Rattle.made_store.specs.Settings.{Cells_of, GraphSet, IsSet, KindSet, NodesSet, Sets, Shares, cells_where, either_of, gives, live_in, modes_at, own_in, range_of, sifts_of, taken_in}
 use Rattle.made_store.specs.Shared.{AreThere, IsKindShared, IsShared, TakesOwned}
 
 inners-lay : (P : Plan) (W : Weighing) (u : Network) (order : ℕ → List Vertex) (functions : List ℕ) (lays : ℕ → Type 0) (gs : List ℕ) → All (IsInner P W u order functions lays) gs → All lays gs
@@ -143,7 +143,7 @@ module _ (P : Plan) (S : Shares) (W : Weighing) (u : Network) (order : ℕ → L
         let same : length mine ≡ length v.ins = own-long picks args (lo + P.width v) ∙ many in
         let begun = suc (suc a) + P.size i in
         let ns = length (P.results i) in
-        let ks = length (P.collects r) in
+        let ks = sifts_of P r in
         compound-fine g v args (P.width v) a lo (parts_code P make room mine (Whole (form.LoopA i t b r n)) (suc (suc a)) (P.width v) (a + kind_size P (Whole (form.LoopA i t b r n))) lo mid) lives owns keep hold weighs h1 given s.0 s.1
         (loop-fine P S W handling live own room shared make sets lays long fine ends lives owns keep hold (gives P S g v) mine lo (lo + P.width v) mid given i t b r ns refl right.2.1 right.3.1 right.5.1 right.7 share.0 share.1
         (λ p o. let z = share.2 p o in omega (arith, z, same)) (λ p o le. share.3 p o (omega (arith, le, same))) (λ p o le. share.4 p o (omega (arith, le, same))) (λ p o le. share.5 p o (omega (arith, le, same)))

@@ -12,7 +12,7 @@ use Rattle.run_code.specs.Made.{Plan, IsSized, arms_size, functions_size, kind_s
 use Rattle.run_made.specs.Plans.{All, CanLay, IsInner, IsKindRight, Weighing}
 use Rattle.run_store.specs.Lively.{Live}
 use Rattle.run_store.specs.Stored.{Handling, Looks, Mode}
-use Rattle.made_store.specs.Settings.{ArmsSet, BeginSet, Cells_of, FunctionsSet, GraphSet, IsSet, KindSet, LoopSet, NodesSet, PartSet, PartsSet, Sets, Shares, cells_where, either_of, gives, live_behind, live_in, none_of, own_behind, own_in, range_of, result_modes, takes_all}
+use Rattle.made_store.specs.Settings.{ArmsSet, BeginSet, Cells_of, FunctionsSet, GraphSet, IsSet, KindSet, LoopSet, NodesSet, PartSet, PartsSet, Sets, Shares, cells_where, either_of, gives, live_behind, live_in, none_of, own_behind, own_in, range_of, result_modes, sifts_of, takes_all}
 use Rattle.made_store.specs.Settled.{Setting, Settles, arms_settings, begin_settings, for_all_settings, function_settings, functions_settings, graph_settings, handling_of, kind_settings, live_of, loop_settings, nodes_settings, own_of, part_settings, parts_settings, setting}
 
 module _ (P : Plan) (S : Shares) (W : Weighing) (u : Network) (order : ℕ → List Vertex) (functions : List ℕ) where
@@ -42,15 +42,15 @@ module _ (P : Plan) (S : Shares) (W : Weighing) (u : Network) (order : ℕ → L
         → length (loop_settings P S settles early keep hold args i t b r mid n k) ≡ length (begin_settings P S settles early keep hold) + loop_size P i t b r
     loop-full early keep hold args i t b r mid n k in_i in_t in_b in_o =
         let top = mid + (n + k) in
-        let V = either_of keep (range_of mid (n + k)) in
-        let VO = either_of hold (range_of mid (n + k)) in
+        let V = either_of keep (range_of mid (n + sifts_of P r)) in
+        let VO = either_of hold (range_of mid (n + sifts_of P r)) in
         let p4 = part_settings P S settles keep hold (args ++ stand P (P.collects r) (mid + n) mid) (P.refolded r) top (result_modes P S (P.refolded r)) [] in
         let p3 = part_settings P S settles V VO (args ++ cells_at mid n) t top (Looks ∷ []) [] in
-        let p2 = part_settings P S settles (either_of keep (range_of (mid + n) k)) (either_of hold (range_of (mid + n) k)) (args ++ cells_at mid n) b top (result_modes P S b ++ takes_all k) [] in
+        let p2 = part_settings P S settles (either_of keep (range_of (mid + n) (sifts_of P r))) (either_of hold (range_of (mid + n) (sifts_of P r))) (args ++ cells_at mid n) b top (result_modes P S b ++ takes_all (sifts_of P r)) [] in
         let p1 = begin_settings P S settles early V VO in
         let p0 = part_settings P S settles keep hold args i mid (result_modes P S i) [] in
         let l0 = part-full keep hold args i mid (result_modes P S i) [] in_i in
-        let l2 = part-full (either_of keep (range_of (mid + n) k)) (either_of hold (range_of (mid + n) k)) (args ++ cells_at mid n) b top (result_modes P S b ++ takes_all k) [] in_b in
+        let l2 = part-full (either_of keep (range_of (mid + n) (sifts_of P r))) (either_of hold (range_of (mid + n) (sifts_of P r))) (args ++ cells_at mid n) b top (result_modes P S b ++ takes_all (sifts_of P r)) [] in_b in
         let l3 = part-full V VO (args ++ cells_at mid n) t top (Looks ∷ []) [] in_t in
         let l4 = part-full keep hold (args ++ stand P (P.collects r) (mid + n) mid) (P.refolded r) top (result_modes P S (P.refolded r)) [] in_o in
         let a0 = length-append p0 (p1 ++ (p2 ++ (p3 ++ p4))) in
@@ -165,10 +165,10 @@ module _ (P : Plan) (S : Shares) (W : Weighing) (u : Network) (order : ℕ → L
           → Stand a (loop_settings P S settles early keep hold args i t b r mid n k) → LoopSet P S handling live own sets early keep hold args i t b r turn a mid n k
       loop-so early keep hold args i t b r turn a mid n k in_i in_t in_b in_o goes h =
           let top = mid + (n + k) in
-          let V = either_of keep (range_of mid (n + k)) in
-          let VO = either_of hold (range_of mid (n + k)) in
-          let KB = either_of keep (range_of (mid + n) k) in
-          let HB = either_of hold (range_of (mid + n) k) in
+          let V = either_of keep (range_of mid (n + sifts_of P r)) in
+          let VO = either_of hold (range_of mid (n + sifts_of P r)) in
+          let KB = either_of keep (range_of (mid + n) (sifts_of P r)) in
+          let HB = either_of hold (range_of (mid + n) (sifts_of P r)) in
           let x = args ++ cells_at mid n in
           let y = args ++ stand P (P.collects r) (mid + n) mid in
           let o = P.refolded r in
@@ -176,11 +176,11 @@ module _ (P : Plan) (S : Shares) (W : Weighing) (u : Network) (order : ℕ → L
           let leave = suc (tests + P.size t) in
           let p4 = part_settings P S settles keep hold y o top (result_modes P S o) [] in
           let p3 = part_settings P S settles V VO x t top (Looks ∷ []) [] in
-          let p2 = part_settings P S settles KB HB x b top (result_modes P S b ++ takes_all k) [] in
+          let p2 = part_settings P S settles KB HB x b top (result_modes P S b ++ takes_all (sifts_of P r)) [] in
           let p1 = begin_settings P S settles early V VO in
           let p0 = part_settings P S settles keep hold args i mid (result_modes P S i) [] in
           let l0 = part-full settles lays full keep hold args i mid (result_modes P S i) [] in_i in
-          let l2 = part-full settles lays full KB HB x b top (result_modes P S b ++ takes_all k) [] in_b in
+          let l2 = part-full settles lays full KB HB x b top (result_modes P S b ++ takes_all (sifts_of P r)) [] in_b in
           let l3 = part-full settles lays full V VO x t top (Looks ∷ []) [] in_t in
           let same = begins-same early V VO keep hold in
           let h1 = rest a (suc (a + P.size i)) p0 (p1 ++ (p2 ++ (p3 ++ p4))) (omega (arith, l0)) h in
@@ -189,7 +189,7 @@ module _ (P : Plan) (S : Shares) (W : Weighing) (u : Network) (order : ℕ → L
           let h4 = rest tests leave p3 p4 (omega (arith, l3)) h3 in (
             part-so keep hold args i a mid (result_modes P S i) [] in_i (first a p0 (p1 ++ (p2 ++ (p3 ++ p4))) h),
             begin-so early V VO (suc (a + P.size i)) (first (suc (a + P.size i)) p1 (p2 ++ (p3 ++ p4)) h1),
-            part-so KB HB x b turn top (result_modes P S b ++ takes_all k) [] in_b (first turn p2 (p3 ++ p4) h2),
+            part-so KB HB x b turn top (result_modes P S b ++ takes_all (sifts_of P r)) [] in_b (first turn p2 (p3 ++ p4) h2),
             part-so V VO x t tests top (Looks ∷ []) [] in_t (first tests p3 p4 h3),
             part-so keep hold y o leave top (result_modes P S o) [] in_o h4,
           )

@@ -52,8 +52,8 @@ cs = Final 0 ∷ []
 
 abbrev pub steps : List Step
 steps =
-    Count ∷ Move [] 2 0 2 ∷ Keep true cs (Lit one ∷ []) 2 5
-    ∷ Fire (simple.Two two.Plus) shape.Plain (At 2 ∷ Lit one ∷ []) 4 1 ∷ Keep false cs (At 4 ∷ []) 2 5
+    Count ∷ Move [] 2 0 2 ∷ Keep true [] (Lit one ∷ []) 2 5
+    ∷ Fire (simple.Two two.Plus) shape.Plain (At 2 ∷ Lit one ∷ []) 4 1 ∷ Keep false [] (At 4 ∷ []) 2 5
     ∷ Fire (simple.Two two.Less) shape.Plain (At 2 ∷ At 0 ∷ []) 4 1 ∷ Test (At 4) 3 7 1 1 9
     ∷ Fire simple.NoOp shape.Plain (At 2 ∷ []) 4 1 ∷ Move (At 4 ∷ []) 1 1 9 ∷ Return (At 1 ∷ []) ∷ []
 
@@ -72,7 +72,7 @@ laid =
       params = λ f. 1;
     }
 
--- the argument and the loop value, or its collection
+-- the argument and the loop value, which is the last one in the end
 abbrev lent : List Operand
 lent = At 0 ∷ At 2 ∷ []
 
@@ -113,7 +113,7 @@ loops =
     (inl refl, tt) testing (λ ks. refl) refl
     (inl refl, tt) turning refl (λ ks. refl) refl
     (omega arith, tt) refolded (λ row. refl)
-    (inl refl, tt) (inr refl, tt) returning (record { moves = refl; weighs = λ ks. refl })
+    (inl refl, tt) (refl, tt) returning (record { moves = refl; weighs = λ ks. refl })
 
 pub coded : AreCoded laid
 coded f (inl e) = subst (FunctionIs laid) (sym e) (record {

@@ -1,5 +1,5 @@
 -- What is collected of one row after another is what is made of the whole columns.
-use Rattle.std.proofs.Common.{◌≡◌, ℕ, zero, suc, ◌<◌, List, [], ◌∷◌, ◌++◌, length, map, replicate, get_or, pos, Option, Some, None, refl, sym, ap, ◌∙◌, arith}
+use Rattle.std.proofs.Common.{◌≡◌, ℕ, zero, suc, ◌<◌, ◌≤◌, List, [], ◌∷◌, ◌++◌, length, map, replicate, get_or, pos, Option, Some, None, refl, sym, ap, ◌∙◌, arith}
 use Rattle.flow_value.specs.declared.cause.Cause.{Cause}
 use Rattle.flow_value.specs.declared.value.Val.{Val}
 use Rattle.flow_reduce.specs.Folds.{last_fold, last_of, later_of, or_empty}
@@ -13,7 +13,7 @@ use Rattle.loop_folds.specs.declared.masking.Masking.TheVariants as masking
 use Rattle.graph_meaning.specs.Carried.{Carried, Value, Many, Spoiled, Name, Unfilled, val_of}
 use Rattle.graph_meaning.specs.Forms.{before, add_row, columns}
 use Rattle.graph_meaning.specs.NodeValues.{masked, cells_of, folded}
-use Rattle.run_code.specs.Collections.{Collect, Final, IsWithin, Sifts, behind_where, collected, made, made_of, none_in, nothing_in, put_all, put_in, puts, sift, sifted}
+use Rattle.run_code.specs.Collections.{Collect, Final, IsWithin, Sifts, behind_where, collected, made, made_of, none_in, nothing_in, put_all, put_in, puts, sift, sifted, sifts_in}
 use Rattle.run_code.specs.Refolds.{AllLong}
 
 -- ---- columns
@@ -176,3 +176,9 @@ all-made (c ∷ cs) rows = puts-head c cs rows (none_in c) (nothing_in cs) ∙ a
 pub puts-more : (cs : List Collect) (rows : List (List Carried)) (r ks : List Carried) → puts_all cs (rows ++ r ∷ []) ks ≡ put_all cs r (puts_all cs rows ks)
 puts-more cs [] r ks = refl
 puts-more cs (x ∷ rows) r ks = puts-more cs rows r (put_all cs x ks)
+
+-- a loop keeps no more than is collected
+pub sifts-fewer : (cs : List Collect) → length (sifts_in cs) ≤ length cs
+sifts-fewer [] = omega arith
+sifts-fewer (Sifts j mask ∷ cs) = let le = sifts-fewer cs in omega (arith, le)
+sifts-fewer (Final j ∷ cs) = let le = sifts-fewer cs in omega (arith, le)

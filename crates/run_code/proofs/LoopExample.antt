@@ -65,10 +65,14 @@ width v = width_of v.kind
 abbrev pub cs : List Collect
 cs = Final 0 ∷ Sifts 0 (Some 1) ∷ []
 
+-- the last value is kept in the cell of its loop value alone
+abbrev pub kept : List Collect
+kept = Sifts 0 (Some 1) ∷ []
+
 abbrev pub steps : List Step
 steps =
-    Count ∷ Move [] 3 0 2 ∷ Keep true cs (Lit one ∷ Lit (truth true) ∷ []) 3 3 ∷ Count ∷ Keep false cs (At 0 ∷ Lit (truth false) ∷ []) 3 5 ∷ Test (At 4) 4 6 1 2 9
-    ∷ Fire simple.NoOp shape.Plain (At 3 ∷ []) 7 1 ∷ Fire simple.AGather shape.Plain (Lit one ∷ At 6 ∷ []) 8 1 ∷ Move (At 7 ∷ At 8 ∷ []) 1 2 9 ∷ Return (At 1 ∷ At 2 ∷ []) ∷ []
+    Count ∷ Move [] 3 0 2 ∷ Keep true kept (Lit one ∷ Lit (truth true) ∷ []) 3 3 ∷ Count ∷ Keep false kept (At 0 ∷ Lit (truth false) ∷ []) 3 5 ∷ Test (At 4) 4 6 1 2 9
+    ∷ Fire simple.NoOp shape.Plain (At 3 ∷ []) 7 1 ∷ Fire simple.AGather shape.Plain (Lit one ∷ At 5 ∷ []) 8 1 ∷ Move (At 7 ∷ At 8 ∷ []) 1 2 9 ∷ Return (At 1 ∷ At 2 ∷ []) ∷ []
 
 abbrev pub made : Layout
 made =
@@ -86,17 +90,17 @@ made =
     }
 
 abbrev lent : List Operand
-lent = At 0 ∷ At 3 ∷ At 6 ∷ []
+lent = At 0 ∷ At 3 ∷ At 5 ∷ []
 
 not-one : (p : ℕ) → Knows ((1, 1) ∷ []) 2 p → ⊥
 not-one p (inl k) = let e = k.0 in absurd (omega (arith, e))
 not-one p (inr k) = k
 
-returning : PartIs made 9 (At 0 ∷ At 3 ∷ At 6 ∷ []) 5 others wanted 6 8 7 (At 7 ∷ At 8 ∷ [])
+returning : PartIs made 9 (At 0 ∷ At 3 ∷ At 5 ∷ []) 5 others wanted 6 8 7 (At 7 ∷ At 8 ∷ [])
 returning =
     a_part lent 5 others wanted 6 8 7 (places_by lent 7) (λ p. refl) ((positive 0, (λ p k. k), tt, (positive 1, (λ p k. not-one p k), tt, tt)), (inr (inl (refl, 0, omega arith, refl)), (inl (refl, 0, omega arith, refl), tt)))
     (a_node 5 (places_by lent 7) last' (gather' ∷ []) 6 7 8 7 8 (puts lent 7 0) (omega arith) (scalar (At 3 ∷ []) simple.NoOp shape.Plain (λ ks rs. 0) 1 6 7 refl (λ ks rs. refl))
-    (a_node 5 (places_by lent 7) gather' [] 7 8 8 8 9 (puts lent 7 1) (omega arith) (scalar (Lit one ∷ At 6 ∷ []) simple.AGather shape.Plain (λ ks rs. 0) 1 7 8 refl (λ ks rs. refl)) (no_node 5 (places_by lent 7) 8 9)))
+    (a_node 5 (places_by lent 7) gather' [] 7 8 8 8 9 (puts lent 7 1) (omega arith) (scalar (Lit one ∷ At 5 ∷ []) simple.AGather shape.Plain (λ ks rs. 0) 1 7 8 refl (λ ks rs. refl)) (no_node 5 (places_by lent 7) 8 9)))
     (At 7 ∷ At 8 ∷ []) refl
 
 refolded : Refolds nothing_weighs 1 2 cs 4 5 (order 4) (net 4).results others wanted (λ row. 0 + (0 + 0))
@@ -116,12 +120,12 @@ refolded =
 
 loops : LoopIs made 9 true (At 0 ∷ []) 1 2 3 4 (λ ks rs. 0) 2 0 9 1
 loops =
-    the_loop true (At 0 ∷ []) 1 2 3 4 (λ ks rs. 0) 2 0 9 1 [] 3 2 2 2 3 4 4 5 5 6 8 5 others wanted cs (λ row. 0 + (0 + 0)) (At 4) (Lit one ∷ Lit (truth true) ∷ []) (At 0 ∷ Lit (truth false) ∷ []) (At 7 ∷ At 8 ∷ []) (At 0 ∷ []) (At 0 ∷ []) (At 0 ∷ []) (At 3 ∷ At 6 ∷ [])
+    the_loop true (At 0 ∷ []) 1 2 3 4 (λ ks rs. 0) 2 0 9 1 [] 3 2 2 2 3 4 4 5 5 6 8 5 others wanted cs (λ row. 0 + (0 + 0)) (At 4) (Lit one ∷ Lit (truth true) ∷ []) (At 0 ∷ Lit (truth false) ∷ []) (At 7 ∷ At 8 ∷ []) (At 0 ∷ []) (At 0 ∷ []) (At 0 ∷ []) (At 3 ∷ At 5 ∷ [])
     (record { counts = refl; copies = refl; weighs = λ ks rs. refl; fits = omega arith }) (no-nodes made 9 (At 0 ∷ []) 1 2 3 (Lit one ∷ Lit (truth true) ∷ []) refl tt refl) refl (λ ks. refl) refl refl (refl, refl)
     (inl refl, tt) (no-nodes made 9 (At 0 ∷ At 3 ∷ At 4 ∷ []) 2 5 7 (At 4 ∷ []) refl tt refl) (λ ks. refl) refl
     (inl refl, tt) (no-nodes made 9 (At 0 ∷ At 3 ∷ At 4 ∷ []) 3 4 7 (At 0 ∷ Lit (truth false) ∷ []) refl tt refl) refl (λ ks. refl) refl
     (omega arith, ((omega arith, omega arith), tt)) refolded (λ row. refl)
-    (inl refl, tt) (inr refl, (refl, tt)) returning (record { moves = refl; weighs = λ ks. refl })
+    (inl refl, tt) (refl, (refl, tt)) returning (record { moves = refl; weighs = λ ks. refl })
 
 abbrev outer : Places
 outer zero p = if ltb (p - 1) 1 then At (p - 1) else Lit Unfilled

@@ -75,6 +75,7 @@ module _ (P : Plan) where
   greatest_extent [] = 0
   greatest_extent (g ∷ gs) = max (P.extent g) (greatest_extent gs)
 
+  -- a loop's parts stand behind a cell for each collection; where it collects last values, some of these are not used
   abbrev pub loop_extent : (init test body returns : ℕ) → ℕ
   loop_extent i t b r = max (P.extent i) (length (P.results i) + (length (P.collects r) + greatest_extent (t ∷ b ∷ P.refolded r ∷ [])))
 

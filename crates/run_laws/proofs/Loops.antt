@@ -1,5 +1,5 @@
 -- Where a loop goes to its results, so does the machine.
-use Rattle.std.proofs.Common.{◌≡◌, ℕ, zero, suc, ◌+◌, ◌<◌, ◌≤◌, Bool, true, false, List, [], ◌∷◌, ◌++◌, length, map, get_or, inl, inr, ◌⊎◌, refl, sym, ap, ◌∙◌, subst, arith}
+use Rattle.std.proofs.Common.{◌≡◌, ℕ, zero, suc, ◌+◌, ◌<◌, ◌≤◌, Bool, true, false, List, [], ◌∷◌, ◌++◌, length, map, get_or, refl, sym, ap, ◌∙◌, subst, arith}
 use Rattle.flow_value.specs.declared.cause.Cause.{Cause}
 use Rattle.flow_value.specs.declared.cause.Cause.TheVariants as cause
 use Rattle.flow_value.specs.declared.value.Val.{Val}
@@ -10,13 +10,13 @@ use Rattle.graph_meaning.specs.Forms.{Form, Next, Begins, Stage, Enter, Leave, S
 use Rattle.graph_meaning.specs.Demand.{Source, Vertex}
 use Rattle.ordered_meaning.specs.Laws.{counting}
 use Rattle.ordered_meaning.specs.Ordered.{Total}
-use Rattle.run_code.proofs.Folding.{all-made, nothing-long, put-long, puts-more, puts_all}
+use Rattle.run_code.proofs.Folding.{all-made, nothing-long, put-long, puts-more, puts_all, sifts-fewer}
 use Rattle.run_code.proofs.Refolding.{to-collected}
 use Rattle.run_code.proofs.Totals.{both-fire, both-sum, nothing-fires, nothing-sum}
 use Rattle.run_code.proofs.Values.{by-form}
 use Rattle.run_code.specs.Cells.{At, Cells, Operand, cells_at, cells_from, look, own_cells, write}
 use Rattle.run_code.specs.Coded.{AreAt, AreOf, Free, GoesIn, Hands, Layout, LoopIs, Starts, Weighs, graph_yields, loop_form, the_loop, yields}
-use Rattle.run_code.specs.Collections.{AreWithin, Collect, Final, Sifts, collected, made, none_in, nothing_in, put_all, puts}
+use Rattle.run_code.specs.Collections.{AreWithin, Collect, Final, Sifts, collected, made, none_in, nothing_in, put_all, puts, sifts_in}
 use Rattle.run_code.specs.Machine.{Again, Choice, Fails, Frame, Goes, Reaches, To, at, chosen, step, tested_by}
 use Rattle.run_code.specs.Refolds.{AllLong, Refolds, rows_sum}
 use Rattle.run_code.specs.Steps.{Count, Keep, Test}
@@ -81,19 +81,17 @@ last-put j (x ∷ rows) r k = last-put j rows r (get_or x j Unfilled)
 
 -- the collections where they stand
 stand-held : (cells : Cells) (base top mid n : ℕ) (ls : List Carried) (rows : List (List Carried)) (cs : List Collect) (stand : List Operand) (own : ℕ) → AreAt cs stand own mid → AreWithin n cs
-    → HoldsAll cells base top (cells_at mid n) ls → HoldsAll cells base top (cells_at own (length cs)) (collected cs (rows ++ ls ∷ [])) → HoldsAll cells base top stand (collected cs (rows ++ ls ∷ []))
+    → HoldsAll cells base top (cells_at mid n) ls → HoldsAll cells base top (cells_at own (length (sifts_in cs))) (collected (sifts_in cs) (rows ++ ls ∷ [])) → HoldsAll cells base top stand (collected cs (rows ++ ls ∷ []))
 stand-held cells base top mid n ls rows [] [] own a within first h = tt
 stand-held cells base top mid n ls rows [] (o ∷ os) own a within first h = absurd a
 stand-held cells base top mid n ls rows (Sifts j mask ∷ cs) [] own a within first h = absurd a
 stand-held cells base top mid n ls rows (Final j ∷ cs) [] own a within first h = absurd a
 stand-held cells base top mid n ls rows (Sifts j mask ∷ cs) (o ∷ os) own a within first h =
     (subst (λ q. Holds cells base top q (made (Sifts j mask) (rows ++ ls ∷ []))) (sym a.0) h.0, stand-held cells base top mid n ls rows cs os (suc own) a.1 within.1 first h.1)
-stand-held cells base top mid n ls rows (Final j ∷ cs) (o ∷ os) own a within first h = (one a.0, stand-held cells base top mid n ls rows cs os (suc own) a.1 within.1 first h.1)
-  where
-    one : (o ≡ At own) ⊎ (o ≡ At (mid + j)) → Holds cells base top o (made (Final j) (rows ++ ls ∷ []))
-    one (inl e) = subst (λ q. Holds cells base top q (made (Final j) (rows ++ ls ∷ []))) (sym e) h.0
-    one (inr e) = subst (λ q. Holds cells base top q (made (Final j) (rows ++ ls ∷ []))) (sym e)
-        (subst (Holds cells base top (At (mid + j))) (sym (last-put j rows ls (none_in (Final j)))) (at-row cells base top mid n ls j first within.0))
+stand-held cells base top mid n ls rows (Final j ∷ cs) (o ∷ os) own a within first h = (
+  subst (λ q. Holds cells base top q (made (Final j) (rows ++ ls ∷ []))) (sym a.0) (subst (Holds cells base top (At (mid + j))) (sym (last-put j rows ls (none_in (Final j)))) (at-row cells base top mid n ls j first within.0)),
+  stand-held cells base top mid n ls rows cs os own a.1 within.1 first h,
+)
 
 module _ (X : Layout) (limit : ℕ) where
   pub record Loop (room : ℕ) (early : Bool) (args : List Operand) (init test body returns : ℕ) (own : List Carried → List Carried → ℕ) (w a b lo : ℕ) : Type 0 where
@@ -124,7 +122,7 @@ module _ (X : Layout) (limit : ℕ) where
     pub stand : List Operand
     pub start : Starts X a lo w picks args own mid
     pub first : Part X limit room (own_cells picks args (lo + w)) init (suc (suc a)) begun mid firsts
-    pub begins : X.code begun ≡ Keep true cs firsts mid starts
+    pub begins : X.code begun ≡ Keep true (sifts_in cs) firsts mid starts
     pub first_weighs : Weighs X init begun
     pub first_many : length firsts ≡ n
     pub cs_many : length cs ≡ k
@@ -135,7 +133,7 @@ module _ (X : Layout) (limit : ℕ) where
     pub chooses : X.code tested ≡ Test go turn leave lo w b
     pub body_lent : AreOf args (own_cells picks args (lo + w)) for_body
     pub turning : Part X limit room (for_body ++ cells_at mid n) body turn turned (mid + (n + k)) nexts
-    pub keeps : X.code turned ≡ Keep false cs nexts mid tests
+    pub keeps : X.code turned ≡ Keep false (sifts_in cs) nexts mid tests
     pub turn_weighs : Weighs X body turned
     pub turn_many : length nexts ≡ n
     pub within : AreWithin n cs
@@ -211,16 +209,26 @@ module _ (X : Layout) (limit : ℕ) where
     abbrev pub top : ℕ
     top = x.mid + (x.n + x.k)
 
+    -- what is kept of what is collected
+    abbrev pub sifts : List Collect
+    sifts = sifts_in x.cs
+
+    abbrev pub many : ℕ
+    many = length (sifts_in x.cs)
+
+    pub up : (x.mid + x.n) + many ≤ top
+    up = let le = sifts-fewer x.cs in let k = x.cs_many in omega (arith, le, k)
+
     -- what is collected of these turns
     abbrev pub so_far : List Carried → List (List Carried) → List Carried
-    so_far ls turns = puts_all x.cs (forth (ls ∷ turns)) (nothing_in x.cs)
+    so_far ls turns = puts_all sifts (forth (ls ∷ turns)) (nothing_in sifts)
 
     -- the inputs, the loop values and what is collected
     pub record IsKept (base : ℕ) (cells : Cells) (ks ls : List Carried) (turns : List (List Carried)) : Type 0 where
       pub outer : HoldsAll cells base lo args ks
       pub inner : HoldsAll cells base x.mid mine ks
       pub loop_values : HoldsAll cells base top (cells_at x.mid x.n) ls
-      pub multiples : HoldsAll cells base top (cells_at (x.mid + x.n) x.k) (puts_all x.cs (forth (ls ∷ turns)) (nothing_in x.cs))
+      pub multiples : HoldsAll cells base top (cells_at (x.mid + x.n) many) (puts_all sifts (forth (ls ∷ turns)) (nothing_in sifts))
       pub long : AllLong x.n (forth (ls ∷ turns))
 
     pub low : lo ≤ x.mid
@@ -238,7 +246,7 @@ module _ (X : Layout) (limit : ℕ) where
           outer = all-later cells old base lo lo args ks (omega arith) (λ j lt. same j (omega (arith, lt, l))) h.outer;
           inner = all-later cells old base x.mid x.mid mine ks (omega arith) (λ j lt. same j (omega (arith, lt))) h.inner;
           loop_values = all-later cells old base top top (cells_at x.mid x.n) ls (omega arith) same h.loop_values;
-          multiples = all-later cells old base top top (cells_at (x.mid + x.n) x.k) (so_far ls turns) (omega arith) same h.multiples;
+          multiples = all-later cells old base top top (cells_at (x.mid + x.n) many) (so_far ls turns) (omega arith) same h.multiples;
           long = h.long;
         }
 
@@ -256,27 +264,26 @@ module _ (X : Layout) (limit : ℕ) where
         let froms = x.nexts in
         let l = low in
         let new_many : length new ≡ x.n = ap length (sym told) ∙ (map-length (look cells base) froms ∙ x.turn_many) in
-        let old_many = row-length cells base top (x.mid + x.n) x.k (so_far ls turns) h.multiples in
-        let ms = put_all x.cs new (so_far ls turns) in
-        let ms_many : length ms ≡ x.k = put-long x.cs new (so_far ls turns) (old_many ∙ sym x.cs_many) ∙ x.cs_many in
-        let last = write (base + x.mid) (x.n + x.k) (new ++ ms) cells in
-        let does_keep = ap (λ k. Goes (at x.tests base (write (base + x.mid) (k + length x.cs) (map (look cells base) froms ++ put_all x.cs (map (look cells base) froms) (cells_from cells (base + (x.mid + k)) (length x.cs))) cells) calls fires)) x.turn_many
-        ∙ (ap (λ k. Goes (at x.tests base (write (base + x.mid) (x.n + k) (map (look cells base) froms ++ put_all x.cs (map (look cells base) froms) (cells_from cells (base + (x.mid + x.n)) k)) cells) calls fires)) x.cs_many
-        ∙ (ap (λ z. Goes (at x.tests base (write (base + x.mid) (x.n + x.k) (z ++ put_all x.cs z (cells_from cells (base + (x.mid + x.n)) x.k)) cells) calls fires)) told
-        ∙ ap (λ z. Goes (at x.tests base (write (base + x.mid) (x.n + x.k) (new ++ put_all x.cs new z) cells) calls fires)) (cells-held cells base top (x.mid + x.n) x.k (so_far ls turns) h.multiples))) in
-        let now = rows-held cells base x.mid x.n x.k new ms top new_many ms_many (omega arith) in
-        let same : Same (base + x.mid) last cells = λ j lt. write-below (base + x.mid) (x.n + x.k) (new ++ ms) cells j (omega (arith, lt)) in
+        let old_many = row-length cells base top (x.mid + x.n) many (so_far ls turns) h.multiples in
+        let ms = put_all sifts new (so_far ls turns) in
+        let ms_many : length ms ≡ many = put-long sifts new (so_far ls turns) old_many in
+        let last = write (base + x.mid) (x.n + many) (new ++ ms) cells in
+        let does_keep = ap (λ k. Goes (at x.tests base (write (base + x.mid) (k + many) (map (look cells base) froms ++ put_all sifts (map (look cells base) froms) (cells_from cells (base + (x.mid + k)) many)) cells) calls fires)) x.turn_many
+        ∙ (ap (λ z. Goes (at x.tests base (write (base + x.mid) (x.n + many) (z ++ put_all sifts z (cells_from cells (base + (x.mid + x.n)) many)) cells) calls fires)) told
+        ∙ ap (λ z. Goes (at x.tests base (write (base + x.mid) (x.n + many) (new ++ put_all sifts new z) cells) calls fires)) (cells-held cells base top (x.mid + x.n) many (so_far ls turns) h.multiples)) in
+        let now = rows-held cells base x.mid x.n many new ms top new_many ms_many up in
+        let same : Same (base + x.mid) last cells = λ j lt. write-below (base + x.mid) (x.n + many) (new ++ ms) cells j (omega (arith, lt)) in
         record {
           last = last;
-          keep = does limit X.code (Keep false x.cs froms x.mid x.tests) x.turned base cells calls fires (Goes (at x.tests base last calls fires)) x.keeps does_keep;
-          comes = one-step X.weigh limit X.code x.turned base cells calls fires (at x.tests base last calls fires) (Keep false x.cs froms x.mid x.tests) (X.weights.of_results body new) x.keeps does_keep
+          keep = does limit X.code (Keep false sifts froms x.mid x.tests) x.turned base cells calls fires (Goes (at x.tests base last calls fires)) x.keeps does_keep;
+          comes = one-step X.weigh limit X.code x.turned base cells calls fires (at x.tests base last calls fires) (Keep false sifts froms x.mid x.tests) (X.weights.of_results body new) x.keeps does_keep
               (x.turn_weighs (map (look cells base) froms) ∙ ap (X.weights.of_results body) told);
           same = λ j lt. same j (omega (arith, lt, l));
           kept = record {
             outer = all-later last cells base lo lo args ks (omega arith) (λ j lt. same j (omega (arith, lt, l))) h.outer;
             inner = all-later last cells base x.mid x.mid mine ks (omega arith) same h.inner;
             loop_values = now.0;
-            multiples = subst (HoldsAll last base top (cells_at (x.mid + x.n) x.k)) (sym (puts-more x.cs (forth (ls ∷ turns)) new (nothing_in x.cs))) now.1;
+            multiples = subst (HoldsAll last base top (cells_at (x.mid + x.n) many)) (sym (puts-more sifts (forth (ls ∷ turns)) new (nothing_in sifts))) now.1;
             long = all-more x.n (forth (ls ∷ turns)) new h.long new_many;
           };
         }
@@ -287,18 +294,17 @@ module _ (X : Layout) (limit : ℕ) where
         let froms = x.firsts in
         let l = low in
         let new_many : length new ≡ x.n = ap length (sym told) ∙ (map-length (look cells base) froms ∙ x.first_many) in
-        let ms = put_all x.cs new (nothing_in x.cs) in
-        let ms_many : length ms ≡ x.k = put-long x.cs new (nothing_in x.cs) (nothing-long x.cs) ∙ x.cs_many in
-        let last = write (base + x.mid) (x.n + x.k) (new ++ ms) cells in
-        let does_keep = ap (λ k. Goes (at x.starts base (write (base + x.mid) (k + length x.cs) (map (look cells base) froms ++ put_all x.cs (map (look cells base) froms) (nothing_in x.cs)) cells) calls fires)) x.first_many
-        ∙ (ap (λ k. Goes (at x.starts base (write (base + x.mid) (x.n + k) (map (look cells base) froms ++ put_all x.cs (map (look cells base) froms) (nothing_in x.cs)) cells) calls fires)) x.cs_many
-        ∙ ap (λ z. Goes (at x.starts base (write (base + x.mid) (x.n + x.k) (z ++ put_all x.cs z (nothing_in x.cs)) cells) calls fires)) told) in
-        let now = rows-held cells base x.mid x.n x.k new ms top new_many ms_many (omega arith) in
-        let same : Same (base + x.mid) last cells = λ j lt. write-below (base + x.mid) (x.n + x.k) (new ++ ms) cells j (omega (arith, lt)) in
+        let ms = put_all sifts new (nothing_in sifts) in
+        let ms_many : length ms ≡ many = put-long sifts new (nothing_in sifts) (nothing-long sifts) in
+        let last = write (base + x.mid) (x.n + many) (new ++ ms) cells in
+        let does_keep = ap (λ k. Goes (at x.starts base (write (base + x.mid) (k + many) (map (look cells base) froms ++ put_all sifts (map (look cells base) froms) (nothing_in sifts)) cells) calls fires)) x.first_many
+        ∙ ap (λ z. Goes (at x.starts base (write (base + x.mid) (x.n + many) (z ++ put_all sifts z (nothing_in sifts)) cells) calls fires)) told in
+        let now = rows-held cells base x.mid x.n many new ms top new_many ms_many up in
+        let same : Same (base + x.mid) last cells = λ j lt. write-below (base + x.mid) (x.n + many) (new ++ ms) cells j (omega (arith, lt)) in
         record {
           last = last;
-          keep = does limit X.code (Keep true x.cs froms x.mid x.starts) x.begun base cells calls fires (Goes (at x.starts base last calls fires)) x.begins does_keep;
-          comes = one-step X.weigh limit X.code x.begun base cells calls fires (at x.starts base last calls fires) (Keep true x.cs froms x.mid x.starts) (X.weights.of_results init new) x.begins does_keep
+          keep = does limit X.code (Keep true sifts froms x.mid x.starts) x.begun base cells calls fires (Goes (at x.starts base last calls fires)) x.begins does_keep;
+          comes = one-step X.weigh limit X.code x.begun base cells calls fires (at x.starts base last calls fires) (Keep true sifts froms x.mid x.starts) (X.weights.of_results init new) x.begins does_keep
               (x.first_weighs (map (look cells base) froms) ∙ ap (X.weights.of_results init) told);
           same = λ j lt. same j (omega (arith, lt, l));
           kept = record {
@@ -316,10 +322,9 @@ module _ (X : Layout) (limit : ℕ) where
         → HoldsAll cells base top (x.for_returns ++ x.stand) (ks ++ collected x.cs (forth (ls ∷ turns)))
     lent-returns base cells ks ls turns h =
         let l = low in
-        let held = subst (HoldsAll cells base top (cells_at (x.mid + x.n) x.k)) (all-made x.cs (forth (ls ∷ turns))) h.multiples in
+        let held = subst (HoldsAll cells base top (cells_at (x.mid + x.n) many)) (all-made sifts (forth (ls ∷ turns))) h.multiples in
         held-both cells base top x.for_returns x.stand ks (collected x.cs (forth (ls ∷ turns))) (of-two cells base lo x.mid top args mine x.for_returns ks x.returns_lent (omega (arith, l)) (omega arith) h.outer h.inner)
-        (stand-held cells base top x.mid x.n ls (forth turns) x.cs x.stand (x.mid + x.n) x.stands x.within h.loop_values
-        (subst (λ q. HoldsAll cells base top (cells_at (x.mid + x.n) q) (collected x.cs (forth (ls ∷ turns)))) (sym x.cs_many) held))
+        (stand-held cells base top x.mid x.n ls (forth turns) x.cs x.stand (x.mid + x.n) x.stands x.within h.loop_values held)
 
     pub args-many : (base : ℕ) (cells : Cells) (ks ls : List Carried) (turns : List (List Carried)) → IsKept base cells ks ls turns → length ks ≡ length args
     args-many base cells ks ls turns h = sym (as-many cells base lo args ks h.outer)

@@ -5,6 +5,7 @@ use Rattle.graph_meaning.specs.Forms as form
 use Rattle.graph_meaning.specs.Demand.{Kind, Plain, Whole, Vertex, Network, EachNode}
 use Rattle.run_code.specs.Cells.{Operand, At, cells_at, picked, own_cells}
 use Rattle.run_code.specs.Coded.{Places, operand}
+use Rattle.run_code.specs.Collections.{sifts_in}
 use Rattle.run_code.specs.Made.{Plan, Line, line, OfResults, OfRows, OfNothing, Makes, IsSized, arm_code, arms_at, arms_code, arms_size, end_at, ends_at, for_all_code, graph_code, kind_code, kind_size, loop_code, loop_size, nodes_code, nodes_size, placed, select_code, stand}
 use Rattle.run_code.specs.Steps.{Add, Branch, Count, Each, Keep, Move, Spread, Test}
 use Rattle.run_made.specs.Plans.{All, CanLay, IsInner, IsKindRight, Weighing}
@@ -45,9 +46,9 @@ module _ (P : Plan) where
         let y = own ++ stand P (P.collects r) (mid + n) mid in
         let s4 = arm_code P make room y (P.refolded r) leave w b lo top in
         let s3 = line OfNothing (Test (end_at P x t top) turn leave lo w b) ∷ s4 in
-        let s2 = line (OfResults body) (Keep false (P.collects r) (ends_at P x body top) mid tests) ∷ (make room x t tests top ++ s3) in
+        let s2 = line (OfResults body) (Keep false (sifts_in (P.collects r)) (ends_at P x body top) mid tests) ∷ (make room x t tests top ++ s3) in
         let s1 = make room x body turn top ++ s2 in
-        let s0 = line (OfResults i) (Keep true (P.collects r) (ends_at P own i mid) mid starts) ∷ (begin ++ s1) in
+        let s0 = line (OfResults i) (Keep true (sifts_in (P.collects r)) (ends_at P own i mid) mid starts) ∷ (begin ++ s1) in
         let a0 = length-append (make room own i a mid) s0 in
         let a1 = length-append begin s1 in
         let a2 = length-append (make room x body turn top) s2 in

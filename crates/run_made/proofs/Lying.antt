@@ -116,7 +116,7 @@ picked-long (false ∷ bs) (o ∷ os) f = picked-long bs os f
 pub stand-at : (P : Plan) (cs : List Collect) (own first : ℕ) → AreAt cs (stand P cs own first) own first
 stand-at P [] own first = tt
 stand-at P (Sifts j mask ∷ cs) own first = (refl, stand-at P cs (suc own) first)
-stand-at P (Final j ∷ cs) own first = (inr refl, stand-at P cs (suc own) first)
+stand-at P (Final j ∷ cs) own first = (refl, stand-at P cs own first)
 
 pub cells-get : (i n j : ℕ) → j < n → get_or (cells_at i n) j (Lit Unfilled) ≡ At (i + j)
 cells-get i zero j lt = absurd (omega (arith, lt))

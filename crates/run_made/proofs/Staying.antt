@@ -5,9 +5,10 @@ use Rattle.std.proofs.lemmas.List.{length-map}
 use Rattle.std.proofs.Math.Nat.{le-max_left, le-max_right}
 use Rattle.graph_meaning.specs.Carried.{Unfilled}
 use Rattle.graph_meaning.specs.Demand.{Source, Port, Fixed, Vertex}
+use Rattle.run_code.proofs.Folding.{sifts-fewer}
 use Rattle.run_code.specs.Cells.{Operand, At, Lit, cells_at, picked, own_cells}
 use Rattle.run_code.specs.Coded.{Layout, Places, operand}
-use Rattle.run_code.specs.Collections.{AreWithin, Collect, Final, Sifts}
+use Rattle.run_code.specs.Collections.{AreWithin, Collect, Final, Sifts, sifts_in}
 use Rattle.run_code.specs.Made.{Plan, Line, line, OfNothing, OfResults, OfRows, IsSized, Makes, arm_code, arms_at, arms_code, arms_size, end_at, ends_at, for_all_code, greatest_extent, loop_code, loop_extent, nodes_extent, parts_extent, placed, put, select_code, stand, tag_code}
 use Rattle.run_code.specs.Steps.{Add, Branch, Each, Keep, Move, Spread, Test}
 use Rattle.run_laws.specs.Inside.{AreAhead, AreCells, IsCell, Stays}
@@ -45,11 +46,11 @@ own-inside room (b ∷ bs) [] i h le = tt
 own-inside room (true ∷ bs) (a ∷ args) i h le = (omega (arith, le), own-inside room bs args (suc i) h.1 (omega (arith, le)))
 own-inside room (false ∷ bs) (a ∷ args) i h le = (h.0, own-inside room bs args i h.1 le)
 
--- collections stand behind the loop values, or they are loop values
+-- what is sifted stands behind the loop values, and last values are loop values
 pub stand-inside : (P : Plan) (room m : ℕ) (cs : List Collect) (own first : ℕ) → AreWithin m cs → own + length cs ≤ room → first + m ≤ room → AreCells room (stand P cs own first)
 stand-inside P room m [] own first h le le' = tt
 stand-inside P room m (Sifts j mask ∷ cs) own first h le le' = (omega (arith, le), stand-inside P room m cs (suc own) first h.1 (omega (arith, le)) le')
-stand-inside P room m (Final j ∷ cs) own first h le le' = let lt = h.0 in (omega (arith, lt, le'), stand-inside P room m cs (suc own) first h.1 (omega (arith, le)) le')
+stand-inside P room m (Final j ∷ cs) own first h le le' = let lt = h.0 in (omega (arith, lt, le'), stand-inside P room m cs own first h.1 (omega (arith, le)) le')
 
 module _ (P : Plan) (room : ℕ) where
   put-inside : (g : ℕ) (vs : List Vertex) (lo l p : ℕ) → lo + nodes_extent P g vs ≤ room → IsCell room (put P vs lo l p)
@@ -166,9 +167,9 @@ module _ (X : Layout) (room begin end : ℕ) where
           let y = own ++ stand P (P.collects r) (mid + n) mid in
           let s4 = arm_code P make room y o leave w b lo top in
           let s3 = line OfNothing (Test (end_at P x t top) turn leave lo w b) ∷ s4 in
-          let s2 = line (OfResults body) (Keep false (P.collects r) (ends_at P x body top) mid tests) ∷ (make room x t tests top ++ s3) in
+          let s2 = line (OfResults body) (Keep false (sifts_in (P.collects r)) (ends_at P x body top) mid tests) ∷ (make room x t tests top ++ s3) in
           let s1 = make room x body turn top ++ s2 in
-          let s0 = line (OfResults i) (Keep true (P.collects r) (ends_at P own i mid) mid starts) ∷ (first ++ s1) in
+          let s0 = line (OfResults i) (Keep true (sifts_in (P.collects r)) (ends_at P own i mid) mid starts) ∷ (first ++ s1) in
           let l0 = long room own i a mid in_i in
           let l1 = long room x body turn top in_b in
           let l2 = long room x t tests top in_t in
@@ -185,6 +186,7 @@ module _ (X : Layout) (room begin end : ℕ) where
           let fit_r : top + P.extent o ≤ room = omega (arith, fits, m1, m3, m5, m6) in
           let in_x = both-inside room own (cells_at mid n) ins (cells-inside room mid n (omega (arith, fit_t))) in
           let in_y = both-inside room own (stand P (P.collects r) (mid + n) mid) ins (stand-inside P room n (P.collects r) (mid + n) mid within (omega (arith, fit_t)) (omega (arith, fit_t))) in
+          let fewer = sifts-fewer (P.collects r) in
           let many_i : length (ends_at P own i mid) ≡ n = length-map (P.results i) (operand (placed P own (P.nodes i) mid)) in
           let many_b : length (ends_at P x body top) ≡ n = length-map (P.results body) (operand (placed P x (P.nodes body) top)) ∙ same in
           let t4 : AllStay leave s4 = arm-stays y o leave w b lo top (omega (arith, from, goes)) in_r in_y outs fit_r (omega (arith, le)) lt in
@@ -193,9 +195,9 @@ module _ (X : Layout) (room begin end : ℕ) where
           ((get-inside room (ends_at P x t top) 0 (ends-inside sized x t top in_x fit_t), omega (arith, from, goes), omega (arith, le, lt), (omega arith, omega (arith, le, lt)), outs, (omega (arith, le), lt)), t4) in
           let t2 : AllStay turn s1 =
           stay-both turn turned (make room x body turn top) s2 (omega (arith, l1)) (stay x body turn top (omega (arith, from, goes)) in_b in_x fit_b (omega (arith, le, lt)))
-          ((ends-inside sized x body top in_x fit_b, omega (arith, many_b, fit_t), (omega arith, omega (arith, le, lt))), t3) in
+          ((ends-inside sized x body top in_x fit_b, omega (arith, many_b, fit_t, fewer), (omega arith, omega (arith, le, lt))), t3) in
           stay-both a begun (make room own i a mid) s0 (omega (arith, l0)) (stay own i a mid from in_i ins fit_i (omega (arith, after, before)))
-          ((ends-inside sized own i mid ins fit_i, omega (arith, many_i, fit_t), (after, before)), stay-both (suc begun) turn first s1 goes firsts t2)
+          ((ends-inside sized own i mid ins fit_i, omega (arith, many_i, fit_t, fewer), (after, before)), stay-both (suc begun) turn first s1 goes firsts t2)
 
       pub for-all-stays : (own : List Operand) (e body r turn a w b lo mid : ℕ)
           → (let n = length (P.results e) in let k = length (P.collects r) in

@@ -7,6 +7,7 @@ use Rattle.graph_meaning.specs.Demand.{Vertex, Network}
 use Rattle.run_code.specs.Cells.{Operand, cells_at, own_cells}
 use Rattle.run_code.specs.Coded.{ForAllIs, GoesIn, Layout, LoopIs, PartIs, Starts, operand, the_for_all, the_loop}
 use Rattle.run_code.specs.Machine.{Weigh}
+use Rattle.run_code.specs.Collections.{sifts_in}
 use Rattle.run_code.specs.Made.{Plan, Line, line, OfNothing, OfResults, OfRows, Makes, arm_code, end_at, ends_at, for_all_code, greatest_extent, loop_code, loop_extent, placed, stand}
 use Rattle.run_code.specs.Steps.{Add, Code, Each, Keep, Spread, Test}
 use Rattle.run_made.proofs.Arms.{X, Does, arm-made, as-planned}
@@ -43,9 +44,9 @@ module _ (P : Plan) (W : Weighing) (u : Network) (order : ℕ → List Vertex) (
       let y = mine ++ stand P (P.collects r) (mid + n) mid in
       let s4 = arm_code P make room y o leave w b lo top in
       let s3 = line OfNothing (Test (end_at P x t top) turn leave lo w b) ∷ s4 in
-      let s2 = line (OfResults body) (Keep false (P.collects r) (ends_at P x body top) mid tests) ∷ (make room x t tests top ++ s3) in
+      let s2 = line (OfResults body) (Keep false (sifts_in (P.collects r)) (ends_at P x body top) mid tests) ∷ (make room x t tests top ++ s3) in
       let s1 = make room x body turn top ++ s2 in
-      let s0 = line (OfResults i) (Keep true (P.collects r) (ends_at P mine i mid) mid starts) ∷ (begin ++ s1) in
+      let s0 = line (OfResults i) (Keep true (sifts_in (P.collects r)) (ends_at P mine i mid) mid starts) ∷ (begin ++ s1) in
       let l0 = long room mine i (suc (suc a)) mid in_i.1 in
       let l1 = long room x body turn top in_b.1 in
       let l2 = long room x t tests top in_t.1 in
