@@ -5,6 +5,7 @@ use Rattle.node_ops.specs.Operands.{shape_of}
 use Rattle.flow_value.specs.declared.operands.Shape.{Shape}
 use Rattle.if1_graph.specs.declared.op.Simple.{Simple}
 use Rattle.run_code.specs.Cells.{cells_at}
+use Rattle.run_code.specs.Collections.{sifts_in}
 use Rattle.run_code.specs.Made.{Origin, Plan, line}
 use Rattle.run_code.specs.Steps as made
 use Rattle.run_store.specs.Stored.{Looks}
@@ -22,9 +23,9 @@ use Rattle.plan_data.specs.declared.plan.PlanData.{PlanData}
 use Rattle.plan_data.specs.Parts.{IsFormed, mode_by, mode_of}
 use Rattle.code_maker.specs.declared.draft.Draft.{Draft}
 use Rattle.code_maker.specs.declared.seats.Seat.{Seat}
-use Rattle.code_maker.specs.Seats.{at_seat, at_seats, laid, looked_at, put_as, seats_at, with_mode}
+use Rattle.code_maker.specs.Seats.{at_seat, at_seats, laid, looked_at, seats_at, sifts_among, with_mode}
 use Rattle.code_maker.specs.Grows.{Grows, IsToldOf, read_as}
-use Rattle.code_maker.proofs.Reading.{collects-are, kept-by, looked-read, more-read, operand-is, operands-are, ports-kept, ports-read, puts-are, puts-none, read-one, taken-same, unmarked}
+use Rattle.code_maker.proofs.Reading.{kept-by, looked-read, more-read, operand-is, operands-are, ports-kept, ports-read, puts-none, read-one, sifts-are, sifts-long, taken-same, unmarked}
 use Rattle.code_maker.proofs.Growing.{collects-named, grows-one, operands-named, targets-named}
 
 looked-long : (i n : ℕ) → length (looked_at i n) ≡ n
@@ -140,84 +141,82 @@ module _ (D : PlanData) (P : Plan) (old new : Draft) (o : Origin) (lives owns : 
         keeps = λ k. refl;
       })
 
-  pub begin-grows : (args : List Seat) (first : ℕ) (xs : List Port) (cs : List Collect) (out next : ℕ) (i n j k : ℕ) → new.steps ≡ old.steps ++ step.Keep true j k i n out next ∷ [] → new.operands ≡ old.operands ++ map (laid args first) xs → new.targets ≡ old.targets → new.collects ≡ old.collects ++ map (put_as false) cs
-      → i ≡ length old.operands → n ≡ length xs → j ≡ length old.collects → k ≡ length cs
-      → Grows D P old new (line o (made.Keep true (map collect_in cs) (at_seats D (seats_at args first xs)) out next) ∷ []) (setting (map mode_of xs) [] lives owns ∷ [])
+  pub begin-grows : (args : List Seat) (first : ℕ) (xs : List Port) (cs : List Collect) (out next : ℕ) (i n j k : ℕ) → new.steps ≡ old.steps ++ step.Keep true j k i n out next ∷ [] → new.operands ≡ old.operands ++ map (laid args first) xs → new.targets ≡ old.targets → new.collects ≡ old.collects ++ sifts_among cs
+      → i ≡ length old.operands → n ≡ length xs → j ≡ length old.collects → k ≡ length (sifts_among cs)
+      → Grows D P old new (line o (made.Keep true (sifts_in (map collect_in cs)) (at_seats D (seats_at args first xs)) out next) ∷ []) (setting (map mode_of xs) [] lives owns ∷ [])
   begin-grows args first xs cs out next i n j k a b c d i_is n_is j_is k_is =
       let os = map (laid args first) xs in
-      grows-one D P old new (step.Keep true j k i n out next) (line o (made.Keep true (map collect_in cs) (at_seats D (seats_at args first xs)) out next)) (setting (map mode_of xs) [] lives owns) os [] (map (put_as false) cs) a b (c ∙ sym (append-nil old.targets)) d
+      grows-one D P old new (step.Keep true j k i n out next) (line o (made.Keep true (sifts_in (map collect_in cs)) (at_seats D (seats_at args first xs)) out next)) (setting (map mode_of xs) [] lives owns) os [] (sifts_among cs) a b (c ∙ sym (append-nil old.targets)) d
       (λ code h.
       let there : so_many i n code.operands ≡ os = operands-named D old new code os i n h b i_is (n_is ∙ sym (length-map xs (laid args first))) in
-      let here : so_many j k code.collects ≡ map (put_as false) cs = collects-named D old new code (map (put_as false) cs) j k h d j_is (k_is ∙ sym (length-map cs (put_as false))) in
+      let here : so_many j k code.collects ≡ sifts_among cs = collects-named D old new code (sifts_among cs) j k h d j_is k_is in
       record {
         step = ap (λ l. made.Keep true (map collect_in l) (map (operand_in code) (so_many i n code.operands)) out next) here
-            ∙ (ap (λ l. made.Keep true l (map (operand_in code) (so_many i n code.operands)) out next) (collects-are false cs)
-            ∙ (ap (λ l. made.Keep true (map collect_in cs) (map (operand_in code) l) out next) there
-            ∙ ap (λ l. made.Keep true (map collect_in cs) l out next) (operands-are D code h.literals args first xs)));
+            ∙ (ap (λ l. made.Keep true l (map (operand_in code) (so_many i n code.operands)) out next) (sifts-are cs)
+            ∙ (ap (λ l. made.Keep true (sifts_in (map collect_in cs)) (map (operand_in code) l) out next) there
+            ∙ ap (λ l. made.Keep true (sifts_in (map collect_in cs)) l out next) (operands-are D code h.literals args first xs)));
         modes = ap (λ l. read_as (l ++ []) (at_seats D (seats_at args first xs))) (ap (map (mode_in code)) there) ∙ (ap (λ l. read_as l (at_seats D (seats_at args first xs))) (append-nil (map (mode_in code) os)) ∙ ports-read D code h.literals args first xs);
         puts = λ q. ap (λ l. get_or (map puts_of l) q false) here ∙ puts-none cs q;
         told = tt;
         keeps = λ k. refl;
       })
 
-  pub keep-grows : (args : List Seat) (first : ℕ) (xs : List Port) (cs : List Collect) (out next : ℕ) (i n j k : ℕ) → new.steps ≡ old.steps ++ step.Keep false j k i n out next ∷ [] → new.operands ≡ old.operands ++ map (laid args first) xs → new.targets ≡ old.targets → new.collects ≡ old.collects ++ map (put_as false) cs
-      → i ≡ length old.operands → n ≡ length xs → j ≡ length old.collects → k ≡ length cs
-      → Grows D P old new (line o (made.Keep false (map collect_in cs) (at_seats D (seats_at args first xs)) out next) ∷ []) (setting (map mode_of xs ++ takes_all (length cs)) [] lives owns ∷ [])
+  pub keep-grows : (args : List Seat) (first : ℕ) (xs : List Port) (cs : List Collect) (out next : ℕ) (i n j k : ℕ) → new.steps ≡ old.steps ++ step.Keep false j k i n out next ∷ [] → new.operands ≡ old.operands ++ map (laid args first) xs → new.targets ≡ old.targets → new.collects ≡ old.collects ++ sifts_among cs
+      → i ≡ length old.operands → n ≡ length xs → j ≡ length old.collects → k ≡ length (sifts_among cs)
+      → Grows D P old new (line o (made.Keep false (sifts_in (map collect_in cs)) (at_seats D (seats_at args first xs)) out next) ∷ []) (setting (map mode_of xs ++ takes_all (length (sifts_in (map collect_in cs)))) [] lives owns ∷ [])
   keep-grows args first xs cs out next i n j k a b c d i_is n_is j_is k_is =
       let os = map (laid args first) xs in
-      grows-one D P old new (step.Keep false j k i n out next) (line o (made.Keep false (map collect_in cs) (at_seats D (seats_at args first xs)) out next)) (setting (map mode_of xs ++ takes_all (length cs)) [] lives owns) os [] (map (put_as false) cs) a b (c ∙ sym (append-nil old.targets)) d
+      grows-one D P old new (step.Keep false j k i n out next) (line o (made.Keep false (sifts_in (map collect_in cs)) (at_seats D (seats_at args first xs)) out next)) (setting (map mode_of xs ++ takes_all (length (sifts_in (map collect_in cs)))) [] lives owns) os [] (sifts_among cs) a b (c ∙ sym (append-nil old.targets)) d
       (λ code h.
       let there : so_many i n code.operands ≡ os = operands-named D old new code os i n h b i_is (n_is ∙ sym (length-map xs (laid args first))) in
-      let here : so_many j k code.collects ≡ map (put_as false) cs = collects-named D old new code (map (put_as false) cs) j k h d j_is (k_is ∙ sym (length-map cs (put_as false))) in
+      let here : so_many j k code.collects ≡ sifts_among cs = collects-named D old new code (sifts_among cs) j k h d j_is k_is in
       record {
         step = ap (λ l. made.Keep false (map collect_in l) (map (operand_in code) (so_many i n code.operands)) out next) here
-            ∙ (ap (λ l. made.Keep false l (map (operand_in code) (so_many i n code.operands)) out next) (collects-are false cs)
-            ∙ (ap (λ l. made.Keep false (map collect_in cs) (map (operand_in code) l) out next) there
-            ∙ ap (λ l. made.Keep false (map collect_in cs) l out next) (operands-are D code h.literals args first xs)));
-        modes = ap (λ l. read_as (map (mode_in code) l ++ taken_all k) (at_seats D (seats_at args first xs) ++ cells_at (out + length (at_seats D (seats_at args first xs))) (length (map collect_in cs)))) there
-            ∙ (more-read D code h.literals args first xs (taken_all k) (taken_all k) (cells_at (out + length (at_seats D (seats_at args first xs))) (length (map collect_in cs))) refl
-            ∙ ap (λ q. read_as (map mode_of xs ++ q) (at_seats D (seats_at args first xs) ++ cells_at (out + length (at_seats D (seats_at args first xs))) (length (map collect_in cs)))) (taken-same k ∙ ap takes_all k_is));
+            ∙ (ap (λ l. made.Keep false l (map (operand_in code) (so_many i n code.operands)) out next) (sifts-are cs)
+            ∙ (ap (λ l. made.Keep false (sifts_in (map collect_in cs)) (map (operand_in code) l) out next) there
+            ∙ ap (λ l. made.Keep false (sifts_in (map collect_in cs)) l out next) (operands-are D code h.literals args first xs)));
+        modes = ap (λ l. read_as (map (mode_in code) l ++ taken_all k) (at_seats D (seats_at args first xs) ++ cells_at (out + length (at_seats D (seats_at args first xs))) (length (sifts_in (map collect_in cs))))) there
+            ∙ (more-read D code h.literals args first xs (taken_all k) (taken_all k) (cells_at (out + length (at_seats D (seats_at args first xs))) (length (sifts_in (map collect_in cs)))) refl
+            ∙ ap (λ q. read_as (map mode_of xs ++ q) (at_seats D (seats_at args first xs) ++ cells_at (out + length (at_seats D (seats_at args first xs))) (length (sifts_in (map collect_in cs))))) (taken-same k ∙ ap takes_all (k_is ∙ sifts-long cs)));
         puts = λ q. ap (λ l. get_or (map puts_of l) q false) here ∙ puts-none cs q;
         told = tt;
         keeps = λ k. refl;
       })
 
-  pub put-grows : (args : List Seat) (first : ℕ) (xs : List Port) (cs : List Collect) (out next : ℕ) (i n j k : ℕ) → new.steps ≡ old.steps ++ step.Add j k i n out next ∷ [] → new.operands ≡ old.operands ++ map (laid args first) xs → new.targets ≡ old.targets → new.collects ≡ old.collects ++ map (put_as true) cs
+  pub put-grows : (args : List Seat) (first : ℕ) (xs : List Port) (cs : List Collect) (out next : ℕ) (i n j k : ℕ) → new.steps ≡ old.steps ++ step.Add j k i n out next ∷ [] → new.operands ≡ old.operands ++ map (laid args first) xs → new.targets ≡ old.targets → new.collects ≡ old.collects ++ cs
       → i ≡ length old.operands → n ≡ length xs → j ≡ length old.collects → k ≡ length cs
       → Grows D P old new (line o (made.Add (map collect_in cs) (at_seats D (seats_at args first xs)) out next) ∷ []) (setting (map mode_of xs ++ takes_all (length cs)) (map puts_of cs) lives owns ∷ [])
   put-grows args first xs cs out next i n j k a b c d i_is n_is j_is k_is =
       let os = map (laid args first) xs in
-      grows-one D P old new (step.Add j k i n out next) (line o (made.Add (map collect_in cs) (at_seats D (seats_at args first xs)) out next)) (setting (map mode_of xs ++ takes_all (length cs)) (map puts_of cs) lives owns) os [] (map (put_as true) cs) a b (c ∙ sym (append-nil old.targets)) d
+      grows-one D P old new (step.Add j k i n out next) (line o (made.Add (map collect_in cs) (at_seats D (seats_at args first xs)) out next)) (setting (map mode_of xs ++ takes_all (length cs)) (map puts_of cs) lives owns) os [] cs a b (c ∙ sym (append-nil old.targets)) d
       (λ code h.
       let there : so_many i n code.operands ≡ os = operands-named D old new code os i n h b i_is (n_is ∙ sym (length-map xs (laid args first))) in
-      let here : so_many j k code.collects ≡ map (put_as true) cs = collects-named D old new code (map (put_as true) cs) j k h d j_is (k_is ∙ sym (length-map cs (put_as true))) in
+      let here : so_many j k code.collects ≡ cs = collects-named D old new code cs j k h d j_is k_is in
       record {
         step = ap (λ l. made.Add (map collect_in l) (map (operand_in code) (so_many i n code.operands)) out next) here
-            ∙ (ap (λ l. made.Add l (map (operand_in code) (so_many i n code.operands)) out next) (collects-are true cs)
             ∙ (ap (λ l. made.Add (map collect_in cs) (map (operand_in code) l) out next) there
-            ∙ ap (λ l. made.Add (map collect_in cs) l out next) (operands-are D code h.literals args first xs)));
+            ∙ ap (λ l. made.Add (map collect_in cs) l out next) (operands-are D code h.literals args first xs));
         modes = ap (λ l. read_as (map (mode_in code) l ++ taken_all k) (at_seats D (seats_at args first xs) ++ cells_at out (length (map collect_in cs)))) there
             ∙ (more-read D code h.literals args first xs (taken_all k) (taken_all k) (cells_at out (length (map collect_in cs))) refl
             ∙ ap (λ q. read_as (map mode_of xs ++ q) (at_seats D (seats_at args first xs) ++ cells_at out (length (map collect_in cs)))) (taken-same k ∙ ap takes_all k_is));
-        puts = λ q. ap (λ l. get_or (map puts_of l) q false) here ∙ ap (λ l. get_or l q false) (puts-are cs);
+        puts = λ q. ap (λ l. get_or (map puts_of l) q false) here;
         told = tt;
         keeps = λ k. refl;
       })
 
-  pub spread-grows : (args : List Seat) (first : ℕ) (xs : List Port) (cs : List Collect) (to turns out w next : ℕ) (i n j k : ℕ) → new.steps ≡ old.steps ++ step.Spread i n j k to turns out w next ∷ [] → new.operands ≡ old.operands ++ map (laid args first) xs → new.targets ≡ old.targets → new.collects ≡ old.collects ++ map (put_as true) cs
+  pub spread-grows : (args : List Seat) (first : ℕ) (xs : List Port) (cs : List Collect) (to turns out w next : ℕ) (i n j k : ℕ) → new.steps ≡ old.steps ++ step.Spread i n j k to turns out w next ∷ [] → new.operands ≡ old.operands ++ map (laid args first) xs → new.targets ≡ old.targets → new.collects ≡ old.collects ++ cs
       → i ≡ length old.operands → n ≡ length xs → j ≡ length old.collects → k ≡ length cs
       → Grows D P old new (line o (made.Spread (at_seats D (seats_at args first xs)) (map collect_in cs) to turns out w next) ∷ []) (setting (map mode_of xs) [] lives owns ∷ [])
   spread-grows args first xs cs to turns out w next i n j k a b c d i_is n_is j_is k_is =
       let os = map (laid args first) xs in
-      grows-one D P old new (step.Spread i n j k to turns out w next) (line o (made.Spread (at_seats D (seats_at args first xs)) (map collect_in cs) to turns out w next)) (setting (map mode_of xs) [] lives owns) os [] (map (put_as true) cs) a b (c ∙ sym (append-nil old.targets)) d
+      grows-one D P old new (step.Spread i n j k to turns out w next) (line o (made.Spread (at_seats D (seats_at args first xs)) (map collect_in cs) to turns out w next)) (setting (map mode_of xs) [] lives owns) os [] cs a b (c ∙ sym (append-nil old.targets)) d
       (λ code h.
       let there : so_many i n code.operands ≡ os = operands-named D old new code os i n h b i_is (n_is ∙ sym (length-map xs (laid args first))) in
-      let here : so_many j k code.collects ≡ map (put_as true) cs = collects-named D old new code (map (put_as true) cs) j k h d j_is (k_is ∙ sym (length-map cs (put_as true))) in
+      let here : so_many j k code.collects ≡ cs = collects-named D old new code cs j k h d j_is k_is in
       record {
         step = ap (λ l. made.Spread (map (operand_in code) (so_many i n code.operands)) (map collect_in l) to turns out w next) here
-            ∙ (ap (λ l. made.Spread (map (operand_in code) (so_many i n code.operands)) l to turns out w next) (collects-are true cs)
             ∙ (ap (λ l. made.Spread (map (operand_in code) l) (map collect_in cs) to turns out w next) there
-            ∙ ap (λ l. made.Spread l (map collect_in cs) to turns out w next) (operands-are D code h.literals args first xs)));
+            ∙ ap (λ l. made.Spread l (map collect_in cs) to turns out w next) (operands-are D code h.literals args first xs));
         modes = ap (λ l. read_as (map (mode_in code) l) (at_seats D (seats_at args first xs))) there ∙ ports-read D code h.literals args first xs;
         puts = λ q. refl;
         told = tt;

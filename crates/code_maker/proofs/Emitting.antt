@@ -12,13 +12,14 @@ use Rattle.run_code.specs.Cells as cells
 use Rattle.run_code.specs.Cells.{cells_at, own_cells, picked}
 use Rattle.run_code.specs.Coded.{operand}
 use Rattle.run_code.specs.Collections as collections
+use Rattle.run_code.specs.Collections.{sifts_in}
 use Rattle.run_code.specs.Made.{Line, OfInputs, OfNode, OfNothing, OfResults, OfRows, Origin, Plan, arm_code, arms_at, arms_code, end_at, ends_at, function_lines, functions_lines, graph_code, kind_code, kind_size, line, loop_code, nodes_code, parts_code, placed, stand}
 use Rattle.run_code.specs.Steps.{Add, Branch, Call, Count, Each, Fire, Keep, Move, Return, Spread, Step, Tag, Test}
 use Rattle.run_made.specs.Plans.{last_line}
 use Rattle.run_store.specs.Effects.{reads_of}
 use Rattle.run_store.specs.Ports.{copies_of}
 use Rattle.run_store.specs.Stored.{Looks, Mode, Takes}
-use Rattle.made_store.specs.Settings.{Cells_of, Shares, cells_where, either_of, gives, live_behind, live_in, modes_at, none_of, own_behind, own_in, range_of, result_modes, takes_all}
+use Rattle.made_store.specs.Settings.{Cells_of, Shares, cells_where, either_of, gives, live_behind, live_in, modes_at, none_of, own_behind, own_in, range_of, result_modes, sifts_of, takes_all}
 use Rattle.made_store.specs.Settled.{Setting, arms_settings, function_settings, functions_settings, graph_settings, kind_settings, last_setting, nodes_settings, part_settings, parts_settings, setting}
 use Rattle.plan_data.specs.declared.plan.LoopParts.{LoopParts}
 use Rattle.plan_data.specs.declared.plan.Port.{Port}
@@ -100,40 +101,38 @@ module _ (D : PlanData) (formed : IsFormed D) (room levels : ℕ) where
       (made P S keep hold stands) (ends-line D P S formed stands b c (OfResults g) (λ q. Move q lo w next) (λ m. m) g args up [] lives owns ports ports_are (last P (OfResults g) lives owns))
 
   pub first-made : (args : List Seat) (p : LoopParts) (t starts mid : ℕ) (a b c : Draft) (ports : List Port) (cs : List Collect) → ports ≡ graph_results D p.init → cs ≡ graph_collects D p.returns → GraphMade D room levels args p.init t mid a b
-      → ((P : Plan) (o : Origin) (lives owns : Cells_of) → Grows D P b c (line o (Keep true (map collect_in cs) (at_seats D (seats_at args mid ports)) mid starts) ∷ []) (setting (map mode_of ports) [] lives owns ∷ []))
+      → ((P : Plan) (o : Origin) (lives owns : Cells_of) → Grows D P b c (line o (Keep true (sifts_in (map collect_in cs)) (at_seats D (seats_at args mid ports)) mid starts) ∷ []) (setting (map mode_of ports) [] lives owns ∷ []))
       → FirstMade D room levels args p t starts mid a c
   first-made args p t starts mid a b c ports cs ports_are cs_are made last P S keep hold stands =
       let xs = at_seats D args in
       let lives = live_behind P S keep xs p.init mid in
       let owns = own_behind P S hold xs p.init mid in
-      let one = ends-line D P S formed stands b c (OfResults p.init) (λ q. Keep true (map collect_in cs) q mid starts) (λ m. m) p.init args mid [] lives owns ports ports_are (last P (OfResults p.init) lives owns) in
-      grows-then D P a b c (graph_code P levels room xs p.init t mid) (line (OfResults p.init) (Keep true (P.collects p.returns) (ends_at P xs p.init mid) mid starts) ∷ []) (graph_settings P S levels keep hold xs p.init mid) (setting (result_modes P S p.init) [] lives owns ∷ [])
-      (made P S keep hold stands) (subst (λ ks. Grows D P b c (line (OfResults p.init) (Keep true ks (ends_at P xs p.init mid) mid starts) ∷ []) (setting (result_modes P S p.init) [] lives owns ∷ [])) (ap (map collect_in) cs_are ∙ sym (stands.collects p.returns)) one)
+      let one = ends-line D P S formed stands b c (OfResults p.init) (λ q. Keep true (sifts_in (map collect_in cs)) q mid starts) (λ m. m) p.init args mid [] lives owns ports ports_are (last P (OfResults p.init) lives owns) in
+      grows-then D P a b c (graph_code P levels room xs p.init t mid) (line (OfResults p.init) (Keep true (sifts_in (P.collects p.returns)) (ends_at P xs p.init mid) mid starts) ∷ []) (graph_settings P S levels keep hold xs p.init mid) (setting (result_modes P S p.init) [] lives owns ∷ [])
+      (made P S keep hold stands) (subst (λ ks. Grows D P b c (line (OfResults p.init) (Keep true ks (ends_at P xs p.init mid) mid starts) ∷ []) (setting (result_modes P S p.init) [] lives owns ∷ [])) (ap (λ l. sifts_in (map collect_in l)) cs_are ∙ ap sifts_in (sym (stands.collects p.returns))) one)
 
   pub turns-made : (x : List Seat) (p : LoopParts) (turn tests leave w next lo mid top : ℕ) (a b c d e : Draft) (ports : List Port) (cs : List Collect) (told : Seat) → ports ≡ graph_results D p.body → cs ≡ graph_collects D p.returns → told ≡ first_seat x top (graph_results D p.test) → GraphMade D room levels x p.body turn top a b
-      → ((P : Plan) (o : Origin) (lives owns : Cells_of) → Grows D P b c (line o (Keep false (map collect_in cs) (at_seats D (seats_at x top ports)) mid tests) ∷ []) (setting (map mode_of ports ++ takes_all (length cs)) [] lives owns ∷ []))
+      → ((P : Plan) (o : Origin) (lives owns : Cells_of) → Grows D P b c (line o (Keep false (sifts_in (map collect_in cs)) (at_seats D (seats_at x top ports)) mid tests) ∷ []) (setting (map mode_of ports ++ takes_all (length (sifts_in (map collect_in cs)))) [] lives owns ∷ []))
       → GraphMade D room levels x p.test tests top c d
       → ((P : Plan) (o : Origin) (lives owns : Cells_of) → Grows D P d e (line o (Test (at_seat D told) turn leave lo w next) ∷ []) (setting (Looks ∷ []) [] lives owns ∷ []))
       → TurnsMade D room levels x p turn tests leave w next lo mid top a e
   turns-made x p turn tests leave w next lo mid top a b c d e ports cs told ports_are cs_are told_is body keep_ test last P S keep hold keeps holds stands =
       let xs = at_seats D x in
-      let k = length (P.collects p.returns) in
       let lives = live_behind P S keep xs p.body top in
       let owns = own_behind P S hold xs p.body top in
       let lives' = live_behind P S keeps xs p.test top in
       let owns' = own_behind P S holds xs p.test top in
-      let long : length cs ≡ k = ap length cs_are ∙ sym (ap length (stands.collects p.returns) ∙ length-map (graph_collects D p.returns) collect_in) in
-      let one = ends-line D P S formed stands b c (OfResults p.body) (λ q. Keep false (map collect_in cs) q mid tests) (λ m. m ++ takes_all (length cs)) p.body x top [] lives owns ports ports_are (keep_ P (OfResults p.body) lives owns) in
-      let two = along2 (λ ks n. Grows D P b c (line (OfResults p.body) (Keep false ks (ends_at P xs p.body top) mid tests) ∷ []) (setting (result_modes P S p.body ++ takes_all n) [] lives owns ∷ []))
-      (map collect_in cs) (P.collects p.returns) (length cs) k (ap (map collect_in) cs_are ∙ sym (stands.collects p.returns)) long one in
+      let kept : sifts_in (map collect_in cs) ≡ sifts_in (P.collects p.returns) = ap (λ l. sifts_in (map collect_in l)) cs_are ∙ ap sifts_in (sym (stands.collects p.returns)) in
+      let one = ends-line D P S formed stands b c (OfResults p.body) (λ q. Keep false (sifts_in (map collect_in cs)) q mid tests) (λ m. m ++ takes_all (length (sifts_in (map collect_in cs)))) p.body x top [] lives owns ports ports_are (keep_ P (OfResults p.body) lives owns) in
+      let two = subst (λ ks. Grows D P b c (line (OfResults p.body) (Keep false ks (ends_at P xs p.body top) mid tests) ∷ []) (setting (result_modes P S p.body ++ takes_all (length ks)) [] lives owns ∷ [])) kept one in
       let three = end-line D P S formed stands d e (λ q. Test q turn leave lo w next) p.test x top lives' owns' told told_is (last P OfNothing lives' owns') in
       let mb = graph_code P levels room xs p.body turn top in
-      let kb = line (OfResults p.body) (Keep false (P.collects p.returns) (ends_at P xs p.body top) mid tests) in
+      let kb = line (OfResults p.body) (Keep false (sifts_in (P.collects p.returns)) (ends_at P xs p.body top) mid tests) in
       let mt = graph_code P levels room xs p.test tests top in
       let kt = line OfNothing (Test (end_at P xs p.test top) turn leave lo w next) in
       let sb = graph_settings P S levels keep hold xs p.body top in
       let st = graph_settings P S levels keeps holds xs p.test top in
-      let ob = setting (result_modes P S p.body ++ takes_all k) [] lives owns in
+      let ob = setting (result_modes P S p.body ++ takes_all (sifts_of P p.returns)) [] lives owns in
       let ot = setting (Looks ∷ []) [] lives' owns' in
       grows-then D P a c e (mb ++ (kb ∷ [])) (mt ++ (kt ∷ [])) (sb ++ (ob ∷ [])) (st ++ (ot ∷ []))
       (grows-then D P a b c mb (kb ∷ []) sb (ob ∷ []) (body P S keep hold stands) two)
@@ -238,6 +237,9 @@ module _ (D : PlanData) (formed : IsFormed D) (room levels : ℕ) where
     abbrev many : ℕ
     many = length (P.collects p.returns)
 
+    abbrev kept : ℕ
+    kept = sifts_of P p.returns
+
     abbrev top : ℕ
     top = mid + (values + many)
 
@@ -256,8 +258,8 @@ module _ (D : PlanData) (formed : IsFormed D) (room levels : ℕ) where
         → Grows D P a e (loop_code P (graph_code P levels) room (at_seats D own) p.init p.test p.body p.returns begin starts turn place w next lo mid values many)
         (part_settings P S (graph_settings P S levels) keep hold (at_seats D own) p.init mid (result_modes P S p.init) []
         ++ (begins
-        ++ (part_settings P S (graph_settings P S levels) (either_of keep (range_of (mid + values) many)) (either_of hold (range_of (mid + values) many)) (at_seats D own ++ cells_at mid values) p.body top (result_modes P S p.body ++ takes_all many) []
-        ++ (part_settings P S (graph_settings P S levels) (either_of keep (range_of mid (values + many))) (either_of hold (range_of mid (values + many))) (at_seats D own ++ cells_at mid values) p.test top (Looks ∷ []) []
+        ++ (part_settings P S (graph_settings P S levels) (either_of keep (range_of (mid + values) kept)) (either_of hold (range_of (mid + values) kept)) (at_seats D own ++ cells_at mid values) p.body top (result_modes P S p.body ++ takes_all kept) []
+        ++ (part_settings P S (graph_settings P S levels) (either_of keep (range_of mid (values + kept))) (either_of hold (range_of mid (values + kept))) (at_seats D own ++ cells_at mid values) p.test top (Looks ∷ []) []
         ++ part_settings P S (graph_settings P S levels) keep hold (at_seats D own ++ stand P (P.collects p.returns) (mid + values) mid) (P.refolded p.returns) top (result_modes P S (P.refolded p.returns)) []))))
     loop-lines begin begins starts turn lent all starts' turn' tests leave top' a b c d e starts_is turn_is tests_is leave_is top_is lent_is all_is first early turns arm =
         let xs = at_seats D own in
@@ -265,16 +267,16 @@ module _ (D : PlanData) (formed : IsFormed D) (room levels : ℕ) where
         let settles = graph_settings P S levels in
         let x = xs ++ cells_at mid values in
         let y = xs ++ stand P (P.collects p.returns) (mid + values) mid in
-        let k1 = either_of keep (range_of (mid + values) many) in
-        let h1 = either_of hold (range_of (mid + values) many) in
-        let k2 = either_of keep (range_of mid (values + many)) in
-        let h2 = either_of hold (range_of mid (values + many)) in
-        let i_line = λ (q : ℕ). line (OfResults p.init) (Keep true (P.collects p.returns) (ends_at P xs p.init mid) mid q) in
+        let k1 = either_of keep (range_of (mid + values) kept) in
+        let h1 = either_of hold (range_of (mid + values) kept) in
+        let k2 = either_of keep (range_of mid (values + kept)) in
+        let h2 = either_of hold (range_of mid (values + kept)) in
+        let i_line = λ (q : ℕ). line (OfResults p.init) (Keep true (sifts_in (P.collects p.returns)) (ends_at P xs p.init mid) mid q) in
         let b_lines = λ (z : List cells.Operand) (q t : ℕ). make room z p.body q t in
-        let b_line = λ (z : List cells.Operand) (q t : ℕ). line (OfResults p.body) (Keep false (P.collects p.returns) (ends_at P z p.body t) mid q) in
+        let b_line = λ (z : List cells.Operand) (q t : ℕ). line (OfResults p.body) (Keep false (sifts_in (P.collects p.returns)) (ends_at P z p.body t) mid q) in
         let t_lines = λ (z : List cells.Operand) (q t : ℕ). make room z p.test q t in
         let t_line = λ (z : List cells.Operand) (q l t : ℕ). line OfNothing (Test (end_at P z p.test t) q l lo w next) in
-        let b_set = λ (z : List cells.Operand) (t : ℕ). part_settings P S settles k1 h1 z p.body t (result_modes P S p.body ++ takes_all many) [] in
+        let b_set = λ (z : List cells.Operand) (t : ℕ). part_settings P S settles k1 h1 z p.body t (result_modes P S p.body ++ takes_all kept) [] in
         let t_set = λ (z : List cells.Operand) (t : ℕ). part_settings P S settles k2 h2 z p.test t (Looks ∷ []) [] in
         let one = subst (λ q. Grows D P a b (make room xs p.init place mid ++ (i_line q ∷ [])) (part_settings P S settles keep hold xs p.init mid (result_modes P S p.init) [])) starts_is (first P S keep hold stands) in
         let lents : at_seats D lent ≡ x = ap (at_seats D) lent_is ∙ with-cells D own mid values in
@@ -313,9 +315,9 @@ module _ (D : PlanData) (formed : IsFormed D) (room levels : ℕ) where
       let alls : at_seats D all ≡ at_seats D own ++ stand P (P.collects p.returns) (mid + length (P.results p.init)) mid =
       ap (at_seats D) all_is ∙ (seats-then D own (stand_from (graph_collects D p.returns) (mid + n) mid) ∙ (ap (λ q. at_seats D own ++ q) (stand-are D P (graph_collects D p.returns) (mid + n) mid)
       ∙ (ap (λ q. at_seats D own ++ stand P q (mid + n) mid) (sym (stands.collects p.returns)) ∙ ap (λ q. at_seats D own ++ stand P (P.collects p.returns) (mid + q) mid) ns))) in
-      loop-lines P S stands keep hold p own place w next lo mid (line OfNothing Count ∷ []) (setting [] [] (either_of keep (range_of mid (length (P.results p.init) + length (P.collects p.returns)))) (either_of hold (range_of mid (length (P.results p.init) + length (P.collects p.returns)))) ∷ [])
+      loop-lines P S stands keep hold p own place w next lo mid (line OfNothing Count ∷ []) (setting [] [] (either_of keep (range_of mid (length (P.results p.init) + sifts_of P p.returns))) (either_of hold (range_of mid (length (P.results p.init) + sifts_of P p.returns))) ∷ [])
       (suc (place + P.size p.init)) (suc (suc (place + P.size p.init))) lent all starts turn tests leave top a b c d e starts' turn' tests' leave' top' lents alls first
-      (early P OfNothing (either_of keep (range_of mid (length (P.results p.init) + length (P.collects p.returns)))) (either_of hold (range_of mid (length (P.results p.init) + length (P.collects p.returns))))) turns arm
+      (early P OfNothing (either_of keep (range_of mid (length (P.results p.init) + sifts_of P p.returns))) (either_of hold (range_of mid (length (P.results p.init) + sifts_of P p.returns)))) turns arm
   loop-made false own lent all p place w next lo mid n k begun starts turn tests leave top a b c d e n_is k_is begun_is turn_is tests_is leave_is starts_is top_is lent_is all_is first early turns arm m P S keep hold given stands m_is =
       let ns : n ≡ length (P.results p.init) = n_is ∙ many-results P S stands p.init in
       let ks : k ≡ length (P.collects p.returns) = k_is ∙ many-collects P S stands p.returns in

@@ -3,6 +3,8 @@ use Rattle.std.proofs.Common.{◌≡◌, ℕ, zero, suc, ◌-◌, ◌≤◌, ltb
 use Rattle.std.proofs.Math.Seq.{take-append_seam, drop-append_seam}
 use Rattle.run_code.specs.Cells as cells
 use Rattle.run_code.specs.Cells.{cells_at}
+use Rattle.run_code.specs.Collections as collections
+use Rattle.run_code.specs.Collections.{sifts_in}
 use Rattle.run_store.specs.Stored.{Mode, Looks, Copies, Takes, owned_in}
 use Rattle.made_store.specs.Settings.{takes_all}
 use Rattle.run_cells.specs.declared.cell.Cell.TheVariants as cell
@@ -19,7 +21,7 @@ use Rattle.plan_data.specs.declared.plan.PlanData.{PlanData}
 use Rattle.plan_data.specs.Parts.{mode_by, mode_of}
 use Rattle.code_maker.specs.declared.seats.Seat.{Seat}
 use Rattle.code_maker.specs.declared.seats.Seat.TheVariants as seat
-use Rattle.code_maker.specs.Seats.{at_seat, at_seats, laid, looked_at, put_as, seat_at, seats_at, with_mode}
+use Rattle.code_maker.specs.Seats.{at_seat, at_seats, laid, looked_at, seat_at, seats_at, sifts_among, with_mode}
 use Rattle.code_maker.specs.Grows.{read_as}
 
 -- ---- stretches of lists
@@ -47,22 +49,21 @@ kept-by bits h i c = elim (ltb c i) as (λ b. (if b then true else get_or bits (
 
 -- ---- collections
 
-pub collects-are : (copying : Bool) (cs : List Collect) → map collect_in (map (put_as copying) cs) ≡ map collect_in cs
-collects-are copying [] = refl
-collects-are true (c ∷ cs) = ap (λ x. collect_in c ∷ x) (collects-are true cs)
-collects-are false (collect.Sifts j mask copies ∷ cs) = ap (λ x. collect_in (collect.Sifts j mask copies) ∷ x) (collects-are false cs)
-collects-are false (collect.Final j ∷ cs) = ap (λ x. collect_in (collect.Final j) ∷ x) (collects-are false cs)
+pub sifts-are : (cs : List Collect) → map collect_in (sifts_among cs) ≡ sifts_in (map collect_in cs)
+sifts-are [] = refl
+sifts-are (collect.Sifts j mask copies ∷ cs) = ap (λ x. collections.Sifts j mask ∷ x) (sifts-are cs)
+sifts-are (collect.Final j ∷ cs) = sifts-are cs
 
-pub puts-are : (cs : List Collect) → map puts_of (map (put_as true) cs) ≡ map puts_of cs
-puts-are [] = refl
-puts-are (c ∷ cs) = ap (λ x. puts_of c ∷ x) (puts-are cs)
+pub sifts-long : (cs : List Collect) → length (sifts_among cs) ≡ length (sifts_in (map collect_in cs))
+sifts-long [] = refl
+sifts-long (collect.Sifts j mask copies ∷ cs) = ap suc (sifts-long cs)
+sifts-long (collect.Final j ∷ cs) = sifts-long cs
 
-pub puts-none : (cs : List Collect) (i : ℕ) → get_or (map puts_of (map (put_as false) cs)) i false ≡ false
+pub puts-none : (cs : List Collect) (i : ℕ) → get_or (map puts_of (sifts_among cs)) i false ≡ false
 puts-none [] i = refl
 puts-none (collect.Sifts j mask copies ∷ cs) zero = refl
-puts-none (collect.Final j ∷ cs) zero = refl
 puts-none (collect.Sifts j mask copies ∷ cs) (suc i) = puts-none cs i
-puts-none (collect.Final j ∷ cs) (suc i) = puts-none cs i
+puts-none (collect.Final j ∷ cs) i = puts-none cs i
 
 pub taken-same : (n : ℕ) → taken_all n ≡ takes_all n
 taken-same zero = refl

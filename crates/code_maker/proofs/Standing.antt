@@ -61,7 +61,7 @@ module _ (D : PlanData) where
   pub stand-are : (P : Plan) (cs : List Collect) (own first : ℕ) → at_seats D (stand_from cs own first) ≡ stand P (map collect_in cs) own first
   stand-are P [] own first = refl
   stand-are P (collect.Sifts j mask copies ∷ cs) own first = ap (λ q. cells.At own ∷ q) (stand-are P cs (suc own) first)
-  stand-are P (collect.Final j ∷ cs) own first = ap (λ q. cells.At (first + j) ∷ q) (stand-are P cs (suc own) first)
+  stand-are P (collect.Final j ∷ cs) own first = ap (λ q. cells.At (first + j) ∷ q) (stand-are P cs own first)
 
   -- one port, by how it is handled
   pick-one : (args : List Seat) (lo : ℕ) (h : Handled) (x : Port) (rest : List Port) (bs : List Bool) (ss : List cells.Operand) → picked bs ss ≡ at_seats D (seats_at args lo rest)

@@ -1,6 +1,7 @@
 -- What is made of a graph and of the parts of nodes: the lines and settings of each plan, with its shares, that stands in the data.
 use Rattle.std.specs.Prelude.{◌≡◌, ℕ, if◌then◌else◌, Bool, true, false, List, [], ◌∷◌, ◌++◌, length, get_or}
 use Rattle.graph_meaning.specs.Demand.{Kind, Vertex}
+use Rattle.run_code.specs.Collections.{sifts_in}
 use Rattle.run_code.specs.Made.{OfNothing, OfResults, OfRows, Plan, arm_code, arms_code, end_at, ends_at, function_lines, functions_lines, graph_code, kind_code, line, nodes_code, parts_code, placed}
 use Rattle.run_code.specs.Steps.{Add, Keep, Test}
 use Rattle.ordered_meaning.specs.Taking.{Taken}
@@ -11,7 +12,7 @@ use Rattle.step_code.specs.declared.code.Code.{Code}
 use Rattle.step_code.specs.declared.step.Step.TheVariants as step
 use Rattle.step_code.specs.Laid.{code_of, handling_of}
 use Rattle.run_store.specs.Stored.{Mode, Looks, Takes}
-use Rattle.made_store.specs.Settings.{Cells_of, Shares, result_modes, takes_all}
+use Rattle.made_store.specs.Settings.{Cells_of, Shares, result_modes, sifts_of, takes_all}
 use Rattle.made_store.specs.Settled as settled
 use Rattle.made_store.specs.Settled.{arms_settings, function_settings, functions_settings, graph_settings, kind_settings, nodes_settings, part_settings, parts_settings}
 use Rattle.plan_data.specs.declared.plan.PlanData.{PlanData}
@@ -79,7 +80,7 @@ module _ (D : PlanData) (room levels : ℕ) where
   abbrev pub FirstMade : List Seat → LoopParts → (place starts mid : ℕ) → (old new : Draft) → Type 0
   FirstMade own p a starts mid old new =
       (P : Plan) (S : Shares) (keep hold : Cells_of) → Stands D P S
-      → Grows D P old new (graph_code P levels room (at_seats D own) p.init a mid ++ (line (OfResults p.init) (Keep true (P.collects p.returns) (ends_at P (at_seats D own) p.init mid) mid starts) ∷ []))
+      → Grows D P old new (graph_code P levels room (at_seats D own) p.init a mid ++ (line (OfResults p.init) (Keep true (sifts_in (P.collects p.returns)) (ends_at P (at_seats D own) p.init mid) mid starts) ∷ []))
       (part_settings P S (graph_settings P S levels) keep hold (at_seats D own) p.init mid (result_modes P S p.init) [])
 
   -- the body of a loop and its test, on its inputs and loop values
@@ -87,9 +88,9 @@ module _ (D : PlanData) (room levels : ℕ) where
   TurnsMade x p turn tests leave w b lo mid top old new =
       (P : Plan) (S : Shares) (keep hold keeps holds : Cells_of) → Stands D P S
       → Grows D P old new
-      ((graph_code P levels room (at_seats D x) p.body turn top ++ (line (OfResults p.body) (Keep false (P.collects p.returns) (ends_at P (at_seats D x) p.body top) mid tests) ∷ []))
+      ((graph_code P levels room (at_seats D x) p.body turn top ++ (line (OfResults p.body) (Keep false (sifts_in (P.collects p.returns)) (ends_at P (at_seats D x) p.body top) mid tests) ∷ []))
       ++ (graph_code P levels room (at_seats D x) p.test tests top ++ (line OfNothing (Test (end_at P (at_seats D x) p.test top) turn leave lo w b) ∷ [])))
-      (part_settings P S (graph_settings P S levels) keep hold (at_seats D x) p.body top (result_modes P S p.body ++ takes_all (length (P.collects p.returns))) []
+      (part_settings P S (graph_settings P S levels) keep hold (at_seats D x) p.body top (result_modes P S p.body ++ takes_all (sifts_of P p.returns)) []
       ++ part_settings P S (graph_settings P S levels) keeps holds (at_seats D x) p.test top (Looks ∷ []) [])
 
   -- the body of a ForAll, on its inputs and elements

@@ -40,11 +40,11 @@ abbrev pub cells_from : (first many : ℕ) → List Seat
 cells_from i zero = []
 cells_from i (suc n) = seat.Cell i ∷ cells_from (suc i) n
 
--- collections stand from one cell on; a last value stands in the cell of its loop value
+-- what is sifted stands from one cell on; a last value stands in the cell of its loop value
 abbrev pub stand_from : List Collect → (own first : ℕ) → List Seat
 stand_from [] own first = []
 stand_from (collect.Sifts j mask copies ∷ cs) own first = seat.Cell own ∷ stand_from cs (suc own) first
-stand_from (collect.Final j ∷ cs) own first = seat.Cell (first + j) ∷ stand_from cs (suc own) first
+stand_from (collect.Final j ∷ cs) own first = seat.Cell (first + j) ∷ stand_from cs own first
 
 -- ---- operands
 
@@ -80,8 +80,8 @@ abbrev pub starts_from : PlanData → List ℕ → (place : ℕ) → List ℕ
 starts_from D [] t = []
 starts_from D (g ∷ gs) t = t ∷ starts_from D gs (t + suc (size_in D g))
 
--- what is put to collections, with a copy or without
-abbrev pub put_as : Bool → Collect → Collect
-put_as true c = c
-put_as false (collect.Sifts j mask copies) = collect.Sifts j mask false
-put_as false (collect.Final j) = collect.Final j
+-- what a loop keeps of collections, without a copy that would be counted
+abbrev pub sifts_among : List Collect → List Collect
+sifts_among [] = []
+sifts_among (collect.Sifts j mask copies ∷ cs) = collect.Sifts j mask false ∷ sifts_among cs
+sifts_among (collect.Final j ∷ cs) = sifts_among cs

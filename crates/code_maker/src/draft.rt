@@ -1,7 +1,7 @@
 //! Code as it grows, at its end alone.
 ghost use Rattle.std.specs.Prelude.{◌≡◌, ◌+◌, ◌-◌, ◌^◌, ◌≤◌, ◌++◌, map, length, IfOk, OnOk};
 ghost use Rattle.plan_data.specs.Parts.{AreBelow, arms_steps};
-ghost use Rattle.code_maker.specs.Seats.{copied_ports, laid, looked_at, put_as, starts_from};
+ghost use Rattle.code_maker.specs.Seats.{copied_ports, laid, looked_at, sifts_among, starts_from};
 
 use crate::seats::{Seat, laid};
 use flow_value::{NoMemory, Numbers, Seq};
@@ -94,33 +94,41 @@ pub fn add_starts(
     Ok(())
 }
 
-/// A collection, to which values are put with a copy or without.
-fn put_as(copying: bool, collect: Collect) -> Collect
-    ensures { result ≡ put_as copying collect }
-{
-    if copying {
-        return collect;
-    }
-    match collect {
-        Collect::Sifts { column, mask, .. } => Collect::Sifts {
-            column,
-            mask,
-            copies: false,
-        },
-        Collect::Final { column } => Collect::Final { column },
-    }
-}
-
 /// Adds these collections.
-pub fn add_collects(
-    list: &mut Seq<Collect>,
-    copying: bool,
-    collects: &[Collect],
-) -> Result<(), NoMemory>
-    ensures { OnOk result (list.new ≡ list.old ++ map (put_as copying) collects.now) }
+pub fn add_collects(list: &mut Seq<Collect>, collects: &[Collect]) -> Result<(), NoMemory>
+    ensures { OnOk result (list.new ≡ list.old ++ collects.now) }
 {
     for collect in collects {
-        list.add(put_as(copying, *collect))?;
+        list.add(*collect)?;
     }
     Ok(())
+}
+
+/// Adds those that a loop keeps, to which values are put without a copy that would be counted.
+pub fn add_sifts(list: &mut Seq<Collect>, collects: &[Collect]) -> Result<(), NoMemory>
+    ensures { OnOk result (list.new ≡ list.old ++ sifts_among collects.now) }
+{
+    for collect in collects {
+        if let Collect::Sifts { column, mask, .. } = *collect {
+            list.add(Collect::Sifts {
+                column,
+                mask,
+                copies: false,
+            })?;
+        }
+    }
+    Ok(())
+}
+
+/// How many of these a loop keeps.
+pub fn sifts(collects: &[Collect]) -> usize
+    ensures { result ≡ length (sifts_among collects.now) }
+{
+    let mut many = 0;
+    for collect in collects {
+        if let Collect::Sifts { .. } = collect {
+            many += 1;
+        }
+    }
+    many
 }

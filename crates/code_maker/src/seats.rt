@@ -136,8 +136,8 @@ pub fn with_cells(
     Ok(list)
 }
 
-/// These, and where collections stand, the first one in this cell; a last value stands in the cell
-/// of its loop value.
+/// These, and where collections stand: what is sifted in cells from one on, and a last value in the
+/// cell of its loop value.
 pub fn with_stand(
     alloc: Global,
     seats: &[Seat],
@@ -156,10 +156,12 @@ pub fn with_stand(
     let mut own = from;
     for collect in collects {
         match collect {
-            Collect::Sifts { .. } => list.add(Seat::Cell(own))?,
+            Collect::Sifts { .. } => {
+                list.add(Seat::Cell(own))?;
+                own += 1;
+            }
             Collect::Final { column } => list.add(Seat::Cell(values + *column))?,
         }
-        own += 1;
     }
     Ok(list)
 }

@@ -1,6 +1,7 @@
 //! Steps that are added, one at a time.
 ghost use Rattle.std.specs.Prelude.{◌≡◌, ◌+◌, ◌-◌, ◌^◌, ◌≤◌, ◌++◌, [], ◌∷◌, true, false, if◌then◌else◌, map, length, OnOk};
 ghost use Rattle.node_ops.specs.Operands.{shape_of};
+ghost use Rattle.run_code.specs.Collections.{sifts_in};
 ghost use Rattle.run_code.specs.Made.{Origin, Plan, line};
 ghost use Rattle.run_code.specs.Steps as Made;
 ghost use Rattle.run_store.specs.Stored.{Looks};
@@ -12,7 +13,9 @@ ghost use Rattle.plan_data.specs.Parts.{AreBelow, IsFormed, arms_steps, mode_by,
 ghost use Rattle.code_maker.specs.Seats.{at_seat, at_seats, copied_ports, seats_at, starts_from};
 ghost use Rattle.code_maker.specs.Grows.{Grows, IsToldOf};
 
-use crate::draft::{Draft, add_collects, add_copied, add_looked, add_ports, add_starts, count_of};
+use crate::draft::{
+    Draft, add_collects, add_copied, add_looked, add_ports, add_sifts, add_starts, count_of, sifts,
+};
 use crate::seats::{Seat, operand};
 use flow_value::{NoMemory, Shape};
 use if1_graph::Simple;
@@ -241,7 +244,7 @@ pub fn add_test(
     })
 }
 
-/// Adds a step that keeps the first loop values, and begins collections with them.
+/// Adds a step that keeps the first loop values, and begins what is sifted of collections with them.
 pub fn add_begin(
     draft: &mut Draft,
     collects: &[Collect],
@@ -252,14 +255,14 @@ pub fn add_begin(
     next: u32,
 ) -> Result<(), NoMemory>
     requires { AreBelow (2 ^ 32 - first) ports.now }
-    ensures { OnOk result ((D : PlanData) (P : Plan) (o : Origin) (lives owns : Cells_of) → Grows D P draft.old draft.new (line o (Made.Keep true (map collect_in collects.now) (at_seats D (seats_at args.now first ports.now)) out next) ∷ []) (setting (map mode_of ports.now) [] lives owns ∷ [])) }
+    ensures { OnOk result ((D : PlanData) (P : Plan) (o : Origin) (lives owns : Cells_of) → Grows D P draft.old draft.new (line o (Made.Keep true (sifts_in (map collect_in collects.now)) (at_seats D (seats_at args.now first ports.now)) out next) ∷ []) (setting (map mode_of ports.now) [] lives owns ∷ [])) }
 {
     let froms = count_of(draft.operands.len())?;
     let many = count_of(ports.len())?;
     let start = count_of(draft.collects.len())?;
-    let count = count_of(collects.len())?;
+    let count = count_of(sifts(collects))?;
     add_ports(&mut draft.operands, args, first, ports)?;
-    add_collects(&mut draft.collects, false, collects)?;
+    add_sifts(&mut draft.collects, collects)?;
     draft.steps.add(Step::Keep {
         begins: true,
         collects: start,
@@ -271,7 +274,7 @@ pub fn add_begin(
     })
 }
 
-/// Adds a step that keeps loop values, and puts them to collections.
+/// Adds a step that keeps loop values, and puts them to what is sifted of collections.
 pub fn add_keep(
     draft: &mut Draft,
     collects: &[Collect],
@@ -282,14 +285,14 @@ pub fn add_keep(
     next: u32,
 ) -> Result<(), NoMemory>
     requires { AreBelow (2 ^ 32 - first) ports.now }
-    ensures { OnOk result ((D : PlanData) (P : Plan) (o : Origin) (lives owns : Cells_of) → Grows D P draft.old draft.new (line o (Made.Keep false (map collect_in collects.now) (at_seats D (seats_at args.now first ports.now)) out next) ∷ []) (setting (map mode_of ports.now ++ takes_all (length collects.now)) [] lives owns ∷ [])) }
+    ensures { OnOk result ((D : PlanData) (P : Plan) (o : Origin) (lives owns : Cells_of) → Grows D P draft.old draft.new (line o (Made.Keep false (sifts_in (map collect_in collects.now)) (at_seats D (seats_at args.now first ports.now)) out next) ∷ []) (setting (map mode_of ports.now ++ takes_all (length (sifts_in (map collect_in collects.now)))) [] lives owns ∷ [])) }
 {
     let froms = count_of(draft.operands.len())?;
     let many = count_of(ports.len())?;
     let start = count_of(draft.collects.len())?;
-    let count = count_of(collects.len())?;
+    let count = count_of(sifts(collects))?;
     add_ports(&mut draft.operands, args, first, ports)?;
-    add_collects(&mut draft.collects, false, collects)?;
+    add_sifts(&mut draft.collects, collects)?;
     draft.steps.add(Step::Keep {
         begins: false,
         collects: start,
@@ -322,7 +325,7 @@ pub fn add_spread(
     let start = count_of(draft.collects.len())?;
     let count = count_of(collects.len())?;
     add_ports(&mut draft.operands, args, first, ports)?;
-    add_collects(&mut draft.collects, true, collects)?;
+    add_collects(&mut draft.collects, collects)?;
     draft.steps.add(Step::Spread {
         froms,
         many,
@@ -379,7 +382,7 @@ pub fn add_put(
     let start = count_of(draft.collects.len())?;
     let count = count_of(collects.len())?;
     add_ports(&mut draft.operands, args, first, ports)?;
-    add_collects(&mut draft.collects, true, collects)?;
+    add_collects(&mut draft.collects, collects)?;
     draft.steps.add(Step::Add {
         collects: start,
         count,

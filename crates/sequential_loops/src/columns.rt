@@ -13,7 +13,7 @@ ghost use Rattle.sequential.specs.Agrees.{owned_all};
 use crate::laying::lift;
 use flow_value::{Cause, NoMemory, Val, copy};
 use loop_folds::{Keep, Masking, keep};
-use run_cells::{Cell, Seen, owned_by};
+use run_cells::{Cell, Seen, copied, owned_by};
 use sequential::cell_at;
 use std::alloc::Global;
 
@@ -123,6 +123,50 @@ fn of_multiple(v: Val) -> Val
         Val::Stream(_) => Val::Err(Cause::Explicit),
         Val::Err(cause) => Val::Err(cause),
         other => other,
+    }
+}
+
+/// What a row has in a column, in a cell of its own; it leaves the row where it is moved.
+pub fn last_in(
+    alloc: Global,
+    row: &mut Vec<Cell>,
+    place: u32,
+    moves: bool,
+) -> Result<Cell, NoMemory>
+    ensures value { IfOk result (λ c. held c ≡ stored.Owns (get_or (owned_all row.old.items) place Unfilled)) }
+    ensures others { (i : ℕ) → (moves ≡ true → i ≡ place → ⊥) → heap_of row.new.items i ≡ heap_of row.old.items i }
+    ensures whole { moves ≡ false → row.new.items ≡ row.old.items }
+{
+    if moves {
+        Ok(cell_taken(row, place))
+    } else {
+        let cell = copied(alloc, column(row.as_slice(), place))?;
+        Ok(cell)
+    }
+}
+
+fn cell_taken(row: &mut Vec<Cell>, place: u32) -> Cell
+    ensures value { held result ≡ stored.Owns (get_or (owned_all row.old.items) place Unfilled) }
+    ensures others { (i : ℕ) → (i ≡ place → ⊥) → heap_of row.new.items i ≡ heap_of row.old.items i }
+{
+    let at = place as usize;
+    let long = row.len();
+    if at < long {
+        own_of(lift(row, at))
+    } else {
+        Cell::Unfilled
+    }
+}
+
+/// What a cell has of its own, and nothing where it is lent or empty.
+fn own_of(cell: Cell) -> Cell
+    ensures { held result ≡ stored.Owns (stored.owned_in (held cell)) }
+{
+    match cell {
+        Cell::Empty => Cell::Unfilled,
+        Cell::Lent(_) => Cell::Unfilled,
+        Cell::LentPart(_) => Cell::Unfilled,
+        owned => owned,
     }
 }
 

@@ -47,7 +47,7 @@ fn is_moved_once(collect: Collect, others: &[Collect]) -> bool
 {
     match collect {
         Collect::Sifts { column, .. } => are_apart(others, column),
-        Collect::Final { .. } => true,
+        Collect::Final { column } => are_apart(others, column),
     }
 }
 

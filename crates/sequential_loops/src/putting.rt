@@ -10,15 +10,15 @@ ghost use Rattle.sequential.specs.Agrees.{owned_all};
 ghost use Rattle.sequential_loops.specs.Putting.{IsMoved};
 
 use crate::behind::{failed, with_value};
-use crate::columns::{column, column_value, said};
+use crate::columns::{column_value, last_in, said};
 use flow_value::NoMemory;
 use loop_folds::Keep;
-use run_cells::{Cell, copied};
+use run_cells::Cell;
 use std::alloc::Global;
 use step_code::Collect;
 
-/// A collection with what a row puts to it. Where values are moved, one that is not copied leaves
-/// the row.
+/// A collection with what a row puts to it. Where values are moved, one that is not counted as a
+/// copy leaves the row.
 pub fn put(
     alloc: Global,
     collect: Collect,
@@ -40,7 +40,7 @@ pub fn put(
             Ok(more)
         }
         Collect::Final { column: place } => {
-            let last = copied(alloc, column(row.as_slice(), place))?;
+            let last = last_in(alloc, row, place, moves)?;
             Ok(last)
         }
     }

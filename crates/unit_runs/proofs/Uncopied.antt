@@ -15,7 +15,7 @@ use Rattle.run_made.specs.Plans.{All, last_line}
 use Rattle.run_store.specs.Effects.{reads_of}
 use Rattle.run_store.specs.Ports.{copies_of, mode_of, modes_of}
 use Rattle.run_store.specs.Stored.{Copies, Looks, Mode, Takes}
-use Rattle.made_store.specs.Settings.{Cells_of, Shares, cells_where, either_of, gives, live_in, none_of, own_in, range_of, result_modes, takes_all}
+use Rattle.made_store.specs.Settings.{Cells_of, Shares, cells_where, either_of, gives, live_in, none_of, own_in, range_of, result_modes, sifts_of, takes_all}
 use Rattle.made_store.specs.Settled.{Setting, Settles, arms_settings, begin_settings, for_all_settings, function_settings, functions_settings, graph_settings, kind_settings, last_setting, loop_settings, nodes_settings, part_settings, parts_settings}
 use Rattle.unit_runs.proofs.Literals.{cells-bare}
 use Rattle.unit_runs.specs.Alike.{AreLiteralsBare, IsOfLiteral}
@@ -120,7 +120,7 @@ module _ (P : Plan) (S : Shares) (may : (graph input : ℕ) → Bool) where
   stand-ats : (cs : List Collect) (own first : ℕ) → AreAts (stand P cs own first)
   stand-ats [] own first = tt
   stand-ats (Sifts j mask ∷ cs) own first = stand-ats cs (suc own) first
-  stand-ats (Final j ∷ cs) own first = stand-ats cs (suc own) first
+  stand-ats (Final j ∷ cs) own first = stand-ats cs own first
 
   -- ---- sources
 
@@ -241,14 +241,14 @@ module _ (P : Plan) (S : Shares) (may : (graph input : ℕ) → Bool) where
           let tests = suc (turn + P.size body) in
           let leave = suc (suc (turn + P.size body) + P.size t) in
           let y = own ++ stand P (P.collects r) (mid + n) mid in
-          let kb = either_of keep (range_of (mid + n) k) in
-          let hb = either_of hold (range_of (mid + n) k) in
-          let kt = either_of keep (range_of mid (n + k)) in
-          let ht = either_of hold (range_of mid (n + k)) in
+          let kb = either_of keep (range_of (mid + n) (sifts_of P r)) in
+          let hb = either_of hold (range_of (mid + n) (sifts_of P r)) in
+          let kt = either_of keep (range_of mid (n + sifts_of P r)) in
+          let ht = either_of hold (range_of mid (n + sifts_of P r)) in
           then-bare (make room own i a mid) _ _ (settles keep hold own i mid) _ _ (made room keep hold own i a mid mi) (ends-bare i own mid mi)
           (both-bare begin _ (begin_settings P S settles early kt ht) _ (begins kt ht)
           (then-bare (make room x body turn top) _ _ (settles kb hb x body top) _ _ (made room kb hb x body turn top xb)
-          (ends-more body x top xb (takes_all k) (mid + length (ends_at P x body top)) (length (P.collects r)))
+          (ends-more body x top xb (takes_all (sifts_of P r)) (mid + length (ends_at P x body top)) (sifts_of P r))
           (then-bare (make room x t tests top) _ _ (settles kt ht x t top) _ _ (made room kt ht x t tests top xt) (looked-bare (end_at P x t top))
           (arm-bare keep hold y (P.refolded r) leave w b lo top (more-may (P.refolded r) 1 own (stand P (P.collects r) (mid + n) mid) mr (stand-ats (P.collects r) (mid + n) mid))))))
 
