@@ -1,0 +1,49 @@
+//! Arguments and results of runs, as values.
+ghost use Rattle.std.specs.Prelude.{◌≡◌, map, IfOk};
+ghost use Rattle.flow_value.specs.declared.value.Val.TheViews.{out-Val};
+ghost use Rattle.graph_meaning.specs.Carried.{Value, val_of};
+ghost use Rattle.node_ops.specs.Operands.{multiple_in};
+ghost use Rattle.run_store.specs.Stored as stored;
+ghost use Rattle.run_cells.specs.Held.{held};
+
+use flow_value::{Cause, NoMemory, Val};
+use run_cells::{Cell, cell_of};
+use std::alloc::Global;
+
+/// Cells that own these values.
+pub fn cells_of(alloc: Global, values: Vec<Val>) -> Result<Vec<Cell>, NoMemory>
+    ensures { IfOk result (λ cs. map held cs.items ≡ map stored.Owns (map Value values.items)) }
+{
+    let mut cells = Vec::new(alloc);
+    for value in values {
+        cells.push(cell_of(alloc, value)?)?;
+    }
+    Ok(cells)
+}
+
+/// The value that a cell owns, where one value is wanted.
+pub fn value_of(cell: Cell) -> Val
+    ensures { result ≡ val_of (stored.owned_in (held cell)) }
+{
+    match cell {
+        Cell::Error(cause) => Val::Err(cause),
+        Cell::Int(n) => Val::Int(n),
+        Cell::Bool(b) => Val::Bool(b),
+        Cell::Char(c) => Val::Char(c),
+        Cell::Null => Val::Null,
+        Cell::Owned(v) => v.into_inner(),
+        Cell::Many(v) => single(v.into_inner()),
+        Cell::Spoiled(cause) => Val::Err(cause),
+        _ => Val::Err(Cause::Explicit),
+    }
+}
+
+/// A multiple of values is no value.
+fn single(v: Val) -> Val
+    ensures { result ≡ val_of (multiple_in v (out-Val v)) }
+{
+    match v {
+        Val::Stream(_) => Val::Err(Cause::Explicit),
+        v => v,
+    }
+}
