@@ -1,28 +1,30 @@
 -- What a run of a function of a unit gives.
-use Rattle.std.specs.Prelude.{◌≡◌, ℕ, ◌<◌, ◌≤◌, List, length, map}
+use Rattle.std.specs.Prelude.{◌≡◌, ℕ, ◌<◌, ◌≤◌, List, length, map, Some}
+use Rattle.flow_value.specs.declared.ty.Ty.{Ty}
+use Rattle.flow_value.specs.declared.value.Val.{Val}
 use Rattle.if1_graph.specs.declared.graph.Unit1.{Unit1}
-use Rattle.graph_meaning.specs.Carried.{Carried}
+use Rattle.if1_valid.specs.Params.{params_of}
+use Rattle.graph_meaning.specs.Carried.{Carried, val_of}
+use Rattle.run_store.specs.Whole.{IsOfUnit}
 use Rattle.graph_meaning.specs.Networks.{network}
-use Rattle.graph_meaning.specs.Plain.{Costs, Means}
-use Rattle.graph_meaning.specs.StorageUnits.{UnitCopies}
-use Rattle.run_store.specs.Stored as stored
-use Rattle.run_cells.specs.declared.cell.Cell.{Cell}
-use Rattle.run_cells.specs.Held.{held}
-use Rattle.sequential.specs.Agrees.{owned_all}
+use Rattle.graph_meaning.specs.Plain.{Costs}
+use Rattle.graph_meaning.specs.Storage.{capped}
 use Rattle.sequential_run.specs.declared.running.RunFault.{RunFault}
 use Rattle.sequential_run.specs.declared.running.RunFault.TheVariants as fault
-use Rattle.sequential_run.specs.declared.totals.Totalled.{Totalled}
-use Rattle.unit_plan.specs.Plans.{inputs_in, place_of}
+use Rattle.unit_code.specs.declared.runs.Totals.{Totals}
 
 module _ (u : Unit1) (function : ℕ) where
-  -- each of these cells owns a value, and they are as many as the function has inputs
-  abbrev pub AreInputs : List Cell → Type 0
-  AreInputs cells = (ins : List Carried) × (map held cells ≡ map stored.Owns ins) × (length ins ≡ inputs_in u (place_of u function))
+  -- they are as many as the function of this number has
+  abbrev pub AreArguments : List Val → Type 0
+  AreArguments args = (types : List Ty) × (params_of u function ≡ Some types) × (length args ≡ length types)
 
-  -- on these inputs the function has these results and this cost, within the limit, and it copies so much
-  pub record AreTotalsOf (limit : ℕ) (ins : List Carried) (t : Totalled) : Type 0 where
-    pub means : (d : ℕ) × Means (network u) d function ins (owned_all t.results.items) × Costs (network u) d function ins t.fires
-    pub copies : UnitCopies u function ins t.copies
+  -- on these inputs the function has these results and this cost, within the limit, and copies so much, by the definition of record
+  pub record AreTotalsOf (limit : ℕ) (ins : List Carried) (t : Totals) : Type 0 where
+    pub results : List Carried
+    pub copied : ℕ
+    pub of_record : IsOfUnit u function ins results t.fires copied
+    pub values : t.results ≡ map val_of results
+    pub copies : t.copies ≡ capped copied
     pub within : t.fires ≤ limit
 
   -- where the limit is told, every cost is above it

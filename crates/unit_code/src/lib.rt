@@ -1,6 +1,7 @@
 //! The code of a unit, and runs of its functions.
 #![tactic(auto)]
 
+mod blocks;
 mod code;
 mod make;
 mod runs;
@@ -8,5 +9,4 @@ mod values;
 
 pub use code::UnitCode;
 pub use make::unit_code;
-pub use runs::run_unit;
-pub use values::{cells_of, value_of};
+pub use runs::{Totals, run_unit};

@@ -1,0 +1,1 @@
+//! The blocks of functions, by the places of their code.
