@@ -1,0 +1,4 @@
+pub mod Counted
+pub mod Arguments
+pub mod Makes
+pub mod Runs

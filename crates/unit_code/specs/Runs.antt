@@ -9,9 +9,17 @@ use Rattle.run_store.specs.Whole.{IsOfUnit}
 use Rattle.graph_meaning.specs.Networks.{network}
 use Rattle.graph_meaning.specs.Plain.{Costs}
 use Rattle.graph_meaning.specs.Storage.{capped}
+use Rattle.sequential.specs.Agrees.{owned_all}
 use Rattle.sequential_run.specs.declared.running.RunFault.{RunFault}
 use Rattle.sequential_run.specs.declared.running.RunFault.TheVariants as fault
+use Rattle.sequential_run.specs.declared.totals.Totalled.{Totalled}
 use Rattle.unit_code.specs.declared.runs.Totals.{Totals}
+
+-- what a run has left in cells, as values
+pub record AreLeft (run : Totalled) (t : Totals) : Type 0 where
+  pub results : t.results ≡ map val_of (owned_all run.results.items)
+  pub fires : t.fires ≡ run.fires
+  pub copies : t.copies ≡ run.copies
 
 module _ (u : Unit1) (function : ℕ) where
   -- they are as many as the function of this number has
