@@ -1,5 +1,5 @@
 -- A function has as many inputs as arguments.
-use Rattle.std.proofs.Common.{◌≡◌, ◌==◌, ℕ, zero, suc, ◌⊎◌, inl, inr, Bool, true, false, List, [], ◌∷◌, map, find, length, unwrap_or, option_map, if◌then◌else◌, Option, Some, None, Contains, All, arith, refl, sym, ap, subst, ◌∙◌}
+use Rattle.std.proofs.Common.{◌≡◌, ◌==◌, ℕ, zero, suc, inl, inr, Bool, true, false, List, [], ◌∷◌, map, find, length, unwrap_or, option_map, if◌then◌else◌, Option, Some, None, Contains, All, arith, refl, sym, ap, subst, ◌∙◌}
 use Rattle.std.proofs.lemmas.Bool.{eqb-true}
 use Rattle.std.proofs.lemmas.List.{length-map}
 use Rattle.std.proofs.lemmas.List.Elements.{All-contains}
@@ -52,13 +52,13 @@ module _ (p q : ℕ → Option Ty) (is : Option TypeKind → Bool) (ts : List Ty
       let rest = members-many far (a.0).second a2.0 b2.0 a2.1 (subst (λ z. members without_names q is ts far z.second ≡ Some b2.0) (sym same) b2.1) in
       sym (ap length (some-same _ ms a2.2)) ∙ (ap suc rest ∙ ap length (some-same _ ns b2.2))
 
-tuples-many : (ts : List TypeEntry) (l : ℕ) (as bs : List Ty) → tuple_at (bare_at ts) ts l ≡ Some as → tuple_at (ty_at ts) ts l ≡ Some bs → length as ≡ length bs
-tuples-many ts l as bs e f =
-    let a = bound (members without_names (bare_at ts) is_tuple ts (length ts) l) _ as e in
-    let b = bound (members without_names (ty_at ts) is_tuple ts (length ts) l) _ bs f in
+tuples-many : (ts : List TypeEntry) (l : ℕ) (xs ys : List Ty) → tuple_at (bare_at ts) ts l ≡ Some xs → tuple_at (ty_at ts) ts l ≡ Some ys → length xs ≡ length ys
+tuples-many ts l xs ys e f =
+    let a = bound (members without_names (bare_at ts) is_tuple ts (length ts) l) _ xs e in
+    let b = bound (members without_names (ty_at ts) is_tuple ts (length ts) l) _ ys f in
     let many = members-many (bare_at ts) (ty_at ts) is_tuple ts (length ts) l a.0 b.0 a.1 b.1 in
-    let x = ap length (some-same _ as a.2) in
-    let y = ap length (some-same _ bs b.2) in
+    let x = ap length (some-same _ xs a.2) in
+    let y = ap length (some-same _ ys b.2) in
     omega (arith, x, y, many, length-map a.0 (λ m. m.1), length-map b.0 (λ m. m.1))
 
 module _ (ts : List TypeEntry) (args rs tys : List Ty) where
@@ -85,11 +85,11 @@ module _ (ts : List TypeEntry) (args rs tys : List Ty) where
 
 is-in : (f : ℕ) (gs : List Graph) (g : Graph) → find (λ g. (out-Graph g).number == f) gs ≡ Some g → IsIn f (map (λ g. (out-Graph g).number) gs)
 is-in f [] g e = cc
-is-in f (h ∷ gs) g e = go ((out-Graph h).number == f) refl e
+is-in f (h ∷ gs) g e = go ((out-Graph h).number == f) refl e (is-in f gs g)
   where
-    go : (b : Bool) → ((out-Graph h).number == f) ≡ b → (if b then Some h else find (λ g. (out-Graph g).number == f) gs) ≡ Some g → IsIn f (map (λ g. (out-Graph g).number) (h ∷ gs))
-    go true t e = inl (sym (eqb-true (out-Graph h).number f t))
-    go false t e = inr (is-in f gs g e)
+    go : (b : Bool) → ((out-Graph h).number == f) ≡ b → (if b then Some h else find (λ g. (out-Graph g).number == f) gs) ≡ Some g → (find (λ g. (out-Graph g).number == f) gs ≡ Some g → IsIn f (map (λ g. (out-Graph g).number) gs)) → IsIn f (map (λ g. (out-Graph g).number) (h ∷ gs))
+    go true t e rest = inl (sym (eqb-true (out-Graph h).number f t))
+    go false t e rest = inr (rest e)
 
 module _ (u : Unit1) (ready : IsReady u) where
   -- no node has label 0

@@ -10,9 +10,9 @@ use Rattle.if1_graph.specs.declared.graph.Graph.TheFolds.{fold-Node, fold_out-Gr
 use Rattle.if1_graph.specs.declared.graph.Node.{Node, out-Node}
 use Rattle.if1_graph.specs.declared.graph.Unit1.{Unit1}
 use Rattle.if1_graph.specs.Formed.{IsFormed}
-use Rattle.if1_graph.specs.Units.{Function, Home, Inside, Place, each_from, greatest, level_below, levels, most_levels, places, places_of, size, sizes}
-use Rattle.if1_order.proofs.Within.{below, levels_inside, levels_out}
-use Rattle.graph_meaning.proofs.Lists.{here, there, in-none}
+use Rattle.if1_graph.specs.Units.{Function, Home, Inside, Place, each_from, levels, most_levels, places, places_of, size, sizes}
+use Rattle.if1_order.proofs.Within.{levels_inside}
+use Rattle.graph_meaning.proofs.Lists.{here, there}
 
 sizes-first : (g : Graph) (gs : List Graph) → sizes (g ∷ gs) ≡ size g + sizes gs
 sizes-first g gs = omega (arith, sum_by_from (λ y. y) (0 + size g) (map size gs))
@@ -58,7 +58,7 @@ many-of (suc more) home g deep =
       arith,
       size-is g,
       flat-many (λ n. each_from (λ k s. places_of more (Inside g n k) s) 0 (out-Node n).subs) (out-Graph g).nodes
-      (λ n c. siblings-many (λ k s. places_of more (Inside g n k) s) 0 (out-Node n).subs (λ k s d. let lt = levels_inside g n s c d in many-of more (Inside g n k) s (omega (arith, lt, deep)))),
+          (λ n c. siblings-many (λ k s. places_of more (Inside g n k) s) 0 (out-Node n).subs (λ k s d. let lt = levels_inside g n s c d in many-of more (Inside g n k) s (omega (arith, lt, deep)))),
     )
 
 pub places-many : (u : Unit1) → IsFormed u → length (places u) ≡ sizes u.graphs
