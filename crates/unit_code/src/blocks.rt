@@ -1,10 +1,10 @@
 //! The blocks of functions, by the places of their code.
-ghost use Rattle.std.specs.Prelude.{◌≡◌, ℕ, All, true};
+ghost use Rattle.std.specs.Prelude.{◌≡◌, ℕ, true, IfOk};
 ghost use Rattle.graph_meaning.specs.Entered.{IsIn};
 ghost use Rattle.plan_data.specs.Parts.{table_of};
 ghost use Rattle.sequential_run.specs.Totals.{CanEnter};
 ghost use Rattle.whole_code.specs.Tables.{blocks_of};
-ghost use Rattle.unit_code.specs.Enters.{IsEntry};
+ghost use Rattle.unit_code.specs.Enters.{AreEntries, IsEntry};
 
 use flow_value::{NoMemory, Numbers, Seq};
 use plan_data::{PlanData, number_at, results_in};
@@ -44,7 +44,10 @@ fn fill(table: &mut Numbers, number: u32, times: u32) -> Result<(), NoMemory> {
     Ok(())
 }
 
-fn count_of(many: usize) -> Result<u32, NoMemory> {
+/// A count of 32 bits; a greater one is want of memory.
+pub fn count_of(many: usize) -> Result<u32, NoMemory>
+    ensures { IfOk result (λ n. n ≡ many) }
+{
     match u32::try_from(many) {
         Ok(count) => Ok(count),
         Err(_) => Err(NoMemory),
@@ -97,7 +100,7 @@ fn are_entries(
     rooms: &[u32],
     functions: &[u32],
 ) -> bool
-    ensures { result ≡ true → All (λ f. IsEntry code.now (blocks_of blocks.now.rooms blocks.now.gives) (table_of entries.now f) (table_of rooms.now f)) functions.now }
+    ensures { result ≡ true → AreEntries code.now (blocks_of blocks.now.rooms blocks.now.gives) entries.now rooms.now functions.now }
 {
     for function in functions {
         let entry = number_at(entries, *function);

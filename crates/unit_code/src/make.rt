@@ -4,7 +4,7 @@ ghost use Rattle.if1_graph.specs.declared.graph.Graph.TheViews.{out-Graph};
 ghost use Rattle.unit_code.specs.declared.code.UnitCode.{UnitCode};
 ghost use Rattle.unit_code.specs.Codes.{IsCodeOfUnit};
 
-use crate::blocks::{blocks_in, can_enter, rooms_of};
+use crate::blocks::{blocks_in, can_enter, count_of, rooms_of};
 use crate::code::UnitCode;
 use code_maker::code_of;
 use flow_value::{NoMemory, Numbers, Seq};
@@ -21,15 +21,6 @@ fn numbers_of(alloc: Global, graphs: &[Graph]) -> Result<Numbers, NoMemory>
         numbers.add(graph.number)?;
     }
     Ok(numbers)
-}
-
-fn count_of(many: usize) -> Result<u32, NoMemory>
-    ensures { IfOk result (λ n. n ≡ many) }
-{
-    match u32::try_from(many) {
-        Ok(count) => Ok(count),
-        Err(_) => Err(NoMemory),
-    }
 }
 
 /// The code of a unit, for runs of its functions; none where the test of what was made fails. More
