@@ -6,7 +6,7 @@ use Rattle.if1_graph.specs.declared.graph.Node.{Node}
 use Rattle.if1_graph.specs.declared.graph.Unit1.{Unit1}
 use Rattle.if1_graph.specs.declared.op.Simple.{Simple}
 use Rattle.if1_graph.specs.declared.op.Simple.TheVariants as simple
-use Rattle.if1_graph.specs.Formed.{IsFormed}
+use Rattle.if1_graph.specs.Ready.{IsReady}
 use Rattle.if1_graph.specs.Ports.{count_from}
 use Rattle.if1_graph.specs.Units.{Place, edge_into, label_of, number_of, places}
 use Rattle.graph_meaning.specs.Demand.{Plain}
@@ -26,5 +26,5 @@ marks_of u g l w row = []
 -- At the node of this label and row the marks from one on tell of its outputs, whatever is put behind them.
 abbrev pub AreTold : Unit1 → Graph → (label width : ℕ) → Simple → (marks : List Bool) → (first : ℕ) → Type 0
 AreTold u g l w row marks first =
-    IsFormed u → (p : Place) → Contains (places u) p → p.graph ≡ g → (n : Node) → Contains (out-Graph g).nodes n → label_of n ≡ l → (shape : Shape) → kind_of u g n ≡ Plain row shape
+    IsReady u → (p : Place) → Contains (places u) p → p.graph ≡ g → (n : Node) → Contains (out-Graph g).nodes n → label_of n ≡ l → (shape : Shape) → kind_of u g n ≡ Plain row shape
     → (more : List Bool) → AreOutputsTold (storage_of u) (number_of p) l (marks ++ more) w first row

@@ -48,7 +48,7 @@ module _ (D : PlanData) (u : Unit1) where
 
   work-counted : (order : ℕ → List Vertex) (t : Tables) (g : ℕ) (v : Vertex) (n : PlanNode) (x : Work) → IsCountedByRow D u g v n x → IsFiredByRow D u g v n x → IsCopiedSo D (plan_of u order t) (weighing u order t) g v n x
   work-counted order t g v n (work.Plain row shape writes copies) e f = λ code marks ks rs. kind-counted (plan_of u order t) (shares_of u order) g v n copies (kind_there (network u g) v) e f code marks ks rs
-  work-counted order t g v n (work.Call f) e f = tt
+  work-counted order t g v n (work.Call callee) e f = tt
   work-counted order t g v n (work.Select s gs) e f = tt
   work-counted order t g v n (work.TagCase gs) e f = tt
   work-counted order t g v n (work.LoopA p) e f = tt

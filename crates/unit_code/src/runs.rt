@@ -59,8 +59,7 @@ fn entered(alloc: Global, args: Items) -> Result<Vec<Cell>, RunFault>
 }
 
 fn left(alloc: Global, run: Totalled) -> Result<Totals, RunFault>
-    ensures totals { IfOk result (λ t. AreLeft run t) }
-    ensures refused { IfErr result (λ e. e ≡ RunFault.NoMemory) }
+    ensures { MatchResult result (λ t. AreLeft run t) (λ e. e ≡ RunFault.NoMemory) }
 {
     let Totalled {
         results,
