@@ -16,7 +16,7 @@ use Rattle.sequential_run.specs.Totals.{CanEnter}
 use Rattle.unit_data.specs.Data.{IsDataOf, planned, shared, tables_of}
 use Rattle.unit_runs.specs.Runs.{IsUnitCode}
 use Rattle.unit_counts.specs.Laws.{DoesToldCodeCount}
-use Rattle.unit_code.specs.Codes.{IsCodeOfUnit}
+use Rattle.unit_code.specs.Codes.{IsCodeOfUnit, IsMadeOf}
 use Rattle.unit_code.proofs.Counted.{places-many}
 
 module _ (u : Unit1) (ready : IsReady u) (D : PlanData) (is : IsDataOf u D) (levels : ℕ) (functions : List ℕ) (many : levels ≡ length D.graphs) (all : functions ≡ functions_of u) (code : Code) where
@@ -38,9 +38,8 @@ module _ (u : Unit1) (ready : IsReady u) (D : PlanData) (is : IsDataOf u D) (lev
 
   pub code-made : DoesToldCodeCount → (entries rooms : List ℕ) → entries ≡ D.entries
       → ((P : Plan) (S : Shares) → Stands D P S → IsCodeOf P S levels functions code) → ((P : Plan) (S : Shares) → Stands D P S → AreTold D P S levels functions code)
-      → ((f : ℕ) → IsIn f functions → CanEnter code (table_of entries f) (table_of rooms f))
-      → IsCodeOfUnit u (record { code = code; entries = entries; rooms = rooms })
-  code-made law entries rooms same made told enters =
+      → IsMadeOf u (record { code = code; entries = entries; rooms = rooms })
+  code-made law entries rooms same made told =
       let own = unit-code (made P S is.1.stands) in
       record {
         order = order_by u is.0;
@@ -50,5 +49,9 @@ module _ (u : Unit1) (ready : IsReady u) (D : PlanData) (is : IsDataOf u D) (lev
         made = own;
         counts = law D u (order_by u is.0) (tables_of D) code ready is.1.in_order is.1.stands is.1.counted own (unit-told (told P S is.1.stands));
         entries = λ f. ap (λ es. table_of es f) (sym same);
-        enters = λ f i. enters f (subst (IsIn f) (sym all) i);
       }
+
+  -- it can be entered at each function of the unit
+  pub code-enters : (entries rooms : List ℕ) → IsMadeOf u (record { code = code; entries = entries; rooms = rooms })
+      → ((f : ℕ) → IsIn f functions → CanEnter code (table_of entries f) (table_of rooms f)) → IsCodeOfUnit u (record { code = code; entries = entries; rooms = rooms })
+  code-enters entries rooms made enters = record { code = made; enters = λ f i. enters f (subst (IsIn f) (sym all) i) }

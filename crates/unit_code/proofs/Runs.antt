@@ -34,8 +34,9 @@ module _ (u : Unit1) (ready : IsReady u) (sound : IsSound u) (c : UnitCode) (mad
 
   pub run-is : IsRunOf u c.code limit f (table_of c.entries f) (map Value args)
   run-is =
-      subst (λ n. IsRunOf u c.code limit f n ins) (made.entries f)
-      (runs-recorded u made.order made.tables c.code limit ready sound made.in_order made.sized made.made made.counts f ins (function-in u ready f are.0 are.1)
+      let own = made.code in
+      subst (λ n. IsRunOf u c.code limit f n ins) (own.entries f)
+      (runs-recorded u own.order own.tables c.code limit ready sound own.in_order own.sized own.made own.counts f ins (function-in u ready f are.0 are.1)
       (length-map args Value ∙ (are.2 ∙ sym (inputs-many u ready f are.0 are.1))))
 
   pub totals-are : (run : Totalled) (t : Totals) → HasTotals c.code limit (entered_at (table_of c.entries f) (map Value args)) run → AreLeft run t → AreTotalsOf u f limit (map Value args) t

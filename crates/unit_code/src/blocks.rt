@@ -114,14 +114,20 @@ fn are_entries(
 /// Whether the code is whole, and each of these functions begins at a step, in a block with so many
 /// cells.
 pub fn can_enter(
+    alloc: Global,
     code: &Code,
     blocks: &Blocks,
     entries: &[u32],
     rooms: &[u32],
     functions: &[u32],
-) -> bool
-    ensures { result ≡ true → (f : ℕ) → IsIn f functions.now → CanEnter code.now (table_of entries.now f) (table_of rooms.now f) }
+) -> Result<bool, NoMemory>
+    ensures { IfOk result (λ b. b ≡ true → (f : ℕ) → IsIn f functions.now → CanEnter code.now (table_of entries.now f) (table_of rooms.now f)) }
 {
-    is_whole(code, blocks.rooms.as_slice(), blocks.gives.as_slice())
-        && are_entries(code, blocks, entries, rooms, functions)
+    let whole = is_whole(
+        alloc,
+        code,
+        blocks.rooms.as_slice(),
+        blocks.gives.as_slice(),
+    )?;
+    Ok(whole && are_entries(code, blocks, entries, rooms, functions))
 }
