@@ -2,4 +2,4 @@ pub mod Counted
 pub mod Arguments
 pub mod Entering
 pub mod Makes
-pub mod Runs
+pub mod Recorded
