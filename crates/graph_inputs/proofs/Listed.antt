@@ -1,5 +1,5 @@
 -- The inputs of graphs, one after another.
-use Rattle.std.proofs.Common.{◌≡◌, ◌∙◌, ℕ, zero, suc, ◌+◌, ◌<◌, ◌≤◌, List, [], ◌∷◌, ◌++◌, length, map, take, get_or, option_map, unwrap_or, Option, Some, None, All, arith, refl, sym, ap, append_assoc}
+use Rattle.std.proofs.Common.{◌≡◌, ◌∙◌, ℕ, zero, suc, ◌+◌, ◌<◌, ◌≤◌, List, [], ◌∷◌, ◌++◌, length, map, take, get_or, option_map, unwrap_or, Option, Some, None, arith, refl, sym, ap, append_assoc}
 use Rattle.std.specs.List.{flat_map}
 use Rattle.std.proofs.lemmas.Grind.{flat_map-append}
 use Rattle.std.proofs.lemmas.List.{take_more, take_all, map-append}
@@ -13,13 +13,13 @@ use Rattle.if1_graph.specs.declared.op.Part.{Part}
 use Rattle.if1_graph.specs.declared.op.Part.TheVariants as part
 use Rattle.if1_graph.specs.Ops.{compound_at}
 use Rattle.if1_graph.specs.Parts.{part_at}
-use Rattle.if1_graph.specs.Ports.{part_inputs, part_of}
+use Rattle.if1_graph.specs.Ports.{part_inputs}
 use Rattle.if1_graph.specs.Tables.{◌>>=◌}
-use Rattle.if1_graph.specs.Units.{Home, Function, Inside, Place, each_from, greatest, label_of, level_below, levels, places_of, width}
+use Rattle.if1_graph.specs.Units.{Home, Inside, Place, each_from, greatest, label_of, level_below, levels, places_of, width}
 use Rattle.if1_order.proofs.Within.{node_levels, levels_out}
-use Rattle.unit_plan.specs.Plans.{plain_as, plain_at}
+use Rattle.unit_plan.specs.Plans.{plain_as}
 use Rattle.graph_inputs.specs.declared.inputs.Inputs.{Inputs}
-use Rattle.graph_inputs.specs.Inputs.{inputs_as, inputs_by, inputs_for, inputs_of, plain_for}
+use Rattle.graph_inputs.specs.Inputs.{inputs_by, inputs_for, inputs_of, plain_for}
 use Rattle.graph_inputs.specs.Walks.{node_places, part_places}
 
 append-none : {A : Type 0} (xs : List A) → (xs ++ []) ≡ xs
@@ -137,3 +137,10 @@ module _ (u : Unit1) where
 
   pub part-known : (outer : Graph) (n : Node) (k : ℕ) (s : Graph) → inputs_by (compound_at (out-Node n).op) k (width outer (label_of n)) (out-Node n).subs ≡ inputs_of u (record { graph = s; home = Inside outer n k })
   part-known outer n k s = by-compound outer n (compound_at (out-Node n).op) k
+
+  pub part-own : (outer : Graph) (n : Node) (k : ℕ) (s : Graph) (x : Inputs) (o : Option Compound) (w : ℕ) (gs : List Graph) → x ≡ inputs_by o k w gs → gs ≡ (out-Node n).subs → o ≡ compound_at (out-Node n).op → w ≡ width outer (label_of n)
+      → x ≡ inputs_of u (record { graph = s; home = Inside outer n k })
+  part-own outer n k s x o w gs is are compound wide =
+      is
+      ∙ (ap (λ o. inputs_by o k w gs) compound
+      ∙ (ap (λ w. inputs_by (compound_at (out-Node n).op) k w gs) wide ∙ (ap (λ gs. inputs_by (compound_at (out-Node n).op) k (width outer (label_of n)) gs) are ∙ part-known outer n k s)))

@@ -28,7 +28,8 @@ fn add_graph(graph: &Graph, own: Inputs, all: &mut Seq<Inputs>) -> Result<(), No
         ((u : Unit1) (home : Home) (more : ℕ) → own ≡ inputs_of u (record { graph = graph.now; home = home }) → levels graph.now ≤ more → all.new ≡ all.old ++ map (inputs_of u) (places_of more home graph.now)) }
 {
     all.add(own)?;
-    add_nodes(graph, all)
+    add_nodes(graph, all)?;
+    Ok(())
 }
 
 #[cycle(walk)]
@@ -39,9 +40,9 @@ fn add_nodes(graph: &Graph, all: &mut Seq<Inputs>) -> Result<(), NoMemory>
         ((u : Unit1) (more : ℕ) → levels graph.now ≤ suc more → all.new ≡ all.old ++ map (inputs_of u) (flat_map (node_places more graph.now) (out-Graph graph.now).nodes)) }
 {
     for node in graph.nodes.as_slice() {
-        let width = width_of(graph, node.label);
+        let count = width_of(graph, node.label);
         let compound = compound_of(node.op);
-        add_parts(compound, width, node.subs.as_slice(), all)?;
+        add_parts(compound, count, node.subs.as_slice(), all)?;
     }
     Ok(())
 }
@@ -49,17 +50,17 @@ fn add_nodes(graph: &Graph, all: &mut Seq<Inputs>) -> Result<(), NoMemory>
 #[cycle(walk)]
 fn add_parts(
     compound: Option<Compound>,
-    width: u32,
+    count: u32,
     graphs: &[Graph],
     all: &mut Seq<Inputs>,
 ) -> Result<(), NoMemory>
     requires { AreInOrder graphs.now }
     ensures { OnOk
         result
-        ((u : Unit1) (outer : Graph) (n : Node) (more : ℕ) → graphs.now ≡ (out-Node n).subs → compound ≡ compound_at (out-Node n).op → width ≡ width outer (label_of n) → level_below (map levels graphs.now) ≤ suc more → all.new ≡ all.old ++ map (inputs_of u) (part_places more outer n 0 graphs.now)) }
+        ((u : Unit1) (outer : Graph) (n : Node) (more : ℕ) → graphs.now ≡ (out-Node n).subs → compound ≡ compound_at (out-Node n).op → count ≡ width outer (label_of n) → level_below (map levels graphs.now) ≤ suc more → all.new ≡ all.old ++ map (inputs_of u) (part_places more outer n 0 graphs.now)) }
 {
     for place in 0..graphs.len() {
-        let own = inputs_by(compound, place, width, graphs)?;
+        let own = inputs_by(compound, place, count, graphs)?;
         add_graph(&graphs[place], own, all)?;
     }
     Ok(())
@@ -83,11 +84,7 @@ fn function_inputs(types: &Outlines, graph: &Graph) -> Inputs
     }
 }
 
-fn add_functions(
-    types: &Outlines,
-    graphs: &[Graph],
-    all: &mut Seq<Inputs>,
-) -> Result<(), NoMemory>
+fn add_functions(types: &Outlines, graphs: &[Graph], all: &mut Seq<Inputs>) -> Result<(), NoMemory>
     requires { AreInOrder graphs.now }
     ensures { OnOk
         result
@@ -102,11 +99,7 @@ fn add_functions(
 
 /// The inputs of each graph of a unit, in the order of their numbers, where this is what the labels of
 /// its types stand for. Takes for each node the time of two searches among the edges.
-pub fn unit_inputs(
-    alloc: Global,
-    unit: &Sound,
-    types: &Outlines,
-) -> Result<Seq<Inputs>, NoMemory>
+pub fn unit_inputs(alloc: Global, unit: &Sound, types: &Outlines) -> Result<Seq<Inputs>, NoMemory>
     requires { (label : ℕ) → types_in types.now label ≡ outline_of (sort_at unit.now.types label) }
     ensures { IfOk result (λ xs. xs ≡ map (inputs_of unit.now) (places unit.now)) }
 {

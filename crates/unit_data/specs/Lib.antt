@@ -1,1 +1,3 @@
 pub mod Data
+pub mod Facts
+pub mod Graphs

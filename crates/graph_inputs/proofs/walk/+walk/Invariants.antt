@@ -14,7 +14,7 @@ abbrev pub invariant-add_nodes-loop-node : goal.invariant-add_nodes-loop-node
 invariant-add_nodes-loop-node l = (u : Unit1) (more : ℕ) → levels l.graph ≤ suc more → l.all ≡ l.fn.all ++ map (inputs_of u) (flat_map (node_places more l.graph) (take l.node-index (out-Graph l.graph).nodes))
 
 abbrev pub invariant-add_parts-loop-place : goal.invariant-add_parts-loop-place
-invariant-add_parts-loop-place l = (u : Unit1) (outer : Graph) (n : Node) (more : ℕ) → l.graphs ≡ (out-Node n).subs → l.compound ≡ compound_at (out-Node n).op → l.width ≡ width outer (label_of n) → level_below (map levels l.graphs) ≤ suc more
+invariant-add_parts-loop-place l = (u : Unit1) (outer : Graph) (n : Node) (more : ℕ) → l.graphs ≡ (out-Node n).subs → l.compound ≡ compound_at (out-Node n).op → l.count ≡ width outer (label_of n) → level_below (map levels l.graphs) ≤ suc more
     → l.all ≡ l.fn.all ++ map (inputs_of u) (part_places more outer n 0 (take l.place l.graphs))
 
 -- a graph is above its nodes, and these are above their graphs
