@@ -16,6 +16,9 @@ use Rattle.sequential_run.specs.Totals.{CanEnter}
 use Rattle.unit_data.specs.Data.{IsDataOf, planned, shared, tables_of}
 use Rattle.unit_runs.specs.Runs.{IsUnitCode}
 use Rattle.unit_counts.specs.Laws.{DoesToldCodeCount}
+use Rattle.unit_runs.proofs.QuickCode.{quick-unit-code}
+use Rattle.quick_code.specs.Quick.{RunsSame}
+use Rattle.unit_code.specs.declared.code.UnitCode.{UnitCode}
 use Rattle.unit_code.specs.Codes.{IsCodeOfUnit, IsMadeOf}
 use Rattle.unit_code.proofs.Counted.{places-many}
 
@@ -36,22 +39,23 @@ module _ (u : Unit1) (ready : IsReady u) (D : PlanData) (is : IsDataOf u D) (lev
   unit-told : AreTold D P S levels functions code → AreTold D P S (levels_of u) (functions_of u) code
   unit-told h = subst (λ n. AreTold D P S n (functions_of u) code) deep (subst (λ fs. AreTold D P S levels fs code) all h)
 
-  pub code-made : DoesToldCodeCount → (entries rooms : List ℕ) → entries ≡ D.entries
+  pub code-made : DoesToldCodeCount → (quick : Code) → RunsSame code quick → (entries rooms : List ℕ) → entries ≡ D.entries
       → ((P : Plan) (S : Shares) → Stands D P S → IsCodeOf P S levels functions code) → ((P : Plan) (S : Shares) → Stands D P S → AreTold D P S levels functions code)
-      → IsMadeOf u (record { code = code; entries = entries; rooms = rooms })
-  code-made law entries rooms same made told =
+      → IsMadeOf u (record { code = quick; entries = entries; rooms = rooms })
+  code-made law quick runs entries rooms same made told =
       let own = unit-code (made P S is.1.stands) in
+      let counts = law D u (order_by u is.0) (tables_of D) code ready is.1.in_order is.1.stands is.1.counted own (unit-told (told P S is.1.stands)) in
+      let so = quick-unit-code u (order_by u is.0) (tables_of D) code quick runs own counts in
       record {
         order = order_by u is.0;
         tables = tables_of D;
         in_order = is.1.in_order;
         sized = is.1.tables;
-        made = own;
-        counts = law D u (order_by u is.0) (tables_of D) code ready is.1.in_order is.1.stands is.1.counted own (unit-told (told P S is.1.stands));
+        made = so.0;
+        counts = so.1;
         entries = λ f. ap (λ es. table_of es f) (sym same);
       }
 
-  -- it can be entered at each function of the unit
-  pub code-enters : (entries rooms : List ℕ) → IsMadeOf u (record { code = code; entries = entries; rooms = rooms })
-      → ((f : ℕ) → IsIn f functions → CanEnter code (table_of entries f) (table_of rooms f)) → IsCodeOfUnit u (record { code = code; entries = entries; rooms = rooms })
-  code-enters entries rooms made enters = record { code = made; enters = λ f i. enters f (subst (IsIn f) (sym all) i) }
+-- it can be entered at each function of the unit
+pub code-enters : (u : Unit1) (c : UnitCode) (functions : List ℕ) → functions ≡ functions_of u → IsMadeOf u c → ((f : ℕ) → IsIn f functions → CanEnter c.code (table_of c.entries f) (table_of c.rooms f)) → IsCodeOfUnit u c
+code-enters u c functions all made enters = record { code = made; enters = λ f i. enters f (subst (IsIn f) (sym all) i) }

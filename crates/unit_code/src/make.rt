@@ -10,6 +10,7 @@ use code_maker::code_of;
 use flow_value::{NoMemory, Numbers, Seq};
 use if1_graph::Graph;
 use if1_sound::Sound;
+use quick_code::quicken;
 use std::alloc::Global;
 use unit_counts::code_of_told_data_counts_copies;
 use unit_data::data_of;
@@ -37,7 +38,8 @@ pub fn unit_code(alloc: Global, unit: &Sound) -> Result<Option<UnitCode>, NoMemo
     let blocks = blocks_in(alloc, &data, rooms.as_slice(), functions.as_slice())?;
     let entries = Numbers::from_slice(alloc, data.entries.as_slice())?;
     let levels = count_of(data.graphs.len())?;
-    let code = code_of(alloc, data, levels, functions.as_slice())?;
+    let laid = code_of(alloc, data, levels, functions.as_slice())?;
+    let code = quicken(alloc, laid)?;
     let enters = can_enter(
         alloc,
         &code,
