@@ -9,6 +9,7 @@ use Rattle.unit_code.specs.Enters.{AreEntries, IsEntry}
 
 module _ (code : Code) (B : Blocks) (entries rooms : List ℕ) where
   entry-of : (fs : List ℕ) → AreEntries code B entries rooms fs → (f : ℕ) → IsIn f fs → IsEntry code B (table_of entries f) (table_of rooms f)
+  entry-of [] h f i = elim i [ ]
   entry-of (g ∷ fs) h f (inl e) = subst (λ n. IsEntry code B (table_of entries n) (table_of rooms n)) (sym e) h.0
   entry-of (g ∷ fs) h f (inr i) = entry-of fs h.1 f i
 

@@ -40,12 +40,12 @@ pub fn run_unit(
     requires count { AreArguments unit.now function args }
     ensures { MatchResult result (λ t. AreTotalsOf unit.now function limit (map Value args) t) (λ e. IsFaultOf unit.now function limit (map Value args) e) }
 {
-    let _unit = unit.unit();
+    let _whole = unit.unit();
     let cells = entered(alloc, args)?;
     let entry = number_at(code.entries.as_slice(), function);
     let room = number_at(code.rooms.as_slice(), function);
-    let run = run_function(alloc, &code.code, entry, room, cells, limit)?;
-    left(alloc, run)
+    let ended = run_function(alloc, &code.code, entry, room, cells, limit)?;
+    left(alloc, ended)
 }
 
 fn entered(alloc: Global, args: Items) -> Result<Vec<Cell>, RunFault>
