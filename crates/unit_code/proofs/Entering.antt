@@ -1,5 +1,5 @@
 -- Where each function is entered.
-use Rattle.std.proofs.Common.{◌≡◌, ℕ, List, [], ◌∷◌, inl, inr, sym, subst}
+use Rattle.std.proofs.Common.{ℕ, List, [], ◌∷◌, inl, inr, sym, subst}
 use Rattle.graph_meaning.specs.Entered.{IsIn}
 use Rattle.step_code.specs.declared.code.Code.{Code}
 use Rattle.plan_data.specs.Parts.{table_of}

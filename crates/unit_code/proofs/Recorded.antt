@@ -1,5 +1,5 @@
 -- Runs of the code of a unit, as values.
-use Rattle.std.proofs.Common.{◌≡◌, ℕ, ◌≤◌, List, map, length, sym, ap, subst, ◌∙◌}
+use Rattle.std.proofs.Common.{◌≡◌, ℕ, ◌≤◌, List, map, sym, ap, subst, ◌∙◌}
 use Rattle.std.proofs.lemmas.List.{length-map}
 use Rattle.flow_value.specs.declared.value.Val.{Val}
 use Rattle.if1_graph.specs.declared.graph.Unit1.{Unit1}
@@ -8,7 +8,6 @@ use Rattle.if1_marks.specs.Sound.{IsSound}
 use Rattle.graph_meaning.specs.Carried.{Carried, Value, val_of}
 use Rattle.run_store.specs.Whole.{IsOfUnit}
 use Rattle.plan_data.specs.Parts.{table_of}
-use Rattle.unit_plan.specs.Plans.{inputs_in, place_of}
 use Rattle.sequential_run.specs.declared.running.RunFault.{RunFault}
 use Rattle.sequential_run.specs.declared.running.RunFault.TheVariants as fault
 use Rattle.sequential_run.specs.declared.totals.Totalled.{Totalled}

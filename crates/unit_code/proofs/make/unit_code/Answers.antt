@@ -1,4 +1,4 @@
-use Rattle.std.proofs.Common.{◌≡◌, ◌∙◌, ℕ, List, Some, ap, map, sym, subst}
+use Rattle.std.proofs.Common.{◌≡◌, ◌∙◌, ℕ, Some, ap, map, subst}
 use Rattle.if1_graph.specs.declared.graph.Graph.TheViews.{out-Graph}
 use Rattle.graph_meaning.specs.Entered.{IsIn}
 use Rattle.plan_data.specs.Parts.{table_of}
@@ -31,6 +31,6 @@ returns-clause-none c = λ e.
     let made : UnitCode = record { code = c.in_ok-code.code; entries = c.in_ok-entries.entries; rooms = c.in_ok-rooms.rooms } in (
       made,
       code-made u c.unit.ensures.ready c.in_ok-data.data c.in_ok-data.ensures c.in_ok-levels.levels c.as_slice-5.result.now (c.in_ok-levels.ensures ∙ c.len.ensures) (c.as_slice-5.ensures ∙ numbers) c.in_ok-laid.laid
-      c.code_of_told_data_counts_copies.ensures c.in_ok-code.code c.in_ok-code.ensures c.in_ok-entries.entries c.in_ok-rooms.rooms (c.in_ok-entries.ensures ∙ c.as_slice-4.ensures) c.in_ok-laid.ensures.made
-      c.in_ok-laid.ensures.told,
+          c.code_of_told_data_counts_copies.ensures c.in_ok-code.code c.in_ok-code.ensures c.in_ok-entries.entries c.in_ok-rooms.rooms (c.in_ok-entries.ensures ∙ c.as_slice-4.ensures) c.in_ok-laid.ensures.made
+          c.in_ok-laid.ensures.told,
     )
