@@ -1,5 +1,5 @@
 //! The call that does all that the program does.
-ghost use Rattle.std.specs.Prelude.{◌≡◌, ◌≢◌, ◌⊎◌, ◌↔◌, ℕ, List, take, map, Some, Ok, Err, IfOk, IfErr, OnOk, IsTrue};
+ghost use Rattle.std.specs.Prelude.{◌≡◌, ◌≢◌, ◌⊎◌, ◌↔◌, ℕ, List, false, take, map, Some, Ok, Err, IfOk, IfErr, OnOk, IsTrue};
 ghost use Rattle.flow_io.specs.Bytes.{TakesOff, IsAtEnd, AddsOn};
 ghost use Rattle.flow_io.specs.Count.{HasRisen};
 ghost use Rattle.run_words.specs.Commands.{bytes_of};
