@@ -4,8 +4,10 @@
 
 mod call;
 mod entry;
+mod laws;
 mod texts;
 
 pub use call::run;
+pub use laws::{no_run_passes_the_limit, words_have_one_run};
 pub use texts::unit_of_text;
 pub use unit_code::Totals;
