@@ -1,0 +1,10 @@
+//! The code of a unit, and runs of its functions.
+#![tactic(auto)]
+
+mod code;
+mod make;
+mod runs;
+
+pub use code::UnitCode;
+pub use make::unit_code;
+pub use runs::{Totals, run_unit};
