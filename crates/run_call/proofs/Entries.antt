@@ -1,5 +1,5 @@
 -- The entry of a unit is one of its functions, and words that are read are as many as its arguments.
-use Rattle.std.proofs.Common.{◌≡◌, ℕ, suc, List, [], ◌∷◌, length, Bool, true, false, Option, Some, None, is_some, option_map, find, cond, eqb, refl, sym, ap, subst, ◌∙◌}
+use Rattle.std.proofs.Common.{◌≡◌, ℕ, suc, List, [], ◌∷◌, length, Bool, true, false, Option, Some, is_some, option_map, find, cond, eqb, refl, sym, ap, ◌∙◌}
 use Rattle.std.proofs.lemmas.Bool.{eq-eqb}
 use Rattle.std.proofs.lemmas.Option.{same_Some}
 use Rattle.flow_value.specs.declared.ty.Ty.{Ty}
@@ -8,7 +8,7 @@ use Rattle.if1_graph.specs.declared.graph.Graph.{Graph}
 use Rattle.if1_graph.specs.declared.graph.Graph.TheViews.{out-Graph}
 use Rattle.if1_graph.specs.declared.graph.Unit1.{Unit1}
 use Rattle.unit_entry.specs.Entries.{entry_of, is_called}
-use Rattle.if1_valid.specs.Params.{function_in, function_of, params_of}
+use Rattle.if1_valid.specs.Params.{function_in, function_of}
 use Rattle.mean_call.specs.Words.{AreRead}
 use Rattle.run_words.specs.declared.command.RunSet.{RunSet}
 use Rattle.unit_code.specs.Runs.{AreArguments}

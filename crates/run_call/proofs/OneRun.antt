@@ -1,7 +1,6 @@
 -- Words are one call, and a call has one run.
-use Rattle.std.proofs.Common.{◌≡◌, ◌<◌, ◌≤◌, ◌∙◌, ℕ, List, map, Some, refl, ap, sym, subst, arith}
+use Rattle.std.proofs.Common.{◌≡◌, ◌<◌, ◌≤◌, ◌∙◌, ℕ, List, map, ap, sym, subst, arith}
 use Rattle.std.proofs.lemmas.Option.{same_Some}
-use Rattle.flow_value.specs.declared.ty.Ty.{Ty}
 use Rattle.flow_value.specs.declared.value.Val.{Val}
 use Rattle.run_words.specs.declared.command.RunSet.{RunSet}
 use Rattle.if1_graph.specs.declared.graph.Unit1.{Unit1}
@@ -10,26 +9,27 @@ use Rattle.graph_meaning.specs.Carried.{Carried, Value, val_of}
 use Rattle.graph_meaning.specs.Laws.{AreUnitCopiesOne, IsCostOne, IsMeaningOne}
 use Rattle.graph_meaning.specs.Networks.{network}
 use Rattle.graph_meaning.specs.Storage.{capped}
-use Rattle.graph_meaning.specs.StorageUnits.{UnitCopies}
 use Rattle.mean_call.specs.Words.{AreRead}
 use Rattle.mean_call.proofs.One.{one_reading}
 use Rattle.unit_code.specs.Runs.{AreTotalsOf}
 use Rattle.unit_code.specs.declared.runs.Totals.{Totals}
-use Rattle.run_call.specs.Calls.{Gives, IsCall, PassesLimit, PassesOn}
+use Rattle.run_call.specs.Calls.{IsCall, PassesOn}
 use Rattle.run_call.specs.Laws.{IsNoneBeyond, IsOneRun}
 
-record IsSame (f g : ℕ) (as bs : List Val) : Type 0 where
+record IsSame (f g : ℕ) (vs ws : List Val) : Type 0 where
   function : f ≡ g
-  args : as ≡ bs
+  args : vs ≡ ws
 
-one_call : (u : Unit1) (set : RunSet) (f g : ℕ) (as bs : List Val) → IsCall u set f as → IsCall u set g bs → IsSame f g as bs
-one_call u set f g as bs a b =
+one_call : (u : Unit1) (set : RunSet) (f g : ℕ) (vs ws : List Val) → IsCall u set f vs → IsCall u set g ws → IsSame f g vs ws
+one_call u set f g vs ws a b =
     let same : f ≡ g = same_Some f g (sym a.entry.called ∙ b.entry.called) in
     let types : a.types ≡ b.types = same_Some a.types b.types (sym a.entry.arguments ∙ (ap (params_of u) same ∙ b.entry.arguments)) in
-    record { function = same; args = one_reading set.values b.types as bs (subst (λ ts. AreRead set.values ts as) types a.read) b.read }
+    record { function = same; args = one_reading set.values b.types vs ws (subst (λ ts. AreRead set.values ts vs) types a.read) b.read }
 
 one_total : (s t : Totals) → s.results ≡ t.results → s.fires ≡ t.fires → s.copies ≡ t.copies → s ≡ t
-one_total s t values fires copies = cc
+one_total s t values fires copies =
+    let made : List Val → ℕ → ℕ → Totals = λ r f c. record { results = r; fires = f; copies = c } in
+    ap (λ r. made r s.fires s.copies) values ∙ (ap (λ f. made t.results f s.copies) fires ∙ ap (λ c. made t.results t.fires c) copies)
 
 module _ (meaning : IsMeaningOne) (cost : IsCostOne) (copies : AreUnitCopiesOne) where
   one_run_of : (u : Unit1) (f limit : ℕ) (ins : List Carried) (s t : Totals) → AreTotalsOf u f limit ins s → AreTotalsOf u f limit ins t → s ≡ t
