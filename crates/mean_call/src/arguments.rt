@@ -38,7 +38,7 @@ fn read_all(alloc: Global, words: &[Text], types: &[Ty]) -> Result<Items, Refusa
 }
 
 /// The values of words at the types of parameters.
-pub fn arguments(alloc: Global, words: &[Text], types: &[Ty]) -> Result<Items, Refusal>
+pub fn values_of_words(alloc: Global, words: &[Text], types: &[Ty]) -> Result<Items, Refusal>
     ensures read { IfOk result (AreRead words.now types.now) }
     ensures refused { IfErr result (AreRefused words.now types.now) }
 {

@@ -6,7 +6,7 @@ ghost use Rattle.typed_tree.specs.declared.program.Program as whole;
 ghost use Rattle.mean_call.specs.Calls.{Gives, IsEntry, IsRefused};
 ghost use Rattle.mean_call.specs.Words.{AreRead};
 
-use crate::arguments::arguments;
+use crate::arguments::values_of_words;
 use crate::entry::find_entry;
 use crate::fault::{ArgumentFault, Refusal};
 use crate::linking::unlinked;
@@ -28,7 +28,7 @@ pub fn evaluate(alloc: Global, program: &Program, set: &MeanSet) -> Result<Items
     let Some(entry) = find_entry(alloc, program, set.entry.as_slice())? else {
         return Err(Refusal::Argument(ArgumentFault::Entry));
     };
-    let args = arguments(alloc, set.values.as_slice(), entry.types.as_slice())?;
+    let args = values_of_words(alloc, set.values.as_slice(), entry.types.as_slice())?;
     match plain_mean(alloc, program, entry.function, args, set.limit) {
         Ok(found) => Ok(found.values),
         Err(MeanFault::TurnLimit) => Err(Refusal::TurnLimit),

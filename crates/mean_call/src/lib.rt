@@ -8,6 +8,7 @@ mod fault;
 mod linking;
 mod trees;
 
+pub use arguments::values_of_words;
 pub use call::{evaluate, one_call};
 pub use fault::{ArgumentFault, Refusal};
 pub use trees::tree_of;

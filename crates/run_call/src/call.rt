@@ -1,0 +1,88 @@
+//! Runs of the entry of a unit on words.
+ghost use Rattle.std.specs.Prelude.{◌≡◌, IfOk, IfErr, IfSome, None, Ok, map};
+ghost use Rattle.graph_meaning.specs.Carried.{Value};
+ghost use Rattle.unit_code.specs.Codes.{IsCodeOfUnit};
+ghost use Rattle.unit_code.specs.Runs.{AreArguments, AreTotalsOf};
+ghost use Rattle.run_call.specs.Calls.{Gives, HasNoCode, IsCall, IsRefused, IsStopped};
+
+use crate::entry::types_of;
+use flow_value::Items;
+use if1_sound::Sound;
+use mean_call::{ArgumentFault, Refusal, values_of_words};
+use run_words::RunSet;
+use sequential_run::RunFault;
+use std::alloc::Global;
+use unit_code::{Totals, UnitCode, run_unit, unit_code};
+use unit_entry::{entry, first_lacking};
+
+/// A unit, and its entry with the values of its arguments.
+#[derive(Drop)]
+struct Call {
+    unit: Sound,
+    function: u32,
+    args: Items,
+}
+
+/// The entry of a unit, with the words as values of its arguments.
+fn call_of(alloc: Global, unit: Sound, set: &RunSet) -> Result<Call, Refusal>
+    ensures same { IfOk result (λ c. c.unit ≡ unit) }
+    ensures call { IfOk result (λ c. IsCall unit set.now c.function c.args) }
+    ensures refused { IfErr result (IsRefused unit set.now) }
+{
+    if let Some(name) = first_lacking(alloc, unit.unit())? {
+        return Err(Refusal::Unlinked(name));
+    }
+    let Some(function) = entry(unit.unit(), set.entry.as_slice()) else {
+        return Err(Refusal::Argument(ArgumentFault::Entry));
+    };
+    let ready = unit.into_ready();
+    let types = types_of(alloc, &ready, set.entry.as_slice(), function)?;
+    let args = values_of_words(alloc, set.values.as_slice(), types.as_slice())?;
+    Ok(Call {
+        unit: Sound::of(ready),
+        function,
+        args,
+    })
+}
+
+/// Runs a function of a unit by its code.
+fn run_code(
+    alloc: Global,
+    unit: &Sound,
+    code: &UnitCode,
+    function: u32,
+    args: Items,
+    limit: u64,
+) -> Result<Totals, Refusal>
+    requires code { IsCodeOfUnit unit.now code.now }
+    requires count { AreArguments unit.now function args }
+    ensures run { IfOk result (AreTotalsOf unit.now function limit (map Value args)) }
+    ensures stopped { IfErr result (IsStopped unit.now function args limit) }
+{
+    match run_unit(alloc, unit, code, function, args, limit) {
+        Ok(totals) => Ok(totals),
+        Err(RunFault::TurnLimit) => Err(Refusal::TurnLimit),
+        Err(RunFault::NoMemory) => Err(Refusal::NoMemory),
+    }
+}
+
+/// Runs the entry of a unit on the words, within the limit of firings, by code that is made of the unit; none
+/// where a test of that code fails.
+pub fn run(alloc: Global, unit: Sound, set: &RunSet) -> Result<Option<Totals>, Refusal>
+    ensures given { IfOk result (λ totals. IfSome totals (Gives unit set.now)) }
+    ensures no_code { result ≡ Ok None → HasNoCode unit set.now }
+    ensures refused { IfErr result (IsRefused unit set.now) }
+{
+    let Call {
+        unit,
+        function,
+        args,
+    } = call_of(alloc, unit, set)?;
+    match unit_code(alloc, &unit)? {
+        Some(code) => {
+            let totals = run_code(alloc, &unit, &code, function, args, set.limit)?;
+            Ok(Some(totals))
+        }
+        None => Ok(None),
+    }
+}
