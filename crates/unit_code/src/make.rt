@@ -1,5 +1,4 @@
 //! The making of code.
-<<<<<<< HEAD
 ghost use Rattle.std.specs.Prelude.{◌≡◌, map, IfOk, Some, None};
 ghost use Rattle.if1_graph.specs.declared.graph.Graph.TheViews.{out-Graph};
 ghost use Rattle.unit_code.specs.declared.code.UnitCode.{UnitCode};
@@ -25,21 +24,10 @@ fn numbers_of(alloc: Global, graphs: &[Graph]) -> Result<Numbers, NoMemory>
     }
     Ok(numbers)
 }
-=======
-ghost use Rattle.std.specs.Prelude.{◌≡◌, IfOk, Some};
-ghost use Rattle.unit_code.specs.declared.code.UnitCode.{UnitCode};
-ghost use Rattle.unit_code.specs.Codes.{IsCodeOfUnit};
-
-use crate::code::UnitCode;
-use flow_value::NoMemory;
-use if1_sound::Sound;
-use std::alloc::Global;
->>>>>>> 44af0dbc78c90d955713c9a8569f731c13cebf77
 
 /// The code of a unit, for runs of its functions; none where the test of what was made fails. More
 /// steps or cells than 32 bits count are want of memory.
 pub fn unit_code(alloc: Global, unit: &Sound) -> Result<Option<UnitCode>, NoMemory>
-<<<<<<< HEAD
     ensures code { IfOk result (λ o. (c : UnitCode) → o ≡ Some c → IsCodeOfUnit unit.now c) }
     ensures none { IfOk result (λ o. o ≡ None → (c : UnitCode) × IsMadeOf unit.now c) }
 {
@@ -69,11 +57,4 @@ pub fn unit_code(alloc: Global, unit: &Sound) -> Result<Option<UnitCode>, NoMemo
     } else {
         Ok(None)
     }
-=======
-    ensures { IfOk result (λ o. (c : UnitCode) → o ≡ Some c → IsCodeOfUnit unit.now c) }
-{
-    let _ = alloc;
-    let _ = unit;
-    Err(NoMemory)
->>>>>>> 44af0dbc78c90d955713c9a8569f731c13cebf77
 }

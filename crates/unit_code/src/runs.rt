@@ -1,5 +1,4 @@
 //! Runs of the functions of a unit.
-<<<<<<< HEAD
 ghost use Rattle.std.specs.Prelude.{◌≡◌, map, MatchResult, IfOk, IfErr};
 ghost use Rattle.graph_meaning.specs.Carried.{Value};
 ghost use Rattle.run_store.specs.Stored as stored;
@@ -14,17 +13,6 @@ use if1_sound::Sound;
 use plan_data::number_at;
 use run_cells::Cell;
 use sequential_run::{RunFault, Totalled, run_function};
-=======
-ghost use Rattle.std.specs.Prelude.{map, MatchResult};
-ghost use Rattle.graph_meaning.specs.Carried.{Value};
-ghost use Rattle.unit_code.specs.Codes.{IsCodeOfUnit};
-ghost use Rattle.unit_code.specs.Runs.{AreArguments, AreTotalsOf, IsFaultOf};
-
-use crate::code::UnitCode;
-use flow_value::Items;
-use if1_sound::Sound;
-use sequential_run::RunFault;
->>>>>>> 44af0dbc78c90d955713c9a8569f731c13cebf77
 use std::alloc::Global;
 
 /// What a run of a function gives.
@@ -52,7 +40,6 @@ pub fn run_unit(
     requires count { AreArguments unit.now function args }
     ensures { MatchResult result (λ t. AreTotalsOf unit.now function limit (map Value args) t) (λ e. IsFaultOf unit.now function limit (map Value args) e) }
 {
-<<<<<<< HEAD
     let _whole = unit.unit();
     let cells = entered(alloc, args)?;
     let entry = number_at(code.entries.as_slice(), function);
@@ -87,13 +74,4 @@ fn left(alloc: Global, run: Totalled) -> Result<Totals, RunFault>
         }),
         Err(_) => Err(RunFault::NoMemory),
     }
-=======
-    let _ = alloc;
-    let _ = unit;
-    let _ = code;
-    let _ = function;
-    let _ = args;
-    let _ = limit;
-    Err(RunFault::NoMemory)
->>>>>>> 44af0dbc78c90d955713c9a8569f731c13cebf77
 }
