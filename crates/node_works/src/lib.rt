@@ -3,7 +3,11 @@
 
 mod counts;
 mod functions;
+mod into;
 mod outputs;
+mod parts;
+mod results;
+mod shapes;
 mod tables;
 mod task;
 mod widths;

@@ -2,6 +2,7 @@
 use Rattle.std.proofs.Common.{◌≡◌, ℕ, ◌-◌, ◌≤◌, ◌&&◌, Bool, true, false, List, ◌++◌, map, get_or, length, replicate, Option, Some, None, Contains, refl, sym, ap, ◌∙◌, subst}
 use Rattle.std.proofs.lemmas.List.{length-replicate}
 use Rattle.std.specs.List.{list_any}
+use Rattle.if1_graph.specs.declared.graph.Edge.{Edge}
 use Rattle.if1_graph.specs.declared.graph.Graph.{Graph}
 use Rattle.if1_graph.specs.declared.graph.Graph.TheViews.{out-Graph}
 use Rattle.if1_graph.specs.declared.graph.Node.{Node, out-Node}
@@ -25,7 +26,6 @@ use Rattle.graph_meaning.specs.StorageUnits.{carries_elements, gives_aggregate, 
 use Rattle.unit_laws.proofs.TypedNodes.{node-found}
 use Rattle.unit_plan.proofs.Found.{place-found}
 use Rattle.storage_flags.proofs.Filtered.{any-filtered}
-use Rattle.step_code.specs.Reading.{so_many}
 use Rattle.row_counts.specs.Counts.{AreMarked, AreOutputsTold, hands_out}
 use Rattle.output_marks.proofs.Lists.{any-both, at-alike, at-each, behind, counted-long}
 use Rattle.output_marks.specs.Marks.{AreTold, marks_of}
@@ -74,8 +74,8 @@ module _ (u : Unit1) (ready : IsReady u) (p : Place) (there : Contains (places u
   handed : kind_of u p.graph n ≡ Plain simple.RElements shape → (port : ℕ) → hands_aggregate u.types p.graph l port ≡ hands_out (storage_of u) (number_of p) l simple.RElements port
   handed e port =
       let es = (out-Graph p.graph).edges in
-      let leaving = λ e. leaves l port e.from in
-      let whole = λ e. is_aggregate u.types e.ty in
+      let leaving : Edge → Bool = λ e. leaves l port e.from in
+      let whole : Edge → Bool = λ e. is_aggregate u.types e.ty in
       sym (any-both leaving whole es)
       ∙ (ap (λ b. b && list_any leaving es) (any-filtered leaving whole es ∙ sym (made simple.RElements e (λ x. cc) port))
       ∙ ap (λ b. (storage_of u).is_made (number_of p) l port && b) (sym (used port)))
@@ -127,8 +127,8 @@ module _ (u : Unit1) (ready : IsReady u) (p : Place) (there : Contains (places u
 pub marks-told : (u : Unit1) (g : Graph) (l w : ℕ) (row : Simple) (old new : List Bool) (first : ℕ) → first ≡ length old → new ≡ old ++ marks_of u g l w row → AreTold u g l w row new first
 marks-told u g l w row old new first at put ready p there same n inside label shape kind more =
     let within : Contains (out-Graph p.graph).nodes n = subst (λ (h : Graph). Contains (out-Graph h).nodes n) (sym same) inside in
-    let as : kind_of u p.graph n ≡ Plain row shape = ap (λ (h : Graph). kind_of u h n) same ∙ kind in
-    let own = row-told u ready p there n within shape old more w row as in
+    let does : kind_of u p.graph n ≡ Plain row shape = ap (λ (h : Graph). kind_of u h n) same ∙ kind in
+    let own = row-told u ready p there n within shape old more w row does in
     let here = subst (λ (h : Graph). AreOutputsTold (storage_of u) (number_of p) (label_of n) ((old ++ marks_of u h (label_of n) w row) ++ more) w (length old) row) same own in
     let labelled = subst (λ k. AreOutputsTold (storage_of u) (number_of p) k ((old ++ marks_of u g k w row) ++ more) w (length old) row) label here in
     let told = subst (λ (xs : List Bool). AreOutputsTold (storage_of u) (number_of p) l (xs ++ more) w (length old) row) (sym put) labelled in

@@ -4,8 +4,9 @@ ghost use Rattle.step_code.specs.declared.step.Step.TheVariants as step;
 ghost use Rattle.step_code.specs.Reading.{so_many, listed};
 ghost use Rattle.sequential.specs.Loading.{AreInside, AreApart};
 ghost use Rattle.sequential.specs.Agrees.{DoesForAll};
-ghost use Rattle.sequential_loops.specs.Putting.{AreColumns, AreMovedOnce, AreSparing};
+ghost use Rattle.sequential_loops.specs.Putting.{AreColumns, AreSparing};
 
+use crate::once::are_moved_once;
 use crate::rows::{collects_from, put_row};
 use crate::weighing::with_puts;
 use flow_value::NoMemory;
@@ -13,8 +14,8 @@ use sequential::{Machine, Turn, load, operands_from};
 use std::alloc::Global;
 use step_code::Code;
 
-/// Puts values to collections. One that is not copied goes into its collection, which takes memory
-/// only where it has to grow.
+/// Puts values to collections. Where none is read behind its collection, one that is not copied goes
+/// into it, which takes memory only where it has to grow.
 pub fn add(
     machine: &mut Machine,
     alloc: Global,
@@ -33,7 +34,6 @@ pub fn add(
     requires collected { collects + count ≤ length code.now.collects }
     requires counted { count ≡ length (so_many collects count code.now.collects) }
     requires columns { AreColumns (length (listed code.now froms many)) (so_many collects count code.now.collects) }
-    requires once { AreMovedOnce (so_many collects count code.now.collects) }
     requires sparing { AreSparing out count (listed code.now froms many) }
     requires out { (machine.old.base + out) + count ≤ length machine.old.cells.items }
     ensures does { IfOk result (λ t. DoesForAll code.now limit (step.Add collects count froms many out next) machine.old t machine.new) }
@@ -50,6 +50,7 @@ pub fn add(
         &mut machine.results,
     )?;
     let these = collects_from(code, collects, count);
+    let moves = are_moved_once(these);
     machine.copies = with_puts(these, machine.results.as_slice(), machine.copies);
     put_row(
         alloc,
@@ -58,7 +59,7 @@ pub fn add(
         &mut machine.cells,
         machine.base + out as usize,
         &mut machine.results,
-        true,
+        moves,
     )?;
     machine.pc = next as usize;
     Ok(Turn::Goes)

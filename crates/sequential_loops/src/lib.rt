@@ -9,6 +9,7 @@ mod iterating;
 mod keeping;
 mod laying;
 mod lengths;
+mod once;
 mod putting;
 mod rows;
 mod spreading;

@@ -1,5 +1,5 @@
 -- The code of a unit counts the copies of record.
-use Rattle.std.proofs.Common.{◌≡◌, ℕ, List, get_or, length, refl, sym, ap, ◌∙◌, subst}
+use Rattle.std.proofs.Common.{◌≡◌, ℕ, List, get_or, sym, ap, ◌∙◌, subst}
 use Rattle.if1_graph.specs.declared.graph.Unit1.{Unit1}
 use Rattle.if1_graph.specs.Ready.{IsReady}
 use Rattle.if1_graph.specs.Rows.{row_of}
@@ -14,7 +14,7 @@ use Rattle.ordered_meaning.specs.Orders.{AreInOrder}
 use Rattle.run_code.specs.Machine.{Weigh}
 use Rattle.run_code.specs.Made.{Plan, functions_lines}
 use Rattle.run_code.specs.Steps.{Add, Branch, Call, Count, Each, Fire, Keep, Move, Return, Spread, Step, Tag, Test}
-use Rattle.run_made.specs.Plans.{code_at, last_line, weigh_at}
+use Rattle.run_made.specs.Plans.{weigh_at}
 use Rattle.run_store.specs.Effects.{reads_of}
 use Rattle.run_store.specs.Stored.{Mode, copied}
 use Rattle.made_store.specs.Settings.{Shares}
@@ -24,17 +24,11 @@ use Rattle.unit_plan.specs.Plans.{Tables, functions_of, levels_of, outputs_in, p
 use Rattle.unit_plan.specs.Shares.{shares_of, weighing}
 use Rattle.step_code.specs.declared.code.Code.{Code}
 use Rattle.step_code.specs.declared.step.Step.TheVariants as step
-use Rattle.step_code.specs.Laid.{code_of, copied_in, handling_of}
+use Rattle.step_code.specs.Laid.{code_of, handling_of}
 use Rattle.plan_data.specs.declared.plan.PlanData.{PlanData}
-use Rattle.plan_data.specs.declared.plan.PlanNode.{PlanNode}
-use Rattle.plan_data.specs.Parts.{graph_nodes}
-use Rattle.plan_data.specs.Stands.{Stands}
-use Rattle.code_maker.specs.Grows.{IsPair, read_as}
-use Rattle.code_maker.specs.Makes.{AreTold}
 use Rattle.code_weights.proofs.Adding.{copies-of-plans}
 use Rattle.code_weights.specs.Weights.{CopiesSame}
 use Rattle.told_rows.proofs.Told.{copies-told}
-use Rattle.told_rows.specs.Rows.{IsCountedByRow}
 use Rattle.sequential_run.specs.Runs.{weigh_of}
 use Rattle.unit_runs.proofs.Alike.{copied-read}
 use Rattle.unit_runs.proofs.Graphs.{graphs-bare}

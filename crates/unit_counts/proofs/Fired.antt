@@ -6,7 +6,6 @@ use Rattle.if1_graph.specs.declared.op.Simple.TheVariants as simple
 use Rattle.if1_graph.specs.Ready.{IsReady}
 use Rattle.graph_meaning.specs.Carried.{Carried}
 use Rattle.graph_meaning.specs.Demand.{EachNode, Kind, Plain, Source, Vertex, Whole}
-use Rattle.graph_meaning.specs.Forms as form
 use Rattle.graph_meaning.specs.Networks.{network}
 use Rattle.graph_meaning.specs.NodeValues.{Shape}
 use Rattle.graph_meaning.specs.Storage.{Storage, is_consumed_at, is_left, leaves_at, leaves_of}
@@ -114,11 +113,11 @@ whole-way plain left simple.AScatter os h = refl
 
 whole-long : (plain k : ℕ) (os : List Source) → length (whole_ins plain k os) ≡ length os
 whole-long plain k [] = refl
-whole-long plain k (o ∷ os) = go (multiple plain o)
+whole-long plain k (o ∷ os) = go (multiple plain o) (λ i. whole-long plain i os)
   where
-    go : (m : Option ℕ) → length (whole_in plain k o m (λ i. whole_ins plain i os)) ≡ suc (length os)
-    go None = ap suc (whole-long plain k os)
-    go (Some j) = ap suc (whole-long plain (suc k) os)
+    go : (m : Option ℕ) → ((i : ℕ) → length (whole_ins plain i os) ≡ length os) → length (whole_in plain k o m (λ i. whole_ins plain i os)) ≡ suc (length os)
+    go None rest = ap suc (rest k)
+    go (Some j) rest = ap suc (rest (suc k))
 
 -- ---- what modes copy
 
@@ -127,11 +126,11 @@ none-left : (test : ℕ → Bool) (first : ℕ) (ks : List Carried) → ((p : �
 none-left test first [] h = refl
 none-left test first (k ∷ ks) h =
     ap (λ b. (if b then leaves_of k else 0) + leaves_at test (suc first) ks) (h first (omega arith))
-    ∙ none-left test (suc first) ks (λ p le. h p (omega (arith, le)))
+    ∙ (let rest = none-left test (suc first) ks (λ p le. h p (omega (arith, le))) in omega (arith, rest))
 
 none-copied : (ks : List Carried) → copied [] ks ≡ 0
 none-copied [] = refl
-none-copied (k ∷ ks) = none-copied ks
+none-copied (k ∷ ks) = let rest = none-copied ks in omega (arith, rest)
 
 one-copied : (t c b : Bool) (k : Carried) → b ≡ c && not t → copied_as (mode_of t c) k ≡ (if b then leaves_of k else 0)
 one-copied true true b k e = sym (ap (λ x. if x then leaves_of k else 0) e)

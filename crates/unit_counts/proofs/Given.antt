@@ -1,5 +1,5 @@
 -- What a simple node of a graph of a unit is given, by its row.
-use Rattle.std.proofs.Common.{◌≡◌, ◌≢◌, ℕ, suc, ◌≤◌, if◌then◌else◌, Bool, true, false, List, map, length, Option, Some, None, Contains, refl, sym, ap, ◌∙◌, subst, arith}
+use Rattle.std.proofs.Common.{◌≡◌, ℕ, zero, suc, ◌≤◌, if◌then◌else◌, Bool, true, false, map, length, Option, Some, None, Contains, refl, sym, ap, ◌∙◌, subst, arith}
 use Rattle.if1_graph.specs.declared.graph.Edge.{Edge}
 use Rattle.if1_graph.specs.declared.graph.Graph.TheViews.{out-Graph}
 use Rattle.if1_graph.specs.declared.graph.Node.{Node, out-Node}
@@ -12,7 +12,7 @@ use Rattle.if1_graph.specs.Ready.{IsReady}
 use Rattle.if1_graph.specs.Rows.{operand_of}
 use Rattle.if1_graph.specs.Units.{Place, edge_into, label_of, width}
 use Rattle.if1_marks.proofs.Consumed.{consumed-at}
-use Rattle.if1_marks.specs.Given.{called, consumes, consumes_node, inside, is_call, is_call_as, is_consumed_as, is_consumed_by, is_given_to_called, is_operand_consumed}
+use Rattle.if1_marks.specs.Given.{called, consumes, inside, is_call, is_call_as, is_consumed_as, is_consumed_by, is_given_to_called, is_operand_consumed}
 use Rattle.graph_meaning.proofs.StorageUnits.{call-kind, plain-kind}
 use Rattle.graph_meaning.specs.Demand.{EachNode, Kind, Plain, Vertex, Whole}
 use Rattle.graph_meaning.specs.Forms as form
@@ -66,7 +66,7 @@ module _ (u : Unit1) (ready : IsReady u) (g : ℕ) (q : Place) (x : IsPlaced u g
   same-row op row own shape e = cc
 
   error-row : (p : ℕ) → false ≡ is_operand_consumed (operand_of simple.Error p)
-  error-row 0 = refl
+  error-row zero = refl
   error-row (suc p) = refl
 
   by-simple : (op : Simple) → compound_at (out-Node n).op ≡ None → simple_at (out-Node n).op ≡ Some op → (b : Bool) → is_call_as None (Some op) ≡ b → IsByRow (simple_kind u q.graph l op)

@@ -9,7 +9,7 @@ use Rattle.graph_meaning.specs.NodeValues.{Shape}
 use Rattle.run_code.specs.Cells.{At, Operand, cells_at, own_cells, picked}
 use Rattle.run_code.specs.Coded.{Places, operand}
 use Rattle.run_code.specs.Made.{Line, Makes, OfNothing, Plan, arm_code, arms_code, for_all_code, function_lines, functions_lines, graph_code, kind_code, kind_size, line, loop_code, nodes_code, parts_code, placed, room_of, stand}
-use Rattle.run_code.specs.Steps.{Add, Branch, Call, Count, Each, Fire, Keep, Move, Return, Spread, Step, Tag, Test}
+use Rattle.run_code.specs.Steps.{Count, Fire, Step}
 use Rattle.run_made.specs.Plans.{last_line}
 
 abbrev pub IsWide : Step → Type 0

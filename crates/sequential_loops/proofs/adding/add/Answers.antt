@@ -1,4 +1,4 @@
-use Rattle.std.proofs.Common.{◌≡◌, ◌+◌, false, List, map, length, subst, refl, sym, ap, arith}
+use Rattle.std.proofs.Common.{◌≡◌, ◌+◌, false, List, map, length, subst, refl, ap, arith}
 use Rattle.graph_meaning.specs.Carried.{Carried}
 use Rattle.graph_meaning.specs.Storage.{capped}
 use Rattle.run_code.specs.Collections.{put_all}
@@ -12,7 +12,7 @@ use Rattle.sequential.specs.declared.machine.Machine.{Machine}
 use Rattle.sequential.specs.Agrees.{owned_all}
 use Rattle.sequential.specs.Loading.{Loads}
 use Rattle.sequential_loops.specs.Laying.{IsLaid, owning}
-use Rattle.sequential_loops.specs.Putting.{AreMovedOnce, AreThere, collections_of}
+use Rattle.sequential_loops.specs.Putting.{AreThere, collections_of}
 use Rattle.sequential_loops.proofs.PutSteps.{add-goes}
 use Rattle.sequential_loops.proofs.adding.add.Goals as goal
 
@@ -23,9 +23,6 @@ put_row-requires-clause-room c =
     let these = ap length c.collects_from-these.ensures in
     let size = c.in_ok-load.ensures.size in
     omega (arith, out, counted, these, size)
-
-pub put_row-requires-clause-once : goal.put_row-requires-clause-once
-put_row-requires-clause-once c = λ e. subst AreMovedOnce (sym c.collects_from-these.ensures) c.requires.once
 
 pub returns-clause-does : goal.returns-clause-does
 returns-clause-does c =

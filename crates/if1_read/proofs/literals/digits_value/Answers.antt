@@ -1,6 +1,6 @@
 use Rattle.std.proofs.Common.{◌<◌, arith, get_or}
 use Rattle.if1_read.proofs.Reading.{front_too_large, with_digit}
-use Rattle.if1_read.proofs.literal.digits_value.Goals as goal
+use Rattle.if1_read.proofs.literals.digits_value.Goals as goal
 
 pub returns-then-value-gt-LARGEST : goal.returns-then-value-gt-LARGEST
 returns-then-value-gt-LARGEST c =
