@@ -68,6 +68,7 @@ module _ (u : Unit1) (ready : IsReady u) (normal : IsNormal u) where
   -- one of those that are lent in the order of the places
   pub graph-there-at : (gs : List (Bor Graph)) → lent gs ≡ unit_graphs u → (i : ℕ) (r : Bor Graph) → i < length gs → r ≡ get_or gs i r
       → (p : Place) × (slice_get (places u) i ≡ Some p) × Contains (places u) p × (p.graph ≡ r.now) × (number_of p ≡ suc i)
+  unfolding got-in
   graph-there-at gs are i r lt is =
       let long = sym (length-map gs (λ (g : Bor Graph). g.now)) ∙ (ap length are ∙ length-map (places u) (λ (p : Place). p.graph)) in
       let low : i < length (places u) = omega (arith, lt, long) in

@@ -11,7 +11,7 @@ use Rattle.unit_data.proofs.graphs.graphs_of.Goals as goal
 
 pub loop-order-init : goal.loop-order-init
 loop-order-init c =
-    none-done c.args.unit.now c.args.orders.items c.add.new.self [] 0 c.in_ok-with_room.field-0 (c.in_ok-add.ensures.ok ∙ ap (λ cs. cs ++ _ ∷ []) c.new.ensures) refl c.in_ok-with_room.ensures
+    none-done c.args.unit.now c.args.orders.items c.add.new.self c.new-2.result 0 c.in_ok-with_room.field-0 (c.in_ok-add.ensures.ok ∙ ap (λ cs. cs ++ _ ∷ []) c.new.ensures) refl c.in_ok-with_room.ensures
 
 pub graph_at-requires-clause-inside : goal.graph_at-requires-clause-inside
 graph_at-requires-clause-inside c =
@@ -44,7 +44,7 @@ loop-order-preserved c =
     subst (λ n. AreGraphsDone u os n c.add-in-loop-order.new.self c.graph_at.new.literals c.graph_at.new.marks) (sym (length_push c.loop-order.yielded order))
     (graph-done u os (length c.loop-order.yielded) xs c.loop-order.made.literals c.graph_at.new.literals c.loop-order.made.marks c.graph_at.new.marks order x c.add-in-loop-order.new.self was
     c.in_ok-graph.ensures.kept is
-    (λ D os t on begun ordered. subst (λ k. IsGraphAt D u os t k (Some x)) c.len-number.ensures (c.in_ok-graph.ensures.made D os t on begun (ordered ∙ ap os (sym c.len-number.ensures)))) c.in_ok-add-in-loop-order.ensures.ok)
+    (λ D os t on begun ordered. subst (λ k. IsGraphAt D u os t k (Some x)) c.len-number.ensures (c.in_ok-graph.ensures.made D os t on begun (ordered ∙ ap os (sym c.len-number.ensures)))) c.in_ok-add-2.ensures.ok)
 
 pub returns-clause-long : goal.returns-clause-long
 returns-clause-long c =
