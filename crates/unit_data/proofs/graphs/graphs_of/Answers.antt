@@ -5,13 +5,15 @@ use Rattle.std.proofs.lemmas.List.{get_or_default, length-map, length_push}
 use Rattle.if1_graph.specs.declared.graph.Graph.{Graph}
 use Rattle.if1_graph.specs.Units.{Place, number_of, places}
 use Rattle.firing_order.specs.Orders.{IsFiringOrder}
+use Rattle.run_cells.specs.declared.cell.Cell.{Cell}
+use Rattle.run_cells.specs.declared.cell.Cell.TheVariants as cell
 use Rattle.unit_data.proofs.EachGraph.{AreGraphsDone, goes-on, graph-done, none-done}
 use Rattle.unit_data.specs.Graphs.{IsGraphAt}
 use Rattle.unit_data.proofs.graphs.graphs_of.Goals as goal
 
 pub loop-order-init : goal.loop-order-init
 loop-order-init c =
-    none-done c.args.unit.now c.args.orders.items c.add.new.self c.new-2.result 0 c.in_ok-with_room.field-0 (c.in_ok-add.ensures.ok ∙ ap (λ cs. cs ++ _ ∷ []) c.new.ensures) refl c.in_ok-with_room.ensures
+    none-done c.args.unit.now c.args.orders.items c.add.new.self c.new-2.result 0 c.in_ok-with_room.field-0 (c.in_ok-add.ensures.ok ∙ ap (λ (cs : List Cell). cs ++ cell.Unfilled ∷ []) c.new.ensures) refl c.in_ok-with_room.ensures
 
 pub graph_at-requires-clause-inside : goal.graph_at-requires-clause-inside
 graph_at-requires-clause-inside c =
