@@ -1,5 +1,5 @@
 -- What is known of a node, by what was found for it.
-use Rattle.std.proofs.Common.{◌≡◌, ◌∙◌, ℕ, zero, suc, ◌<◌, ◌++◌, Bool, List, [], ◌∷◌, map, length, get_or, slice_get, slice_index, Option, Some, None, Contains, refl, sym, ap, subst, arith, append_assoc}
+use Rattle.std.proofs.Common.{◌≡◌, ◌∙◌, ℕ, zero, suc, ◌<◌, ◌++◌, Bool, List, [], ◌∷◌, map, length, get_or, slice_get, slice_index, Some, None, Contains, refl, sym, ap, subst, arith, append_assoc}
 use Rattle.std.proofs.lemmas.List.{get_or_default, length-map}
 use Rattle.std.proofs.lemmas.Option.{slice_get-get_or, slice_get_within}
 use Rattle.if1_graph.specs.declared.graph.Graph.{Graph}
@@ -33,7 +33,6 @@ use Rattle.plan_data.specs.Parts as parts
 use Rattle.plan_builder.proofs.Units.{outlets-laid}
 use Rattle.plan_builder.specs.Feeds.{HasLiterals}
 use Rattle.plan_builder.specs.Outlets.{AreLaid}
-use Rattle.port_feeds.specs.declared.filled.Filled.{Filled}
 use Rattle.port_feeds.specs.Filled.{AreFilled, AreTold}
 use Rattle.node_works.specs.Tasks.{IsCallOrWhole, task_kind}
 use Rattle.node_works.specs.Tables as works
@@ -42,7 +41,7 @@ use Rattle.plan_nodes.specs.declared.parts.NodeParts.{NodeParts}
 use Rattle.plan_nodes.specs.Made.{AreOutputsMarked, IsOfNode}
 use Rattle.unit_data.specs.declared.facts.GraphFacts.{GraphFacts}
 use Rattle.unit_data.specs.Facts.{AreFactsAt, AreGraphFacts}
-use Rattle.unit_data.specs.Graphs.{GoesOn, HasMarks}
+use Rattle.unit_data.specs.Graphs.{HasMarks}
 
 -- ---- the outlets of a graph
 

@@ -1,5 +1,5 @@
 -- A graph of a unit in normal order.
-use Rattle.std.proofs.Common.{◌≡◌, map, AllPairs, subst}
+use Rattle.std.proofs.Common.{map, AllPairs, subst}
 use Rattle.std.proofs.lemmas.List.Elements.{All-contains}
 use Rattle.std.specs.List.Sorted.{IsStrictlyIncreasing}
 use Rattle.if1_graph.specs.declared.graph.Graph.{Graph}

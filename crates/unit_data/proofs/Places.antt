@@ -1,5 +1,5 @@
 -- The graphs of a unit by their numbers, and numbers of none.
-use Rattle.std.proofs.Common.{◌≡◌, ◌==◌, ◌∙◌, ℕ, suc, ◌+◌, ◌<◌, ◌≤◌, List, [], ◌∷◌, map, length, get_or, slice_get, option_map, Option, Some, None, Contains, Bor, refl, sym, ap, subst, arith}
+use Rattle.std.proofs.Common.{◌≡◌, ◌==◌, ◌∙◌, ℕ, suc, ◌<◌, ◌≤◌, List, [], map, length, get_or, slice_get, option_map, Option, Some, None, Contains, Bor, refl, sym, ap, subst, arith}
 use Rattle.std.proofs.lemmas.List.{get_or-map, length-map}
 use Rattle.std.proofs.lemmas.Option.{get_or_from_slice_get, slice_get-get_or, slice_get-map, slice_get_within}
 use Rattle.if1_graph.specs.declared.graph.Graph.{Graph}
@@ -22,7 +22,6 @@ use Rattle.graph_inputs.specs.Inputs.{inputs_of}
 use Rattle.unit_plan.specs.Shares.{shares_of}
 use Rattle.run_store.specs.Ports.{modes_of}
 use Rattle.plan_data.specs.declared.plan.PlanData.{PlanData}
-use Rattle.plan_data.specs.declared.plan.PlanGraph.{PlanGraph}
 use Rattle.plan_data.specs.Stands.{AreFed}
 use Rattle.plan_nodes.specs.Made.{AreMade}
 use Rattle.unit_data.proofs.Walked.{nothing-made}

@@ -1,5 +1,5 @@
 -- The nodes of a graph in an order, one after another.
-use Rattle.std.proofs.Common.{◌≡◌, ◌∙◌, ℕ, suc, ◌+◌, ◌<◌, ◌≤◌, List, [], ◌∷◌, ◌++◌, length, take, get_or, slice_get, Option, Some, None, Contains, refl, sym, ap, subst, arith}
+use Rattle.std.proofs.Common.{◌≡◌, ◌∙◌, ℕ, ◌+◌, ◌<◌, ◌≤◌, List, [], ◌∷◌, ◌++◌, length, take, get_or, slice_get, Option, Some, None, Contains, refl, sym, ap, arith}
 use Rattle.std.proofs.lemmas.List.{take_more, take_all}
 use Rattle.if1_graph.specs.declared.graph.Graph.{Graph}
 use Rattle.if1_graph.specs.declared.graph.Graph.TheViews.{out-Graph}

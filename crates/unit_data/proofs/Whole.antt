@@ -1,13 +1,13 @@
 -- Graphs with right tables are the data of a unit.
-use Rattle.std.proofs.Common.{◌≡◌, ◌∙◌, ◌⊎◌, inl, inr, ℕ, zero, suc, ◌+◌, ◌<◌, ◌≤◌, Bool, false, List, [], ◌∷◌, map, length, get_or, slice_get, Option, Some, None, Contains, All, refl, sym, ap, subst, arith}
+use Rattle.std.proofs.Common.{◌≡◌, ◌∙◌, ◌⊎◌, inl, inr, ℕ, zero, suc, ◌<◌, ◌≤◌, Bool, false, List, [], ◌∷◌, map, length, get_or, slice_get, Some, None, Contains, All, refl, sym, ap, subst, arith}
 use Rattle.std.proofs.lemmas.List.{get_or-map, get_or_past, length-map}
-use Rattle.std.proofs.lemmas.Option.{slice_get-get_or, slice_get_cases, slice_get_within}
+use Rattle.std.proofs.lemmas.Option.{slice_get_cases}
 use Rattle.if1_graph.specs.declared.graph.Graph.{Graph}
 use Rattle.if1_graph.specs.declared.graph.Graph.TheViews.{out-Graph}
 use Rattle.if1_graph.specs.declared.graph.Unit1.{Unit1}
 use Rattle.if1_graph.specs.Normal.{IsNormal}
 use Rattle.if1_graph.specs.Ready.{IsReady}
-use Rattle.if1_graph.specs.Units.{Function, Place, number_of, places}
+use Rattle.if1_graph.specs.Units.{Function, Place, places}
 use Rattle.if1_marks.proofs.Taken.{sound-in-order}
 use Rattle.if1_marks.specs.Orders.{AreOrdersRight}
 use Rattle.if1_marks.specs.Sound.{IsSound}
@@ -20,13 +20,13 @@ use Rattle.run_cells.specs.declared.cell.Cell.{Cell}
 use Rattle.run_code.specs.Made.{Plan}
 use Rattle.made_store.specs.Settings.{Shares}
 use Rattle.step_code.specs.declared.step.Collect.{Collect}
-use Rattle.step_code.specs.Laid.{collect_in, puts_of}
+use Rattle.step_code.specs.Laid.{puts_of}
 use Rattle.firing_order.specs.Orders.{order_by}
 use Rattle.unit_laws.proofs.TypedPlans.{function-place}
 use Rattle.unit_orders.proofs.Numbered.{number-at}
 use Rattle.unit_plan.proofs.Found.{place-found}
 use Rattle.unit_plan.proofs.Weights.{plans-unpicked}
-use Rattle.unit_plan.specs.Plans.{AreTables, Tables, functions_of, inputs_in, place_of, plan_of}
+use Rattle.unit_plan.specs.Plans.{Tables, functions_of, inputs_in, place_of, plan_of}
 use Rattle.unit_plan.specs.Shares.{shares_of}
 use Rattle.plan_data.specs.declared.plan.Feed.{Feed}
 use Rattle.plan_data.specs.declared.plan.Feed.TheVariants as feed
@@ -35,7 +35,7 @@ use Rattle.plan_data.specs.declared.plan.PlanData.{PlanData}
 use Rattle.plan_data.specs.declared.plan.PlanGraph.{PlanGraph}
 use Rattle.plan_data.specs.declared.plan.PlanNode.{PlanNode}
 use Rattle.plan_data.specs.Parts.{AreBelow, AreNodesBelow, IsBelow, IsFormed, extent_in, graph_collects, graph_nodes, graph_results, literal_in, table_of}
-use Rattle.plan_data.specs.Stands.{AreFed, AreNodes, Stands}
+use Rattle.plan_data.specs.Stands.{AreNodes, Stands}
 use Rattle.plan_tables.proofs.Cells.{sized-by-tables}
 use Rattle.plan_tables.proofs.Plans.{tables-are}
 use Rattle.plan_tables.specs.Above.{ArePartsAbove}

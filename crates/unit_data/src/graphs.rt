@@ -66,9 +66,7 @@ fn graph_of(
 {
     let _whole = unit.unit();
     let known = graph_facts(alloc, unit, facts, graph, order)?;
-    let made = nodes_of(
-        alloc, unit, facts, graph, &known, plain, literals, marks,
-    )?;
+    let made = nodes_of(alloc, unit, facts, graph, &known, plain, literals, marks)?;
     let ports = ports_of(
         alloc,
         unit,
@@ -134,9 +132,7 @@ fn graph_at(
     }
     let graph = graphs[number - 1];
     let plain = plain_at(facts.inputs.as_slice(), number - 1);
-    let made = graph_of(
-        alloc, unit, facts, graph, order, plain, literals, marks,
-    )?;
+    let made = graph_of(alloc, unit, facts, graph, order, plain, literals, marks)?;
     Ok(made)
 }
 

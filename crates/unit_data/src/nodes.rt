@@ -149,9 +149,7 @@ pub fn nodes_of(
         collects: Seq::new(alloc),
     };
     for place in known.outlets.order.as_slice() {
-        let parts = parts_of(
-            alloc, unit, facts, graph, known, *place, literals, marks,
-        )?;
+        let parts = parts_of(alloc, unit, facts, graph, known, *place, literals, marks)?;
         add_node(alloc, plain, parts, &mut made.nodes, &mut made.collects)?;
     }
     Ok(made)

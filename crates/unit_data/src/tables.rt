@@ -97,12 +97,7 @@ pub fn data_with(
 {
     let sizes = sizes_of(alloc, made.graphs.as_slice())?;
     let extents = extents_of(alloc, made.graphs.as_slice())?;
-    let entries = entries_of(
-        alloc,
-        made.graphs.as_slice(),
-        sizes.as_slice(),
-        functions,
-    )?;
+    let entries = entries_of(alloc, made.graphs.as_slice(), sizes.as_slice(), functions)?;
     let steps = arms_total(made.graphs.as_slice(), sizes.as_slice(), functions)?;
     is_counted(steps);
     count_rooms(params.as_slice(), extents.as_slice())?;

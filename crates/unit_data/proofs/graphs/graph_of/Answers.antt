@@ -1,4 +1,4 @@
-use Rattle.std.proofs.Common.{◌≡◌, ◌∙◌, ◌&&◌, ℕ, Bool, List, Some, map, sym, ap, subst}
+use Rattle.std.proofs.Common.{◌≡◌, ◌∙◌, ◌&&◌, Bool, List, Some, map, sym, ap, subst}
 use Rattle.if1_graph.specs.declared.graph.Graph.TheViews.{out-Graph}
 use Rattle.if1_graph.specs.Units.{number_of}
 use Rattle.graph_meaning.specs.StorageUnits.{storage_of}

@@ -1,4 +1,4 @@
-use Rattle.std.proofs.Common.{◌≡◌, ◌∙◌, ap, subst}
+use Rattle.std.proofs.Common.{◌∙◌, ap, subst}
 use Rattle.if1_graph.specs.declared.graph.Unit1.{Unit1}
 use Rattle.node_ops.specs.Operands.{shape_of}
 use Rattle.node_works.specs.Tasks.{task_kind}

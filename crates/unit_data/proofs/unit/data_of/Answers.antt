@@ -1,11 +1,8 @@
-use Rattle.std.proofs.Common.{◌≡◌, ◌∙◌, ℕ, suc, ◌∷◌, [], ◌<◌, List, length, map, slice_index_or, refl, sym, ap, subst}
+use Rattle.std.proofs.Common.{◌∙◌, ◌∷◌, [], ◌<◌, List, length, map, slice_index_or, sym, ap, subst}
 use Rattle.if1_graph.specs.declared.graph.Graph.{Graph}
 use Rattle.if1_graph.specs.declared.graph.Graph.TheViews.{out-Graph}
-use Rattle.if1_graph.specs.Units.{places}
 use Rattle.graph_meaning.specs.Entered.{IsIn}
-use Rattle.unit_plan.specs.Plans.{functions_of}
 use Rattle.graph_inputs.specs.declared.inputs.Inputs.{Inputs}
-use Rattle.graph_inputs.specs.Inputs.{inputs_of}
 use Rattle.mark_check.specs.Graphs.{lent, unit_graphs}
 use Rattle.unit_data.proofs.Whole.{functions-inside, params-long, parts-of-unit, unit-data}
 use Rattle.unit_data.proofs.unit.data_of.Goals as goal
