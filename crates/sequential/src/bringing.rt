@@ -9,7 +9,7 @@ ghost use Rattle.step_code.specs.Reading.{operand_in, mode_in};
 ghost use Rattle.sequential.specs.Inside.{IsInside};
 ghost use Rattle.sequential.specs.Bringing.{IsBrought};
 
-use crate::sights::sight;
+use crate::sights::{direct, sight};
 use flow_value::NoMemory;
 use run_cells::{Cell, Seen, copied, leaves_seen};
 use std::alloc::Global;
@@ -37,9 +37,27 @@ pub fn brought(
         Operand::Takes(cell) => Ok(mem::replace(&mut cells[base + cell as usize], Cell::Empty)),
         Operand::Copies(_) => counted(alloc, sight(code, cells.as_slice(), base, from), copies),
         Operand::CopiesOf(_) => counted(alloc, sight(code, cells.as_slice(), base, from), copies),
-        Operand::Literal(_) => copied(alloc, sight(code, cells.as_slice(), base, from)),
-        Operand::Looks(_) => copied(alloc, sight(code, cells.as_slice(), base, from)),
+        Operand::Literal(_) => looked(alloc, code, cells.as_slice(), base, from),
+        Operand::Looks(_) => looked(alloc, code, cells.as_slice(), base, from),
         Operand::LooksAt(_) => copied(alloc, sight(code, cells.as_slice(), base, from)),
+    }
+}
+
+/// A copy of what an operand is.
+fn looked(
+    alloc: Global,
+    code: &Code,
+    cells: &[Cell],
+    base: usize,
+    from: Operand,
+) -> Result<Cell, NoMemory>
+    requires { IsInside code.now (length cells.now - base) from }
+    ensures { IfOk result (λ c. held c ≡ stored.Owns (stored.seen (heap_of cells.now) base (mode_in code.now from) (operand_in code.now from))) }
+{
+    match direct(code, cells, base, from) {
+        Some(Cell::Int(n)) => Ok(Cell::Int(*n)),
+        Some(Cell::Bool(b)) => Ok(Cell::Bool(*b)),
+        _ => copied(alloc, sight(code, cells, base, from)),
     }
 }
 
