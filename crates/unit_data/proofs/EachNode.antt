@@ -16,9 +16,10 @@ use Rattle.unit_plan.specs.Plans.{Tables, plain_of}
 use Rattle.plan_data.specs.declared.plan.PlanData.{PlanData}
 use Rattle.plan_data.specs.declared.plan.PlanNode.{PlanNode}
 use Rattle.plan_data.specs.Parts.{IsBelow}
+use Rattle.plan_nodes.proofs.Made.{nothing-is}
 use Rattle.plan_nodes.specs.declared.parts.NodeParts.{NodeParts}
 use Rattle.plan_nodes.specs.Made.{AreMade, IsMadeOf, IsOfNode}
-use Rattle.unit_data.proofs.Walked.{all-vertices, below-more, nothing-made, vertices-more}
+use Rattle.unit_data.proofs.Walked.{all-vertices, below-more, vertices-more}
 use Rattle.unit_data.specs.Graphs.{AreAllBelow, GoesOn, IsBegun}
 
 -- the nodes at the first so many places of the order are made
@@ -34,7 +35,7 @@ none-done u g order plain cells literals marks i ns cs zero none empty =
       kept = λ D h. h;
       made = λ D os t p h begun place same is ordered.
           subst (λ j. AreMade D u (order_by u os) t (number_of p) (vertices_at u p.graph (take j order)) ns cs) (sym zero)
-          (subst (λ ns. AreMade D u (order_by u os) t (number_of p) [] ns cs) (sym none) (subst (λ cs. AreMade D u (order_by u os) t (number_of p) [] [] cs) (sym empty) (nothing-made D u (order_by u os) t (number_of p))));
+          (subst (λ ns. AreMade D u (order_by u os) t (number_of p) [] ns cs) (sym none) (subst (λ cs. AreMade D u (order_by u os) t (number_of p) [] [] cs) (sym empty) (nothing-is D u (order_by u os) t (number_of p))));
       below = subst (AreAllBelow cells) (sym none) tt;
     }
 

@@ -1,7 +1,7 @@
 -- What is known of a node, by what was found for it.
 use Rattle.std.proofs.Common.{◌≡◌, ◌∙◌, ℕ, zero, suc, ◌<◌, ◌++◌, Bool, List, [], ◌∷◌, map, length, get_or, slice_get, slice_index, Some, None, Contains, refl, sym, ap, subst, arith, append_assoc}
 use Rattle.std.proofs.lemmas.List.{get_or_default, length-map}
-use Rattle.std.proofs.lemmas.Option.{slice_get-get_or, slice_get_within}
+use Rattle.std.proofs.lemmas.Option.{get_or_from_slice_get, slice_get_within}
 use Rattle.if1_graph.specs.declared.graph.Graph.{Graph}
 use Rattle.if1_graph.specs.declared.graph.Graph.TheViews.{out-Graph}
 use Rattle.if1_graph.specs.declared.graph.Node.{Node}
@@ -99,10 +99,8 @@ mapped-at f [] k a e = absurd (let x : None ≡ Some a = e in cc)
 mapped-at f (x ∷ xs) zero a e = ap f (some-same x a e)
 mapped-at f (x ∷ xs) (suc k) a e = mapped-at f xs k a e
 
-pub got-in : {A : Type 0} (xs : List A) (k : ℕ) (a : A) → slice_get xs k ≡ Some a → Contains xs a
-got-in xs k a e =
-    let lt = slice_get_within xs k a e in
-    (k, lt, some-same (get_or xs k a) a (sym (slice_get-get_or xs k a lt) ∙ e))
+got-in : {A : Type 0} (xs : List A) (k : ℕ) (a : A) → slice_get xs k ≡ Some a → Contains xs a
+got-in xs k a e = (k, slice_get_within xs k a e, get_or_from_slice_get xs k a a e)
 
 -- what was found for the node at a place of this graph
 pub record IsFound (D : PlanData) (u : Unit1) (g : Graph) (K : GraphFacts) (cells : List Cell) (k l : ℕ) (x : NodeParts) : Type 0 where

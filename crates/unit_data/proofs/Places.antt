@@ -1,7 +1,7 @@
 -- The graphs of a unit by their numbers, and numbers of none.
 use Rattle.std.proofs.Common.{◌≡◌, ◌==◌, ◌∙◌, ℕ, suc, ◌<◌, ◌≤◌, List, [], map, length, get_or, slice_get, option_map, Option, Some, None, Contains, Bor, refl, sym, ap, subst, arith}
 use Rattle.std.proofs.lemmas.List.{get_or-map, length-map}
-use Rattle.std.proofs.lemmas.Option.{get_or_from_slice_get, slice_get-get_or, slice_get-map, slice_get_within}
+use Rattle.std.proofs.lemmas.Option.{get_or_from_slice_get, slice_get-map}
 use Rattle.if1_graph.specs.declared.graph.Graph.{Graph}
 use Rattle.if1_graph.specs.declared.graph.Unit1.{Unit1}
 use Rattle.if1_graph.specs.Normal.{IsNormal}
@@ -23,8 +23,8 @@ use Rattle.unit_plan.specs.Shares.{shares_of}
 use Rattle.run_store.specs.Ports.{modes_of}
 use Rattle.plan_data.specs.declared.plan.PlanData.{PlanData}
 use Rattle.plan_data.specs.Stands.{AreFed}
+use Rattle.plan_nodes.proofs.Made.{nothing-is}
 use Rattle.plan_nodes.specs.Made.{AreMade}
-use Rattle.unit_data.proofs.Walked.{nothing-made}
 use Rattle.unit_data.specs.Facts.{plain_found}
 use Rattle.unit_data.specs.Graphs.{IsGraphAt}
 
@@ -55,24 +55,15 @@ module _ (u : Unit1) (ready : IsReady u) where
 
 -- ---- the graph of a number
 
-some-same : {A : Type 0} (a b : A) → Some a ≡ Some b → a ≡ b
-some-same a b e = cc
-
-got-in : {A : Type 0} (xs : List A) (k : ℕ) (a : A) → slice_get xs k ≡ Some a → Contains xs a
-got-in xs k a e =
-    let lt = slice_get_within xs k a e in
-    (k, lt, some-same (get_or xs k a) a (sym (slice_get-get_or xs k a lt) ∙ e))
-
 module _ (u : Unit1) (ready : IsReady u) (normal : IsNormal u) where
   -- one of those that are lent in the order of the places
   pub graph-there-at : (gs : List (Bor Graph)) → lent gs ≡ unit_graphs u → (i : ℕ) (r : Bor Graph) → i < length gs → r ≡ get_or gs i r
       → (p : Place) × (slice_get (places u) i ≡ Some p) × Contains (places u) p × (p.graph ≡ r.now) × (number_of p ≡ suc i)
-  unfolding got-in
   graph-there-at gs are i r lt is =
       let long = sym (length-map gs (λ (g : Bor Graph). g.now)) ∙ (ap length are ∙ length-map (places u) (λ (p : Place). p.graph)) in
       let low : i < length (places u) = omega (arith, lt, long) in
       let x = got-below (places u) i low in
-      let place = got-in (places u) i x.0 x.1 in
+      let place : Contains (places u) x.0 = (i, low, get_or_from_slice_get (places u) i x.0 x.0 x.1) in
       let here : get_or (lent gs) i r.now ≡ r.now = get_or-map (λ (g : Bor Graph). g.now) gs i r r.now lt ∙ ap (λ (g : Bor Graph). g.now) (sym is) in
       let there : get_or (unit_graphs u) i r.now ≡ x.0.graph = get_or-map (λ (p : Place). p.graph) (places u) i x.0 r.now low ∙ ap (λ (p : Place). p.graph) (get_or_from_slice_get (places u) i x.0 x.0 x.1) in
       (x.0, x.1, place, sym there ∙ (ap (λ (hs : List Graph). get_or hs i r.now) (sym are) ∙ here), number-at u ready.formed normal x.0 place)
@@ -93,7 +84,7 @@ module _ (D : PlanData) (u : Unit1) (os : ℕ → List ℕ) (t : Tables) (g : �
   no-results = ap (λ o. (net_at u o).results) none
 
   made : AreMade D u (order_by u os) t g (order_by u os g) [] []
-  made = subst (λ vs. AreMade D u (order_by u os) t g vs [] []) (sym no-order) (nothing-made D u (order_by u os) t g)
+  made = subst (λ vs. AreMade D u (order_by u os) t g vs [] []) (sym no-order) (nothing-is D u (order_by u os) t g)
 
   fed : AreFed D (plan_of u (order_by u os) t) (shares_of u (order_by u os)) g [] ((plan_of u (order_by u os) t).results g)
   fed = subst (AreFed D (plan_of u (order_by u os) t) (shares_of u (order_by u os)) g []) (sym no-results) tt

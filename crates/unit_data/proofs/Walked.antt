@@ -1,5 +1,5 @@
 -- The nodes of a graph in an order, one after another.
-use Rattle.std.proofs.Common.{◌≡◌, ◌∙◌, ℕ, ◌+◌, ◌<◌, ◌≤◌, List, [], ◌∷◌, ◌++◌, length, take, get_or, slice_get, Option, Some, None, Contains, refl, sym, ap, arith}
+use Rattle.std.proofs.Common.{◌≡◌, ◌∙◌, ℕ, ◌+◌, ◌<◌, ◌≤◌, List, [], ◌∷◌, ◌++◌, length, take, get_or, slice_get, Option, Some, None, Contains, refl, sym, ap}
 use Rattle.std.proofs.lemmas.List.{take_more, take_all}
 use Rattle.if1_graph.specs.declared.graph.Graph.{Graph}
 use Rattle.if1_graph.specs.declared.graph.Graph.TheViews.{out-Graph}
@@ -11,13 +11,8 @@ use Rattle.graph_meaning.specs.Demand.{Vertex}
 use Rattle.graph_meaning.specs.Networks.{vertex_of}
 use Rattle.firing_order.specs.Orders.{order_by, vertex_before, vertices_at, vertices_in}
 use Rattle.unit_plan.proofs.Found.{place-found}
-use Rattle.unit_plan.specs.Plans.{Tables, collects_in, nodes_by, plain_of, plan_of}
-use Rattle.unit_plan.specs.Shares.{shares_of}
-use Rattle.plan_data.specs.declared.plan.PlanData.{PlanData}
 use Rattle.plan_data.specs.declared.plan.PlanNode.{PlanNode}
 use Rattle.plan_data.specs.Parts.{AreBelow}
-use Rattle.plan_data.specs.Stands.{AreNodes}
-use Rattle.plan_nodes.specs.Made.{AreMade}
 use Rattle.unit_data.specs.Graphs.{AreAllBelow}
 
 behind : (u : Unit1) (g : Graph) (o : Option Node) (vs ws : List Vertex) → vertex_before u g o (vs ++ ws) ≡ vertex_before u g o vs ++ ws
@@ -45,14 +40,3 @@ all-vertices u ready os p place ks i e past =
 pub below-more : (cells : ℕ) (ns : List PlanNode) (n : PlanNode) → AreAllBelow cells ns → AreBelow cells n.ins → AreAllBelow cells (ns ++ n ∷ [])
 below-more cells [] n h below = (below, tt)
 below-more cells (m ∷ ns) n h below = (h.0, below-more cells ns n h.1 below)
-
--- ---- no nodes
-
-nothing-by : (D : PlanData) (u : Unit1) (order : ℕ → List Vertex) (t : Tables) (g : ℕ) (o : Option ℕ) → AreNodes D (plan_of u order t) (shares_of u order) g [] (nodes_by u g o []) × ([] ≡ collects_in u g o []) × (nodes_by u g o [] ≡ [])
-nothing-by D u order t g None = (tt, refl, refl)
-nothing-by D u order t g (Some plain) = (tt, refl, refl)
-
-pub nothing-made : (D : PlanData) (u : Unit1) (order : ℕ → List Vertex) (t : Tables) (g : ℕ) → AreMade D u order t g [] [] []
-nothing-made D u order t g =
-    let x = nothing-by D u order t g (plain_of u g) in
-    record { nodes = x.0; collects = x.1; puts = λ k d h. absurd (omega (arith, h)); written = λ n v h. absurd h; counted = λ n v h. absurd h }
