@@ -12,9 +12,8 @@ use Rattle.unit_runs.specs.Runs.{CountsCopies, IsUnitCode}
 use Rattle.unit_code.specs.declared.code.UnitCode.{UnitCode}
 
 -- For an order of the nodes of each graph along its edges and ordering lists, and for right tables, the code is made of the unit's plan,
--- and the steps of simple nodes count the copies that the plan counts. Each function begins where its table says, and can be entered in
--- a block with as many cells as the other one says.
-pub record IsCodeOfUnit (u : Unit1) (c : UnitCode) : Type 0 where
+-- and the steps of simple nodes count the copies that the plan counts. Each function begins where its table says.
+pub record IsMadeOf (u : Unit1) (c : UnitCode) : Type 0 where
   pub order : (graph : ℕ) → List Vertex
   pub tables : Tables
   pub in_order : AreInOrder (network u) order
@@ -22,4 +21,8 @@ pub record IsCodeOfUnit (u : Unit1) (c : UnitCode) : Type 0 where
   pub made : IsUnitCode u order tables c.code
   pub counts : CountsCopies u order tables c.code
   pub entries : (f : ℕ) → tables.entry f ≡ table_of c.entries f
+
+-- and each function can be entered in a block with as many cells as the other table says
+pub record IsCodeOfUnit (u : Unit1) (c : UnitCode) : Type 0 where
+  pub code : IsMadeOf u c
   pub enters : (f : ℕ) → IsIn f (functions_of u) → CanEnter c.code (table_of c.entries f) (table_of c.rooms f)

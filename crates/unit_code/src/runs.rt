@@ -1,13 +1,18 @@
 //! Runs of the functions of a unit.
-ghost use Rattle.std.specs.Prelude.{map, MatchResult};
+ghost use Rattle.std.specs.Prelude.{◌≡◌, map, MatchResult, IfOk, IfErr};
 ghost use Rattle.graph_meaning.specs.Carried.{Value};
+ghost use Rattle.run_store.specs.Stored as stored;
+ghost use Rattle.run_cells.specs.Held.{held};
 ghost use Rattle.unit_code.specs.Codes.{IsCodeOfUnit};
-ghost use Rattle.unit_code.specs.Runs.{AreArguments, AreTotalsOf, IsFaultOf};
+ghost use Rattle.unit_code.specs.Runs.{AreArguments, AreLeft, AreTotalsOf, IsFaultOf};
 
 use crate::code::UnitCode;
+use crate::values::{cells_of, values_of};
 use flow_value::Items;
 use if1_sound::Sound;
-use sequential_run::RunFault;
+use plan_data::number_at;
+use run_cells::Cell;
+use sequential_run::{RunFault, Totalled, run_function};
 use std::alloc::Global;
 
 /// What a run of a function gives.
@@ -35,11 +40,38 @@ pub fn run_unit(
     requires count { AreArguments unit.now function args }
     ensures { MatchResult result (λ t. AreTotalsOf unit.now function limit (map Value args) t) (λ e. IsFaultOf unit.now function limit (map Value args) e) }
 {
-    let _ = alloc;
-    let _ = unit;
-    let _ = code;
-    let _ = function;
-    let _ = args;
-    let _ = limit;
-    Err(RunFault::NoMemory)
+    let _whole = unit.unit();
+    let cells = entered(alloc, args)?;
+    let entry = number_at(code.entries.as_slice(), function);
+    let room = number_at(code.rooms.as_slice(), function);
+    let ended = run_function(alloc, &code.code, entry, room, cells, limit)?;
+    left(alloc, ended)
+}
+
+fn entered(alloc: Global, args: Items) -> Result<Vec<Cell>, RunFault>
+    ensures cells { IfOk result (λ cs. map held cs.items ≡ map stored.Owns (map Value args)) }
+    ensures refused { IfErr result (λ e. e ≡ RunFault.NoMemory) }
+{
+    match cells_of(alloc, args) {
+        Ok(cells) => Ok(cells),
+        Err(_) => Err(RunFault::NoMemory),
+    }
+}
+
+fn left(alloc: Global, run: Totalled) -> Result<Totals, RunFault>
+    ensures { MatchResult result (λ t. AreLeft run t) (λ e. e ≡ RunFault.NoMemory) }
+{
+    let Totalled {
+        results,
+        fires,
+        copies,
+    } = run;
+    match values_of(alloc, results) {
+        Ok(results) => Ok(Totals {
+            results,
+            fires,
+            copies,
+        }),
+        Err(_) => Err(RunFault::NoMemory),
+    }
 }

@@ -1,6 +1,6 @@
 -- What is known of a node, by what was found for it.
 use Rattle.std.proofs.Common.{◌≡◌, ◌∙◌, ℕ, zero, suc, ◌<◌, ◌++◌, Bool, List, [], ◌∷◌, map, length, get_or, slice_get, slice_index, Option, Some, None, Contains, refl, sym, ap, subst, arith, append_assoc}
-use Rattle.std.proofs.lemmas.List.{length-map}
+use Rattle.std.proofs.lemmas.List.{get_or_default, length-map}
 use Rattle.std.proofs.lemmas.Option.{slice_get-get_or, slice_get_within}
 use Rattle.if1_graph.specs.declared.graph.Graph.{Graph}
 use Rattle.if1_graph.specs.declared.graph.Graph.TheViews.{out-Graph}
@@ -62,6 +62,11 @@ place-inside u g K here known k c =
     let same : length (out-Graph here.0.graph).nodes ≡ length (out-Graph g).nodes = ap (λ (h : Graph). length (out-Graph h).nodes) here.2 in
     omega (arith, lt, long, same)
 
+pub item-inside : (u : Unit1) (g : Graph) (K : GraphFacts) → works.IsGraphOf u g → AreFactsAt u g K → (items : List ℕ) (i : ℕ) → items ≡ K.outlets.order → i < length items → get_or items i 0 < length (out-Graph g).nodes
+item-inside u g K here known items i e lt =
+    let k = get_or items i 0 in
+    place-inside u g K here known k (subst (λ xs. Contains xs k) e (i, lt, get_or_default items i k 0 lt))
+
 -- ---- marks
 
 pub marks-behind : (D : PlanData) (old new more : List Bool) → new ≡ old ++ more → HasMarks new D → HasMarks old D
@@ -101,16 +106,16 @@ got-in xs k a e =
     (k, lt, some-same (get_or xs k a) a (sym (slice_get-get_or xs k a lt) ∙ e))
 
 -- what was found for the node at a place of this graph
-pub record IsFound (D : PlanData) (u : Unit1) (g : Graph) (K : GraphFacts) (cells : List Cell) (k label : ℕ) (x : NodeParts) : Type 0 where
-  pub label : (n : Node) → slice_get (out-Graph g).nodes k ≡ Some n → label ≡ label_of n
+pub record IsFound (D : PlanData) (u : Unit1) (g : Graph) (K : GraphFacts) (cells : List Cell) (k l : ℕ) (x : NodeParts) : Type 0 where
+  pub label : (n : Node) → slice_get (out-Graph g).nodes k ≡ Some n → l ≡ label_of n
   pub kind : (n : Node) → slice_get (out-Graph g).nodes k ≡ Some n → kind_of u g n ≡ task_kind x.task (outputs_in u (kind_of u g n))
   pub width : x.width ≡ slice_index K.outlets.widths k
   pub filled : (P : Plan) (S : Shares) → literal_in D 0 ≡ Unfilled → HasLiterals cells D → AreLaid P K.outlets (P.nodes (out-Graph g).number)
-      → AreFilled D P S (storage_of u) (out-Graph g).number label 1 x.ports (sources u g label 1 (units.width g label))
-  pub told : AreTold (storage_of u) (out-Graph g).number label 1 x.ports
-  pub joined : x.joined ≡ has K.joined label
-  pub marked : (p : Place) (n : Node) → Contains (places u) p → p.graph ≡ g → Contains (out-Graph g).nodes n → label_of n ≡ label → kind_of u g n ≡ task_kind x.task x.width
-      → AreOutputsMarked (storage_of u) (number_of p) label D.marks x.width x.marks (kind_of u g n)
+      → AreFilled D P S (storage_of u) (out-Graph g).number l 1 x.ports (sources u g l 1 (units.width g l))
+  pub told : AreTold (storage_of u) (out-Graph g).number l 1 x.ports
+  pub joined : x.joined ≡ has K.joined l
+  pub marked : (p : Place) (n : Node) → Contains (places u) p → p.graph ≡ g → Contains (out-Graph g).nodes n → label_of n ≡ l → kind_of u g n ≡ task_kind x.task x.width
+      → AreOutputsMarked (storage_of u) (number_of p) l D.marks x.width x.marks (kind_of u g n)
 
 module _ (D : PlanData) (u : Unit1) (ready : IsReady u) (os : ℕ → List ℕ) (t : Tables) (p : Place) (place : Contains (places u) p) (K : GraphFacts) (facts : AreGraphFacts u p K) (ordered : K.outlets.order ≡ os (number_of p))
     (cells : List Cell) (has_cells : HasLiterals cells D) (unfilled : literal_in D 0 ≡ Unfilled) (k label : ℕ) (x : NodeParts) (n : Node) (at : slice_get (out-Graph p.graph).nodes k ≡ Some n) where

@@ -1,8 +1,10 @@
+mod Normal
 mod Places
 mod Parts
 mod Results
 mod Walked
 mod Known
-mod Nodes
-mod Graphs
+mod EachNode
+mod EachGraph
+mod Tabled
 mod Whole

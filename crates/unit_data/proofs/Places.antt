@@ -1,5 +1,8 @@
 -- The graphs of a unit by their numbers, and numbers of none.
-use Rattle.std.proofs.Common.{◌≡◌, ◌==◌, ◌∙◌, ℕ, suc, ◌+◌, ◌<◌, ◌≤◌, List, [], ◌∷◌, map, length, get_or, Option, Some, None, Contains, refl, sym, ap, subst, arith}
+use Rattle.std.proofs.Common.{◌≡◌, ◌==◌, ◌∙◌, ℕ, suc, ◌+◌, ◌<◌, ◌≤◌, List, [], ◌∷◌, map, length, get_or, slice_get, option_map, Option, Some, None, Contains, Bor, refl, sym, ap, subst, arith}
+use Rattle.std.proofs.lemmas.List.{get_or-map, length-map}
+use Rattle.std.proofs.lemmas.Option.{get_or_from_slice_get, slice_get-get_or, slice_get-map, slice_get_within}
+use Rattle.if1_graph.specs.declared.graph.Graph.{Graph}
 use Rattle.if1_graph.specs.declared.graph.Unit1.{Unit1}
 use Rattle.if1_graph.specs.Normal.{IsNormal}
 use Rattle.if1_graph.specs.Ready.{IsReady}
@@ -10,8 +13,12 @@ use Rattle.graph_meaning.specs.Networks.{net_at}
 use Rattle.made_store.specs.Settings.{result_modes}
 use Rattle.firing_order.specs.Orders.{order_by, vertices_in}
 use Rattle.unit_orders.proofs.Numbered.{number-at}
-use Rattle.unit_plan.proofs.Found.{number-within}
-use Rattle.unit_plan.specs.Plans.{Tables, place_of, plan_of}
+use Rattle.unit_laws.proofs.TypedChoices.{got-below}
+use Rattle.unit_plan.proofs.Found.{number-within, place-found}
+use Rattle.unit_plan.specs.Plans.{Tables, place_of, plain_in, plain_of, plan_of}
+use Rattle.mark_check.specs.Graphs.{lent, unit_graphs}
+use Rattle.graph_inputs.specs.declared.inputs.Inputs.{Inputs}
+use Rattle.graph_inputs.specs.Inputs.{inputs_of}
 use Rattle.unit_plan.specs.Shares.{shares_of}
 use Rattle.run_store.specs.Ports.{modes_of}
 use Rattle.plan_data.specs.declared.plan.PlanData.{PlanData}
@@ -19,6 +26,7 @@ use Rattle.plan_data.specs.declared.plan.PlanGraph.{PlanGraph}
 use Rattle.plan_data.specs.Stands.{AreFed}
 use Rattle.plan_nodes.specs.Made.{AreMade}
 use Rattle.unit_data.proofs.Walked.{nothing-made}
+use Rattle.unit_data.specs.Facts.{plain_found}
 use Rattle.unit_data.specs.Graphs.{IsGraphAt}
 
 module _ (u : Unit1) (ready : IsReady u) where
@@ -45,6 +53,35 @@ module _ (u : Unit1) (ready : IsReady u) where
             let at = number-at u ready.formed normal p x.0 in
             let low = x.0.1 in
             absurd (omega (arith, same, at, low, le))
+
+-- ---- the graph of a number
+
+some-same : {A : Type 0} (a b : A) → Some a ≡ Some b → a ≡ b
+some-same a b e = cc
+
+got-in : {A : Type 0} (xs : List A) (k : ℕ) (a : A) → slice_get xs k ≡ Some a → Contains xs a
+got-in xs k a e =
+    let lt = slice_get_within xs k a e in
+    (k, lt, some-same (get_or xs k a) a (sym (slice_get-get_or xs k a lt) ∙ e))
+
+module _ (u : Unit1) (ready : IsReady u) (normal : IsNormal u) where
+  -- one of those that are lent in the order of the places
+  pub graph-there-at : (gs : List (Bor Graph)) → lent gs ≡ unit_graphs u → (i : ℕ) (r : Bor Graph) → i < length gs → r ≡ get_or gs i r
+      → (p : Place) × (slice_get (places u) i ≡ Some p) × Contains (places u) p × (p.graph ≡ r.now) × (number_of p ≡ suc i)
+  graph-there-at gs are i r lt is =
+      let long = sym (length-map gs (λ (g : Bor Graph). g.now)) ∙ (ap length are ∙ length-map (places u) (λ (p : Place). p.graph)) in
+      let low : i < length (places u) = omega (arith, lt, long) in
+      let x = got-below (places u) i low in
+      let place = got-in (places u) i x.0 x.1 in
+      let here : get_or (lent gs) i r.now ≡ r.now = get_or-map (λ (g : Bor Graph). g.now) gs i r r.now lt ∙ ap (λ (g : Bor Graph). g.now) (sym is) in
+      let there : get_or (unit_graphs u) i r.now ≡ x.0.graph = get_or-map (λ (p : Place). p.graph) (places u) i x.0 r.now low ∙ ap (λ (p : Place). p.graph) (get_or_from_slice_get (places u) i x.0 x.0 x.1) in
+      (x.0, x.1, place, sym there ∙ (ap (λ (hs : List Graph). get_or hs i r.now) (sym are) ∙ here), number-at u ready.formed normal x.0 place)
+
+  -- as many of its inputs as are found are no multiples
+  pub plain-is : (xs : List Inputs) → xs ≡ map (inputs_of u) (places u) → (i : ℕ) (p : Place) → slice_get (places u) i ≡ Some p → Contains (places u) p → plain_of u (number_of p) ≡ plain_found (slice_get xs i)
+  plain-is xs are i p at place =
+      ap plain_in (place-found u ready.formed p place)
+      ∙ sym (ap plain_found (ap (λ ys. slice_get ys i) are ∙ (slice_get-map (inputs_of u) (places u) i ∙ ap (option_map (inputs_of u)) at)))
 
 -- ---- a number of no graph
 

@@ -1,5 +1,5 @@
 -- Graphs with right tables are the data of a unit.
-use Rattle.std.proofs.Common.{◌≡◌, ◌∙◌, ◌⊎◌, inl, inr, ℕ, zero, suc, ◌+◌, ◌<◌, ◌≤◌, false, List, [], ◌∷◌, map, length, get_or, slice_get, Option, Some, None, Contains, All, refl, sym, ap, subst, arith}
+use Rattle.std.proofs.Common.{◌≡◌, ◌∙◌, ◌⊎◌, inl, inr, ℕ, zero, suc, ◌+◌, ◌<◌, ◌≤◌, Bool, false, List, [], ◌∷◌, map, length, get_or, slice_get, Option, Some, None, Contains, All, refl, sym, ap, subst, arith}
 use Rattle.std.proofs.lemmas.List.{get_or-map, get_or_past, length-map}
 use Rattle.std.proofs.lemmas.Option.{slice_get-get_or, slice_get_cases, slice_get_within}
 use Rattle.if1_graph.specs.declared.graph.Graph.{Graph}
@@ -16,6 +16,7 @@ use Rattle.graph_meaning.specs.Demand.{EachNode, Vertex}
 use Rattle.graph_meaning.specs.Entered.{IsIn}
 use Rattle.graph_meaning.specs.Networks.{network}
 use Rattle.ordered_meaning.specs.Orders.{AreInOrder}
+use Rattle.run_cells.specs.declared.cell.Cell.{Cell}
 use Rattle.run_code.specs.Made.{Plan}
 use Rattle.made_store.specs.Settings.{Shares}
 use Rattle.step_code.specs.declared.step.Collect.{Collect}
@@ -31,6 +32,7 @@ use Rattle.plan_data.specs.declared.plan.Feed.{Feed}
 use Rattle.plan_data.specs.declared.plan.Feed.TheVariants as feed
 use Rattle.plan_data.specs.declared.plan.Port.{Port}
 use Rattle.plan_data.specs.declared.plan.PlanData.{PlanData}
+use Rattle.plan_data.specs.declared.plan.PlanGraph.{PlanGraph}
 use Rattle.plan_data.specs.declared.plan.PlanNode.{PlanNode}
 use Rattle.plan_data.specs.Parts.{AreBelow, AreNodesBelow, IsBelow, IsFormed, extent_in, graph_collects, graph_nodes, graph_results, literal_in, table_of}
 use Rattle.plan_data.specs.Stands.{AreFed, AreNodes, Stands}
@@ -182,3 +184,22 @@ module _ (u : Unit1) (ready : IsReady u) (normal : IsNormal u) (sound : IsSound 
           many = long;
           steps = tabled.steps;
         }
+
+-- ---- graphs that were made
+
+module _ (u : Unit1) (ready : IsReady u) (normal : IsNormal u) (sound : IsSound u) (os : ℕ → List ℕ) (along : AreInOrder (network u) (order_by u os)) (gs : List PlanGraph) (ls : List Cell) (ms : List Bool) (long : length gs ≡ suc (length (places u)))
+    (made : (D : PlanData) (t : Tables) → D.literals ≡ ls → D.marks ≡ ms → AreGraphsAt D u os t gs) where
+  abbrev bare : PlanData
+  bare = record { graphs = gs; sizes = []; extents = []; entries = []; params = []; literals = ls; marks = ms }
+
+  abbrev none : Tables
+  none = record { size = λ g. 0; extent = λ g. 0; entry = λ f. 0 }
+
+  pub parts-of-unit : ArePartsAbove gs
+  parts-of-unit = parts-above u ready normal sound os along bare long none (made bare none refl refl)
+
+  pub unit-data : ((D : PlanData) → D.literals ≡ ls → D.marks ≡ ms → literal_in D 0 ≡ Unfilled) → (D : PlanData) (fs ps : List ℕ) → D.graphs ≡ gs → D.literals ≡ ls → D.marks ≡ ms → D.params ≡ ps → fs ≡ functions_of u
+      → ps ≡ 0 ∷ map (λ x. x.all) (map (inputs_of u) (places u)) → AreTabled fs D → IsDataBy u os D
+  unit-data begun D fs ps graphs literals marks params functions inputs tabled =
+      data-by u ready normal sound os along D (ap length graphs ∙ long) (subst (AreGraphsAt D u os (tables_of D)) (sym graphs) (made D (tables_of D) literals marks)) (begun D literals marks)
+      (subst (λ fs. AreTabled fs D) functions tabled) (λ f. ap (λ ps. table_of ps f) (params ∙ inputs) ∙ params-are u ready normal f)

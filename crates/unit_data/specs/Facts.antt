@@ -1,5 +1,5 @@
 -- What is known of a unit and of each of its graphs, for the data of its nodes.
-use Rattle.std.specs.Prelude.{◌≡◌, ◌&&◌, ℕ, map, Contains}
+use Rattle.std.specs.Prelude.{◌≡◌, ◌&&◌, ℕ, map, Option, Some, None, Contains}
 use Rattle.if1_graph.specs.declared.graph.Graph.{Graph}
 use Rattle.if1_graph.specs.declared.graph.Graph.TheViews.{out-Graph}
 use Rattle.if1_graph.specs.declared.graph.Unit1.{Unit1}
@@ -7,6 +7,7 @@ use Rattle.if1_graph.specs.Units.{Place, places}
 use Rattle.graph_meaning.specs.StorageUnits.{is_taken_on, storage_of}
 use Rattle.may_take.specs.Ports.{has}
 use Rattle.storage_flags.specs.Flags.{AreFlags}
+use Rattle.graph_inputs.specs.declared.inputs.Inputs.{Inputs}
 use Rattle.graph_inputs.specs.Inputs.{inputs_of}
 use Rattle.plan_builder.specs.Laws.{AreOfGraph}
 use Rattle.plan_builder.specs.Outlets.{AreOutlets}
@@ -33,3 +34,8 @@ pub record AreGraphFacts (u : Unit1) (p : Place) (F : GraphFacts) : Type 0 where
 -- at each place of the unit where this graph stands
 abbrev pub AreFactsAt : Unit1 → Graph → GraphFacts → Type 0
 AreFactsAt u g F = (p : Place) → Contains (places u) p → p.graph ≡ g → AreGraphFacts u p F
+
+-- how many inputs of a returns are no multiples, where its inputs are found
+abbrev pub plain_found : Option Inputs → Option ℕ
+plain_found None = None
+plain_found (Some x) = x.plain

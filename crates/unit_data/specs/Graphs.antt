@@ -22,9 +22,9 @@ abbrev pub HasMarks : List Bool → PlanData → Type 0
 HasMarks ms D = (more : List Bool) × (D.marks ≡ ms ++ more)
 
 -- the data has these literals and marks, and more
-pub record GoesOn (cells : List Cell) (marks : List Bool) (D : PlanData) : Type 0 where
-  pub literals : HasLiterals cells D
-  pub marks : HasMarks marks D
+pub record GoesOn (cs : List Cell) (ms : List Bool) (D : PlanData) : Type 0 where
+  pub literals : HasLiterals cs D
+  pub marks : HasMarks ms D
 
 -- its first literal is what an unfilled port has
 abbrev pub IsBegun : PlanData → Type 0

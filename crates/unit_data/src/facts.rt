@@ -1,10 +1,11 @@
 //! What is known of a unit and of its graphs, for the data of its nodes.
-ghost use Rattle.std.specs.Prelude.{◌≡◌, Contains, IfOk};
+ghost use Rattle.std.specs.Prelude.{◌≡◌, map, Contains, IfOk};
 ghost use Rattle.if1_graph.specs.Units.{Place, places};
 ghost use Rattle.firing_order.specs.Orders.{IsFiringOrder};
 ghost use Rattle.plan_builder.specs.Laws.{AreOfGraph};
 ghost use Rattle.plan_builder.specs.Outlets.{AreOutlets};
-ghost use Rattle.node_works.specs.Tables.{IsGraphOf};
+ghost use Rattle.graph_inputs.specs.Inputs.{inputs_of};
+ghost use Rattle.node_works.specs.Tables.{AreTablesOf, IsGraphOf};
 ghost use Rattle.unit_data.specs.Facts.{AreFacts, AreFactsAt};
 
 use flow_value::{NoMemory, Seq};
@@ -46,6 +47,15 @@ pub struct GraphFacts {
     pub outputs: OutputSet,
 }
 
+/// The inputs of each graph of a unit, by what is known of its types.
+fn inputs_of(alloc: Global, unit: &Sound, tables: &UnitTables) -> Result<Seq<Inputs>, NoMemory>
+    requires { AreTablesOf unit.now tables.now }
+    ensures { IfOk result (λ xs. xs ≡ map (inputs_of unit.now) (places unit.now)) }
+{
+    let inputs = unit_inputs(alloc, unit, &tables.types)?;
+    Ok(inputs)
+}
+
 /// What is known of a unit. Near linear in the unit.
 pub fn facts_of(alloc: Global, unit: &Sound) -> Result<Facts, NoMemory>
     ensures { IfOk result (AreFacts unit.now) }
@@ -53,7 +63,7 @@ pub fn facts_of(alloc: Global, unit: &Sound) -> Result<Facts, NoMemory>
     let tables = tables_of(alloc, unit)?;
     let aggregates = aggregate_edges(alloc, unit)?;
     let consumed = consumed_edges(alloc, unit)?;
-    let inputs = unit_inputs(alloc, unit, &tables.types)?;
+    let inputs = inputs_of(alloc, unit, &tables)?;
     Ok(Facts {
         tables,
         aggregates,

@@ -1,5 +1,5 @@
 //! The graphs of the data of a unit.
-ghost use Rattle.std.specs.Prelude.{◌≡◌, ◌≤◌, ℕ, suc, [], List, Some, map, length, slice_index_or, Contains, IfOk, OnOk};
+ghost use Rattle.std.specs.Prelude.{◌≡◌, ◌≤◌, ℕ, suc, [], List, Some, map, length, slice_get, slice_index_or, Contains, IfOk, OnOk};
 ghost use Rattle.if1_graph.specs.Units.{Place, number_of, places};
 ghost use Rattle.firing_order.specs.Orders.{IsFiringOrder};
 ghost use Rattle.unit_plan.specs.Plans.{Tables, plain_of};
@@ -8,12 +8,13 @@ ghost use Rattle.mark_check.specs.Graphs.{lent, unit_graphs};
 ghost use Rattle.plan_data.specs.declared.plan.PlanData.{PlanData};
 ghost use Rattle.node_works.specs.Tables.{IsGraphOf};
 ghost use Rattle.plan_nodes.specs.Ports.{port_by};
-ghost use Rattle.unit_data.specs.Facts.{AreFacts};
+ghost use Rattle.unit_data.specs.Facts.{AreFacts, plain_found};
 ghost use Rattle.unit_data.specs.Graphs.{AreGraphsAt, GoesOn, IsBegun, IsGraphAt};
 
 use crate::facts::{Facts, graph_facts};
 use crate::nodes::nodes_of;
 use flow_value::{NoMemory, Seq};
+use graph_inputs::Inputs;
 use if1_graph::Graph;
 use if1_order::Places;
 use if1_sound::Sound;
@@ -99,6 +100,16 @@ fn no_graph(alloc: Global) -> PlanGraph
     }
 }
 
+/// How many inputs of the graph at a place are no multiples, if it is a returns.
+fn plain_at(inputs: &[Inputs], place: usize) -> Option<u32>
+    ensures { result ≡ plain_found (slice_get inputs.now place) }
+{
+    match inputs.get(place) {
+        Some(own) => own.plain,
+        None => None,
+    }
+}
+
 /// What stands at a number, by the graphs of the unit in order.
 fn graph_at(
     alloc: Global,
@@ -122,10 +133,11 @@ fn graph_at(
         return Ok(no_graph(alloc));
     }
     let graph = graphs[number - 1];
-    let plain = facts.inputs.as_slice()[number - 1].plain;
-    graph_of(
+    let plain = plain_at(facts.inputs.as_slice(), number - 1);
+    let made = graph_of(
         alloc, unit, facts, graph, order, plain, literals, marks,
-    )
+    )?;
+    Ok(made)
 }
 
 /// All graphs of a unit, by their numbers, whose nodes fire in these orders.
@@ -142,7 +154,7 @@ pub fn graphs_of(
     requires orders { AreFiringOrders unit.now orders.items }
     ensures long { IfOk result (λ x. length x.graphs ≡ suc (length (places unit.now))) }
     ensures made { IfOk result (λ x. (D : PlanData) (t : Tables) → D.literals ≡ x.literals → D.marks ≡ x.marks → AreGraphsAt D unit.now (λ g. slice_index_or orders.items g []) t x.graphs) }
-    ensures unfilled { IfOk result (λ x. (D : PlanData) → D.literals ≡ x.literals → IsBegun D) }
+    ensures begun { IfOk result (λ x. (D : PlanData) → D.literals ≡ x.literals → D.marks ≡ x.marks → IsBegun D) }
 {
     let mut made = MadeGraphs {
         graphs: Seq::with_room(alloc, orders.len())?,
@@ -150,6 +162,7 @@ pub fn graphs_of(
         marks: Seq::new(alloc),
     };
     made.literals.add(Cell::Unfilled)?;
+    let _whole = unit.unit();
     for order in orders {
         let number = made.graphs.len();
         let graph = graph_at(

@@ -56,17 +56,20 @@ fn marks_for(
 {
     let whole = unit.unit();
     match task {
-        Task::Plain(row, _) => add_marks(
-            whole,
-            graph,
-            &known.outputs,
-            label,
-            *row,
-            width,
-            marks,
-        ),
+        Task::Plain(row, _) => {
+            let first = add_marks(whole, graph, &known.outputs, label, *row, width, marks)?;
+            Ok(first)
+        }
         Task::Whole(_) => Ok(0),
     }
+}
+
+/// The label of the node at a place of a graph.
+fn label_at(graph: &Graph, place: usize) -> u32
+    requires { place < length (out-Graph graph.now).nodes }
+    ensures { (n : Node) → slice_get (out-Graph graph.now).nodes place ≡ Some n → result ≡ label_of n }
+{
+    graph.nodes.as_slice()[place].label
 }
 
 /// What is known of the node at a place of a graph; its literals and marks are put behind the others.
@@ -90,7 +93,7 @@ fn parts_of(
     ensures below { IfOk result (λ x. All (λ f. IsBelow (cells_of known.now.outlets.widths known.now.outlets.order) f.feed) x.ports) }
 {
     let _whole = unit.unit();
-    let label = graph.nodes.as_slice()[place].label;
+    let label = label_at(graph, place);
     let task = task_of(
         alloc,
         unit,

@@ -1,5 +1,5 @@
 //! The tables of the data of a unit.
-ghost use Rattle.std.specs.Prelude.{◌≡◌, ◌≤◌, ◌<◌, ◌+◌, ◌-◌, ◌^◌, ◌∷◌, ℕ, map, length, IfOk, OnOk};
+ghost use Rattle.std.specs.Prelude.{◌≡◌, ◌≤◌, ◌<◌, ◌+◌, ◌-◌, ◌^◌, ◌∷◌, ◌++◌, ℕ, map, length, IfOk, OnOk};
 ghost use Rattle.if1_graph.specs.declared.graph.Graph.TheViews.{out-Graph};
 ghost use Rattle.graph_meaning.specs.Entered.{IsIn};
 ghost use Rattle.plan_data.specs.Parts.{table_of};
@@ -72,6 +72,13 @@ fn count_marks(marks: &[bool]) -> Result<(), NoMemory>
     }
 }
 
+/// A number of 32 bits.
+fn is_counted(steps: u32)
+    ensures { steps ≤ 2 ^ 32 - 1 }
+{
+    let _steps = steps;
+}
+
 /// The data of these graphs, with as many inputs, in which these functions stand behind one another.
 pub fn data_with(
     alloc: Global,
@@ -96,7 +103,8 @@ pub fn data_with(
         sizes.as_slice(),
         functions,
     )?;
-    let _steps = arms_total(made.graphs.as_slice(), sizes.as_slice(), functions)?;
+    let steps = arms_total(made.graphs.as_slice(), sizes.as_slice(), functions)?;
+    is_counted(steps);
     count_rooms(params.as_slice(), extents.as_slice())?;
     count_marks(made.marks.as_slice())?;
     Ok(PlanData {

@@ -24,5 +24,6 @@ pub fn data_of(alloc: Global, unit: &Sound) -> Result<PlanData, NoMemory>
     let made = graphs_of(alloc, unit, &facts, graphs.as_slice(), orders)?;
     let functions = functions_of(alloc, whole.graphs.as_slice())?;
     let params = params_of(alloc, facts.inputs.as_slice())?;
-    data_with(alloc, made, functions.as_slice(), params)
+    let data = data_with(alloc, made, functions.as_slice(), params)?;
+    Ok(data)
 }

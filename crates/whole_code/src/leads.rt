@@ -5,7 +5,8 @@ ghost use Rattle.whole_code.specs.Tables.{blocks_of};
 
 use step_code::Code;
 
-fn number_at(numbers: &[u32], place: usize) -> u32
+/// The number at a place, 0 where there is none.
+pub fn number_at(numbers: &[u32], place: usize) -> u32
     ensures { result ≡ get_or numbers.now place 0 }
 {
     if place < numbers.len() {

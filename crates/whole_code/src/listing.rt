@@ -7,6 +7,7 @@ ghost use Rattle.step_code.specs.declared.code.Operand.TheVariants as operand;
 ghost use Rattle.sequential.specs.Loading.{IsNotIn, AllApart, AreApart};
 ghost use Rattle.sequential_run.specs.Ready.{AreListed};
 
+use crate::marking::{Board, are_seen_apart};
 use crate::operands::{are_inside, route_here};
 use sequential::operands_from;
 use step_code::{Code, Hop, Operand, Route};
@@ -82,6 +83,7 @@ fn is_apart_from(code: &Code, operand: Operand, others: &[Operand]) -> bool
     }
 }
 
+/// Whether none reads what an earlier one takes, two by two.
 fn are_apart(code: &Code, operands: &[Operand]) -> bool
     ensures { result ≡ true → AreApart code.now operands.now }
 {
@@ -93,15 +95,22 @@ fn are_apart(code: &Code, operands: &[Operand]) -> bool
     true
 }
 
+/// The same, by marks first.
+fn are_all_apart(code: &Code, board: &mut Board, operands: &[Operand]) -> bool
+    ensures { result ≡ true → AreApart code.now operands.now }
+{
+    are_seen_apart(board, operands) || are_apart(code, operands)
+}
+
 /// Whether so many operands from one on are there, each inside a block with so many cells, and
-/// none reads what an earlier one takes. It takes time in proportion to how many there are, times
-/// how many of them take.
-pub fn are_listed(code: &Code, room: u32, first: u32, many: u32) -> bool
+/// none reads what an earlier one takes. It takes time in proportion to how many there are, if none
+/// is read through a route.
+pub fn are_listed(code: &Code, board: &mut Board, room: u32, first: u32, many: u32) -> bool
     ensures { result ≡ true → AreListed code.now room first many }
 {
     if first as usize + many as usize > code.operands.len() {
         return false;
     }
     let operands = operands_from(code, first, many);
-    are_inside(code, room, operands) && are_apart(code, operands)
+    are_inside(code, room, operands) && are_all_apart(code, board, operands)
 }

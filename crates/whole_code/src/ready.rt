@@ -4,11 +4,12 @@ ghost use Rattle.sequential.specs.Inside.{IsInside, IsUncopied};
 ghost use Rattle.sequential_run.specs.Ready.{AreTargets, IsReady};
 
 use crate::listing::are_listed;
+use crate::marking::Board;
 use crate::operands::{is_inside, is_uncopied};
 use step_code::{Code, Operand, Step};
 
 /// Whether so many cells from one on are in a block.
-fn fits(room: u32, out: u32, width: u32) -> bool
+pub fn fits(room: u32, out: u32, width: u32) -> bool
     ensures { result ≡ true → out + width ≤ room }
 {
     out as usize + width as usize <= room as usize
@@ -29,7 +30,7 @@ fn is_chosen_by(code: &Code, room: u32, operand: Operand) -> bool
 
 /// Whether the numbers of a scalar node or of a step that brings or hands over values are inside a
 /// block with so many cells; false of each other kind.
-pub fn brings_inside(code: &Code, room: u32, this: Step) -> bool
+pub fn brings_inside(code: &Code, board: &mut Board, room: u32, this: Step) -> bool
     ensures { result ≡ true → IsReady code.now room this }
 {
     match this {
@@ -48,8 +49,8 @@ pub fn brings_inside(code: &Code, room: u32, this: Step) -> bool
             out,
             width,
             ..
-        } => are_listed(code, room, froms, many) && width == many && fits(room, out, width),
-        Step::Return { froms, many } => are_listed(code, room, froms, many),
+        } => are_listed(code, board, room, froms, many) && width == many && fits(room, out, width),
+        Step::Return { froms, many } => are_listed(code, board, room, froms, many),
         _ => false,
     }
 }

@@ -29,12 +29,14 @@ pub record AreNodesDone (u : Unit1) (g : Graph) (order : List ℕ) (plain : Opti
       → AreMade D u (order_by u os) t (number_of p) (vertices_at u p.graph (take i order)) ns cs
   pub below : AreAllBelow cells ns
 
-pub none-done : (u : Unit1) (g : Graph) (order : List ℕ) (plain : Option ℕ) (cells : ℕ) (literals : List Cell) (marks : List Bool) → AreNodesDone u g order plain cells literals marks 0 literals marks [] []
-none-done u g order plain cells literals marks =
+pub none-done : (u : Unit1) (g : Graph) (order : List ℕ) (plain : Option ℕ) (cells : ℕ) (literals : List Cell) (marks : List Bool) (i : ℕ) (ns : List PlanNode) (cs : List Collect) → i ≡ 0 → ns ≡ [] → cs ≡ [] → AreNodesDone u g order plain cells literals marks i literals marks ns cs
+none-done u g order plain cells literals marks i ns cs zero none empty =
     record {
       kept = λ D h. h;
-      made = λ D os t p h begun place same is ordered. nothing-made D u (order_by u os) t (number_of p);
-      below = tt;
+      made = λ D os t p h begun place same is ordered.
+          subst (λ j. AreMade D u (order_by u os) t (number_of p) (vertices_at u p.graph (take j order)) ns cs) (sym zero)
+          (subst (λ ns. AreMade D u (order_by u os) t (number_of p) [] ns cs) (sym none) (subst (λ cs. AreMade D u (order_by u os) t (number_of p) [] [] cs) (sym empty) (nothing-made D u (order_by u os) t (number_of p))));
+      below = subst (AreAllBelow cells) (sym none) tt;
     }
 
 module _ (u : Unit1) (ready : IsReady u) (g : Graph) (order : List ℕ) (plain : Option ℕ) (cells : ℕ) (old_literals : List Cell) (old_marks : List Bool) where

@@ -96,13 +96,21 @@ pub record AreGraphsDone (u : Unit1) (orders : List (List ℕ)) (many : ℕ) (xs
 first-begun : (D : PlanData) → HasLiterals (cell.Unfilled ∷ []) D → IsBegun D
 first-begun D h = ap (λ cs. owned_in (held (get_or cs 0 cell.Empty))) h.1
 
-pub none-done : (u : Unit1) (orders : List (List ℕ)) (literals : List Cell) (marks : List Bool) (many : ℕ) → literals ≡ cell.Unfilled ∷ [] → many ≡ 0 → AreGraphsDone u orders many [] literals marks
-none-done u orders literals marks many e zero =
+pub none-done : (u : Unit1) (orders : List (List ℕ)) (literals : List Cell) (marks : List Bool) (many : ℕ) (xs : List PlanGraph) → literals ≡ cell.Unfilled ∷ [] → many ≡ 0 → xs ≡ [] → AreGraphsDone u orders many xs literals marks
+none-done u orders literals marks many xs e zero none =
     record {
-      long = sym zero;
+      long = ap length none ∙ sym zero;
       begun = λ D h. first-begun D (subst (λ cs. HasLiterals cs D) e h.literals);
-      made = λ D t h g x at. absurd (let z : None ≡ Some x = at in cc);
+      made = λ D t h. subst (AreGraphsAt D u (λ g. slice_index_or orders g []) t) (sym none) (λ g x at. absurd (let z : None ≡ Some x = at in cc));
     }
+
+append-none : {A : Type 0} (xs : List A) → (xs ++ []) ≡ xs
+append-none [] = refl
+append-none (x ∷ xs) = ap (λ ys. x ∷ ys) (append-none xs)
+
+-- data with just these goes on from them
+pub goes-on : (D : PlanData) (cs : List Cell) (ms : List Bool) → D.literals ≡ cs → D.marks ≡ ms → GoesOn cs ms D
+goes-on D cs ms e f = record { literals = ([], e ∙ sym (append-none cs)); marks = ([], f ∙ sym (append-none ms)) }
 
 module _ (u : Unit1) (orders : List (List ℕ)) where
   pub graph-done : (many : ℕ) (xs : List PlanGraph) (mid_literals literals : List Cell) (mid_marks marks : List Bool) (order : List ℕ) (x : PlanGraph) (ys : List PlanGraph) → AreGraphsDone u orders many xs mid_literals mid_marks

@@ -1,0 +1,61 @@
+-- What is made of the data of a unit is its code.
+use Rattle.std.proofs.Common.{◌≡◌, ℕ, suc, List, length, sym, ap, subst, ◌∙◌}
+use Rattle.if1_graph.specs.declared.graph.Unit1.{Unit1}
+use Rattle.if1_graph.specs.Ready.{IsReady}
+use Rattle.graph_meaning.specs.Entered.{IsIn}
+use Rattle.run_code.specs.Made.{Plan}
+use Rattle.made_store.specs.Settings.{Shares}
+use Rattle.firing_order.specs.Orders.{order_by}
+use Rattle.unit_plan.specs.Plans.{functions_of, levels_of}
+use Rattle.step_code.specs.declared.code.Code.{Code}
+use Rattle.plan_data.specs.declared.plan.PlanData.{PlanData}
+use Rattle.plan_data.specs.Parts.{table_of}
+use Rattle.plan_data.specs.Stands.{Stands}
+use Rattle.code_maker.specs.Makes.{AreTold, IsCodeOf}
+use Rattle.sequential_run.specs.Totals.{CanEnter}
+use Rattle.unit_data.specs.Data.{IsDataOf, planned, shared, tables_of}
+use Rattle.unit_runs.specs.Runs.{IsUnitCode}
+use Rattle.unit_counts.specs.Laws.{DoesToldCodeCount}
+use Rattle.unit_runs.proofs.QuickCode.{quick-unit-code}
+use Rattle.quick_code.specs.Quick.{RunsSame}
+use Rattle.unit_code.specs.declared.code.UnitCode.{UnitCode}
+use Rattle.unit_code.specs.Codes.{IsCodeOfUnit, IsMadeOf}
+use Rattle.unit_code.proofs.Counted.{places-many}
+
+module _ (u : Unit1) (ready : IsReady u) (D : PlanData) (is : IsDataOf u D) (levels : ℕ) (functions : List ℕ) (many : levels ≡ length D.graphs) (all : functions ≡ functions_of u) (code : Code) where
+  abbrev P : Plan
+  P = planned u is.0 D
+
+  abbrev S : Shares
+  S = shared u is.0 D
+
+  -- one more than there are graphs
+  deep : levels ≡ levels_of u
+  deep = many ∙ (is.1.many ∙ ap suc (places-many u ready.formed))
+
+  unit-code : IsCodeOf P S levels functions code → IsUnitCode u (order_by u is.0) (tables_of D) code
+  unit-code h = subst (λ n. IsCodeOf P S n (functions_of u) code) deep (subst (λ fs. IsCodeOf P S levels fs code) all h)
+
+  unit-told : AreTold D P S levels functions code → AreTold D P S (levels_of u) (functions_of u) code
+  unit-told h = subst (λ n. AreTold D P S n (functions_of u) code) deep (subst (λ fs. AreTold D P S levels fs code) all h)
+
+  pub code-made : DoesToldCodeCount → (quick : Code) → RunsSame code quick → (entries rooms : List ℕ) → entries ≡ D.entries
+      → ((P : Plan) (S : Shares) → Stands D P S → IsCodeOf P S levels functions code) → ((P : Plan) (S : Shares) → Stands D P S → AreTold D P S levels functions code)
+      → IsMadeOf u (record { code = quick; entries = entries; rooms = rooms })
+  code-made law quick runs entries rooms same made told =
+      let own = unit-code (made P S is.1.stands) in
+      let counts = law D u (order_by u is.0) (tables_of D) code ready is.1.in_order is.1.stands is.1.counted own (unit-told (told P S is.1.stands)) in
+      let so = quick-unit-code u (order_by u is.0) (tables_of D) code quick runs own counts in
+      record {
+        order = order_by u is.0;
+        tables = tables_of D;
+        in_order = is.1.in_order;
+        sized = is.1.tables;
+        made = so.0;
+        counts = so.1;
+        entries = λ f. ap (λ es. table_of es f) (sym same);
+      }
+
+-- it can be entered at each function of the unit
+pub code-enters : (u : Unit1) (c : UnitCode) (functions : List ℕ) → functions ≡ functions_of u → IsMadeOf u c → ((f : ℕ) → IsIn f functions → CanEnter c.code (table_of c.entries f) (table_of c.rooms f)) → IsCodeOfUnit u c
+code-enters u c functions all made enters = record { code = made; enters = λ f i. enters f (subst (IsIn f) (sym all) i) }

@@ -1,0 +1,60 @@
+//! Arguments and results of runs, as values.
+ghost use Rattle.std.specs.Prelude.{◌≡◌, map, IfOk, IfErr};
+ghost use Rattle.flow_value.specs.declared.value.Val.TheViews.{out-Val};
+ghost use Rattle.graph_meaning.specs.Carried.{Value, val_of};
+ghost use Rattle.node_ops.specs.Operands.{multiple_in};
+ghost use Rattle.run_store.specs.Stored as stored;
+ghost use Rattle.run_cells.specs.Held.{held};
+ghost use Rattle.sequential.specs.Agrees.{owned_all};
+
+use flow_value::{Cause, Items, NoMemory, Seq, Val};
+use run_cells::{Cell, cell_of};
+use std::alloc::Global;
+
+/// Cells that own these values.
+pub fn cells_of(alloc: Global, values: Items) -> Result<Vec<Cell>, NoMemory>
+    ensures { IfOk result (λ cs. map held cs.items ≡ map stored.Owns (map Value values)) }
+{
+    let mut cells = Vec::new(alloc);
+    for value in values.into_vec() {
+        cells.push(cell_of(alloc, value)?)?;
+    }
+    Ok(cells)
+}
+
+/// The values that these cells own, where values are wanted.
+pub fn values_of(alloc: Global, cells: Vec<Cell>) -> Result<Items, NoMemory>
+    ensures { IfOk result (λ vs. vs ≡ map val_of (owned_all cells.items)) }
+{
+    let mut values = Seq::with_room(alloc, cells.len())?;
+    for cell in cells {
+        values.add(value_of(cell))?;
+    }
+    Ok(values)
+}
+
+fn value_of(cell: Cell) -> Val
+    ensures { result ≡ val_of (stored.owned_in (held cell)) }
+{
+    match cell {
+        Cell::Error(cause) => Val::Err(cause),
+        Cell::Int(n) => Val::Int(n),
+        Cell::Bool(b) => Val::Bool(b),
+        Cell::Char(c) => Val::Char(c),
+        Cell::Null => Val::Null,
+        Cell::Owned(v) => v.into_inner(),
+        Cell::Many(v) => single(v.into_inner()),
+        Cell::Spoiled(cause) => Val::Err(cause),
+        _ => Val::Err(Cause::Explicit),
+    }
+}
+
+// a multiple of values is no value
+fn single(v: Val) -> Val
+    ensures { result ≡ val_of (multiple_in v (out-Val v)) }
+{
+    match v {
+        Val::Stream(_) => Val::Err(Cause::Explicit),
+        v => v,
+    }
+}
