@@ -1,5 +1,6 @@
 pub mod Lists
 pub mod LaidCells
+pub mod NumberSteps
 pub mod PutRows
 pub mod Leading
 pub mod PutSteps

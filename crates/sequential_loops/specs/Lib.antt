@@ -1,5 +1,6 @@
 pub mod Behind
 pub mod Laying
+pub mod Numbers
 pub mod Putting
 pub mod Spreading
 pub mod Iterating

@@ -6,6 +6,7 @@ ghost use Rattle.sequential.specs.Loading.{AreInside, AreApart};
 ghost use Rattle.sequential.specs.Agrees.{DoesForAll};
 ghost use Rattle.sequential_loops.specs.Putting.{AreColumns, AreSparing};
 
+use crate::numbers::{number_put, put_number};
 use crate::once::are_moved_once;
 use crate::rows::{collects_from, put_row};
 use crate::weighing::with_puts;
@@ -17,6 +18,49 @@ use step_code::Code;
 /// Puts values to collections. Where none is read behind its collection, one that is not copied goes
 /// into it, which takes memory only where it has to grow.
 pub fn add(
+    machine: &mut Machine,
+    alloc: Global,
+    code: &Code,
+    limit: u64,
+    collects: u32,
+    count: u32,
+    froms: u32,
+    many: u32,
+    out: u32,
+    next: u32,
+) -> Result<Turn, NoMemory>
+    requires listed { froms + many ≤ length code.now.operands }
+    requires inside { AreInside code.now (length machine.old.cells.items - machine.old.base) (listed code.now froms many) }
+    requires apart { AreApart code.now (listed code.now froms many) }
+    requires collected { collects + count ≤ length code.now.collects }
+    requires counted { count ≡ length (so_many collects count code.now.collects) }
+    requires columns { AreColumns (length (listed code.now froms many)) (so_many collects count code.now.collects) }
+    requires sparing { AreSparing out count (listed code.now froms many) }
+    requires out { (machine.old.base + out) + count ≤ length machine.old.cells.items }
+    ensures does { IfOk result (λ t. DoesForAll code.now limit (step.Add collects count froms many out next) machine.old t machine.new) }
+    ensures cells { length machine.new.cells.items ≡ length machine.old.cells.items }
+{
+    let number = number_put(
+        code,
+        machine.cells.as_slice(),
+        machine.base,
+        operands_from(code, froms, many),
+        collects_from(code, collects, count),
+    );
+    match number {
+        Some(n) => {
+            put_number(alloc, &mut machine.cells, machine.base + out as usize, n)?;
+            machine.pc = next as usize;
+            Ok(Turn::Goes)
+        }
+        None => add_all(
+            machine, alloc, code, limit, collects, count, froms, many, out, next,
+        ),
+    }
+}
+
+/// The same of any values.
+fn add_all(
     machine: &mut Machine,
     alloc: Global,
     code: &Code,

@@ -1,14 +1,17 @@
 //! How long multiples are.
 ghost use Rattle.std.specs.Prelude.{◌≡◌, ◌-◌, ◌<◌, ◌^◌, length};
 ghost use Rattle.graph_meaning.specs.Forms.{spoiled, first_spoiled, items, places_of, are_as_long};
+ghost use Rattle.run_store.specs.Stored as stored;
 ghost use Rattle.run_cells.specs.Held.{heap_of, rising_in};
 ghost use Rattle.run_cells.specs.Sights.{seen_value};
+ghost use Rattle.step_code.specs.Reading.{operand_in, mode_in};
+ghost use Rattle.sequential.specs.Inside.{IsInside};
 ghost use Rattle.sequential.specs.Loading.{AreInside, seen_of};
 ghost use Rattle.sequential_loops.specs.Spreading.{all_long};
 
 use flow_value::Cause;
 use run_cells::{Cell, Seen};
-use sequential::{operand_at, sight};
+use sequential::{direct, operand_at, sight};
 use step_code::{Code, Operand};
 
 /// How many elements a multiple has.
@@ -39,7 +42,18 @@ pub fn first_places(code: &Code, cells: &[Cell], base: usize, operands: &[Operan
 {
     match operands {
         [] => 0,
-        [first, ..] => places_in(sight(code, cells, base, *first)),
+        [first, ..] => long_of(code, cells, base, *first),
+    }
+}
+
+fn long_of(code: &Code, cells: &[Cell], base: usize, from: Operand) -> usize
+    requires { IsInside code.now (length cells.now - base) from }
+    ensures places { result ≡ length (items (stored.seen (heap_of cells.now) base (mode_in code.now from) (operand_in code.now from))) }
+    ensures few { result < 2 ^ 63 }
+{
+    match direct(code, cells, base, from) {
+        Some(Cell::Range(many, lo)) => risen(*many, *lo),
+        _ => places_in(sight(code, cells, base, from)),
     }
 }
 

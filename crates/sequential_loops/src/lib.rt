@@ -9,6 +9,7 @@ mod iterating;
 mod keeping;
 mod laying;
 mod lengths;
+mod numbers;
 mod once;
 mod putting;
 mod rows;

@@ -14,7 +14,7 @@ use Rattle.sequential.specs.Loading.{Loads}
 use Rattle.sequential_loops.specs.Laying.{IsLaid, owning}
 use Rattle.sequential_loops.specs.Putting.{AreThere, collections_of}
 use Rattle.sequential_loops.proofs.PutSteps.{add-goes}
-use Rattle.sequential_loops.proofs.adding.add.Goals as goal
+use Rattle.sequential_loops.proofs.adding.add_all.Goals as goal
 
 pub put_row-requires-clause-room : goal.put_row-requires-clause-room
 put_row-requires-clause-room c =
