@@ -1,12 +1,11 @@
 -- What the data tells of nodes, weighed by the plan that stands in it.
-use Rattle.std.specs.Prelude.{◌≡◌, ℕ, List, [], ◌∷◌, map, length}
+use Rattle.std.specs.Prelude.{◌≡◌, ℕ, List, map, length}
 use Rattle.graph_meaning.specs.Carried.{Carried}
 use Rattle.graph_meaning.specs.Demand.{Vertex}
-use Rattle.run_code.specs.Cells.{Operand, At, Lit}
 use Rattle.run_code.specs.Made.{Plan}
 use Rattle.run_code.specs.Steps.{Fire, Step}
 use Rattle.run_made.specs.Plans.{Weighing}
-use Rattle.run_store.specs.Stored.{Copies, CopiesOf, Mode, mode_at, tail}
+use Rattle.run_store.specs.Stored.{Mode, copied}
 use Rattle.step_code.specs.declared.code.Code.{Code}
 use Rattle.step_code.specs.Laid.{copied_at, written_at}
 use Rattle.plan_data.specs.declared.plan.PlanData.{PlanData}
@@ -21,18 +20,10 @@ abbrev pub AddsSame : Step → (adds others : List Carried → List Carried → 
 AddsSame (Fire row shape ins out w) f g = (ks rs : List Carried) → length ks ≡ length ins → f ks rs ≡ g ks rs
 AddsSame _ f g = Unit {0}
 
--- ---- literals
-
-abbrev pub IsUncopied : Mode → Type 0
-IsUncopied Copies = ⊥
-IsUncopied (CopiesOf p) = ⊥
-IsUncopied _ = Unit {0}
-
--- none of these operands that is a literal is copied
-abbrev pub AreLiteralsUncopied : List Mode → List Operand → Type 0
-AreLiteralsUncopied ms [] = Unit {0}
-AreLiteralsUncopied ms (At c ∷ os) = AreLiteralsUncopied (tail ms) os
-AreLiteralsUncopied ms (Lit k ∷ os) = IsUncopied (mode_at ms) × AreLiteralsUncopied (tail ms) os
+-- and where it handles its operands in two ways that copy as much of them, of as many outputs as it is wide
+abbrev pub CopiesSame : Step → (modes others : List Mode) → (adds others : List Carried → List Carried → ℕ) → Type 0
+CopiesSame (Fire row shape ins out w) ms ns f g = (ks rs : List Carried) → copied ms ks ≡ copied ns ks → length rs ≡ w → f ks rs ≡ g ks rs
+CopiesSame _ ms ns f g = Unit {0}
 
 -- ---- what the data tells
 
@@ -45,10 +36,10 @@ module _ (D : PlanData) (P : Plan) (W : Weighing) where
   abbrev pub AreWritesTold : Type 0
   AreWritesTold = (g : ℕ) (n : PlanNode) (v : Vertex) → IsPair (graph_nodes D g) (P.nodes g) n v → IsWrittenSo g v n.work
 
-  -- and so is what is told to be copied, as its ports are handled, in code that has the marks of the data
+  -- and so is what is told to be copied, as its ports are handled and of as many outputs as it is wide, in code that has the marks of the data
   abbrev pub IsCopiedSo : (graph : ℕ) → Vertex → PlanNode → Work → Type 0
   IsCopiedSo g v n (work.Plain row shape writes copies) =
-      (code : Code) → code.marks ≡ D.marks → (ks rs : List Carried) → copied_at code copies (map mode_of n.ins) n.width ks rs ≡ W.weights.of_node g v ks rs
+      (code : Code) → code.marks ≡ D.marks → (ks rs : List Carried) → length rs ≡ n.width → copied_at code copies (map mode_of n.ins) n.width ks rs ≡ W.weights.of_node g v ks rs
   IsCopiedSo g v n _ = Unit {0}
 
   abbrev pub AreCopiesTold : Type 0

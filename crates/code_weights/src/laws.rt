@@ -7,7 +7,8 @@ pub fn writes_of_code_are_of_plans()
     ensures { AreCodeWritesOfPlans }
 {}
 
-/// So it copies what its line adds by the weights of copies, where no literal is copied.
+/// So it copies what its line adds by the weights of copies, of operands of which the step and its
+/// setting copy as much, and of as many outputs as it is wide.
 pub fn copies_of_code_are_of_plans()
     ensures { AreCodeCopiesOfPlans }
 {}

@@ -13,7 +13,7 @@ ghost use Rattle.if1_read.specs.Sheets.{marks_of};
 ghost use Rattle.if1_read.specs.Verdicts.{verdict};
 
 use crate::fault::Kind;
-use crate::literal::{literal, literal_text};
+use crate::literals::{literal, literal_text};
 use crate::names::Names;
 use crate::table::Table;
 use flow_value::{NoMemory, Text, item_at};

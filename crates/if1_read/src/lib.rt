@@ -6,7 +6,7 @@ mod judge;
 mod laws;
 mod level;
 mod lines;
-mod literal;
+mod literals;
 mod machine;
 mod names;
 mod number;
@@ -16,5 +16,5 @@ mod reals;
 mod table;
 
 pub use laws::accepted_has_no_fault;
-pub use literal::literal;
+pub use literals::literal;
 pub use read::read_if1;

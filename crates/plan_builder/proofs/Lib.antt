@@ -4,3 +4,4 @@ pub mod Handling
 pub mod Multiples
 pub mod Collected
 pub mod Extents
+pub mod Made

@@ -2,7 +2,13 @@
 use Rattle.std.specs.Prelude.{◌≡◌, ℕ, suc, Bool, true, false, List, [], ◌∷◌}
 use Rattle.plan_data.specs.declared.plan.Handled.{Handled}
 use Rattle.plan_data.specs.declared.plan.Handled.TheVariants as handled
+use Rattle.plan_data.specs.declared.plan.PlanNode.{PlanNode}
 use Rattle.plan_data.specs.declared.plan.Port.{Port}
+use Rattle.plan_data.specs.declared.plan.Work.{Work}
+
+-- a node that does this, with so many outputs
+abbrev pub made_node : Work → (width : ℕ) → List Port → PlanNode
+made_node work width ins = record { work = work; width = width; ins = ins }
 
 -- how a simple node or Call handles what fills a port, by whether it takes it, and whether it copies what it does not take
 abbrev pub handled_by : (takes copies : Bool) → Handled

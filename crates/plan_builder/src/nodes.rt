@@ -12,7 +12,8 @@ ghost use Rattle.made_store.specs.Settings.{Shares};
 ghost use Rattle.plan_data.specs.declared.plan.PlanData.{PlanData};
 ghost use Rattle.plan_data.specs.Parts.{IsWhole, kind_of};
 ghost use Rattle.plan_data.specs.Stands.{AreFed, IsNode};
-ghost use Rattle.plan_builder.specs.Nodes.{AreHandled, given_by, handled_by};
+ghost use Rattle.plan_data.specs.declared.plan.Work.TheVariants as Work;
+ghost use Rattle.plan_builder.specs.Nodes.{AreHandled, given_by, handled_by, made_node};
 
 use crate::widths::plain_width;
 use flow_value::{Seq, Shape};
@@ -60,7 +61,8 @@ pub fn simple_node(
     counted: Counted,
     ins: Seq<Port>,
 ) -> PlanNode
-    ensures { (D : PlanData) (P : Plan) (S : Shares) (g : ℕ) (v : Vertex) → v.kind ≡ demand.Plain row (shape_of shape) → P.width v ≡ outputs_by (row_of row).gives (shape_of shape) → AreFed D P S g ins v.ins → AreHandled handled_by (S.takes g v.label) (S.copies g v.label) 1 ins → IsNode D P S g result v }
+    ensures made { result ≡ made_node (Work.Plain row shape written counted) (outputs_by (row_of row).gives (shape_of shape)) ins }
+    ensures stands { (D : PlanData) (P : Plan) (S : Shares) (g : ℕ) (v : Vertex) → v.kind ≡ demand.Plain row (shape_of shape) → P.width v ≡ outputs_by (row_of row).gives (shape_of shape) → AreFed D P S g ins v.ins → AreHandled handled_by (S.takes g v.label) (S.copies g v.label) 1 ins → IsNode D P S g result v }
 {
     PlanNode {
         work: Work::Plain(row, shape, written, counted),
@@ -72,7 +74,8 @@ pub fn simple_node(
 /// A Call of the function of a number, which gives so many results, with its arguments, which stand at
 /// the ports from 2 on.
 pub fn call_node(callee: u32, width: u32, ins: Seq<Port>) -> PlanNode
-    ensures { (D : PlanData) (P : Plan) (S : Shares) (g : ℕ) (v : Vertex) → v.kind ≡ demand.Whole (form.Call callee) → P.width v ≡ width → AreFed D P S g ins v.ins → AreHandled handled_by (S.takes g v.label) (S.copies g v.label) 2 ins → IsNode D P S g result v }
+    ensures made { result ≡ made_node (Work.Call callee) width ins }
+    ensures stands { (D : PlanData) (P : Plan) (S : Shares) (g : ℕ) (v : Vertex) → v.kind ≡ demand.Whole (form.Call callee) → P.width v ≡ width → AreFed D P S g ins v.ins → AreHandled handled_by (S.takes g v.label) (S.copies g v.label) 2 ins → IsNode D P S g result v }
 {
     PlanNode {
         work: Work::Call(callee),
@@ -85,7 +88,8 @@ pub fn call_node(callee: u32, width: u32, ins: Seq<Port>) -> PlanNode
 /// ports.
 pub fn compound_node(work: Work, width: u32, ins: Seq<Port>) -> PlanNode
     requires { IsWhole work }
-    ensures { (D : PlanData) (P : Plan) (S : Shares) (g : ℕ) (v : Vertex) (copies : (port : ℕ) → Bool) → v.kind ≡ kind_of work width → P.width v ≡ width → P.picks g v ≡ picks_of copies 1 v.ins → (v.ins ≡ [] → S.takes g v.label 1 ≡ false) → AreFed D P S g ins v.ins → AreHandled given_by (S.takes g v.label) copies 1 ins → IsNode D P S g result v }
+    ensures made { result ≡ made_node work width ins }
+    ensures stands { (D : PlanData) (P : Plan) (S : Shares) (g : ℕ) (v : Vertex) (copies : (port : ℕ) → Bool) → v.kind ≡ kind_of work width → P.width v ≡ width → P.picks g v ≡ picks_of copies 1 v.ins → (v.ins ≡ [] → S.takes g v.label 1 ≡ false) → AreFed D P S g ins v.ins → AreHandled given_by (S.takes g v.label) copies 1 ins → IsNode D P S g result v }
 {
     PlanNode { work, width, ins }
 }

@@ -98,7 +98,8 @@ fn reading_in(plain: u32, copies: bool, row: Simple, ins: &[Port]) -> Reading
 /// How a simple node of a returns reads multiples, where so many inputs of the returns are none, and a
 /// copy is counted or not at the port of its own multiple.
 pub fn reading_of(plain: u32, copies: bool, row: Simple, ins: &[Port]) -> Reading
-    ensures { (D : PlanData) (P : Plan) (S : Shares) (g : ℕ) (os : List Source) (left : (port : ℕ) → Bool) → left (multiple_port row) ≡ copies → AreFed D P S g ins.now os → way_of plain left row os ≡ read_by result os }
+    ensures reads { result ≡ reading_by plain copies row ins.now }
+    ensures way { (D : PlanData) (P : Plan) (S : Shares) (g : ℕ) (os : List Source) (left : (port : ℕ) → Bool) → left (multiple_port row) ≡ copies → AreFed D P S g ins.now os → way_of plain left row os ≡ read_by result os }
 {
     reading_in(plain, copies, row, ins)
 }

@@ -10,4 +10,4 @@ mod sizes;
 pub use entries::entries_of;
 pub use extents::extents_of;
 pub use laws::{plans_are_sized_by_tables, tables_are_of_plans};
-pub use sizes::sizes_of;
+pub use sizes::{arms_total, plus, sizes_of};

@@ -12,7 +12,7 @@ use Rattle.step_code.specs.declared.code.Code.{Code}
 use Rattle.step_code.specs.declared.step.Counted.TheVariants as counted
 use Rattle.step_code.specs.Laid.{copied_at, filling, joined, joined_by, last_leaves, written_at}
 use Rattle.step_code.specs.Reading.{so_many}
-use Rattle.row_counts.specs.Counts.{IsTold, counted_by_row, written_by_row}
+use Rattle.row_counts.specs.Counts.{IsFiredSo, IsTold, counted_by_row, written_by_row}
 
 -- ---- writes
 
@@ -110,35 +110,39 @@ filled-by s g l (a ∷ b ∷ []) rs = none-either (s.is_aggregate g l 3) 0 refl
 filled-by s g l (a ∷ b ∷ c ∷ []) rs = refl
 filled-by s g l (a ∷ b ∷ c ∷ d ∷ ks) rs = none-either (s.is_aggregate g l 3) 0 refl
 
-pub counted-is : (s : Storage) (g l : ℕ) (code : Code) (ms : List Mode) (w : ℕ) (ks rs : List Carried) (told : Bool) (marks : ℕ) (row : Simple) → IsTold s g l code ms w ks rs told marks row
+within-width : (bits : List Bool) (test : ℕ → Bool) (first w : ℕ) (rs : List Carried) → ((port : ℕ) → 1 ≤ port → port ≤ w → get_or (so_many first w bits) (port - 1) true ≡ test port) → length rs ≡ w
+    → (port : ℕ) → 1 ≤ port → port ≤ length rs → get_or (so_many first w bits) (port - 1) true ≡ test port
+within-width bits test first w rs h long port a b = h port a (omega (arith, long, b))
+
+pub counted-is : (s : Storage) (g l : ℕ) (code : Code) (ms : List Mode) (w : ℕ) (ks rs : List Carried) (told : Bool) (marks : ℕ) (row : Simple) → IsTold s g l code.marks w told marks row → IsFiredSo s g l ms w ks rs row
     → copied_at code (counted_by_row row told marks) ms w ks rs ≡ copied_by s g l row ks rs
-counted-is s g l code ms w ks rs told marks simple.FinalValue e = last-is s g l code ms w told (is_left s g l 1) ks rs e ∙ last-by s g l told ks rs e
-counted-is s g l code ms w ks rs told marks simple.AGather e = kept-is code ms w told (is_left s g l 2) ks rs e
-counted-is s g l code ms w ks rs told marks (simple.Reduce grouping) e = kept-is code ms w told (is_left s g l 2) ks rs e
-counted-is s g l code ms w ks rs told marks simple.AFill e = filled-is code ms w told (s.is_aggregate g l 3) ks rs e ∙ filled-by s g l ks rs
-counted-is s g l code ms w ks rs told marks simple.AElement e = outputs-are (λ port. get_or (so_many marks w code.marks) (port - 1) true) (s.is_made g l) rs e
-counted-is s g l code ms w ks rs told marks simple.FirstValue e = outputs-are (λ port. get_or (so_many marks w code.marks) (port - 1) true) (s.is_made g l) rs e
-counted-is s g l code ms w ks rs told marks simple.RElements e = outputs-are (λ port. get_or (so_many marks w code.marks) (port - 1) true) (λ port. s.is_made g l port && s.is_used g l port) rs e
-counted-is s g l code ms w ks rs told marks (simple.One a) e = e
-counted-is s g l code ms w ks rs told marks (simple.Two a) e = e
-counted-is s g l code ms w ks rs told marks simple.NoOp e = e
-counted-is s g l code ms w ks rs told marks simple.Error e = e
-counted-is s g l code ms w ks rs told marks simple.Call e = e
-counted-is s g l code ms w ks rs told marks simple.AReplace e = e
-counted-is s g l code ms w ks rs told marks simple.AAddH e = e
-counted-is s g l code ms w ks rs told marks simple.AAddL e = e
-counted-is s g l code ms w ks rs told marks simple.ARemH e = e
-counted-is s g l code ms w ks rs told marks simple.ARemL e = e
-counted-is s g l code ms w ks rs told marks simple.ASetL e = e
-counted-is s g l code ms w ks rs told marks simple.AAdjust e = e
-counted-is s g l code ms w ks rs told marks simple.ALimL e = e
-counted-is s g l code ms w ks rs told marks simple.ALimH e = e
-counted-is s g l code ms w ks rs told marks simple.ASize e = e
-counted-is s g l code ms w ks rs told marks simple.AIsEmpty e = e
-counted-is s g l code ms w ks rs told marks simple.RestValues e = e
-counted-is s g l code ms w ks rs told marks simple.RBuild e = e
-counted-is s g l code ms w ks rs told marks simple.RReplace e = e
-counted-is s g l code ms w ks rs told marks simple.RangeGenerate e = e
-counted-is s g l code ms w ks rs told marks simple.AScatter e = e
-counted-is s g l code ms w ks rs told marks simple.ABuild e = e
-counted-is s g l code ms w ks rs told marks simple.ACatenate e = e
+counted-is s g l code ms w ks rs told marks simple.FinalValue e f = last-is s g l code ms w told (is_left s g l 1) ks rs (sym e.0) ∙ last-by s g l told ks rs (sym e.0)
+counted-is s g l code ms w ks rs told marks simple.AGather e f = kept-is code ms w told (is_left s g l 2) ks rs (sym e.0)
+counted-is s g l code ms w ks rs told marks (simple.Reduce grouping) e f = kept-is code ms w told (is_left s g l 2) ks rs (sym e.0)
+counted-is s g l code ms w ks rs told marks simple.AFill e f = filled-is code ms w told (s.is_aggregate g l 3) ks rs (sym e.0) ∙ filled-by s g l ks rs
+counted-is s g l code ms w ks rs told marks simple.AElement e f = outputs-are (λ port. get_or (so_many marks w code.marks) (port - 1) true) (s.is_made g l) rs (within-width code.marks (s.is_made g l) marks w rs e.1 f)
+counted-is s g l code ms w ks rs told marks simple.FirstValue e f = outputs-are (λ port. get_or (so_many marks w code.marks) (port - 1) true) (s.is_made g l) rs (within-width code.marks (s.is_made g l) marks w rs e.1 f)
+counted-is s g l code ms w ks rs told marks simple.RElements e f = outputs-are (λ port. get_or (so_many marks w code.marks) (port - 1) true) (λ port. s.is_made g l port && s.is_used g l port) rs (within-width code.marks (λ port. s.is_made g l port && s.is_used g l port) marks w rs e.1 f)
+counted-is s g l code ms w ks rs told marks (simple.One a) e f = f
+counted-is s g l code ms w ks rs told marks (simple.Two a) e f = f
+counted-is s g l code ms w ks rs told marks simple.NoOp e f = f
+counted-is s g l code ms w ks rs told marks simple.Error e f = f
+counted-is s g l code ms w ks rs told marks simple.Call e f = f
+counted-is s g l code ms w ks rs told marks simple.AReplace e f = f
+counted-is s g l code ms w ks rs told marks simple.AAddH e f = f
+counted-is s g l code ms w ks rs told marks simple.AAddL e f = f
+counted-is s g l code ms w ks rs told marks simple.ARemH e f = f
+counted-is s g l code ms w ks rs told marks simple.ARemL e f = f
+counted-is s g l code ms w ks rs told marks simple.ASetL e f = f
+counted-is s g l code ms w ks rs told marks simple.AAdjust e f = f
+counted-is s g l code ms w ks rs told marks simple.ALimL e f = f
+counted-is s g l code ms w ks rs told marks simple.ALimH e f = f
+counted-is s g l code ms w ks rs told marks simple.ASize e f = f
+counted-is s g l code ms w ks rs told marks simple.AIsEmpty e f = f
+counted-is s g l code ms w ks rs told marks simple.RestValues e f = f
+counted-is s g l code ms w ks rs told marks simple.RBuild e f = f
+counted-is s g l code ms w ks rs told marks simple.RReplace e f = f
+counted-is s g l code ms w ks rs told marks simple.RangeGenerate e f = f
+counted-is s g l code ms w ks rs told marks simple.AScatter e f = f
+counted-is s g l code ms w ks rs told marks simple.ABuild e f = f
+counted-is s g l code ms w ks rs told marks simple.ACatenate e f = f

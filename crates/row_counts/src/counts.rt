@@ -6,7 +6,7 @@ ghost use Rattle.run_store.specs.Stored.{Mode};
 ghost use Rattle.step_code.specs.Laid.{copied_at, written_at};
 ghost use Rattle.step_code.specs.declared.code.Code.{Code};
 ghost use Rattle.step_code.specs.declared.step.Counted.TheVariants as Counted;
-ghost use Rattle.row_counts.specs.Counts.{IsTold, counted_by_row, written_by_row};
+ghost use Rattle.row_counts.specs.Counts.{IsFiredSo, IsTold, counted_by_row, written_by_row};
 
 use if1_graph::Simple;
 use step_code::{Counted, Written};
@@ -31,7 +31,8 @@ fn written_by_row(row: Simple, joined: bool) -> Written
 /// What a node writes, where its result is joined to others or not: as much as by the definition of
 /// record, in each storage in which it is joined so.
 pub fn written_of(row: Simple, joined: bool) -> Written
-    ensures { (s : Storage) (g l : ℕ) → s.is_joined g l ≡ joined → (ks rs : List Carried) → written_at result ks rs ≡ written_by s g l row ks rs }
+    ensures row { result ≡ written_by_row row joined }
+    ensures written { (s : Storage) (g l : ℕ) → s.is_joined g l ≡ joined → (ks rs : List Carried) → written_at result ks rs ≡ written_by s g l row ks rs }
 {
     written_by_row(row, joined)
 }
@@ -54,10 +55,11 @@ fn counted_by_row(row: Simple, told: bool, marks: u32) -> Counted
     }
 }
 
-/// What a node copies, where so much is told of its edges (`IsTold`): as much as by the definition of
-/// record.
+/// What a node copies, where so much is told of its edges (`IsTold`) and it is fired so (`IsFiredSo`):
+/// as much as by the definition of record.
 pub fn counted_of(row: Simple, told: bool, marks: u32) -> Counted
-    ensures { (s : Storage) (g l : ℕ) (code : Code) (ms : List Mode) (w : ℕ) (ks rs : List Carried) → IsTold s g l code ms w ks rs told marks row → copied_at code result ms w ks rs ≡ copied_by s g l row ks rs }
+    ensures row { result ≡ counted_by_row row told marks }
+    ensures copied { (s : Storage) (g l : ℕ) (code : Code) (ms : List Mode) (w : ℕ) (ks rs : List Carried) → IsTold s g l code.marks w told marks row → IsFiredSo s g l ms w ks rs row → copied_at code result ms w ks rs ≡ copied_by s g l row ks rs }
 {
     counted_by_row(row, told, marks)
 }

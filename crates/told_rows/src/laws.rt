@@ -7,7 +7,7 @@ pub fn writes_by_rows_are_of_units()
     ensures { AreUnitWritesTold }
 {}
 
-/// So it is with copies, where what is told of a node's edges is right.
+/// So it is with copies, where what is told of a node's edges is right and nodes are fired so.
 pub fn copies_by_rows_are_of_units()
     ensures { AreUnitCopiesTold }
 {}

@@ -74,7 +74,7 @@ taken-read base ms (At c ∷ os) h b = taken-read base (tail ms) os (left_by bas
 taken-read base ms (Lit k ∷ os) h b = ap (λ z. taken base (tail ms) os z) (literal-left h base (mode_at ms) k b.0) ∙ taken-read base (tail ms) os h b.1
 
 -- what is copied of as many values
-copied-read : (ms : List Mode) (os : List Operand) (ks : List Carried) → AreLiteralsBare ms os → AreRead os ks → copied ms ks ≡ copied (read_as ms os) ks
+pub copied-read : (ms : List Mode) (os : List Operand) (ks : List Carried) → AreLiteralsBare ms os → AreRead os ks → copied ms ks ≡ copied (read_as ms os) ks
 copied-read ms [] [] b r = refl
 copied-read ms [] (k ∷ ks) b r = absurd r
 copied-read ms (At c ∷ os) [] b r = absurd r

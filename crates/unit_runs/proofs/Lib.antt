@@ -5,3 +5,4 @@ pub mod Ports
 pub mod Passing
 pub mod Graphs
 pub mod Runs
+pub mod QuickCode

@@ -1,4 +1,5 @@
 pub mod Alike
 pub mod Literals
 pub mod Runs
+pub mod Quick
 pub mod Units

@@ -1,6 +1,7 @@
 //! The laws of runs of the code of a unit.
 ghost use Rattle.unit_runs.specs.Alike.{DoAlike};
 ghost use Rattle.unit_runs.specs.Literals.{AreMadeBare};
+ghost use Rattle.unit_runs.specs.Quick.{IsQuickUnitCode};
 ghost use Rattle.unit_runs.specs.Runs.{AreUnitCodeRunsRecorded};
 ghost use Rattle.unit_runs.specs.Units.{AreUnitGraphsBare, AreUnitPartsPassed, AreUnitPortsBare};
 
@@ -36,4 +37,9 @@ pub fn plans_of_units_copy_no_literal()
 /// So each run of the code of a ready unit with sound marks is decided, and its end is of record.
 pub fn runs_of_unit_code_are_of_record()
     ensures { AreUnitCodeRunsRecorded }
+{}
+
+/// Where the code of a unit counts copies, so does code whose steps do the same, and it is the unit's.
+pub fn quick_code_is_of_units()
+    ensures { IsQuickUnitCode }
 {}

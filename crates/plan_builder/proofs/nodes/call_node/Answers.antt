@@ -1,14 +1,5 @@
-use Rattle.std.proofs.Common.{ap, ◌∙◌}
-use Rattle.run_store.specs.Ports.{modes_of}
-use Rattle.ordered_meaning.specs.Taking.{first_port}
-use Rattle.plan_builder.proofs.Handling.{modes-are}
+use Rattle.plan_builder.proofs.Made.{call-stands}
 use Rattle.plan_builder.proofs.nodes.call_node.Goals as goal
 
-pub returns : goal.returns
-returns c D P S g v kind wide fed handled =
-    record {
-      width = wide;
-      kind = kind;
-      fed = fed;
-      handled = ap (λ k. modes_of (S.takes g v.label) (S.copies g v.label) (first_port k) v.ins) kind ∙ modes-are D P S g (S.takes g v.label) (S.copies g v.label) 2 c.args.ins v.ins fed handled;
-    }
+pub returns-clause-stands : goal.returns-clause-stands
+returns-clause-stands c D P S g v kind wide fed handled = call-stands D P S g v c.args.callee c.args.width c.args.ins kind wide fed handled

@@ -1,0 +1,8 @@
+//! Which outputs of nodes are aggregates, as marks for code.
+#![tactic(auto)]
+
+mod marks;
+mod outputs;
+
+pub use marks::add_marks;
+pub use outputs::{OutputSet, aggregate_outputs};

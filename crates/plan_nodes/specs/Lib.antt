@@ -1,0 +1,3 @@
+pub mod Made
+pub mod Ports
+pub mod Nodes

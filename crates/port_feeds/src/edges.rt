@@ -1,0 +1,42 @@
+//! The edge that leads to a port, among edges in order.
+ghost use Rattle.std.specs.Prelude.{◌≡◌, option_and_then, slice_get, AllPairs};
+ghost use Rattle.std.specs.Option.{option_copied};
+ghost use Rattle.if1_graph.specs.Normal.{Precedes};
+ghost use Rattle.port_feeds.specs.Found.{edge_found, if_leading, stands_before};
+
+use flow_value::item_at;
+use if1_graph::Edge;
+
+fn stands_before(edge: &Edge, node: u32, port: u32) -> bool
+    ensures { result ≡ stands_before node port edge.now }
+{
+    if edge.node == node {
+        return edge.port < port;
+    }
+    edge.node != 0 && (node == 0 || edge.node < node)
+}
+
+/// At which place among these an edge to this port stands, if one does. Takes a search.
+pub fn place_of(edges: &[Edge], node: u32, port: u32) -> usize
+    requires { AllPairs Precedes edges.now }
+    ensures { option_and_then (if_leading node port) (slice_get edges.now result) ≡ edge_found edges.now node port }
+{
+    edges.partition_point(|e| stands_before(e, node, port))
+}
+
+// an edge to another port is no answer
+fn if_leading(edge: Option<&Edge>, node: u32, port: u32) -> Option<&Edge>
+    ensures { option_copied result ≡ option_and_then (if_leading node port) (option_copied edge.entry) }
+{
+    match edge {
+        Some(edge) if edge.node == node && edge.port == port => Some(edge),
+        _ => None,
+    }
+}
+
+/// The edge at a place, if it leads to this port.
+pub fn edge_at(edges: &[Edge], place: usize, node: u32, port: u32) -> Option<&Edge>
+    ensures { option_copied result ≡ option_and_then (if_leading node port) (slice_get edges.now place) }
+{
+    if_leading(item_at(edges, place), node, port)
+}

@@ -1,0 +1,8 @@
+mod Places
+mod Parts
+mod Results
+mod Walked
+mod Known
+mod Nodes
+mod Graphs
+mod Whole

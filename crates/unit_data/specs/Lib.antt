@@ -1,0 +1,3 @@
+pub mod Data
+pub mod Facts
+pub mod Graphs
