@@ -1,6 +1,7 @@
 pub mod More
 pub mod Leading
 pub mod Going
+pub mod WroteSteps
 pub mod Falling
 pub mod Firing
 pub mod Deciding

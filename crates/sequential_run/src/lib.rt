@@ -6,6 +6,7 @@ mod laws;
 mod running;
 mod stepping;
 mod totals;
+mod writing;
 
 pub use laws::runs_of_stored_code_begin;
 pub use running::{RunFault, run};

@@ -23,6 +23,8 @@ pub struct Totalled {
     pub fires: u64,
     /// The leaves that were copied, or the greatest number.
     pub copies: u64,
+    /// The elements that were written, or the greatest number.
+    pub writes: u64,
 }
 
 /// Runs the function whose first step stands at a place, in a block with so many cells, on these
@@ -40,14 +42,15 @@ pub fn run_function(
     ensures { (ins : List Carried) → map held args.items ≡ map stored.Owns ins → MatchResult result (λ t. HasTotals code.now limit (entered_at entry ins) t) (λ e. IsFault code.now limit (entered_at entry ins) e) }
 {
     let mut machine = entered(alloc, entry, room, args)?;
-    run(&mut machine, alloc, code, limit)?;
-    Ok(totals(machine))
+    let writes = run(&mut machine, alloc, code, limit)?;
+    Ok(totals(machine, writes))
 }
 
-fn totals(machine: Machine) -> Totalled
+fn totals(machine: Machine, writes: u64) -> Totalled
     ensures results { result.results ≡ machine.results }
     ensures fires { result.fires ≡ machine.fires }
     ensures copies { result.copies ≡ machine.copies }
+    ensures writes { result.writes ≡ writes }
 {
     let Machine {
         results,
@@ -59,6 +62,7 @@ fn totals(machine: Machine) -> Totalled
         results,
         fires,
         copies,
+        writes,
     }
 }
 

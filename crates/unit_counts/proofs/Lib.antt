@@ -2,3 +2,4 @@ pub mod Wide
 pub mod Given
 pub mod Fired
 pub mod Counts
+pub mod Written

@@ -3,4 +3,4 @@
 
 mod laws;
 
-pub use laws::code_of_told_data_counts_copies;
+pub use laws::{code_of_told_data_counts_copies, code_of_told_data_counts_writes};

@@ -82,7 +82,7 @@ copied-read ms (Lit l ∷ os) [] b r = absurd r
 copied-read ms (At c ∷ os) (k ∷ ks) b r = ap (λ z. copied_as (mode_at ms) k + z) (copied-read (tail ms) os ks b r)
 copied-read ms (Lit l ∷ os) (k ∷ ks) b r = ap (λ z. z + copied (tail ms) ks) (ap (λ z. copied_as (mode_at ms) z) r.0 ∙ literal-copied (mode_at ms) l b.0) ∙ ap (λ z. 0 + z) (copied-read (tail ms) os ks b.1 r.1)
 
-are-read : (h : Heap) (base : ℕ) (ms : List Mode) (os : List Operand) → AreLiteralsBare ms os → AreRead os (seen_all h base ms os)
+pub are-read : (h : Heap) (base : ℕ) (ms : List Mode) (os : List Operand) → AreLiteralsBare ms os → AreRead os (seen_all h base ms os)
 are-read h base ms [] b = tt
 are-read h base ms (At c ∷ os) b = are-read h base (tail ms) os b
 are-read h base ms (Lit k ∷ os) b = (literal-seen h base (mode_at ms) k b.0, are-read h base (tail ms) os b.1)
@@ -158,7 +158,7 @@ module _ (weigh other : Weigh) (limit : ℕ) (x : Step) (H J : Handling) (pc bas
   same-ready : are_ready h base H.modes os ≡ are_ready h base J.modes os
   same-ready = ready-read h base H.modes os a.bare ∙ (ap (λ z. are_ready h base z os) a.modes ∙ sym (ready-read h base J.modes os a.bare_too))
 
-  same-seen : ks ≡ seen_all h base J.modes os
+  pub same-seen : ks ≡ seen_all h base J.modes os
   same-seen = seen-read h base H.modes os a.bare ∙ (ap (λ z. seen_all h base z os) a.modes ∙ sym (seen-read h base J.modes os a.bare_too))
 
   same-handed : handed h base H.modes os ≡ handed h base J.modes os

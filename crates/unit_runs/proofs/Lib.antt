@@ -6,3 +6,4 @@ pub mod Passing
 pub mod Graphs
 pub mod Runs
 pub mod QuickCode
+pub mod WritesOf

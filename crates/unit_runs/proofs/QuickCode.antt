@@ -36,7 +36,7 @@ quick-is P S levels fs code quick r h =
     reads-so : ℕ → steps.Step → Type 0
     reads-so pc x = read_as (handling_of code pc).modes (reads_of x) ≡ read_as (settled.handling_of (settled.functions_settings P S levels fs) pc).modes (reads_of x)
 
-adds-so : (weigh quick other : Weigh) (pc : ℕ) (x : steps.Step) → ((ks rs : List Carried) → quick pc ks rs ≡ weigh pc ks rs) → AddsAlike weigh other pc x → AddsAlike quick other pc x
+pub adds-so : (weigh quick other : Weigh) (pc : ℕ) (x : steps.Step) → ((ks rs : List Carried) → quick pc ks rs ≡ weigh pc ks rs) → AddsAlike weigh other pc x → AddsAlike quick other pc x
 adds-so weigh quick other pc (steps.Fire row shape ins out w) same h = λ ks are. same ks _ ∙ h ks are
 adds-so weigh quick other pc steps.Count same h = tt
 adds-so weigh quick other pc (steps.Move froms out w next) same h = tt

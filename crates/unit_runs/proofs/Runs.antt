@@ -116,10 +116,10 @@ begins u P S W order functions n right shared f ins in_f as_many =
 -- ---- the code of a unit
 
 module _ (u : Unit1) (order : (graph : ℕ) → List Vertex) (t : Tables) (code : Code) (limit : ℕ) (is : IsUnitCode u order t code) (counts : CountsCopies u order t code) (ready : IsReady u) (along : AreInOrder (network u) order) where
-  abbrev X : Layout
+  abbrev pub X : Layout
   X = laid (plan_of u order t) (weighing u order t) (network u) order (functions_of u) (levels_of u)
 
-  abbrev handling : ℕ → stored.Handling
+  abbrev pub handling : ℕ → stored.Handling
   handling = handling_of (functions_settings (plan_of u order t) (shares_of u order) (levels_of u) (functions_of u))
 
   bare : (pc : ℕ) → AreLiteralsBare (handling pc).modes (reads_of (laid_code.code_of code pc))
@@ -127,7 +127,7 @@ module _ (u : Unit1) (order : (graph : ℕ) → List Vertex) (t : Tables) (code 
       subst (λ z. AreLiteralsBare (handling pc).modes (reads_of z)) (sym (is.steps pc))
       (made-bare (plan_of u order t) (shares_of u order) (may_be_literal u) (levels_of u) (functions_of u) (graphs-bare u order t ready along) pc)
 
-  code-alike : AreAlike (weigh_of code) X.weigh (laid_code.code_of code) X.code (laid_code.handling_of code) handling
+  pub code-alike : AreAlike (weigh_of code) X.weigh (laid_code.code_of code) X.code (laid_code.handling_of code) handling
   code-alike =
       record {
         steps = is.steps;
@@ -135,13 +135,13 @@ module _ (u : Unit1) (order : (graph : ℕ) → List Vertex) (t : Tables) (code 
         adds = counts;
       }
 
-  abbrev OfCode : stored.Stored → stored.StoredOutcome
+  abbrev pub OfCode : stored.Stored → stored.StoredOutcome
   OfCode s = stored.step_stored (weigh_of code) limit (laid_code.code_of code) (laid_code.handling_of code) s
 
-  abbrev OfPlan : stored.Stored → stored.StoredOutcome
+  abbrev pub OfPlan : stored.Stored → stored.StoredOutcome
   OfPlan s = stored.step_stored X.weigh limit X.code handling s
 
-  one : (s : stored.Stored) → OfCode s ≡ OfPlan s
+  pub one : (s : stored.Stored) → OfCode s ≡ OfPlan s
   one = do-alike (weigh_of code) X.weigh limit (laid_code.code_of code) X.code (laid_code.handling_of code) handling code-alike
 
   to-plan : (s r : stored.Stored) → ReachesStored (weigh_of code) limit (laid_code.code_of code) (laid_code.handling_of code) s r → ReachesStored X.weigh limit X.code handling s r

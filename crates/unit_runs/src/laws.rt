@@ -3,6 +3,7 @@ ghost use Rattle.unit_runs.specs.Alike.{DoAlike};
 ghost use Rattle.unit_runs.specs.Literals.{AreMadeBare};
 ghost use Rattle.unit_runs.specs.Quick.{IsQuickUnitCode};
 ghost use Rattle.unit_runs.specs.Runs.{AreUnitCodeRunsRecorded};
+ghost use Rattle.unit_runs.specs.Writes.{AreUnitCodeWritesRecorded, DoesQuickCodeWrite};
 ghost use Rattle.unit_runs.specs.Units.{AreUnitGraphsBare, AreUnitPartsPassed, AreUnitPortsBare};
 
 /// Where two handlings agree by what each step reads, and simple nodes add the same, each step of the
@@ -39,7 +40,17 @@ pub fn runs_of_unit_code_are_of_record()
     ensures { AreUnitCodeRunsRecorded }
 {}
 
+/// And what a run writes that ends is of record, where each step writes what its line adds.
+pub fn writes_of_unit_code_are_of_record()
+    ensures { AreUnitCodeWritesRecorded }
+{}
+
 /// Where the code of a unit counts copies, so does code whose steps do the same, and it is the unit's.
 pub fn quick_code_is_of_units()
     ensures { IsQuickUnitCode }
+{}
+
+/// And where it writes what the lines of the plan add, so does code whose steps do the same.
+pub fn quick_code_writes_as_much()
+    ensures { DoesQuickCodeWrite }
 {}

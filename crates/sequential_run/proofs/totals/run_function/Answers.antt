@@ -18,8 +18,8 @@ returns c = λ ins e.
     let a = c.args in
     let b = c.requires.begun in
     let same = one-list a.args.items b.0 ins b.1 e in
-    totals-are a.code.now a.limit (entered_at a.entry ins) c.run.new.machine c.totals.result c.totals.ensures.results c.totals.ensures.fires c.totals.ensures.copies
-    (c.in_ok-run.ensures (entered_at a.entry ins) (record {
+    totals-are a.code.now a.limit (entered_at a.entry ins) c.run.new.machine c.totals.result c.in_ok-writes.writes c.totals.ensures.results c.totals.ensures.fires c.totals.ensures.copies c.totals.ensures.writes
+    (c.in_ok-writes.ensures (entered_at a.entry ins) (record {
       at = c.in_ok-machine.ensures.at ins e;
       decided = subst (λ xs. IsDecided a.code.now a.limit (entered_at a.entry xs)) same b.2;
       lends = subst (λ xs. LendsBelow a.code.now a.limit (entered_at a.entry xs)) same b.3;
@@ -30,13 +30,13 @@ returns-in_err-machine c = λ ins e.
     let p = err_from_is_err_and c.from_residual.result c.from_residual.ensures.1 in
     rw (p.1, p.2) (subst (IsFault c.args.code.now c.args.limit (entered_at c.args.entry ins)) (sym c.in_err-machine.ensures.refused) tt)
 
-pub returns-in_err-run : goal.returns-in_err-run
-returns-in_err-run c = λ ins e.
+pub returns-in_err-writes : goal.returns-in_err-writes
+returns-in_err-writes c = λ ins e.
     let a = c.args in
     let b = c.requires.begun in
     let same = one-list a.args.items b.0 ins b.1 e in
-    let p = err_from_is_err_and c.from_residual-in_err-run.result c.from_residual-in_err-run.ensures.1 in
-    rw (p.1, p.2) (c.in_err-run.ensures (entered_at a.entry ins) (record {
+    let p = err_from_is_err_and c.from_residual-in_err-writes.result c.from_residual-in_err-writes.ensures.1 in
+    rw (p.1, p.2) (c.in_err-writes.ensures (entered_at a.entry ins) (record {
       at = c.in_ok-machine.ensures.at ins e;
       decided = subst (λ xs. IsDecided a.code.now a.limit (entered_at a.entry xs)) same b.2;
       lends = subst (λ xs. LendsBelow a.code.now a.limit (entered_at a.entry xs)) same b.3;
