@@ -45,18 +45,18 @@ loop_is n p t k env l =
     (λ s. joined (each V s.lists) (G s) (k env) (H s) (λ rows. closed_is t k env rows s.failure))
 
 -- a loop, begun with the definitions of its first part
-pub start_is : (n : ℕ) (p : Program) (r : Round) (k : Rest) (first : List (List TypedExpr)) (env : List Val) → r.mark ≡ length env → r.is_tested ≡ r.parts.form.now.is_first
+pub start_is : (n : ℕ) (p : Program) (r : Round) (k : Rest) (first : List (List TypedExpr)) (env : List Val) → r.mark ≡ length env → r.is_tested ≡ r.parts.form.now.is_first → r.clauses.items ≡ no_rows r.parts.form.now.clauses
     → andthen (definitions n p first env) (λ e. andthen (meanings n p [] e) (finish n p (after.Start r) k e)) ≡ andthen (initial_gives n p r.parts (map (map (meaning n p)) first) env) (k env)
-start_is n p r k first env hm hf =
+start_is n p r k first env hm hf hc =
     let t : Turned = r.parts in
     let L : List Val → Timed (List Val) = λ l. looped n t.form.now t.results (meanings n p t.test.now) (turned_next n p t) (meanings n p t.values.now) env l in
     let R : Bool → List Val → List ClauseCells → List Val → Timed (List Val) = λ b e fs l. round n p t b k e fs l in
-    let C : List ClauseCells = no_rows t.form.now.clauses in
     defined_then (map (map (meaning n p)) first) env (λ e. andthen (meanings n p [] e) (finish n p (after.Start r) k e)) (λ e. andthen (L (drop (length env) e)) (k env))
     (λ us.
     given_then [] (finish n p (after.Start r) k (env ++ us))
-    ∙ ap (λ m. R r.is_tested (take m (env ++ us)) C (drop m (env ++ us))) hm
-    ∙ ap (λ e. R r.is_tested e C (drop (length env) (env ++ us))) (take-append_seam env us)
-    ∙ ap (λ b. R b env C (drop (length env) (env ++ us))) hf
+    ∙ ap (λ m. R r.is_tested (take m (env ++ us)) r.clauses.items (drop m (env ++ us))) hm
+    ∙ ap (λ e. R r.is_tested e r.clauses.items (drop (length env) (env ++ us))) (take-append_seam env us)
+    ∙ ap (λ b. R b env r.clauses.items (drop (length env) (env ++ us))) hf
+    ∙ ap (λ fs. R t.form.now.is_first env fs (drop (length env) (env ++ us))) hc
     ∙ sym (loop_is n p t k env (drop (length env) (env ++ us))))
     ∙ sym (then_then (definitions n p first env) (λ e. L (drop (length env) e)) (k env))

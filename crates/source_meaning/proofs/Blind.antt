@@ -1,6 +1,7 @@
 -- What does not read the value at a level gives the same whatever that value is.
-use Rattle.std.proofs.Common.{rules, ◌≡◌, ℕ, zero, suc, pos, Bool, true, false, ◌||◌, List, [], ◌∷◌, ◌++◌, map, length, drop, Option, Some, None, nat_eq, slice_get, if◌then◌else◌, nat_lt, refl, sym, ap, subst, ◌∙◌, append_assoc, append-nil}
-use Rattle.std.proofs.lemmas.Bool.{eqb-false}
+use Rattle.std.proofs.Common.{rules, ◌≡◌, ◌<◌, ℕ, zero, suc, pos, Bool, true, false, ◌||◌, List, [], ◌∷◌, ◌++◌, map, length, take, drop, set, Option, Some, None, inl, inr, nat_eq, slice_get, slice_set, if◌then◌else◌, nat_lt, arith, refl, sym, ap, subst, ◌∙◌, append_assoc, append-nil}
+use Rattle.std.proofs.lemmas.Bool.{cases_lt, eqb-false}
+use Rattle.std.proofs.lemmas.List.{length-take, set_past}
 use Rattle.std.proofs.Math.Seq.{drop-append_seam}
 use Rattle.flow_value.specs.declared.value.Val.{Val}
 use Rattle.flow_value.specs.declared.value.Val.TheOpen.{Val-F}
@@ -51,12 +52,9 @@ other_at (z ∷ xs) a b ys (suc x) h = other_at xs a b ys x (λ e. h (ap suc e))
 other_value : (xs : List Val) (a b : Val) (ys : List Val) (x : ℕ) → nat_eq x (length xs) ≡ false → value_at (xs ++ a ∷ ys) x ≡ value_at (xs ++ b ∷ ys) x
 other_value xs a b ys x h = other_at xs a b ys x (eqb-false x (length xs) h)
 
--- whether a form reads a level, by its parts
-pub expr_reads_is : (l : ℕ) (e : TypedExpr) → reads l e ≡ kind_reads l e.kind
+-- whether an expression reads a level, by its form
+expr_reads_is : (l : ℕ) (e : TypedExpr) → reads l e ≡ kind_reads l e.kind
 expr_reads_is l e = fold-roll-TypedExpr Bool Bool (form_reads l) expr_reads (record { line = e.line; types = e.types; kind = e.kind })
-
-pub form_reads_is : (l : ℕ) (x : TypedKind) (y : TypedKind-F TypedKind TypedExpr) → x ≡ roll-TypedKind y → kind_reads l x ≡ form_reads l (map-TypedKind TypedKind TypedExpr Bool Bool (kind_reads l) (reads l) y)
-form_reads_is l x y h = ap (kind_reads l) h ∙ fold-roll-TypedKind Bool Bool (form_reads l) expr_reads y
 
 module _ (xs : List Val) where
   -- a list in whose place behind xs another value may stand
@@ -285,10 +283,21 @@ module _ (xs : List Val) where
   meaning_blind n p =
       ind-TypedExpr (KindIs n p) (Is n p) (λ x y is. subst (λ z. KindIs n p (roll-TypedKind z)) is (kind_step n p y)) (λ x y is. subst (λ z. Is n p (roll-TypedExpr z)) is (whole_step n p y))
 
-  pub list_blind : (n : ℕ) (p : Program) (es : List TypedExpr) → list_reads (length xs) es ≡ false → BlindAll (map (meaning n p) es)
-  list_blind n p [] h = tt
-  list_blind n p (e ∷ es) h = (meaning_blind n p e (neither_first (reads (length xs) e) (list_reads (length xs) es) h), list_blind n p es (neither_second (reads (length xs) e) (list_reads (length xs) es) h))
+module _ {X : Type 0} where
+  -- a list around a place
+  around : (l : ℕ) (ys : List X) → l < length ys → (a : X) × ((zs : List X) × (ys ≡ take l ys ++ a ∷ zs) × ((w : X) → set ys l w ≡ take l ys ++ w ∷ zs))
+  around l [] lt = absurd (omega (arith, lt))
+  around zero (y ∷ ys) lt = (y, (ys, refl, λ w. refl))
+  around (suc l) (y ∷ ys) lt =
+      let r = around l ys (omega (arith, lt)) in
+      (r.0, (r.1.0, ap (λ k. y ∷ k) r.1.1, λ w. ap (λ k. y ∷ k) (r.1.2 w)))
 
-  pub defs_blind : (n : ℕ) (p : Program) (ds : List (List TypedExpr)) → defs_read (length xs) ds ≡ false → BlindDefs (map (map (meaning n p)) ds)
-  defs_blind n p [] h = tt
-  defs_blind n p (d ∷ ds) h = (list_blind n p d (neither_first (list_reads (length xs) d) (defs_read (length xs) ds) h), defs_blind n p ds (neither_second (list_reads (length xs) d) (defs_read (length xs) ds) h))
+-- an expression that does not read a level
+pub unread_is_free : (n : ℕ) (p : Program) (l : ℕ) (e : TypedExpr) → reads l e ≡ false → (env : List Val) (v : Val) → meaning n p e (slice_set env l v) ≡ meaning n p e env
+unread_is_free n p l e h env v =
+    elim (cases_lt l (length env)) [
+      | inl lt ↦ let place = around l env lt in
+          let at : length (take l env) ≡ l = simp length-take (omega (arith, lt)) in
+          ap (meaning n p e) (place.1.2 v) ∙ meaning_blind (take l env) n p e (ap (λ i. reads i e) at ∙ h) v place.0 place.1.0 ∙ ap (meaning n p e) (sym place.1.1)
+      | inr ge ↦ ap (meaning n p e) (set_past env l v ge)
+    ]

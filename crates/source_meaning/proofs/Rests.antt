@@ -24,7 +24,6 @@ use Rattle.meaning.specs.Words.{value_at, test_of}
 use Rattle.source_meaning.specs.Slots.{slot_values}
 use Rattle.meaning.specs.Sources.{places_of}
 use Rattle.meaning.specs.Meaning.{Gives, all_of, defined, at_place, calls, meaning, meanings, function_gives}
-use Rattle.meaning.specs.Rows.{no_rows}
 use Rattle.source_meaning.specs.Pending.{Program, Rest, walked_body, walk, spanned, turned_next, closed, round, tested, collected, finish, operate, frame_rest, last, rest, before}
 use Rattle.source_meaning.proofs.Laws.{below_refl, below_plus, below_then, moves_same, moves_on, plus_zero, plus_plus, plus_then, then_same, then_then, then_given, joined, given_then}
 use Rattle.source_meaning.proofs.Grows.{Less, meanings_grow, definitions_grow, body_grow, calls_grow, members_below, each_below, over_below, chosen_below, arm_below, turned_below}
@@ -87,7 +86,7 @@ finish_below n p (after.Choose a b results) j k h env vs = below_then _ _ _ _ (c
 finish_below n p (after.Pick c arms results) j k h env vs = below_then _ _ _ _ (arm_below n p c.now results arms.now (out-Val (value_at vs 0)) env) (h env)
 finish_below n p after.Pass j k h env vs = h env vs
 finish_below n p (after.Next w) j k h env vs = walk_below n p w j k (take w.mark env) _ h
-finish_below n p (after.Start r) j k h env vs = round_below n p r.parts r.is_tested j k (take r.mark env) (no_rows r.parts.form.now.clauses) (drop r.mark env) h
+finish_below n p (after.Start r) j k h env vs = round_below n p r.parts r.is_tested j k (take r.mark env) r.clauses.items (drop r.mark env) h
 finish_below n p (after.Kept r) j k h env vs = collected_below n p r.parts r.is_tested j k (take r.mark env) _ (drop r.mark env) h
 finish_below n p (after.Tested r) j k h env vs = tested_below n p r.parts j k (take r.mark env) r.clauses.items (drop r.mark env) _ h
 finish_below n p (after.Renew r) j k h env vs = round_below n p r.parts true j k (take r.mark env) r.clauses.items _ h

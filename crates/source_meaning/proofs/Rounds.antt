@@ -62,7 +62,7 @@ at_test more next t V k env fs l test.Yes =
     e1 ∙ ap (plus 1) (e2 ∙ e3 ∙ e4) ∙ sym (then_plus 1 (V (env ++ l)) (λ row. andthen (next l) (λ m. andthen (more m) (G row))))
 
 -- one turn with the test first, and with the clauses first
-pub one_turn : (more : List Val → Timed Members) (tests next : Gives) (u : Bool) (t : Turned) (V : Gives) (k : Rest) (env : List Val) (fs : List ClauseCells) (l : List Val)
+one_turn : (more : List Val → Timed Members) (tests next : Gives) (u : Bool) (t : Turned) (V : Gives) (k : Rest) (env : List Val) (fs : List ClauseCells) (l : List Val)
     → andthen (andthen (tests (env ++ l)) (λ ts. turn more next l (goes_on u (test_of ts)))) (folds t V k env fs)
     ≡ andthen (V (env ++ l)) (λ row. andthen (tests (env ++ l)) (λ ts. after_test more next t V k env (with_row t.form.now.clauses fs row) l (goes_on u (test_of ts))))
 one_turn more tests next u t V k env fs l =

@@ -13,7 +13,6 @@ use Rattle.source_meaning.specs.declared.state.After.TheVariants as after
 use Rattle.meaning.specs.Timed.{Timed, given, plus, andthen, Moves}
 use Rattle.meaning.specs.Meaning.{Gives, defined, renew, renew_one, meaning, meanings, definitions}
 use Rattle.source_meaning.specs.Pending.{Program, Rest, turned_next, round, tested, collected, finish, rest, before}
-use Rattle.source_meaning.specs.Turning.{standing}
 use Rattle.source_meaning.proofs.Laws.{given_then, joined, moves_to}
 use Rattle.source_meaning.proofs.Rests.{defined_then}
 use Rattle.source_meaning.proofs.Rounds.{kept, round_moves}
@@ -35,12 +34,12 @@ module _ {X : Type 0} where
       ]
 
   -- a list of two parts, the second of which is empty where the first is not full
-  pub take_back : (m : ℕ) (xs l : List X) → (length xs < m → l ≡ []) → take m (take m xs ++ l) ≡ take m xs
+  take_back : (m : ℕ) (xs l : List X) → (length xs < m → l ≡ []) → take m (take m xs ++ l) ≡ take m xs
   take_back zero xs l h = refl
   take_back (suc m) [] l h = ap (take (suc m)) (h (omega arith))
   take_back (suc m) (x ∷ xs) l h = ap (λ k. x ∷ k) (take_back m xs l (λ lt. h (omega arith)))
 
-  pub drop_back : (m : ℕ) (xs l : List X) → (length xs < m → l ≡ []) → drop m (take m xs ++ l) ≡ l
+  drop_back : (m : ℕ) (xs l : List X) → (length xs < m → l ≡ []) → drop m (take m xs ++ l) ≡ l
   drop_back zero xs l h = refl
   drop_back (suc m) [] l h = ap (drop (suc m)) (h (omega arith)) ∙ sym (h (omega arith))
   drop_back (suc m) (x ∷ xs) l h = drop_back m xs l (λ lt. h (omega arith))
@@ -64,9 +63,9 @@ renew_none (d ∷ ds) (v ∷ vs) = ap (renew_one d v) (renew_none ds vs) ∙ ren
 -- the clauses come first
 pub start_moves : (p : Program) (r : Round) (s : ℕ) (fs : List Frame) (env : List Val) (w : ℕ → Timed (List Val))
     → ((n : ℕ) → w n ≡ plus s (andthen (meanings n p r.parts.values.now env) (finish n p (after.Kept r) (rest n p fs) env)))
-    → Moves (λ n. standing n p s fs env r) w
+    → Moves (λ n. before n p s fs env (after.Start r) []) w
 start_moves p r s fs env w h =
-    moves_to (λ n. standing n p s fs env r) (λ n. plus s (kept n p r.parts r.is_tested (rest n p fs) (take r.mark env) r.clauses.items (drop r.mark env))) w
+    moves_to (λ n. before n p s fs env (after.Start r) []) (λ n. plus s (kept n p r.parts r.is_tested (rest n p fs) (take r.mark env) r.clauses.items (drop r.mark env))) w
     (round_moves p r.parts r.is_tested s fs (take r.mark env) r.clauses.items (drop r.mark env))
     (λ n. h n ∙ ap (λ e. plus s (andthen (meanings n p r.parts.values.now e) (finish n p (after.Kept r) (rest n p fs) env))) (sym (take-append-drop r.mark env)))
 
@@ -102,7 +101,7 @@ turn_is n p r m h k names hh le first second =
 pub renew_is : (n : ℕ) (p : Program) (r : Round) (h s : ℕ) (fs : List Frame) (env new : List Val)
     → (r.mark ≤ r.height → h ≡ r.height) → (r.height < r.mark → h ≡ r.mark)
     → new ≡ take r.mark env ++ renew r.parts.form.now.renewed (drop h env) (drop r.mark (take h env))
-    → before n p s fs env (after.Renew r) [] ≡ standing n p s fs new (record r { is_tested = true })
+    → before n p s fs env (after.Renew r) [] ≡ before n p s fs new (after.Start (record r { is_tested = true })) []
 renew_is n p r h s fs env new first second is =
     let N : ℕ → List Val = λ i. renew r.parts.form.now.renewed (drop i env) (drop r.mark (take i env)) in
     let few : length env < r.mark → N h ≡ [] = λ lt. ap (renew r.parts.form.now.renewed (drop h env)) (none_left r.mark h env lt) ∙ renew_none r.parts.form.now.renewed (drop h env) in

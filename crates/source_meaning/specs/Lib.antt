@@ -1,4 +1,3 @@
 pub mod Slots
 pub mod Reads
 pub mod Pending
-pub mod Turning

@@ -22,7 +22,7 @@ use Rattle.meaning.specs.Timed.{Timed, given, plus, andthen}
 use Rattle.meaning.specs.Words.{value_at, failed, test_of, goes_on}
 use Rattle.source_meaning.specs.Slots.{slot_values}
 use Rattle.meaning.specs.Sources.{places_of, lower_of}
-use Rattle.meaning.specs.Rows.{no_rows, with_row, with_rows, made}
+use Rattle.meaning.specs.Rows.{with_row, with_rows, made}
 use Rattle.meaning.specs.Meaning.{Gives, all_of, defined, body_of, chosen, arm_of, each, environments, at_place, over, renew, turned, looped, members, calls, meaning, meanings, definitions}
 
 abbrev pub Program : Type 0
@@ -98,7 +98,7 @@ finish n p (after.Choose a b results) k env vs = andthen (chosen results (test_o
 finish n p (after.Pick c arms results) k env vs = andthen (arm_of c.now results (map all_of (map (map (meaning n p)) arms.now)) (out-Val (value_at vs 0)) env) (k env)
 finish n p after.Pass k env vs = k env vs
 finish n p (after.Next w) k env vs = walk n p w k (take w.mark env) (with_row w.parts.form.now.clauses w.clauses.items vs)
-finish n p (after.Start r) k env vs = round n p r.parts r.is_tested k (take r.mark env) (no_rows r.parts.form.now.clauses) (drop r.mark env)
+finish n p (after.Start r) k env vs = round n p r.parts r.is_tested k (take r.mark env) r.clauses.items (drop r.mark env)
 finish n p (after.Kept r) k env vs = collected n p r.parts r.is_tested k (take r.mark env) (with_row r.parts.form.now.clauses r.clauses.items vs) (drop r.mark env)
 finish n p (after.Tested r) k env vs = tested n p r.parts k (take r.mark env) r.clauses.items (drop r.mark env) (goes_on r.parts.form.now.is_until (test_of vs))
 finish n p (after.Renew r) k env vs =

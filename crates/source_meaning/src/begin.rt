@@ -5,9 +5,9 @@ ghost use Rattle.meaning.specs.Meaning.{meaning, kind_meaning, body_of};
 ghost use Rattle.source_meaning.specs.Pending.{Program, rest, load, initial_gives};
 ghost use Rattle.source_meaning.specs.Slots.{given_values};
 
+use crate::rows::no_rows;
 use crate::slots::Given;
 use crate::state::{After, Round, State, Turned, Walked, Work};
-use crate::strides::is_direct_turn;
 use crate::words::{constant_value, value_at};
 use flow_value::{NoMemory, Seq};
 use std::alloc::Global;
@@ -112,13 +112,13 @@ fn begin_loop<'a>(
     ensures load { OnOk result (load state.new.frames.items ≤ load state.old.frames.items + 5) }
 {
     let mark = state.names.len();
+    let clauses = no_rows(alloc, parts.form.clauses.as_slice())?;
     let round = Round {
         parts,
         mark,
         height: mark,
         is_tested: parts.form.is_first,
-        is_direct: is_direct_turn(parts),
-        clauses: Vec::new(alloc),
+        clauses,
     };
     state.define(alloc, After::Start(round), &[], first.as_slice())?;
     Ok(())

@@ -6,7 +6,7 @@ ghost use Rattle.meaning.specs.Meaning.{meaning, definitions, results_of, with_c
 ghost use Rattle.source_meaning.specs.Pending.{Program, rest, load, weight, whole, before, fuel, StartsFull};
 ghost use Rattle.source_meaning.specs.Slots.{given_values};
 
-use crate::loops::{collect, end_place, end_turn, renew, start_round};
+use crate::loops::{begin_round, collect, end_place, end_turn, renew};
 use crate::slots::Given;
 use crate::state::{After, Going, State};
 use crate::words::{failed, test_of};
@@ -303,8 +303,8 @@ pub fn finish<'a>(
             Ok(going)
         }
         After::Start(round) => {
-            let going = start_round(alloc, limit, state, round)?;
-            Ok(going)
+            begin_round(alloc, state, round)?;
+            Ok(Going::On)
         }
         After::Kept(round) => {
             let going = collect(alloc, limit, state, round, values)?;

@@ -2,11 +2,8 @@
 //! and the evaluator that computes them.
 #![tactic(auto)]
 
-mod ahead;
 mod begin;
 mod budget;
-mod direct;
-mod elements;
 mod evaluator;
 mod finish;
 mod loops;
@@ -15,12 +12,7 @@ mod reads;
 mod rows;
 mod slots;
 mod sources;
-mod sparing;
 mod state;
-mod strides;
-mod taking;
-mod turning;
-mod whole;
 mod words;
 
 pub use evaluator::{Found, MeanFault, depths_agree, mean, turns_agree};

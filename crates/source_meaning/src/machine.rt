@@ -5,7 +5,6 @@ ghost use Rattle.meaning.specs.Meaning.{meaning};
 ghost use Rattle.source_meaning.specs.Slots.{slot_values, given_values};
 ghost use Rattle.source_meaning.specs.Pending.{Program, rest, frame_rest, frame_weight, load, whole, before_work, fuel};
 
-use crate::ahead::add_ahead;
 use crate::begin::begin;
 use crate::finish::finish;
 use crate::loops::span;
@@ -67,39 +66,6 @@ fn advance_listing<'a>(
             Ok(going)
         }
     }
-}
-
-/// Goes on with a list of expressions, after those whose values come at once.
-fn resume_listing<'a>(
-    alloc: Global,
-    program: &'a [Function],
-    limit: u64,
-    state: &mut State<'a>,
-    listing: Listing<'a>,
-) -> Result<Going, NoMemory>
-    ensures moves { IfOk result (λ g. g ≡ Going.On → Moves (λ n. plus state.old.steps (frame_rest n program.now (rest n program.now state.old.frames.items) (Frame.Listing listing.entry) state.old.names (given_values state.old.given))) (λ n. whole n program.now state.new.steps state.new.frames.items state.new.names (given_values state.new.given))) }
-    ensures limit { IfOk result (λ g. g ≡ Going.Limit → Passes limit (λ n. plus state.old.steps (frame_rest n program.now (rest n program.now state.old.frames.items) (Frame.Listing listing.entry) state.old.names (given_values state.old.given)))) }
-    ensures fuel { IfOk result (λ g. g ≡ Going.On → fuel limit state.new.steps state.new.frames.items < fuel limit state.old.steps state.old.frames.items + frame_weight (Frame.Listing listing.entry)) }
-    ensures bound { IfOk result (λ g. state.old.steps ≤ limit → state.new.steps ≤ limit) }
-{
-    let Listing {
-        after,
-        left,
-        mut done,
-    } = listing;
-    let values = mem::replace(&mut state.given, Given::Nothing);
-    add_values(&mut done, values)?;
-    let ahead = add_ahead(alloc, left, state.names.as_slice(), &mut done)?;
-    if !state.count(limit, ahead.steps) {
-        return Ok(Going::Limit);
-    }
-    let rest = Listing {
-        after,
-        left: ahead.left,
-        done,
-    };
-    let going = advance_listing(alloc, program, limit, state, rest)?;
-    Ok(going)
 }
 
 /// Puts operands back with one more, whose step is counted: a name is lent, and else the part is
@@ -208,7 +174,7 @@ fn advance<'a>(
 {
     match frame {
         Frame::Listing(listing) => {
-            let going = resume_listing(alloc, program, limit, state, listing)?;
+            let going = advance_listing(alloc, program, limit, state, listing)?;
             Ok(going)
         }
         Frame::Operating(operating) => {

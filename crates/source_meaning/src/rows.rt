@@ -1,14 +1,11 @@
 //! The clauses of a loop.
-ghost use Rattle.std.specs.Prelude.{◌≡◌, ◌+◌, List, [], ◌∷◌, ◌++◌, take, drop, IfOk, OnOk, IsTrue};
+ghost use Rattle.std.specs.Prelude.{◌≡◌, ◌+◌, List, ◌∷◌, ◌++◌, take, drop, IfOk, OnOk};
 ghost use Rattle.std.specs.Vec.Iter.{into_iter_items};
 ghost use Rattle.loop_folds.specs.Clauses.{Cell};
 ghost use Rattle.loop_folds.specs.Masks.{keep_of};
-ghost use Rattle.meaning.specs.Rows.{no_rows, span, cells_in, with_cells, with_row, made};
+ghost use Rattle.meaning.specs.Rows.{no_rows, span, with_cells, with_row, made};
 ghost use Rattle.meaning.specs.Words.{value_at};
-ghost use Rattle.source_meaning.specs.Slots.{given_values};
-ghost use Rattle.flow_value.specs.declared.value.Val.{Val};
 
-use crate::slots::Given;
 use flow_value::{Cause, Items, NoMemory, Val};
 use loop_folds::{Clause, Keep, Masking, keep};
 use std::alloc::Global;
@@ -78,71 +75,6 @@ pub fn add_row(
         put_at(clauses, place, v, said)?;
     }
     Ok(())
-}
-
-/// Adds the values of one place to the clauses, as they are handed on.
-pub fn add_given(
-    alloc: Global,
-    forms: &[ClauseForm],
-    clauses: &mut Vec<Clause>,
-    values: Given,
-) -> Result<(), NoMemory>
-    ensures { OnOk result (clauses.new.items ≡ with_row forms.now clauses.old.items (given_values values)) }
-{
-    match values {
-        Given::Nothing => {
-            add_row(forms, clauses, Items::new(alloc))?;
-            Ok(())
-        }
-        Given::One(v) => {
-            add_one(alloc, forms, clauses, v)?;
-            Ok(())
-        }
-        Given::Many(items) => {
-            add_row(forms, clauses, items)?;
-            Ok(())
-        }
-    }
-}
-
-/// Adds the one value of a place to the clauses; where there is one clause without a mask, with no
-/// list.
-fn add_one(
-    alloc: Global,
-    forms: &[ClauseForm],
-    clauses: &mut Vec<Clause>,
-    v: Val,
-) -> Result<(), NoMemory>
-    ensures { OnOk result (clauses.new.items ≡ with_row forms.now clauses.old.items (v ∷ [])) }
-{
-    if is_plain(forms) {
-        put_at(clauses, 0, v, Keep::Kept)?;
-        Ok(())
-    } else {
-        let mut values = Items::new(alloc);
-        values.add(v)?;
-        add_row(forms, clauses, values)
-    }
-}
-
-/// Whether there is one clause, without a mask.
-fn is_plain(forms: &[ClauseForm]) -> bool
-    ensures { IsTrue result → (vs : List Val) → cells_in forms.now vs ≡ (value_at vs 0, Keep.Kept) ∷ [] }
-{
-    match forms {
-        [form] => is_unmasked(form.masking),
-        _ => false,
-    }
-}
-
-/// Whether a clause has no mask.
-fn is_unmasked(masking: Masking) -> bool
-    ensures { IsTrue result → masking ≡ Masking.All }
-{
-    match masking {
-        Masking::All => true,
-        _ => false,
-    }
 }
 
 /// The value of each clause, arrays from a lower bound.

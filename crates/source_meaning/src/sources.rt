@@ -1,5 +1,5 @@
 //! The generators of a loop.
-ghost use Rattle.std.specs.Prelude.{◌≡◌, ◌≤◌, [], ◌∷◌, ◌++◌, length, take, drop, unwrap_or, IfOk, OnOk};
+ghost use Rattle.std.specs.Prelude.{◌≡◌, ◌++◌, drop, unwrap_or, IfOk, OnOk};
 ghost use Rattle.std.specs.Option.{option_copied};
 ghost use Rattle.flow_value.specs.declared.value.Val.TheVariants as val;
 ghost use Rattle.flow_value.specs.declared.value.Val.TheViews.{out-Val};
@@ -9,8 +9,7 @@ ghost use Rattle.source_meaning.specs.Slots.{slot_values};
 ghost use Rattle.meaning.specs.Sources.{width, up_to, range_size, list_size, size_of, sizes_of, first_failure, are_size, common, places_of, number_in, element_at, index_in, names_of, names_at, lower_of};
 
 use crate::slots::{Slot, lent};
-use crate::words::copied_value;
-use flow_value::{Cause, Items, NoMemory, Seq, Val, item_at, whole};
+use flow_value::{Cause, Items, NoMemory, Seq, Val, copy, item_at, whole};
 use meaning::Places;
 use std::alloc::Global;
 use typed_tree::Source;
@@ -189,18 +188,16 @@ fn index_in(list: &Val, place: usize) -> Val
 }
 
 /// A copy of an element that may be there.
-#[inline(always)]
 fn copied(alloc: Global, element: Option<&Val>) -> Result<Val, NoMemory>
     ensures { IfOk result (λ v. v ≡ unwrap_or (option_copied element.entry) (val.Err cause.Explicit)) }
 {
     match element {
-        Some(v) => copied_value(alloc, v),
+        Some(v) => copy(alloc, v),
         None => Ok(Val::Err(Cause::Explicit)),
     }
 }
 
 /// A copy of the element of an array or a stream at a place.
-#[inline(always)]
 fn element_at(alloc: Global, list: &Val, place: usize) -> Result<Val, NoMemory>
     ensures { IfOk result (λ v. v ≡ element_at list.now place) }
 {
@@ -254,66 +251,6 @@ pub fn names_at(
         left = behind(*source, left);
     }
     Ok(made)
-}
-
-/// Adds two values.
-fn add_two(names: &mut Items, a: Val, b: Val) -> Result<(), NoMemory>
-    ensures { OnOk result (names.new ≡ names.old ++ a ∷ b ∷ []) }
-{
-    names.add(a)?;
-    names.add(b)
-}
-
-/// Adds the names of a generator at a place, by the bounds that are left, which are lent from the
-/// first so many names.
-fn add_generated(
-    alloc: Global,
-    names: &mut Items,
-    height: usize,
-    source: Source,
-    bounds: &[Slot],
-    place: usize,
-) -> Result<(), NoMemory>
-    requires { height ≤ length names.old }
-    ensures { OnOk result (names.new ≡ names.old ++ names_of source (value_at (slot_values (take height names.old) bounds.now) 0) place) }
-{
-    let missing = Val::Err(Cause::Explicit);
-    let around = &names.as_slice()[..height];
-    let first = bound(around, bounds, 0, &missing);
-    match source {
-        Source::Range => {
-            let v = number_in(first, place);
-            names.add(v)
-        }
-        Source::Elements => {
-            let v = element_at(alloc, first, place)?;
-            names.add(v)
-        }
-        Source::Indexed => {
-            let v = element_at(alloc, first, place)?;
-            let index = index_in(first, place);
-            add_two(names, v, index)
-        }
-    }
-}
-
-/// Adds the names of generators at a place.
-pub fn add_names_at(
-    alloc: Global,
-    names: &mut Items,
-    sources: &[Source],
-    bounds: &[Slot],
-    place: usize,
-) -> Result<(), NoMemory>
-    ensures { OnOk result (names.new ≡ names.old ++ names_at sources.now (slot_values names.old bounds.now) place) }
-{
-    let height = names.len();
-    let mut left = bounds;
-    for source in sources {
-        add_generated(alloc, names, height, *source, left, place)?;
-        left = behind(*source, left);
-    }
-    Ok(())
 }
 
 /// The lower bound of arrays that a loop makes, by the first bound.

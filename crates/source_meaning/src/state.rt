@@ -31,8 +31,6 @@ pub struct Walk<'a> {
     pub count: usize,
     /// How many of them are left.
     pub left: usize,
-    /// Whether the values at a place are looked for at once. What the loop gives is the same.
-    pub is_direct: bool,
     /// The clauses so far.
     pub clauses: Vec<Clause>,
 }
@@ -63,8 +61,6 @@ pub struct Round<'a> {
     pub height: usize,
     /// Whether a test comes before the next turn.
     pub is_tested: bool,
-    /// Whether a turn is looked for at once. What the loop gives is the same.
-    pub is_direct: bool,
     /// The clauses so far.
     pub clauses: Vec<Clause>,
 }

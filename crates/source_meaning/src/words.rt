@@ -36,19 +36,8 @@ pub fn value_at(alloc: Global, values: &[Val], place: usize) -> Result<Val, NoMe
     ensures { IfOk result (λ v. v ≡ value_at values.now place) }
 {
     match item_at(values, place) {
-        Some(v) => copied_value(alloc, v),
+        Some(v) => copy(alloc, v),
         None => Ok(Val::Err(Cause::Explicit)),
-    }
-}
-
-/// A copy of a value; that of an integer is made here.
-#[inline(always)]
-pub fn copied_value(alloc: Global, v: &Val) -> Result<Val, NoMemory>
-    ensures { IfOk result (λ w. w ≡ v.now) }
-{
-    match v {
-        Val::Int(n) => Ok(Val::Int(*n)),
-        _ => copy(alloc, v),
     }
 }
 

@@ -33,11 +33,8 @@ returns-in_ok-going-in-Next-clause-moves c = λ g. along c.args.program.now c.ar
 pub returns-in_ok-going-in-Next-clause-limit : goal.returns-in_ok-going-in-Next-clause-limit
 returns-in_ok-going-in-Next-clause-limit c = λ g. along_limit c.args.limit c.args.program.now c.args.state.now.steps c.args.state.now.frames.items c.args.state.now.names c.args.values _ _ c.in-Next.is (c.in_ok-going-in-Next.ensures.limit g c.args.program.now)
 
-pub returns-in_ok-going-in-Start-clause-moves : goal.returns-in_ok-going-in-Start-clause-moves
-returns-in_ok-going-in-Start-clause-moves c = λ g. along c.args.program.now c.args.state.now.steps c.args.state.now.frames.items c.args.state.now.names c.args.values _ _ _ c.in-Start.is (c.in_ok-going-in-Start.ensures.moves g c.args.program.now)
-
-pub returns-in_ok-going-in-Start-clause-limit : goal.returns-in_ok-going-in-Start-clause-limit
-returns-in_ok-going-in-Start-clause-limit c = λ g. along_limit c.args.limit c.args.program.now c.args.state.now.steps c.args.state.now.frames.items c.args.state.now.names c.args.values _ _ c.in-Start.is (c.in_ok-going-in-Start.ensures.limit g c.args.program.now)
+pub returns-in_ok-begin_round-in-Start-clause-moves : goal.returns-in_ok-begin_round-in-Start-clause-moves
+returns-in_ok-begin_round-in-Start-clause-moves c = λ g. along c.args.program.now c.args.state.now.steps c.args.state.now.frames.items c.args.state.now.names c.args.values _ _ _ c.in-Start.is (c.in_ok-begin_round-in-Start.ensures.moves c.args.program.now)
 
 pub returns-in_ok-going-in-Kept-clause-moves : goal.returns-in_ok-going-in-Kept-clause-moves
 returns-in_ok-going-in-Kept-clause-moves c = λ g. along c.args.program.now c.args.state.now.steps c.args.state.now.frames.items c.args.state.now.names c.args.values _ _ _ c.in-Kept.is (moves_same _ _ (λ n. c.in_ok-going-in-Kept.ensures.same g n c.args.program.now))
