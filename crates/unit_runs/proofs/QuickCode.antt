@@ -1,5 +1,5 @@
 -- Code whose steps do the same as those of a unit's code is the unit's, and counts what that counts.
-use Rattle.std.proofs.Common.{◌≡◌, ℕ, false, List, get_or, refl, sym, ap, ◌∙◌, subst}
+use Rattle.std.proofs.Common.{◌≡◌, ℕ, false, List, get_or, sym, ap, ◌∙◌, subst}
 use Rattle.if1_graph.specs.declared.graph.Unit1.{Unit1}
 use Rattle.graph_meaning.specs.Carried.{Carried}
 use Rattle.graph_meaning.specs.Demand.{Vertex}
@@ -9,7 +9,6 @@ use Rattle.run_code.specs.Made.{Plan}
 use Rattle.run_code.specs.Steps as steps
 use Rattle.run_made.specs.Plans.{lines_of, weigh_at}
 use Rattle.run_store.specs.Effects.{reads_of}
-use Rattle.run_store.specs.Stored.{Mode}
 use Rattle.made_store.specs.Settings.{Shares}
 use Rattle.made_store.specs.Settled as settled
 use Rattle.step_code.specs.declared.code.Code.{Code}
@@ -22,7 +21,7 @@ use Rattle.unit_plan.specs.Plans.{Tables, functions_of, levels_of, plan_of}
 use Rattle.unit_plan.specs.Shares.{weighing}
 use Rattle.unit_runs.specs.Alike.{AddsAlike}
 use Rattle.unit_runs.specs.Quick.{IsQuickUnitCode}
-use Rattle.unit_runs.specs.Runs.{CountsCopies, IsUnitCode}
+use Rattle.unit_runs.specs.Runs.{CountsCopies}
 
 quick-is : (P : Plan) (S : Shares) (levels : ℕ) (fs : List ℕ) (code quick : Code) → RunsSame code quick → IsCodeOf P S levels fs code → IsCodeOf P S levels fs quick
 quick-is P S levels fs code quick r h =
