@@ -65,6 +65,7 @@ fn left(alloc: Global, run: Totalled) -> Result<Totals, RunFault>
         results,
         fires,
         copies,
+        ..
     } = run;
     match values_of(alloc, results) {
         Ok(results) => Ok(Totals {
