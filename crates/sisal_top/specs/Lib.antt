@@ -1,5 +1,7 @@
 pub mod Answer
+pub mod Graph
 pub mod Lines
+pub mod Making
 pub mod Outputs
 pub mod Program
 pub mod Refusals

@@ -1,0 +1,4 @@
+pub mod Closed
+pub mod Form
+pub mod Reading
+pub mod Value
