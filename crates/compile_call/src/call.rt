@@ -14,8 +14,9 @@ use translate::{TranslateFault, translate};
 use typed_tree::Program;
 use unit_drawing::{add_notes, drawing};
 
-/// The unit of a program with the marks that are made.
-fn marked(alloc: Global, program: &Program) -> Result<Marked, TranslateFault>
+/// The unit of graphs of a program with the marks that are made, which is ready and has sound marks.
+/// Refused as `compile` refuses the program.
+pub fn marked(alloc: Global, program: &Program) -> Result<Marked, TranslateFault>
     requires fits { IsFitting program.now }
     ensures marked { IfOk result (IsMarked program.now) }
     ensures refused { IfErr result (IsRefused program.now) }

@@ -4,6 +4,6 @@
 mod call;
 mod laws;
 
-pub use call::compile;
+pub use call::{compile, marked};
 pub use laws::{a_program_has_one_text, compiled_texts_are_read};
 pub use translate::TranslateFault;

@@ -18,30 +18,11 @@ use Rattle.type_rules.specs.declared.fault.TypeFault.TheVariants as checker
 use Rattle.typed_tree.specs.Faults.{BreaksUnit}
 use Rattle.sisal_check.specs.Texts.{IsText}
 use Rattle.sisal_top.specs.Program.{AskToRead, IsUnitOf, ReadsText}
-use Rattle.sisal_top.specs.Refusals.{IsCause, IsNoProgram, IsReply, IsUnread, Means}
+use Rattle.sisal_top.specs.Refusals.{IsCause, IsNoProgram, IsUnread}
 use Rattle.sisal_top.specs.Status.{of_checker, of_parser, of_words}
 use Rattle.sisal_top.proofs.Lexed.{is_text}
 use Rattle.sisal_top.specs.declared.status.Status.{Status}
 use Rattle.sisal_top.specs.declared.status.Status.TheVariants as status
-
-pub means_no_fault : (bytes : List ℕ) (r : Result (List ℕ) Status) → r ≡ Err status.ReadFault → Means bytes r → ⊥
-means_no_fault bytes r is m = subst (λ x. Means bytes x) is m
-
-pub means_reply : (bytes : List ℕ) (r : Result (List ℕ) Status) → Means bytes r → IfErr r IsReply
-means_reply bytes (Ok printed) m = tt
-means_reply bytes (Err status.Done) m = m
-means_reply bytes (Err (status.Usage f)) m = m
-means_reply bytes (Err status.ReadFault) m = tt
-means_reply bytes (Err status.WriteFault) m = m
-means_reply bytes (Err status.NoMemory) m = tt
-means_reply bytes (Err (status.Syntax f)) m = tt
-means_reply bytes (Err (status.Typing rule line)) m = tt
-means_reply bytes (Err (status.If1 f)) m = tt
-means_reply bytes (Err (status.Argument f)) m = tt
-means_reply bytes (Err status.TurnLimit) m = tt
-means_reply bytes (Err status.TooLong) m = tt
-means_reply bytes (Err status.Later) m = tt
-means_reply bytes (Err (status.Unlinked name)) m = tt
 
 -- words that ask to read the text are no other command, and have no fault
 pub reads_text : (words : List (List ℕ)) (c : Command) → AskToRead words → IsCommand words c → ReadsText c

@@ -1,5 +1,5 @@
 -- What words and a text ask for, and what the whole call answers.
-use Rattle.std.specs.Prelude.{◌≡◌, ℕ, List, Option, Result, Ok, Err}
+use Rattle.std.specs.Prelude.{◌≡◌, ℕ, true, List, Option, Result, Ok, Err}
 use Rattle.flow_gen.specs.Program.{program}
 use Rattle.flow_io.specs.Bytes.{AddsOn}
 use Rattle.if1_call.specs.Calls.{IsCanonicalOf, IsRefusedFor}
@@ -9,15 +9,15 @@ use Rattle.mean_call.specs.declared.fault.Refusal.TheVariants as refusal
 use Rattle.run_words.specs.Words.{IsCommand, HasFault}
 use Rattle.run_words.specs.declared.command.Command.{Command}
 use Rattle.run_words.specs.declared.command.Command.TheVariants as command
-use Rattle.sisal_top.specs.Outputs.{Prints, PrintsMeaning, PrintsGraphs, HasTypeFault, HasNoGraphs, HasNoMeaning, IsNotYet}
-use Rattle.sisal_top.specs.Program.{IsBuilt, IsPlain, IsRefused, ReadsText}
+use Rattle.sisal_top.specs.Outputs.{PrintsMeaning, PrintsGraphs, PrintsRun, HasTypeFault, HasNoGraphs, HasNoMeaning, HasNoRun, HasNoCode}
+use Rattle.sisal_top.specs.Program.{IsBuilt, IsPlain, IsRefused, ReadsSisal, ReadsText}
 use Rattle.sisal_top.specs.Texts.{help_text, version_text}
 use Rattle.sisal_top.specs.declared.status.Status.{Status}
 use Rattle.sisal_top.specs.declared.status.Status.TheVariants as status
 
 -- what a command prints, where these bytes are the text
 abbrev pub Asks : Command → List ℕ → List ℕ → Type 0
-Asks (command.Run set) bytes printed = IsPlain set × Prints bytes printed
+Asks (command.Run set) bytes printed = IsPlain set × PrintsRun set bytes printed
 Asks (command.Compile set) bytes printed = IsBuilt set × PrintsGraphs set bytes printed
 Asks command.Link bytes printed = ⊥
 Asks (command.Verify set) bytes printed = ⊥
@@ -28,9 +28,9 @@ Asks (command.Gen n) bytes printed = printed ≡ program n
 Asks command.Help bytes printed = printed ≡ help_text
 Asks command.Version bytes printed = printed ≡ version_text
 
--- which commands and texts are not built yet
+-- Which commands are not built yet; and a run of which there is no code that is known to be right is answered so too.
 abbrev pub IsLater : Command → List ℕ → Type 0
-IsLater (command.Run set) bytes = IsPlain set → IsNotYet bytes
+IsLater (command.Run set) bytes = IsPlain set → HasNoCode set bytes
 IsLater (command.Compile set) bytes = IsBuilt set → ⊥
 IsLater command.Link bytes = Unit {0}
 IsLater (command.Verify set) bytes = Unit {0}
@@ -41,26 +41,28 @@ IsLater (command.Gen n) bytes = ⊥
 IsLater command.Help bytes = ⊥
 IsLater command.Version bytes = ⊥
 
--- the command reads the text, which breaks this typing rule on this line; for `compile` the last rule is that on sizes
+-- the command reads the text as SISAL, which breaks this typing rule on this line; for `run` and `compile` the last rule is that on sizes
 abbrev pub IsUntyped : Command → List ℕ → ℕ → ℕ → Type 0
-IsUntyped (command.Compile set) bytes rule line = IsBuilt set × HasNoGraphs bytes rule line
-IsUntyped c bytes rule line = ReadsText c × HasTypeFault bytes rule line
+IsUntyped (command.Mean set) bytes rule line = HasTypeFault bytes rule line
+IsUntyped c bytes rule line = ReadsSisal c × HasNoGraphs bytes rule line
 
--- the command is `mean`, and this is why the text gives no values
+-- the command is `mean` or `run`, and this is why the text gives no values
 abbrev pub IsStopped : Command → List ℕ → Refusal → Type 0
 IsStopped (command.Mean set) bytes r = HasNoMeaning set bytes r
+IsStopped (command.Run set) bytes r = IsPlain set × HasNoRun set bytes r
 IsStopped _ bytes r = ⊥
 
--- the command is `if1`, and this is a fault of the text, its unit or its marks
+-- the command is `if1` or `run --if1`, and this is a fault of the text, its unit or its marks
 abbrev pub IsInvalid : Command → List ℕ → If1Fault → Type 0
 IsInvalid command.If1 bytes f = IsRefusedFor bytes f
+IsInvalid (command.Run set) bytes f = (IsPlain set × (set.if1 ≡ true)) × IsRefusedFor bytes f
 IsInvalid _ bytes f = ⊥
 
 -- What a command gives, where these bytes are the text: what is printed, or the cause of a refusal.
 -- Want of memory and faults of the source are no matter of the command and the bytes.
 abbrev pub Replies : Command → List ℕ → Result (List ℕ) Status → Type 0
 Replies c bytes (Ok printed) = Asks c bytes printed
-Replies c bytes (Err (status.Syntax f)) = ReadsText c × IsRefused bytes (status.Syntax f)
+Replies c bytes (Err (status.Syntax f)) = ReadsSisal c × IsRefused bytes (status.Syntax f)
 Replies c bytes (Err status.TooLong) = ReadsText c × IsRefused bytes status.TooLong
 Replies c bytes (Err (status.Typing rule line)) = IsUntyped c bytes rule line
 Replies c bytes (Err (status.Unlinked name)) = IsStopped c bytes (refusal.Unlinked name)

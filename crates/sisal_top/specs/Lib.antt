@@ -1,7 +1,5 @@
 pub mod Answer
-pub mod Graph
 pub mod Lines
-pub mod Making
 pub mod Outputs
 pub mod Program
 pub mod Refusals

@@ -1,20 +1,24 @@
--- What a text prints as a program of the first form, what it prints by the meaning of its source, and what of its graphs.
-use Rattle.std.specs.Prelude.{◌≡◌, ℕ, List, [], ◌∷◌, ◌++◌, Some, ◌⊎◌}
+-- What a text prints by the meaning of its source, what of its graphs, and what a run of them prints.
+use Rattle.std.specs.Prelude.{◌≡◌, ℕ, Bool, true, false, List, [], ◌∷◌, ◌++◌, Some, ◌⊎◌}
 use Rattle.flow_value.specs.declared.value.Val.{Val}
-use Rattle.first_form.specs.Value.{values_of}
-use Rattle.first_form.specs.declared.tree.Expr.{Expr}
 use Rattle.mean_call.specs.Calls.{Gives as HasValues, IsRefused as HasNoValues}
 use Rattle.mean_call.specs.declared.fault.Refusal.{Refusal}
-use Rattle.compile_call.specs.Calls.{Prints as PrintsOf}
+use Rattle.compile_call.specs.Calls.{HasUnit, Prints as PrintsOf}
+use Rattle.if1_graph.specs.declared.graph.Unit1.{Unit1}
 use Rattle.lowering.specs.TooMany.{too_many}
+use Rattle.marks_made.specs.Units.{marks_of}
+use Rattle.run_call.specs.Calls.{Gives as GivesRun, HasNoCode as HasNoCodeFor, IsRefused as HasNoTotals}
+use Rattle.run_call.specs.Texts.{IsUnitOf as IsIf1Of}
+use Rattle.unit_code.specs.declared.runs.Totals.{Totals}
 use Rattle.run_words.specs.declared.command.CompileSet.{CompileSet}
 use Rattle.run_words.specs.declared.command.MeanSet.{MeanSet}
+use Rattle.run_words.specs.declared.command.RunSet.{RunSet}
 use Rattle.sisal_tree.specs.declared.unit.Unit as tree
 use Rattle.typed_tree.specs.declared.program.Program.{Program}
 use Rattle.typed_tree.specs.Faults.{BreaksUnit}
 use Rattle.typed_tree.specs.Units.{IsTyped}
 use Rattle.value_text.specs.Printed.{value_bytes}
-use Rattle.sisal_top.specs.Program.{IsNotBuilt, IsText, IsUnitOf}
+use Rattle.sisal_top.specs.Program.{IsUnitOf}
 
 -- each value on a line of its own, ended by a line feed
 abbrev pub lines : List Val → List ℕ
@@ -32,20 +36,6 @@ pub record HasTypeFault (bytes : List ℕ) (rule line : ℕ) : Type 0 where
   pub unit : tree.Unit
   pub is : IsUnitOf bytes unit
   pub breaks : BreaksUnit unit rule line
-
--- these bytes are a program of another form than the first
-pub record IsNotYet (bytes : List ℕ) : Type 0 where
-  pub other : IsNotBuilt bytes
-  pub program : Program
-  pub typed : HasProgram bytes program
-
--- the program that these bytes are, and the lines of the values of its results
-pub record Prints (bytes printed : List ℕ) : Type 0 where
-  pub results : List Expr
-  pub text : IsText bytes results
-  pub program : Program
-  pub typed : HasProgram bytes program
-  pub is : printed ≡ lines (values_of results)
 
 -- these bytes have a typed program, and the lines of the values that its entry gives on these words
 pub record PrintsMeaning (set : MeanSet) (bytes printed : List ℕ) : Type 0 where
@@ -76,3 +66,38 @@ pub record HasTooMany (bytes : List ℕ) (line : ℕ) : Type 0 where
 -- these bytes are a unit that breaks a typing rule, or a program that is too large, which is rule 24
 abbrev pub HasNoGraphs : List ℕ → ℕ → ℕ → Type 0
 HasNoGraphs bytes rule line = HasTypeFault bytes rule line ⊎ ((rule ≡ 24) × HasTooMany bytes line)
+
+-- ---- runs
+
+-- these bytes have a typed program within the limits, and this is its unit of graphs with the marks that are made
+pub record HasGraphs (bytes : List ℕ) (u : Unit1) : Type 0 where
+  pub program : Program
+  pub typed : HasProgram bytes program
+  pub unit : Unit1
+  pub has : HasUnit program unit
+  pub is : u ≡ marks_of unit
+
+-- the unit that runs: that of the program, or of the IF1 text
+abbrev pub RunsUnit : (if1 : Bool) → List ℕ → Unit1 → Type 0
+RunsUnit true bytes u = IsIf1Of bytes u
+RunsUnit false bytes u = HasGraphs bytes u
+
+-- the lines of the values of a run of its entry on these words
+pub record PrintsRun (set : RunSet) (bytes printed : List ℕ) : Type 0 where
+  pub unit : Unit1
+  pub runs : RunsUnit set.if1 bytes unit
+  pub totals : Totals
+  pub given : GivesRun unit set totals
+  pub is : printed ≡ lines totals.results
+
+-- why its entry has no run on these words
+pub record HasNoRun (set : RunSet) (bytes : List ℕ) (refusal : Refusal) : Type 0 where
+  pub unit : Unit1
+  pub runs : RunsUnit set.if1 bytes unit
+  pub refused : HasNoTotals unit set refusal
+
+-- the entry and the words are right, and there is no code that is known to be right
+pub record HasNoCode (set : RunSet) (bytes : List ℕ) : Type 0 where
+  pub unit : Unit1
+  pub runs : RunsUnit set.if1 bytes unit
+  pub none : HasNoCodeFor unit set

@@ -1,5 +1,5 @@
--- Which texts are programs of the first form, and which words ask to read the text.
-use Rattle.std.specs.Prelude.{◌≡◌, ◌≤◌, ◌⊎◌, ℕ, false, List, [], Ok, Err, codes}
+-- Which texts are units of the grammar, and which words ask to read the text.
+use Rattle.std.specs.Prelude.{◌≡◌, ◌≤◌, ◌⊎◌, ℕ, false, List, Ok, Err}
 use Rattle.run_words.specs.Words.{IsCommand}
 use Rattle.run_words.specs.declared.command.Command.{Command}
 use Rattle.run_words.specs.declared.command.Command.TheVariants as command
@@ -9,8 +9,6 @@ use Rattle.sisal_lex.specs.Tokens.{tokens_of}
 use Rattle.sisal_lex.specs.declared.fault.LexFault.{LexFault}
 use Rattle.sisal_lex.specs.declared.token.Token.{Token}
 use Rattle.sisal_lex.specs.declared.token.Tokens.{Tokens}
-use Rattle.first_form.specs.Form.{IsProgram}
-use Rattle.first_form.specs.declared.tree.Expr.{Expr}
 use Rattle.sisal_grammar.specs.Phrases.{unit}
 use Rattle.sisal_grammar.specs.Placed.{placed}
 use Rattle.sisal_grammar.specs.Spells.{Spells}
@@ -28,18 +26,6 @@ pub record IsUnitOf (bytes : List ℕ) (u : tree.Unit) : Type 0 where
   pub lexed : tokens_of bytes ≡ Ok u.tokens
   pub spelled : Spells unit (placed 0 u.tokens.list) (outline u)
   pub shallow : depth_of u.items ≤ 200
-
--- these bytes are a program of the first form with these results
-pub record IsText (bytes : List ℕ) (results : List Expr) : Type 0 where
-  pub unit : tree.Unit
-  pub is : IsUnitOf bytes unit
-  pub program : IsProgram unit results
-
--- these bytes are a unit, and no program of the first form
-pub record IsNotBuilt (bytes : List ℕ) : Type 0 where
-  pub unit : tree.Unit
-  pub is : IsUnitOf bytes unit
-  pub other : (results : List Expr) → IsProgram unit results → ⊥
 
 -- these bytes have no tokens: there are too many, or the first fault of a token leads to this status
 abbrev pub HasNoTokens : List ℕ → Status → Type 0
@@ -59,16 +45,22 @@ HasNoUnit bytes refusal = (tokens : Tokens) × (tokens_of bytes ≡ Ok tokens) �
 abbrev pub IsRefused : List ℕ → Status → Type 0
 IsRefused bytes refusal = HasNoTokens bytes refusal ⊎ HasNoUnit bytes refusal
 
--- `run` of a SISAL text and its function `main`, with no values, no totals, no trace and the usual limit, as translated: the
--- number of workers and the order may be given, since nothing depends on them
+-- `run` by one worker in the usual order, of the graphs as they are, that prints the results alone
 abbrev pub IsPlain : RunSet → Type 0
-IsPlain set = (set.if1 ≡ false) × (set.entry ≡ codes "main") × (set.limit ≡ 10000000) × (set.stats ≡ false) × (set.opt ≡ false) × (set.trace ≡ false) × (set.values ≡ [])
+IsPlain set = (set.workers ≡ 1) × (set.order ≡ 0) × (set.stats ≡ false) × (set.opt ≡ false) × (set.trace ≡ false)
 
 -- `compile` of the graphs as translated, that prints IF1, a drawing or why edges copy
 abbrev pub IsBuilt : CompileSet → Type 0
 IsBuilt set = (set.opt ≡ false) × (set.code ≡ false)
 
--- the commands that read the text: a plain `run`, `mean`, `compile` and `if1`
+-- the commands that read the text as SISAL: a plain `run` without `--if1`, `mean` and `compile`
+abbrev pub ReadsSisal : Command → Type 0
+ReadsSisal (command.Run set) = IsPlain set × (set.if1 ≡ false)
+ReadsSisal (command.Mean set) = Unit {0}
+ReadsSisal (command.Compile set) = IsBuilt set
+ReadsSisal _ = ⊥
+
+-- the commands that read the text: these, a plain `run` with `--if1`, and `if1`
 abbrev pub ReadsText : Command → Type 0
 ReadsText (command.Run set) = IsPlain set
 ReadsText (command.Mean set) = Unit {0}

@@ -1,6 +1,6 @@
 -- Results and refusals inside the call.
-use Rattle.std.specs.Prelude.{◌≡◌, ℕ, List, ◌⊎◌, Result, Ok, Err}
-use Rattle.sisal_top.specs.Outputs.{Prints, HasTypeFault, IsNotYet}
+use Rattle.std.specs.Prelude.{◌≡◌, ℕ, List, ◌⊎◌}
+use Rattle.sisal_top.specs.Outputs.{HasTypeFault}
 use Rattle.sisal_top.specs.Program.{IsRefused}
 use Rattle.sisal_top.specs.declared.status.Status.{Status}
 use Rattle.sisal_top.specs.declared.status.Status.TheVariants as status
@@ -21,21 +21,6 @@ abbrev pub IsEarly : Status → Type 0
 IsEarly status.Done = ⊥
 IsEarly status.WriteFault = ⊥
 IsEarly _ = Unit {0}
-
--- what bytes are found to mean: the lines of a program of the first form, or the cause of a refusal
-abbrev pub Means : List ℕ → Result (List ℕ) Status → Type 0
-Means bytes (Ok printed) = Prints bytes printed
-Means bytes (Err (status.Syntax f)) = IsRefused bytes (status.Syntax f)
-Means bytes (Err status.TooLong) = IsRefused bytes status.TooLong
-Means bytes (Err (status.Typing rule line)) = HasTypeFault bytes rule line
-Means bytes (Err status.Later) = IsNotYet bytes
-Means bytes (Err status.NoMemory) = Unit {0}
-Means bytes (Err _) = ⊥
-
--- what a text is found to mean, unless a read failed
-abbrev pub Reads : List ℕ → Result (List ℕ) Status → Type 0
-Reads bytes (Err status.ReadFault) = Unit {0}
-Reads bytes r = Means bytes r
 
 -- the unit has a type fault with this status
 abbrev pub IsTypeFault : List ℕ → Status → Type 0

@@ -1,45 +1,39 @@
 //! The call that does all that the program does.
-ghost use Rattle.std.specs.Prelude.{◌≡◌, ◌≢◌, ◌⊎◌, ◌↔◌, ℕ, List, take, map, Some, Ok, Err, IfOk, IfErr, OnOk, IsTrue};
+ghost use Rattle.std.specs.Prelude.{◌≡◌, ◌≢◌, ◌⊎◌, ◌↔◌, ℕ, List, false, take, map, Some, Ok, Err, IfOk, IfErr, OnOk, IsTrue};
 ghost use Rattle.flow_io.specs.Bytes.{TakesOff, IsAtEnd, AddsOn};
 ghost use Rattle.flow_io.specs.Count.{HasRisen};
 ghost use Rattle.run_words.specs.Commands.{bytes_of};
 ghost use Rattle.run_words.specs.declared.command.Command.TheVariants as command;
 ghost use Rattle.sisal_top.specs.Answer.{Answers, Gives, IsUsage, Replies};
 ghost use Rattle.sisal_top.specs.Lines.{line_of};
+ghost use Rattle.sisal_top.specs.Outputs.{HasGraphs, RunsUnit};
 ghost use Rattle.sisal_top.specs.Program.{AskToRead, IsBuilt, IsPlain, IsRefused, ReadsText};
-ghost use Rattle.sisal_top.specs.Refusals.{IsEarly, IsOfBytes, IsReply, IsUnread, Means, Reads};
+ghost use Rattle.sisal_top.specs.Refusals.{IsEarly, IsOfBytes, IsReply, IsUnread};
 
-use crate::front::{trees, typed};
+use crate::front::typed;
 use crate::lines::report;
-use crate::printing::{answer, print_all};
+use crate::printing::print_all;
 use crate::status::Status;
 use crate::texts::{help, version};
-use compile_call::compile;
+use compile_call::{compile, marked};
 use flow_gen::make;
 use flow_io::{ReadFail, Sink, Source, read_all, write_all};
 use flow_value::Text;
 use if1_call::canonical_text;
+use if1_sound::Sound;
 use mean_call::evaluate;
+use run_call::{run, unit_of_text};
 use run_words::{Command, CompileSet, MeanSet, RunSet, read_words};
 use std::alloc::Global;
 
 /// The most bytes of a text.
 const MOST_BYTES: usize = 4194304;
 
-/// The limit of a run where none is given.
-const USUAL_LIMIT: u64 = 10000000;
-
-/// Whether a run is one of the function `main`, with no values, no totals, no trace and the usual limit.
+/// Whether a run is by one worker in the usual order, of the graphs as they are, and prints its results alone.
 fn is_plain(set: &RunSet) -> bool
     ensures { IsTrue result ↔ IsPlain set.now }
 {
-    !set.if1
-        && set.entry.as_slice() == b"main".as_slice()
-        && set.limit == USUAL_LIMIT
-        && !set.stats
-        && !set.opt
-        && !set.trace
-        && set.values.is_empty()
+    set.workers == 1 && set.order == 0 && !set.stats && !set.opt && !set.trace
 }
 
 /// Whether `compile` neither optimises nor lists the code of a run.
@@ -66,22 +60,53 @@ fn read<S: Source>(alloc: Global, text: &mut S) -> Result<Text, Status>
     }
 }
 
-/// What the program that a text is prints, if it is of the first form.
-fn output(alloc: Global, bytes: &[u8]) -> Result<Text, Status>
-    ensures { Means bytes.now result }
+/// The unit of graphs of the program that a text is, with the marks that are made.
+fn unit_of_program(alloc: Global, set: &RunSet, bytes: &[u8]) -> Result<Sound, Status>
+    requires plain { IsPlain set.now }
+    requires sisal { set.now.if1 ≡ false }
+    ensures unit { IfOk result (HasGraphs bytes.now) }
+    ensures refused { IfErr result (λ s. Replies (command.Run set.now) bytes.now (Err s)) }
+    ensures of_bytes { IfErr result IsOfBytes }
 {
-    match trees(alloc, bytes)? {
-        Some(es) => {
-            let printed = answer(alloc, es.as_slice())?;
-            Ok(printed)
-        }
-        None => Err(Status::Later),
+    let _ = set;
+    let program = typed(alloc, bytes)?;
+    let marked = marked(alloc, &program)?;
+    Ok(marked.sound)
+}
+
+/// The unit of graphs that a text is, as SISAL or as IF1, with the marks with which it runs.
+fn unit_to_run(alloc: Global, set: &RunSet, bytes: &[u8]) -> Result<Sound, Status>
+    requires plain { IsPlain set.now }
+    ensures unit { IfOk result (RunsUnit set.now.if1 bytes.now) }
+    ensures refused { IfErr result (λ s. Replies (command.Run set.now) bytes.now (Err s)) }
+    ensures of_bytes { IfErr result IsOfBytes }
+{
+    if set.if1 {
+        let unit = unit_of_text(alloc, bytes)?;
+        Ok(unit)
+    } else {
+        unit_of_program(alloc, set, bytes)
     }
 }
 
-/// Runs the program that the text is.
-fn run<S: Source>(alloc: Global, text: &mut S) -> Result<Text, Status>
-    ensures means { (told : List ℕ) → S.left text.old ≡ Some told → Reads told result }
+/// What is printed of a run of the unit that a text is.
+fn results(alloc: Global, set: &RunSet, bytes: &[u8]) -> Result<Text, Status>
+    requires { IsPlain set.now }
+    ensures replies { Replies (command.Run set.now) bytes.now result }
+    ensures of_bytes { IfErr result IsOfBytes }
+{
+    let unit = unit_to_run(alloc, set, bytes)?;
+    let Some(totals) = run(alloc, unit, set)? else {
+        return Err(Status::Later);
+    };
+    let printed = print_all(alloc, totals.results.as_slice())?;
+    Ok(printed)
+}
+
+/// Runs the unit of graphs that the text is.
+fn run_text<S: Source>(alloc: Global, set: &RunSet, text: &mut S) -> Result<Text, Status>
+    requires { IsPlain set.now }
+    ensures replies { (told : List ℕ) → S.left text.old ≡ Some told → Replies (command.Run set.now) told result }
     ensures reply { IfErr result IsReply }
     ensures to_the_end { OnOk result (IsAtEnd (S.left text.new)) }
     ensures read { IfErr result (λ s. IsUnread s ⊎ IsAtEnd (S.left text.new)) }
@@ -89,7 +114,7 @@ fn run<S: Source>(alloc: Global, text: &mut S) -> Result<Text, Status>
     ensures no_fault { result ≢ Err Status.ReadFault → S.faults text.new ≡ S.faults text.old }
 {
     let bytes = read(alloc, text)?;
-    output(alloc, bytes.as_slice())
+    results(alloc, set, bytes.as_slice())
 }
 
 /// What the program that a text is prints by the meaning of its source.
@@ -179,7 +204,7 @@ fn perform<S: Source>(alloc: Global, command: Command, text: &mut S) -> Result<T
         Command::Gen(n) => Ok(make(alloc, n)?),
         Command::Run(set) => {
             if is_plain(&set) {
-                run(alloc, text)
+                run_text(alloc, &set, text)
             } else {
                 Err(Status::Later)
             }

@@ -1,15 +1,12 @@
-//! From the bytes of a text to its trees.
-ghost use Rattle.std.specs.Prelude.{◌≡◌, ℕ, List, IfOk, IfErr, IfSome, OnOk, Ok, None};
-ghost use Rattle.typed_tree.specs.declared.program.Program as whole;
+//! From the bytes of a text to its typed program.
+ghost use Rattle.std.specs.Prelude.{ℕ, List, IfOk, IfErr};
 ghost use Rattle.lowered_units.specs.Fitting.{IsFitting};
 ghost use Rattle.sisal_top.specs.Outputs.{HasProgram};
-ghost use Rattle.sisal_top.specs.Program.{IsNotBuilt, IsText, IsUnitOf};
+ghost use Rattle.sisal_top.specs.Program.{IsUnitOf};
 ghost use Rattle.sisal_top.specs.Refusals.{IsCause, IsNoProgram};
 
 use crate::status::Status;
-use first_form::{Expr, first_form};
 use fitting_texts::programs_of_texts_fit;
-use flow_value::Seq;
 use sisal_check::check;
 use sisal_lex::lex;
 use sisal_parse::parse;
@@ -25,20 +22,6 @@ fn unit_of(alloc: Global, text: &[u8]) -> Result<Unit, Status>
     let tokens = lex(alloc, text)?;
     let unit = parse(alloc, tokens)?;
     Ok(unit)
-}
-
-/// The results of the program that a text is, or none exactly where it is a program of another form
-/// than the first.
-pub fn trees(alloc: Global, text: &[u8]) -> Result<Option<Seq<Expr>>, Status>
-    ensures found { IfOk result (λ read. IfSome read (IsText text.now)) }
-    ensures none { result ≡ Ok None → IsNotBuilt text.now }
-    ensures typed { OnOk result ((program : whole.Program) × HasProgram text.now program) }
-    ensures refused { IfErr result (IsNoProgram text.now) }
-{
-    let unit = unit_of(alloc, text)?;
-    let read = first_form(alloc, &unit)?;
-    program_of(alloc, unit)?;
-    Ok(read)
 }
 
 /// The typed program of the unit that a text is.

@@ -2,11 +2,8 @@
 #![tactic(auto)]
 
 mod call;
-mod firing;
 mod front;
-mod graph;
 mod lines;
-mod making;
 mod printing;
 mod status;
 mod texts;

@@ -8,19 +8,19 @@ use std::alloc::Global;
 const HELP: &[u8] = b"usage: sisal COMMAND [OPTIONS] [VALUES]
 The program text is read from standard input.
 
+run [OPTIONS] [VALUES]   runs the entry function and prints one result a line
 mean [OPTIONS] [VALUES]  evaluates a SISAL text by the meaning of its source
 compile [--dot or --why] prints the graphs of a SISAL text as IF1, with their marks
 if1                      checks an IF1 text and prints it in canonical form
-run [OPTIONS] [VALUES]   runs the entry function and prints one result a line
 gen N                    prints a generated program, N from 1 to 500
 --help, --version        print this text, and the version
 
-Options of mean: --entry NAME, --limit T. The word -- ends the options.
+Options of run and mean: --entry NAME, --limit T; of run: --if1, the text is IF1.
+The word -- ends the options.
 Options of compile: --dot prints a drawing for Graphviz, --why what copies, and why.
 
-To come, until then status 11: run with values or options, and of all but programs
-of integers, +, -, * and let; the options of run --if1, --entry NAME, --limit T,
---workers W, --order K, --stats, --opt, --trace; compile --opt, compile --code; and
+To come, until then status 11: of run --workers above 1, --order above 0, --stats, --opt
+and --trace; compile --opt, compile --code; and
 link                                      joins the parts of an IF1 text
 verify [--entry NAME] [--limit T] [VALUES]
                                           checks the trace of a run

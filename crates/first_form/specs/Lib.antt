@@ -1,4 +1,0 @@
-pub mod Closed
-pub mod Form
-pub mod Reading
-pub mod Value
