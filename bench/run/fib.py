@@ -1,0 +1,9 @@
+"""A number of Fibonacci, by two calls."""
+import sys
+
+
+def fib(n):
+    return n if n < 2 else fib(n - 1) + fib(n - 2)
+
+
+print(fib(int(sys.argv[1])))
