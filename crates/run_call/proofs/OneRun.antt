@@ -26,10 +26,11 @@ one_call u set f g vs ws a b =
     let types : a.types ≡ b.types = same_Some a.types b.types (sym a.entry.arguments ∙ (ap (params_of u) same ∙ b.entry.arguments)) in
     record { function = same; args = one_reading set.values b.types vs ws (subst (λ ts. AreRead set.values ts vs) types a.read) b.read }
 
-one_total : (s t : Totals) → s.results ≡ t.results → s.fires ≡ t.fires → s.copies ≡ t.copies → s ≡ t
-one_total s t values fires copies =
-    let made : List Val → ℕ → ℕ → Totals = λ r f c. record { results = r; fires = f; copies = c } in
-    ap (λ r. made r s.fires s.copies) values ∙ (ap (λ f. made t.results f s.copies) fires ∙ ap (λ c. made t.results t.fires c) copies)
+one_total : (s t : Totals) → s.results ≡ t.results → s.fires ≡ t.fires → s.copies ≡ t.copies → s.writes ≡ t.writes → s ≡ t
+one_total s t values fires copies writes =
+    let made : List Val → ℕ → ℕ → ℕ → Totals = λ r f c w. record { results = r; fires = f; copies = c; writes = w } in
+    ap (λ r. made r s.fires s.copies s.writes) values
+    ∙ (ap (λ f. made t.results f s.copies s.writes) fires ∙ (ap (λ c. made t.results t.fires c s.writes) copies ∙ ap (λ w. made t.results t.fires t.copies w) writes))
 
 module _ (meaning : IsMeaningOne) (cost : IsCostOne) (copies : AreUnitCopiesOne) where
   one_run_of : (u : Unit1) (f limit : ℕ) (ins : List Carried) (s t : Totals) → AreTotalsOf u f limit ins s → AreTotalsOf u f limit ins t → s ≡ t
@@ -40,6 +41,7 @@ module _ (meaning : IsMeaningOne) (cost : IsCostOne) (copies : AreUnitCopiesOne)
       let fires = cost (network u) f ins (x.0).0 (y.0).0 s.fires t.fires (x.0).2 (y.0).2 in
       let copied = (copies u f ins (capped a.copied) (capped b.copied)).0 x.1 y.1 in
       one_total s t (a.values ∙ (ap (map val_of) results ∙ sym b.values)) fires (a.copies ∙ (copied ∙ sym b.copies))
+      ((copies u f ins s.writes t.writes).1 a.writes b.writes)
 
   pub one_run : IsOneRun
   one_run u set s t a b =

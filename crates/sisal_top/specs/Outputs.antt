@@ -1,5 +1,5 @@
 -- What a text prints by the meaning of its source, what of its graphs, and what a run of them prints.
-use Rattle.std.specs.Prelude.{◌≡◌, ℕ, Bool, true, false, List, [], ◌∷◌, ◌++◌, Some, ◌⊎◌}
+use Rattle.std.specs.Prelude.{◌≡◌, ℕ, Bool, true, false, List, [], ◌∷◌, ◌++◌, Some, ◌⊎◌, codes, decimal}
 use Rattle.flow_value.specs.declared.value.Val.{Val}
 use Rattle.mean_call.specs.Calls.{Gives as HasValues, IsRefused as HasNoValues}
 use Rattle.mean_call.specs.declared.fault.Refusal.{Refusal}
@@ -82,13 +82,22 @@ abbrev pub RunsUnit : (if1 : Bool) → List ℕ → Unit1 → Type 0
 RunsUnit true bytes u = IsIf1Of bytes u
 RunsUnit false bytes u = HasGraphs bytes u
 
--- the lines of the values of a run of its entry on these words
+-- the line of the totals of a run: its firings, the leaves that it copied, and the elements that it wrote
+abbrev pub totals_line : Totals → List ℕ
+totals_line t = ((codes "fires=" ++ decimal t.fires) ++ ((codes " copies=" ++ decimal t.copies) ++ (codes " writes=" ++ decimal t.writes))) ++ 10 ∷ []
+
+-- it stands behind the values, where it is asked for
+abbrev pub totals_if : (stats : Bool) → Totals → List ℕ
+totals_if true t = totals_line t
+totals_if false t = []
+
+-- the lines of the values of a run of its entry on these words, and the line of its totals
 pub record PrintsRun (set : RunSet) (bytes printed : List ℕ) : Type 0 where
   pub unit : Unit1
   pub runs : RunsUnit set.if1 bytes unit
   pub totals : Totals
   pub given : GivesRun unit set totals
-  pub is : printed ≡ lines totals.results
+  pub is : printed ≡ lines totals.results ++ totals_if set.stats totals
 
 -- why its entry has no run on these words
 pub record HasNoRun (set : RunSet) (bytes : List ℕ) (refusal : Refusal) : Type 0 where

@@ -45,9 +45,9 @@ HasNoUnit bytes refusal = (tokens : Tokens) × (tokens_of bytes ≡ Ok tokens) �
 abbrev pub IsRefused : List ℕ → Status → Type 0
 IsRefused bytes refusal = HasNoTokens bytes refusal ⊎ HasNoUnit bytes refusal
 
--- `run` by one worker in the usual order, of the graphs as they are, that prints the results alone
+-- `run` by one worker in the usual order, of the graphs as they are, without a trace
 abbrev pub IsPlain : RunSet → Type 0
-IsPlain set = (set.workers ≡ 1) × (set.order ≡ 0) × (set.stats ≡ false) × (set.opt ≡ false) × (set.trace ≡ false)
+IsPlain set = (set.workers ≡ 1) × (set.order ≡ 0) × (set.opt ≡ false) × (set.trace ≡ false)
 
 -- `compile` of the graphs as translated, that prints IF1, a drawing or why edges copy
 abbrev pub IsBuilt : CompileSet → Type 0

@@ -12,7 +12,7 @@ ghost use Rattle.sisal_top.specs.Refusals.{IsEarly, IsOfBytes, IsReply, IsUnread
 
 use crate::front::typed;
 use crate::lines::report;
-use crate::printing::print_all;
+use crate::printing::{print_all, print_run};
 use crate::status::Status;
 use crate::texts::{help, version};
 use compile_call::{compile, marked};
@@ -29,11 +29,11 @@ use std::alloc::Global;
 /// The most bytes of a text.
 const MOST_BYTES: usize = 4194304;
 
-/// Whether a run is by one worker in the usual order, of the graphs as they are, and prints its results alone.
+/// Whether a run is by one worker in the usual order, of the graphs as they are, without a trace.
 fn is_plain(set: &RunSet) -> bool
     ensures { IsTrue result ↔ IsPlain set.now }
 {
-    set.workers == 1 && set.order == 0 && !set.stats && !set.opt && !set.trace
+    set.workers == 1 && set.order == 0 && !set.opt && !set.trace
 }
 
 /// Whether `compile` neither optimises nor lists the code of a run.
@@ -99,7 +99,7 @@ fn results(alloc: Global, set: &RunSet, bytes: &[u8]) -> Result<Text, Status>
     let Some(totals) = run(alloc, unit, set)? else {
         return Err(Status::Later);
     };
-    let printed = print_all(alloc, totals.results.as_slice())?;
+    let printed = print_run(alloc, &totals, set.stats)?;
     Ok(printed)
 }
 

@@ -15,12 +15,13 @@ if1                      checks an IF1 text and prints it in canonical form
 gen N                    prints a generated program, N from 1 to 500
 --help, --version        print this text, and the version
 
-Options of run and mean: --entry NAME, --limit T; of run: --if1, the text is IF1.
+Options of run and mean: --entry NAME, --limit T; of run: --if1, the text is IF1,
+--stats, a line of totals.
 The word -- ends the options.
 Options of compile: --dot prints a drawing for Graphviz, --why what copies, and why.
 
-To come, until then status 11: of run --workers above 1, --order above 0, --stats, --opt
-and --trace; compile --opt, compile --code; and
+To come, until then status 11: of run --workers above 1, --order above 0, --opt and
+--trace; compile --opt, compile --code; and
 link                                      joins the parts of an IF1 text
 verify [--entry NAME] [--limit T] [VALUES]
                                           checks the trace of a run

@@ -15,8 +15,9 @@ use Rattle.code_maker.specs.Makes.{AreTold, IsCodeOf}
 use Rattle.sequential_run.specs.Totals.{CanEnter}
 use Rattle.unit_data.specs.Data.{IsDataOf, planned, shared, tables_of}
 use Rattle.unit_runs.specs.Runs.{IsUnitCode}
-use Rattle.unit_counts.specs.Laws.{DoesToldCodeCount}
+use Rattle.unit_counts.specs.Laws.{DoesToldCodeCount, DoesToldCodeWrite}
 use Rattle.unit_runs.proofs.QuickCode.{quick-unit-code}
+use Rattle.unit_runs.proofs.WritesOf.{quick-writes}
 use Rattle.quick_code.specs.Quick.{RunsSame}
 use Rattle.unit_code.specs.declared.code.UnitCode.{UnitCode}
 use Rattle.unit_code.specs.Codes.{IsCodeOfUnit, IsMadeOf}
@@ -39,10 +40,10 @@ module _ (u : Unit1) (ready : IsReady u) (D : PlanData) (is : IsDataOf u D) (lev
   unit-told : AreTold D P S levels functions code → AreTold D P S (levels_of u) (functions_of u) code
   unit-told h = subst (λ n. AreTold D P S n (functions_of u) code) deep (subst (λ fs. AreTold D P S levels fs code) all h)
 
-  pub code-made : DoesToldCodeCount → (quick : Code) → RunsSame code quick → (entries rooms : List ℕ) → entries ≡ D.entries
+  pub code-made : DoesToldCodeCount → DoesToldCodeWrite → (quick : Code) → RunsSame code quick → (entries rooms : List ℕ) → entries ≡ D.entries
       → ((P : Plan) (S : Shares) → Stands D P S → IsCodeOf P S levels functions code) → ((P : Plan) (S : Shares) → Stands D P S → AreTold D P S levels functions code)
       → IsMadeOf u (record { code = quick; entries = entries; rooms = rooms })
-  code-made law quick runs entries rooms same made told =
+  code-made law writing quick runs entries rooms same made told =
       let own = unit-code (made P S is.1.stands) in
       let counts = law D u (order_by u is.0) (tables_of D) code ready is.1.in_order is.1.stands is.1.counted own (unit-told (told P S is.1.stands)) in
       let so = quick-unit-code u (order_by u is.0) (tables_of D) code quick runs own counts in
@@ -53,6 +54,7 @@ module _ (u : Unit1) (ready : IsReady u) (D : PlanData) (is : IsDataOf u D) (lev
         sized = is.1.tables;
         made = so.0;
         counts = so.1;
+        writes = quick-writes u (order_by u is.0) (tables_of D) code quick runs (writing D u (order_by u is.0) (tables_of D) code is.1.written (unit-told (told P S is.1.stands)));
         entries = λ f. ap (λ es. table_of es f) (sym same);
       }
 

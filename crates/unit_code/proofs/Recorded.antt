@@ -14,7 +14,11 @@ use Rattle.sequential_run.specs.declared.totals.Totalled.{Totalled}
 use Rattle.sequential_run.specs.Runs.{IsFault}
 use Rattle.sequential_run.specs.Totals.{CanEnter, HasTotals, entered_at}
 use Rattle.unit_runs.proofs.Runs.{runs-recorded}
+use Rattle.unit_runs.proofs.WritesOf.{writes-recorded}
 use Rattle.unit_runs.specs.Runs.{IsRunOf}
+use Rattle.sequential_run.specs.Writes.{EndsWriting}
+use Rattle.graph_meaning.specs.Storage.{capped}
+use Rattle.graph_meaning.specs.StorageUnits.{UnitWrites}
 use Rattle.unit_code.specs.declared.code.UnitCode.{UnitCode}
 use Rattle.unit_code.specs.declared.runs.Totals.{Totals}
 use Rattle.unit_code.specs.Codes.{IsCodeOfUnit}
@@ -38,6 +42,14 @@ module _ (u : Unit1) (ready : IsReady u) (sound : IsSound u) (c : UnitCode) (mad
       (runs-recorded u own.order own.tables c.code limit ready sound own.in_order own.sized own.made own.counts f ins (function-in u ready f are.0 are.1)
       (length-map args Value ∙ (are.2 ∙ sym (inputs-many u ready f are.0 are.1))))
 
+  -- what it writes is of record
+  writes-are : (rs : List Carried) (cost copies n : ℕ) → EndsWriting c.code limit (entered_at entry ins) rs cost copies n → UnitWrites u f ins (capped n)
+  writes-are rs cost copies n h =
+      let own = made.code in
+      writes-recorded u own.order own.tables c.code limit ready sound own.in_order own.sized own.made own.counts own.writes f ins rs cost copies n (function-in u ready f are.0 are.1)
+      (length-map args Value ∙ (are.2 ∙ sym (inputs-many u ready f are.0 are.1)))
+      (subst (λ e. EndsWriting c.code limit (entered_at e ins) rs cost copies n) (sym (own.entries f)) h)
+
   pub totals-are : (run : Totalled) (t : Totals) → HasTotals c.code limit (entered_at (table_of c.entries f) (map Value args)) run → AreLeft run t → AreTotalsOf u f limit (map Value args) t
   totals-are run t h left =
       let x = run-is.ends h.0 h.1 h.2 h.3 in
@@ -49,6 +61,7 @@ module _ (u : Unit1) (ready : IsReady u) (sound : IsSound u) (c : UnitCode) (mad
         values = left.results ∙ ap (map val_of) (sym h.4.results);
         copies = left.copies ∙ sym h.4.copies;
         within = subst (λ n. n ≤ limit) fires x.1;
+        writes = subst (UnitWrites u f ins) (h.5.2 ∙ sym left.writes) (writes-are h.0 h.1 h.2 h.5.0 h.5.1);
       }
 
   pub fault-is : (e : RunFault) → IsFault c.code limit (entered_at (table_of c.entries f) (map Value args)) e → IsFaultOf u f limit (map Value args) e

@@ -9,10 +9,11 @@ use Rattle.unit_plan.specs.Plans.{AreTables, Tables, functions_of}
 use Rattle.plan_data.specs.Parts.{table_of}
 use Rattle.sequential_run.specs.Totals.{CanEnter}
 use Rattle.unit_runs.specs.Runs.{CountsCopies, IsUnitCode}
+use Rattle.unit_runs.specs.Writes.{CountsWrites}
 use Rattle.unit_code.specs.declared.code.UnitCode.{UnitCode}
 
 -- For an order of the nodes of each graph along its edges and ordering lists, and for right tables, the code is made of the unit's plan,
--- and the steps of simple nodes count the copies that the plan counts. Each function begins where its table says.
+-- and the steps of simple nodes count the copies that the plan counts, and write as much. Each function begins where its table says.
 pub record IsMadeOf (u : Unit1) (c : UnitCode) : Type 0 where
   pub order : (graph : ℕ) → List Vertex
   pub tables : Tables
@@ -20,6 +21,7 @@ pub record IsMadeOf (u : Unit1) (c : UnitCode) : Type 0 where
   pub sized : AreTables u order tables
   pub made : IsUnitCode u order tables c.code
   pub counts : CountsCopies u order tables c.code
+  pub writes : CountsWrites u order tables c.code
   pub entries : (f : ℕ) → tables.entry f ≡ table_of c.entries f
 
 -- and each function can be entered in a block with as many cells as the other table says

@@ -9,6 +9,7 @@ use Rattle.run_store.specs.Whole.{IsOfUnit}
 use Rattle.graph_meaning.specs.Networks.{network}
 use Rattle.graph_meaning.specs.Plain.{Costs}
 use Rattle.graph_meaning.specs.Storage.{capped}
+use Rattle.graph_meaning.specs.StorageUnits.{UnitWrites}
 use Rattle.sequential.specs.Agrees.{owned_all}
 use Rattle.sequential_run.specs.declared.running.RunFault.{RunFault}
 use Rattle.sequential_run.specs.declared.running.RunFault.TheVariants as fault
@@ -20,13 +21,14 @@ pub record AreLeft (run : Totalled) (t : Totals) : Type 0 where
   pub results : t.results ≡ map val_of (owned_all run.results.items)
   pub fires : t.fires ≡ run.fires
   pub copies : t.copies ≡ run.copies
+  pub writes : t.writes ≡ run.writes
 
 module _ (u : Unit1) (function : ℕ) where
   -- they are as many as the function of this number has
   abbrev pub AreArguments : List Val → Type 0
   AreArguments args = (types : List Ty) × (params_of u function ≡ Some types) × (length args ≡ length types)
 
-  -- on these inputs the function has these results and this cost, within the limit, and copies so much, by the definition of record
+  -- on these inputs the function has these results and this cost, within the limit, and copies and writes so much, by the definition of record
   pub record AreTotalsOf (limit : ℕ) (ins : List Carried) (t : Totals) : Type 0 where
     pub results : List Carried
     pub copied : ℕ
@@ -34,6 +36,7 @@ module _ (u : Unit1) (function : ℕ) where
     pub values : t.results ≡ map val_of results
     pub copies : t.copies ≡ capped copied
     pub within : t.fires ≤ limit
+    pub writes : UnitWrites u function ins t.writes
 
   -- where the limit is told, every cost is above it
   abbrev pub IsFaultOf : (limit : ℕ) → List Carried → RunFault → Type 0

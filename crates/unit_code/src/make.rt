@@ -12,7 +12,7 @@ use if1_graph::Graph;
 use if1_sound::Sound;
 use quick_code::quicken;
 use std::alloc::Global;
-use unit_counts::code_of_told_data_counts_copies;
+use unit_counts::{code_of_told_data_counts_copies, code_of_told_data_counts_writes};
 use unit_data::data_of;
 
 fn numbers_of(alloc: Global, graphs: &[Graph]) -> Result<Numbers, NoMemory>
@@ -32,6 +32,7 @@ pub fn unit_code(alloc: Global, unit: &Sound) -> Result<Option<UnitCode>, NoMemo
     ensures none { IfOk result (λ o. o ≡ None → (c : UnitCode) × IsMadeOf unit.now c) }
 {
     code_of_told_data_counts_copies();
+    code_of_told_data_counts_writes();
     let data = data_of(alloc, unit)?;
     let functions = numbers_of(alloc, unit.unit().graphs.as_slice())?;
     let rooms = rooms_of(alloc, &data)?;

@@ -24,10 +24,12 @@ pub struct Totals {
     pub fires: u64,
     /// The leaves that were copied, or the greatest number.
     pub copies: u64,
+    /// The elements that were written, or the greatest number.
+    pub writes: u64,
 }
 
-/// Runs a function of a unit on these arguments: its results, firings and copies are of record, and
-/// the limit is told only where every cost is above it.
+/// Runs a function of a unit on these arguments: its results, firings, copies and writes are of
+/// record, and the limit is told only where every cost is above it.
 pub fn run_unit(
     alloc: Global,
     unit: &Sound,
@@ -65,13 +67,14 @@ fn left(alloc: Global, run: Totalled) -> Result<Totals, RunFault>
         results,
         fires,
         copies,
-        ..
+        writes,
     } = run;
     match values_of(alloc, results) {
         Ok(results) => Ok(Totals {
             results,
             fires,
             copies,
+            writes,
         }),
         Err(_) => Err(RunFault::NoMemory),
     }

@@ -15,7 +15,7 @@ returns-then-enters-clause-code c = λ made e.
     let numbers = c.in_ok-functions.ensures ∙ ap (map (λ g. (out-Graph g).number)) (c.as_slice.ensures ∙ ap (λ v. v.graphs) c.unit.ensures.unit) in
     let own =
     code-made u c.unit.ensures.ready c.in_ok-data.data c.in_ok-data.ensures c.in_ok-levels.levels c.as_slice-5.result.now (c.in_ok-levels.ensures ∙ c.len.ensures) (c.as_slice-5.ensures ∙ numbers) c.in_ok-laid.laid
-    c.code_of_told_data_counts_copies.ensures code c.in_ok-code.ensures c.in_ok-entries.entries c.in_ok-rooms.rooms (c.in_ok-entries.ensures ∙ c.as_slice-4.ensures) c.in_ok-laid.ensures.made c.in_ok-laid.ensures.told in
+    c.code_of_told_data_counts_copies.ensures c.code_of_told_data_counts_writes.ensures code c.in_ok-code.ensures c.in_ok-entries.entries c.in_ok-rooms.rooms (c.in_ok-entries.ensures ∙ c.as_slice-4.ensures) c.in_ok-laid.ensures.made c.in_ok-laid.ensures.told in
     let enters : (f : ℕ) → IsIn f c.as_slice-8.result.now → CanEnter code (table_of c.in_ok-entries.entries f) (table_of c.in_ok-rooms.rooms f) =
     λ f i. subst (λ es. CanEnter code (table_of es f) (table_of c.in_ok-rooms.rooms f)) c.as_slice-6.ensures
     (subst (λ rs. CanEnter code (table_of c.as_slice-6.result.now f) (table_of rs f)) c.as_slice-7.ensures (c.in_ok-enters.ensures c.if-enters.true f i)) in
@@ -31,6 +31,6 @@ returns-clause-none c = λ e.
     let made : UnitCode = record { code = c.in_ok-code.code; entries = c.in_ok-entries.entries; rooms = c.in_ok-rooms.rooms } in (
       made,
       code-made u c.unit.ensures.ready c.in_ok-data.data c.in_ok-data.ensures c.in_ok-levels.levels c.as_slice-5.result.now (c.in_ok-levels.ensures ∙ c.len.ensures) (c.as_slice-5.ensures ∙ numbers) c.in_ok-laid.laid
-          c.code_of_told_data_counts_copies.ensures c.in_ok-code.code c.in_ok-code.ensures c.in_ok-entries.entries c.in_ok-rooms.rooms (c.in_ok-entries.ensures ∙ c.as_slice-4.ensures) c.in_ok-laid.ensures.made
+          c.code_of_told_data_counts_copies.ensures c.code_of_told_data_counts_writes.ensures c.in_ok-code.code c.in_ok-code.ensures c.in_ok-entries.entries c.in_ok-rooms.rooms (c.in_ok-entries.ensures ∙ c.as_slice-4.ensures) c.in_ok-laid.ensures.made
           c.in_ok-laid.ensures.told,
     )
