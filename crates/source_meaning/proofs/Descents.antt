@@ -1,14 +1,14 @@
 -- Turns whose parts go one depth less at each give the same as turns whose parts all go to one depth.
-use Rattle.std.proofs.Common.{◌≡◌, ℕ, zero, suc, ◌+◌, Bool, List, ◌++◌, map, Some, ap, subst, sym, arith, refl}
+use Rattle.std.proofs.Common.{◌≡◌, ℕ, zero, suc, ◌+◌, Bool, List, ◌++◌, map, ap, subst, arith}
 use Rattle.flow_value.specs.declared.value.Val.{Val}
 use Rattle.typed_tree.specs.declared.expr.TypedExpr.{TypedExpr}
 use Rattle.typed_tree.specs.declared.expr.Turns.{Turns}
 use Rattle.meaning.specs.Timed.{Below}
 use Rattle.meaning.specs.Words.{test_of, goes_on}
-use Rattle.meaning.specs.Meaning.{Gives, Members, turned, turn, turns, meaning, meanings}
+use Rattle.meaning.specs.Meaning.{Gives, turned, turn, turns, meaning, meanings}
 use Rattle.meaning.specs.Descents.{descending, turns_to, turns_down}
 use Rattle.source_meaning.specs.Pending.{Program}
-use Rattle.source_meaning.proofs.Laws.{below_refl, below_none, below_then, below_trans, below_same}
+use Rattle.source_meaning.proofs.Laws.{below_none, below_then, below_trans, below_same}
 use Rattle.source_meaning.proofs.Grows.{Less, turn_below, meanings_grow, turned_below}
 
 abbrev Tests : Type 0

@@ -1,5 +1,5 @@
 -- What the definition says of the work that is left.
-use Rattle.std.specs.Prelude.{◌≡◌, ℕ, sum_by, ◌*◌, ◌-◌, ◌+◌, pos, Bool, true, false, List, [], ◌∷◌, ◌++◌, map, Option, Some, None, fold, length, take, drop}
+use Rattle.std.specs.Prelude.{◌≡◌, ℕ, sum_by, pos, Bool, true, false, List, [], ◌∷◌, ◌++◌, map, Option, Some, None, fold, length, take, drop}
 use Rattle.flow_value.specs.declared.value.Val.{Val}
 use Rattle.flow_value.specs.declared.value.Val.TheViews.{out-Val}
 use Rattle.flow_value.specs.declared.cause.Cause.{Cause}
