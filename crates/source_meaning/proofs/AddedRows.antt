@@ -8,6 +8,7 @@ use Rattle.loop_folds.specs.declared.masking.Masking.TheVariants as masking
 use Rattle.typed_tree.specs.declared.expr.ClauseForm.{ClauseForm}
 use Rattle.meaning.specs.Rows.{span, cells_in, with_cells}
 use Rattle.meaning.specs.Words.{value_at}
+use Rattle.source_meaning.specs.Loops.{with_cells_from}
 
 no_cells_more : (fs : List ClauseCells) → with_cells fs [] ≡ fs
 no_cells_more [] = refl
@@ -15,7 +16,7 @@ no_cells_more (f ∷ fs) = refl
 
 -- every clause has its value
 pub row_done : (fs : List ClauseCells) (place : ℕ) (cs : List ClauseForm) (vs : List Val) → length cs ≤ place
-    → take place fs ++ with_cells (drop place fs) (cells_in (drop place cs) vs) ≡ fs
+    → with_cells_from place fs (cells_in (drop place cs) vs) ≡ fs
 row_done fs place cs vs h =
     ap (λ k. take place fs ++ with_cells (drop place fs) (cells_in k vs)) (drop_all place cs h)
     ∙ ap (λ k. take place fs ++ k) (no_cells_more (drop place fs))

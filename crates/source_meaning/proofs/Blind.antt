@@ -1,5 +1,5 @@
 -- What does not read the value at a level gives the same whatever that value is.
-use Rattle.std.proofs.Common.{rules, ◌≡◌, ◌<◌, ℕ, zero, suc, pos, Bool, true, false, ◌||◌, List, [], ◌∷◌, ◌++◌, map, length, take, drop, set, Option, Some, None, inl, inr, nat_eq, slice_get, slice_set, if◌then◌else◌, nat_lt, arith, refl, sym, ap, subst, ◌∙◌, append_assoc, append-nil}
+use Rattle.std.proofs.Common.{◌≡◌, ◌<◌, ℕ, zero, suc, pos, Bool, true, false, ◌||◌, List, [], ◌∷◌, ◌++◌, map, length, take, drop, set, inl, inr, nat_eq, slice_get, slice_set, if◌then◌else◌, nat_lt, arith, refl, sym, ap, subst, ◌∙◌, append_assoc, append-nil}
 use Rattle.std.proofs.lemmas.Bool.{cases_lt, eqb-false}
 use Rattle.std.proofs.lemmas.List.{length-take, set_past}
 use Rattle.std.proofs.Math.Seq.{drop-append_seam}
@@ -22,10 +22,10 @@ use Rattle.meaning.specs.declared.sources.Places.{Places}
 use Rattle.meaning.specs.declared.sources.Places.TheVariants as places
 use Rattle.meaning.specs.Timed.{Timed, given, plus, andthen}
 use Rattle.meaning.specs.Words.{value_at, test_of, goes_on}
-use Rattle.meaning.specs.Sources.{places_of, lower_of, names_at}
-use Rattle.meaning.specs.Meaning.{Gives, all_of, defined, body_of, chosen, with_content, arm_in, arm_place, arm_of, each, environments, at_place, folded, over, Members, member, renew, turned, turn, turns, members, unless_failed, looped, kind_gives, expr_gives, calls, meaning, kind_meaning, meanings, definitions}
+use Rattle.meaning.specs.Sources.{places_of, lower_of}
+use Rattle.meaning.specs.Meaning.{Gives, all_of, defined, body_of, chosen, arm_in, arm_place, arm_of, each, environments, at_place, folded, over, Members, member, renew, turned, turn, turns, members, unless_failed, looped, kind_gives, calls, meaning, kind_meaning}
 use Rattle.source_meaning.specs.Pending.{Program}
-use Rattle.source_meaning.specs.Reads.{some, some_in, form_reads, expr_reads, reads, kind_reads, list_reads, defs_read}
+use Rattle.source_meaning.specs.Reads.{form_reads, expr_reads, reads, kind_reads, list_reads, defs_read}
 use Rattle.source_meaning.proofs.Laws.{given_then, then_same, then_then}
 use Rattle.source_meaning.proofs.Grows.{meaning_is, layer_is}
 

@@ -1,14 +1,14 @@
 -- Turns whose parts go one depth less at each give the same as turns whose parts all go to one depth.
-use Rattle.std.proofs.Common.{◌≡◌, ℕ, zero, suc, ◌+◌, Bool, List, ◌++◌, map, Some, ap, subst, sym, arith, refl}
+use Rattle.std.proofs.Common.{◌≡◌, ℕ, zero, suc, ◌+◌, Bool, List, ◌++◌, map, ap, subst, arith}
 use Rattle.flow_value.specs.declared.value.Val.{Val}
 use Rattle.typed_tree.specs.declared.expr.TypedExpr.{TypedExpr}
 use Rattle.typed_tree.specs.declared.expr.Turns.{Turns}
 use Rattle.meaning.specs.Timed.{Below}
 use Rattle.meaning.specs.Words.{test_of, goes_on}
-use Rattle.meaning.specs.Meaning.{Gives, Members, turned, turn, turns, meaning, meanings}
+use Rattle.meaning.specs.Meaning.{Gives, turned, turn, turns, meaning, meanings}
 use Rattle.meaning.specs.Descents.{descending, turns_to, turns_down}
 use Rattle.source_meaning.specs.Pending.{Program}
-use Rattle.source_meaning.proofs.Laws.{below_refl, below_none, below_then, below_trans, below_same}
+use Rattle.source_meaning.proofs.Laws.{below_none, below_then, below_trans, below_same}
 use Rattle.source_meaning.proofs.Grows.{Less, turn_below, meanings_grow, turned_below}
 
 abbrev Tests : Type 0
@@ -52,10 +52,10 @@ up_below (suc n) d u t x env h i l =
     (below_then (t d (env ++ l)) (t (n + d) (env ++ l)) (λ ts. turn (turns n u (t d) (x d) env) (x d env) l (goes_on u (test_of ts))) (λ ts. turn (descending (n + d) u t x env) (x (n + d) env) l (goes_on u (test_of ts))) (tests_later t h d n (env ++ l))
     (λ ts. turn_below (goes_on u (test_of ts)) (turns n u (t d) (x d) env) (descending (n + d) u t x env) (x d env) (x (n + d) env) l (up_below n d u t x env h i) (nexts_later x i d n env)))
 
-pub falls : (p : Program) (t : Turns) (test : List TypedExpr) (defs : List (List TypedExpr)) (env l : List Val) (n : ℕ) (r : Members × ℕ) → turns_down n p t test defs env l ≡ Some r → turns_to n n p t test defs env l ≡ Some r
-falls p t test defs env l n r e =
-    (down_below n t.is_until (λ d. meanings d p test) (λ d. turned t (map (map (meaning d p)) defs)) env (λ d. meanings_grow d p test) (λ d e. turned_below d p t defs e) l).along r e
+pub falls : (p : Program) (t : Turns) (ts : List TypedExpr) (ds : List (List TypedExpr)) (env l : List Val) (n : ℕ) → Below (turns_down n p t ts ds env l) (turns_to n n p t ts ds env l)
+falls p t ts ds env l n =
+    down_below n t.is_until (λ d. meanings d p ts) (λ d. turned t (map (map (meaning d p)) ds)) env (λ d. meanings_grow d p ts) (λ d e. turned_below d p t ds e) l
 
-pub rises : (p : Program) (t : Turns) (test : List TypedExpr) (defs : List (List TypedExpr)) (env l : List Val) (n depth : ℕ) (r : Members × ℕ) → turns_to n depth p t test defs env l ≡ Some r → turns_down (n + depth) p t test defs env l ≡ Some r
-rises p t test defs env l n depth r e =
-    (up_below n depth t.is_until (λ d. meanings d p test) (λ d. turned t (map (map (meaning d p)) defs)) env (λ d. meanings_grow d p test) (λ d e. turned_below d p t defs e) l).along r e
+pub rises : (p : Program) (t : Turns) (ts : List TypedExpr) (ds : List (List TypedExpr)) (env l : List Val) (n d : ℕ) → Below (turns_to n d p t ts ds env l) (turns_down (n + d) p t ts ds env l)
+rises p t ts ds env l n d =
+    up_below n d t.is_until (λ d. meanings d p ts) (λ d. turned t (map (map (meaning d p)) ds)) env (λ d. meanings_grow d p ts) (λ d e. turned_below d p t ds e) l

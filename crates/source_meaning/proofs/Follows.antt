@@ -10,7 +10,8 @@ use Rattle.source_meaning.specs.declared.state.After.TheVariants as after
 use Rattle.source_meaning.specs.declared.state.Frame.{Frame}
 use Rattle.meaning.specs.Timed.{andthen}
 use Rattle.meaning.specs.Meaning.{all_of, with_content, arm_in, arm_at, meaning, meanings, definitions}
-use Rattle.source_meaning.specs.Pending.{Program, Rest, finish, whole}
+use Rattle.source_meaning.specs.Pending.{Program, Rest, finish}
+use Rattle.source_meaning.proofs.Wholes.{whole}
 use Rattle.source_meaning.proofs.Laws.{given_then, then_then}
 
 -- ---- definitions

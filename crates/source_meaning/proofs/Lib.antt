@@ -12,3 +12,4 @@ pub mod Rests
 pub mod Rounds
 pub mod Turns
 pub mod Walks
+pub mod Wholes

@@ -11,7 +11,8 @@ use Rattle.source_meaning.specs.declared.state.Frame.TheVariants as frame
 use Rattle.meaning.specs.Timed.{Timed, plus, andthen, Moves, Passes}
 use Rattle.source_meaning.specs.Slots.{slot_values}
 use Rattle.meaning.specs.Meaning.{meaning, meanings, kind_meaning}
-use Rattle.source_meaning.specs.Pending.{Program, Rest, finish, operate, frame_rest, rest, whole}
+use Rattle.source_meaning.specs.Pending.{Program, Rest, finish, operate, frame_rest, rest}
+use Rattle.source_meaning.proofs.Wholes.{whole}
 use Rattle.source_meaning.proofs.Laws.{moves_same, plus_plus, plus_then, passes_now}
 use Rattle.source_meaning.proofs.Grows.{meaning_is}
 use Rattle.source_meaning.proofs.Rests.{part_is, no_part, pop_is}

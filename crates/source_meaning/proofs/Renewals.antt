@@ -5,6 +5,7 @@ use Rattle.std.proofs.lemmas.List.{take-append-drop, set-append_left, set_past, 
 use Rattle.std.proofs.Math.Seq.{take-append_seam, drop-append_seam}
 use Rattle.flow_value.specs.declared.value.Val.{Val}
 use Rattle.meaning.specs.Meaning.{renew, renew_one}
+use Rattle.source_meaning.specs.Loops.{renewal}
 
 module _ {X : Type 0} where
   -- a list in three parts
@@ -77,13 +78,23 @@ length-renew_one : (d : Option ℕ) (v : Val) (l : List Val) → length (renew_o
 length-renew_one None v l = refl
 length-renew_one (Some x) v l = length-set l x v
 
+-- the names of a turn with one more at the end
+more_names : (m h : ℕ) (ds : List (Option ℕ)) (ys : List Val) (v : Val) → m ≤ h → h ≤ length ys
+    → renewal ds m h (ys ++ v ∷ []) ≡ take m ys ++ renew ds (drop h ys ++ v ∷ []) (drop m (take h ys))
+more_names m h ds ys v le there =
+    let a : take m (ys ++ v ∷ []) ≡ take m ys = take-append-le m ys (v ∷ []) (omega arith) in
+    let b : take h (ys ++ v ∷ []) ≡ take h ys = take-append-le h ys (v ∷ []) there in
+    let c : drop h (ys ++ v ∷ []) ≡ drop h ys ++ v ∷ [] = drop-append-le h ys (v ∷ []) there in
+    ap (λ k. k ++ renew ds (drop h (ys ++ v ∷ [])) (drop m (take h (ys ++ v ∷ [])))) a
+    ∙ ap (λ k. take m ys ++ renew ds k (drop m (take h (ys ++ v ∷ [])))) c
+    ∙ ap (λ k. take m ys ++ renew ds (drop h ys ++ v ∷ []) (drop m k)) b
+
 module _ (m h : ℕ) (ds : List (Option ℕ)) (ys new : List Val) (v : Val) (o : Option ℕ) (le : m ≤ h) (there : h ≤ length ys) (is : new ≡ take m ys ++ (renew_one o v (drop m (take h ys)) ++ drop h ys)) where
   middle_length : length (renew_one o v (drop m (take h ys))) ≡ h - m
   middle_length = length-renew_one o v (drop m (take h ys)) ∙ simp (length-drop, length-take) (omega arith)
 
   -- a name is taken off, and renews where it renews a loop name
-  pub renewed_one : o ≡ unwrap_or (slice_get ds (length ys - h)) None
-      → take m new ++ renew ds (drop h new) (drop m (take h new)) ≡ take m ys ++ renew ds (drop h ys ++ v ∷ []) (drop m (take h ys))
+  pub renewed_one : o ≡ unwrap_or (slice_get ds (length ys - h)) None → renewal ds m h new ≡ renewal ds m h (ys ++ v ∷ [])
   renewed_one e =
       let l : List Val = renew_one o v (drop m (take h ys)) in
       let a : take m new ≡ take m ys = ap (take m) is ∙ first_part m h ys l le there in
@@ -96,24 +107,13 @@ module _ (m h : ℕ) (ds : List (Option ℕ)) (ys new : List Val) (v : Val) (o :
       ∙ ap (λ k. take m ys ++ renew ds (drop h ys) k) c
       ∙ ap (λ k. take m ys ++ renew ds (drop h ys) (renew_one k v (drop m (take h ys)))) (sym f)
       ∙ ap (λ k. take m ys ++ k) (sym (renew_end ds (drop h ys) v (drop m (take h ys))))
+      ∙ sym (more_names m h ds ys v le there)
 
   pub length_renewed : length new ≡ length ys
   length_renewed = let n : length (renew_one o v (drop m (take h ys))) ≡ h - m = middle_length in ap length is ∙ simp (length-append, length-take, length-drop) (omega arith)
 
--- the last name is taken off
-pub taken_off : (m h : ℕ) (ds : List (Option ℕ)) (xs ys : List Val) (v : Val) → m ≤ h → h ≤ length ys → xs ≡ ys ++ v ∷ []
-    → take m xs ++ renew ds (drop h xs) (drop m (take h xs)) ≡ take m ys ++ renew ds (drop h ys ++ v ∷ []) (drop m (take h ys))
-taken_off m h ds xs ys v le there e =
-    let a : take m (ys ++ v ∷ []) ≡ take m ys = take-append-le m ys (v ∷ []) (omega arith) in
-    let b : take h (ys ++ v ∷ []) ≡ take h ys = take-append-le h ys (v ∷ []) there in
-    let c : drop h (ys ++ v ∷ []) ≡ drop h ys ++ v ∷ [] = drop-append-le h ys (v ∷ []) there in
-    ap (λ k. take m k ++ renew ds (drop h k) (drop m (take h k))) e
-    ∙ ap (λ k. k ++ renew ds (drop h (ys ++ v ∷ [])) (drop m (take h (ys ++ v ∷ [])))) a
-    ∙ ap (λ k. take m ys ++ renew ds k (drop m (take h (ys ++ v ∷ [])))) c
-    ∙ ap (λ k. take m ys ++ renew ds (drop h ys ++ v ∷ []) (drop m k)) b
-
 -- no name is left of the turn
-pub all_taken_off : (m h : ℕ) (ds : List (Option ℕ)) (xs : List Val) → m ≤ h → length xs ≤ h → take m xs ++ renew ds (drop h xs) (drop m (take h xs)) ≡ xs
+pub all_taken_off : (m h : ℕ) (ds : List (Option ℕ)) (xs : List Val) → m ≤ h → length xs ≤ h → renewal ds m h xs ≡ xs
 all_taken_off m h ds xs le few =
     let d : drop h xs ≡ [] = drop_all h xs few in
     ap (λ k. take m xs ++ renew ds k (drop m (take h xs))) d

@@ -24,7 +24,8 @@ use Rattle.meaning.specs.Words.{value_at, test_of}
 use Rattle.source_meaning.specs.Slots.{slot_values}
 use Rattle.meaning.specs.Sources.{places_of}
 use Rattle.meaning.specs.Meaning.{Gives, all_of, defined, at_place, calls, meaning, meanings, function_gives}
-use Rattle.source_meaning.specs.Pending.{Program, Rest, walked_body, walk, spanned, turned_next, closed, round, tested, collected, finish, operate, frame_rest, last, rest, before}
+use Rattle.source_meaning.specs.Pending.{Program, Rest, walked_body, walk, spanned, turned_next, closed, round, tested, collected, finish, operate, frame_rest, last, rest}
+use Rattle.source_meaning.proofs.Wholes.{before}
 use Rattle.source_meaning.proofs.Laws.{below_refl, below_plus, below_then, moves_same, moves_on, plus_zero, plus_plus, plus_then, then_same, then_then, then_given, joined, given_then}
 use Rattle.source_meaning.proofs.Grows.{Less, meanings_grow, definitions_grow, body_grow, calls_grow, members_below, each_below, over_below, chosen_below, arm_below, turned_below}
 

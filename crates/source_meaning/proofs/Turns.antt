@@ -12,7 +12,8 @@ use Rattle.source_meaning.specs.declared.state.Frame.{Frame}
 use Rattle.source_meaning.specs.declared.state.After.TheVariants as after
 use Rattle.meaning.specs.Timed.{Timed, given, plus, andthen, Moves}
 use Rattle.meaning.specs.Meaning.{Gives, defined, renew, renew_one, meaning, meanings, definitions}
-use Rattle.source_meaning.specs.Pending.{Program, Rest, turned_next, round, tested, collected, finish, rest, before}
+use Rattle.source_meaning.specs.Pending.{Program, Rest, turned_next, round, tested, collected, finish, rest}
+use Rattle.source_meaning.proofs.Wholes.{before}
 use Rattle.source_meaning.proofs.Laws.{given_then, joined, moves_to}
 use Rattle.source_meaning.proofs.Rests.{defined_then}
 use Rattle.source_meaning.proofs.Rounds.{kept, round_moves}

@@ -14,7 +14,8 @@ use Rattle.source_meaning.specs.Slots.{slot_values}
 use Rattle.meaning.specs.Sources.{places_of, names_at, lower_of}
 use Rattle.meaning.specs.Rows.{no_rows, with_row, with_rows, made}
 use Rattle.meaning.specs.Meaning.{Gives, all_of, defined, each, environments, at_place, folded, over, meaning, meanings, definitions}
-use Rattle.source_meaning.specs.Pending.{Program, Rest, walked_body, walk, spanned, finish, rest, whole}
+use Rattle.source_meaning.specs.Pending.{Program, Rest, walked_body, walk, spanned, finish, rest}
+use Rattle.source_meaning.proofs.Wholes.{whole}
 use Rattle.source_meaning.proofs.Laws.{given_then, then_then, plus_then, plus_plus, joined}
 use Rattle.source_meaning.proofs.Rests.{defined_then}
 

@@ -1,5 +1,5 @@
 -- What the definition says of the work that is left.
-use Rattle.std.specs.Prelude.{◌≡◌, ℕ, sum_by, ◌*◌, ◌-◌, ◌+◌, pos, Bool, true, false, List, [], ◌∷◌, ◌++◌, map, Option, Some, None, fold, length, take, drop}
+use Rattle.std.specs.Prelude.{◌≡◌, ℕ, sum_by, pos, Bool, true, false, List, [], ◌∷◌, ◌++◌, map, Option, Some, None, fold, length, take, drop}
 use Rattle.flow_value.specs.declared.value.Val.{Val}
 use Rattle.flow_value.specs.declared.value.Val.TheViews.{out-Val}
 use Rattle.flow_value.specs.declared.cause.Cause.{Cause}
@@ -119,17 +119,6 @@ last env vs = given vs
 abbrev pub rest : ℕ → Program → List Frame → Rest
 rest n p fs = fold (frame_rest n p) last fs
 
--- the whole run's result, with the steps that were made
-abbrev pub whole : ℕ → Program → ℕ → List Frame → List Val → List Val → Timed (List Val)
-whole n p steps fs env vs = plus steps (rest n p fs env vs)
-
--- the same before the values of a list are used
-abbrev pub before : ℕ → Program → ℕ → List Frame → List Val → After → List Val → Timed (List Val)
-before n p steps fs env a vs = plus steps (finish n p a (rest n p fs) env vs)
-
-abbrev pub before_work : ℕ → Program → ℕ → List Frame → List Val → Work → List Val → Timed (List Val)
-before_work n p steps fs env w vs = plus steps (operate n p w (rest n p fs) env vs)
-
 -- ---- how long it can go on
 
 -- how many frames more may come of a frame before a step is counted
@@ -162,7 +151,3 @@ frame_weight (frame.Operating f) = 1
 
 abbrev pub load : List Frame → ℕ
 load fs = sum_by frame_weight fs
-
--- by this the evaluator ends
-abbrev pub fuel : ℕ → ℕ → List Frame → ℕ
-fuel limit steps fs = 8 * (limit - steps) + load fs

@@ -1,9 +1,7 @@
 //! How an expression is begun.
-ghost use Rattle.std.specs.Prelude.{◌≡◌, ℕ, ◌+◌, ◌≤◌, OnOk, map};
-ghost use Rattle.meaning.specs.Timed.{andthen, plus};
-ghost use Rattle.meaning.specs.Meaning.{meaning, kind_meaning, body_of};
-ghost use Rattle.source_meaning.specs.Pending.{Program, rest, load, initial_gives};
-ghost use Rattle.source_meaning.specs.Slots.{given_values};
+ghost use Rattle.std.specs.Prelude.{◌≡◌, ◌+◌, ◌≤◌, OnOk};
+ghost use Rattle.source_meaning.specs.Pending.{load};
+ghost use Rattle.source_meaning.specs.Tasks.{Same, later, future, future_by, expr_task, kind_task, let_task, initial_task};
 
 use crate::rows::no_rows;
 use crate::slots::Given;
@@ -15,7 +13,7 @@ use typed_tree::{TypedExpr, TypedKind};
 
 /// Begins an expression, whose step is counted.
 pub fn begin<'a>(alloc: Global, state: &mut State<'a>, e: &'a TypedExpr) -> Result<(), NoMemory>
-    ensures means { OnOk result ((n : ℕ) (p : Program) → plus 1 (rest n p state.new.frames.items state.new.names (given_values state.new.given)) ≡ andthen (meaning n p e.now state.old.names) (rest n p state.old.frames.items state.old.names)) }
+    ensures means { OnOk result (Same (later 1 (future state.new)) (future_by (expr_task e.now) state.old)) }
     ensures steps { state.new.steps ≡ state.old.steps }
     ensures load { OnOk result (load state.new.frames.items ≤ load state.old.frames.items + 5) }
 {
@@ -29,7 +27,7 @@ fn begin_kind<'a>(
     kind: &'a TypedKind,
     results: usize,
 ) -> Result<(), NoMemory>
-    ensures means { OnOk result ((n : ℕ) (p : Program) → rest n p state.new.frames.items state.new.names (given_values state.new.given) ≡ andthen (kind_meaning n p kind.now results state.old.names) (rest n p state.old.frames.items state.old.names)) }
+    ensures means { OnOk result (Same (future state.new) (future_by (kind_task kind.now results) state.old)) }
     ensures steps { state.new.steps ≡ state.old.steps }
     ensures load { OnOk result (load state.new.frames.items ≤ load state.old.frames.items + 5) }
 {
@@ -85,7 +83,7 @@ fn begin_let<'a>(
     defs: &'a Seq<Seq<TypedExpr>>,
     values: &'a Seq<TypedExpr>,
 ) -> Result<(), NoMemory>
-    ensures means { OnOk result ((n : ℕ) (p : Program) → rest n p state.new.frames.items state.new.names (given_values state.new.given) ≡ andthen (body_of (map (map (meaning n p)) defs.now) (map (meaning n p) values.now) state.old.names) (rest n p state.old.frames.items state.old.names)) }
+    ensures means { OnOk result (Same (future state.new) (future_by (let_task defs.now values.now) state.old)) }
     ensures steps { state.new.steps ≡ state.old.steps }
     ensures load { OnOk result (load state.new.frames.items ≤ load state.old.frames.items + 5) }
 {
@@ -106,8 +104,7 @@ fn begin_loop<'a>(
     parts: Turned<'a>,
     first: &'a Seq<Seq<TypedExpr>>,
 ) -> Result<(), NoMemory>
-    ensures means { OnOk result ((n : ℕ) (p : Program) → rest n p state.new.frames.items state.new.names (given_values state.new.given)
-        ≡ andthen (initial_gives n p parts.entry (map (map (meaning n p)) first.now) state.old.names) (rest n p state.old.frames.items state.old.names)) }
+    ensures means { OnOk result (Same (future state.new) (future_by (initial_task parts.entry first.now) state.old)) }
     ensures steps { state.new.steps ≡ state.old.steps }
     ensures load { OnOk result (load state.new.frames.items ≤ load state.old.frames.items + 5) }
 {

@@ -1,9 +1,7 @@
 //! Steps, values that are given, and frames that are put.
-ghost use Rattle.std.specs.Prelude.{◌≡◌, ℕ, ◌+◌, ◌<◌, ◌≤◌, List, [], ◌∷◌, ◌++◌, OnOk, IsTrue};
-ghost use Rattle.flow_value.specs.declared.value.Val.{Val};
-ghost use Rattle.meaning.specs.Timed.{andthen};
-ghost use Rattle.meaning.specs.Meaning.{meanings, definitions};
-ghost use Rattle.source_meaning.specs.Pending.{Program, rest, finish, operate, load, listing_weight};
+ghost use Rattle.std.specs.Prelude.{◌≡◌, ◌+◌, ◌<◌, ◌≤◌, [], ◌∷◌, ◌++◌, OnOk, IsTrue};
+ghost use Rattle.source_meaning.specs.Pending.{load, listing_weight};
+ghost use Rattle.source_meaning.specs.Tasks.{Puts, list_task, operand_task, define_task};
 ghost use Rattle.source_meaning.specs.Slots.{given_values};
 
 use crate::slots::Given;
@@ -38,7 +36,7 @@ impl<'a> State<'a> {
         after: After<'a>,
         left: &'a [TypedExpr],
     ) -> Result<(), NoMemory>
-        ensures means { OnOk result ((n : ℕ) (p : Program) (env : List Val) → rest n p self.new.frames.items env [] ≡ andthen (meanings n p left.now env) (finish n p after.entry (rest n p self.old.frames.items) env)) }
+        ensures means { OnOk result (Puts (list_task left.now after.entry) self.old self.new) }
         ensures load { OnOk result (load self.new.frames.items ≡ load self.old.frames.items + listing_weight after.entry left.now) }
         ensures names { self.new.names ≡ self.old.names }
         ensures steps { self.new.steps ≡ self.old.steps }
@@ -59,7 +57,7 @@ impl<'a> State<'a> {
         work: Work<'a>,
         left: &'a [TypedExpr],
     ) -> Result<(), NoMemory>
-        ensures means { OnOk result ((n : ℕ) (p : Program) (env : List Val) → rest n p self.new.frames.items env [] ≡ andthen (meanings n p left.now env) (operate n p work.entry (rest n p self.old.frames.items) env)) }
+        ensures means { OnOk result (Puts (operand_task left.now work.entry) self.old self.new) }
         ensures load { OnOk result (load self.new.frames.items ≡ load self.old.frames.items + 1) }
         ensures names { self.new.names ≡ self.old.names }
         ensures steps { self.new.steps ≡ self.old.steps }
@@ -97,7 +95,7 @@ impl<'a> State<'a> {
         left: &'a [TypedExpr],
         defs: &'a [Seq<TypedExpr>],
     ) -> Result<(), NoMemory>
-        ensures means { OnOk result ((n : ℕ) (p : Program) (env : List Val) → rest n p self.new.frames.items env [] ≡ andthen (definitions n p defs.now env) (λ e. andthen (meanings n p left.now e) (finish n p after.entry (rest n p self.old.frames.items) e))) }
+        ensures means { OnOk result (Puts (define_task defs.now left.now after.entry) self.old self.new) }
         ensures load { OnOk result (load self.new.frames.items ≡ load self.old.frames.items + listing_weight after.entry left.now + 2) }
         ensures names { self.new.names ≡ self.old.names }
         ensures steps { self.new.steps ≡ self.old.steps }

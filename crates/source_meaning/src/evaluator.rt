@@ -1,11 +1,10 @@
 //! The values of a function.
 ghost use Rattle.std.specs.Prelude.{◌≡◌, ℕ, ◌+◌, ◌<◌, ◌≤◌, List, IfOk, IfErr, IfSome, Some, None, Ok};
 ghost use Rattle.flow_value.specs.declared.value.Val.{Val};
-ghost use Rattle.meaning.specs.Timed.{given, plus, Moves, Passes};
-ghost use Rattle.meaning.specs.Meaning.{Members, calls};
+ghost use Rattle.meaning.specs.Timed.{Below, Moves, Passes};
+ghost use Rattle.meaning.specs.Meaning.{calls};
 ghost use Rattle.meaning.specs.Descents.{turns_to, turns_down};
-ghost use Rattle.source_meaning.specs.Slots.{given_values};
-ghost use Rattle.source_meaning.specs.Pending.{before};
+ghost use Rattle.source_meaning.specs.Tasks.{outcome_by, answer, after_task};
 ghost use Rattle.typed_tree.specs.declared.expr.TypedExpr.{TypedExpr};
 ghost use Rattle.typed_tree.specs.declared.expr.Turns.{Turns};
 ghost use Rattle.typed_tree.specs.declared.program.Function.{Function};
@@ -48,8 +47,8 @@ fn start<'a>(
     function: u32,
     args: Items,
 ) -> Result<Going, NoMemory>
-    ensures moves { IfOk result (λ g. g ≡ Going.On → Moves (λ n. before n program.now state.old.steps state.old.frames.items state.old.names (After.Enter function) args) (λ n. plus state.new.steps (given (given_values state.new.given)))) }
-    ensures limit { IfOk result (λ g. g ≡ Going.Limit → Passes limit (λ n. before n program.now state.old.steps state.old.frames.items state.old.names (After.Enter function) args)) }
+    ensures moves { IfOk result (λ g. g ≡ Going.On → Moves (outcome_by (after_task (After.Enter function) args) state.old program.now) (answer state.new)) }
+    ensures limit { IfOk result (λ g. g ≡ Going.Limit → Passes limit (outcome_by (after_task (After.Enter function) args) state.old program.now)) }
     ensures bound { IfOk result (λ g. state.old.steps ≤ limit → state.new.steps ≤ limit) }
 {
     match enter(alloc, program, limit, state, function, args)? {
@@ -119,6 +118,6 @@ pub fn depths_agree()
 /// Turns of a loop whose parts go one depth less at each turn give what turns give whose parts all
 /// go to one depth, and the other way round: so it does not matter which of them bounds a loop.
 pub fn turns_agree()
-    ensures falls { (p : List Function) (t : Turns) (test : List TypedExpr) (defs : List (List TypedExpr)) (env l : List Val) (n : ℕ) (r : Members × ℕ) → turns_down n p t test defs env l ≡ Some r → turns_to n n p t test defs env l ≡ Some r }
-    ensures rises { (p : List Function) (t : Turns) (test : List TypedExpr) (defs : List (List TypedExpr)) (env l : List Val) (n depth : ℕ) (r : Members × ℕ) → turns_to n depth p t test defs env l ≡ Some r → turns_down (n + depth) p t test defs env l ≡ Some r }
+    ensures falls { (p : List Function) (t : Turns) (ts : List TypedExpr) (ds : List (List TypedExpr)) (env l : List Val) (n : ℕ) → Below (turns_down n p t ts ds env l) (turns_to n n p t ts ds env l) }
+    ensures rises { (p : List Function) (t : Turns) (ts : List TypedExpr) (ds : List (List TypedExpr)) (env l : List Val) (n d : ℕ) → Below (turns_to n d p t ts ds env l) (turns_down (n + d) p t ts ds env l) }
 {}

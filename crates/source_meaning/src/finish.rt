@@ -1,9 +1,11 @@
 //! What is done with the values of a list of expressions.
-ghost use Rattle.std.specs.Prelude.{◌≡◌, ℕ, ◌+◌, ◌<◌, ◌≤◌, List, OnOk, IfOk, map, length};
-ghost use Rattle.meaning.specs.Timed.{given, plus, andthen, Moves, Passes};
+ghost use Rattle.std.specs.Prelude.{◌≡◌, ℕ, ◌+◌, ◌<◌, ◌≤◌, List, OnOk, IfOk};
+ghost use Rattle.flow_value.specs.declared.value.Val.{Val};
+ghost use Rattle.meaning.specs.Timed.{Moves, Passes};
 ghost use Rattle.meaning.specs.Words.{failed, value_at};
-ghost use Rattle.meaning.specs.Meaning.{meaning, definitions, results_of, with_content, arm_at, arm_place, all_of};
-ghost use Rattle.source_meaning.specs.Pending.{Program, rest, load, weight, whole, before, fuel, StartsFull};
+ghost use Rattle.meaning.specs.Meaning.{definitions, with_content, arm_place};
+ghost use Rattle.source_meaning.specs.Pending.{Program, load, weight, StartsFull};
+ghost use Rattle.source_meaning.specs.Tasks.{Same, Exceeds, future, future_by, outcome, outcome_by, fuel, after_task, arm_task, function_task, stub_task};
 ghost use Rattle.source_meaning.specs.Slots.{given_values};
 
 use crate::loops::{begin_round, collect, end_place, end_turn, renew};
@@ -40,8 +42,8 @@ fn give_stub(
     state: &mut State<'_>,
     results: usize,
 ) -> Result<Going, NoMemory>
-    ensures same { IfOk result (λ g. g ≡ Going.On → (n : ℕ) (p : Program) → plus state.old.steps (andthen (plus results (given (failed results Cause.Explicit))) (rest n p state.old.frames.items state.old.names)) ≡ whole n p state.new.steps state.new.frames.items state.new.names (given_values state.new.given)) }
-    ensures limit { IfOk result (λ g. g ≡ Going.Limit → (p : Program) → Passes limit (λ n. plus state.old.steps (andthen (plus results (given (failed results Cause.Explicit))) (rest n p state.old.frames.items state.old.names)))) }
+    ensures same { IfOk result (λ g. g ≡ Going.On → Same (outcome_by (stub_task results) state.old) (outcome state.new)) }
+    ensures limit { IfOk result (λ g. g ≡ Going.Limit → Exceeds limit (outcome_by (stub_task results) state.old)) }
     ensures load { state.new.frames ≡ state.old.frames }
     ensures steps { state.old.steps ≤ state.new.steps }
     ensures bound { IfOk result (λ g. state.old.steps ≤ limit → state.new.steps ≤ limit) }
@@ -75,7 +77,7 @@ fn bind<'a>(
     defs: &'a [Seq<TypedExpr>],
     values: Items,
 ) -> Result<(), NoMemory>
-    ensures same { OnOk result ((n : ℕ) (p : Program) → before n p state.old.steps state.old.frames.items state.old.names (After.Bind defs.entry) values ≡ whole n p state.new.steps state.new.frames.items state.new.names (given_values state.new.given)) }
+    ensures same { OnOk result (Same (outcome_by (after_task (After.Bind defs.entry) values) state.old) (outcome state.new)) }
     ensures steps { state.new.steps ≡ state.old.steps }
     ensures load { OnOk result (load state.new.frames.items ≤ load state.old.frames.items + 1) }
 {
@@ -103,9 +105,9 @@ pub fn enter<'a>(
     number: u32,
     values: Items,
 ) -> Result<Going, NoMemory>
-    ensures moves { IfOk result (λ g. g ≡ Going.On → Moves (λ n. before n program.now state.old.steps state.old.frames.items state.old.names (After.Enter number) values) (λ n. whole n program.now state.new.steps state.new.frames.items state.new.names (given_values state.new.given))) }
-    ensures limit { IfOk result (λ g. g ≡ Going.Limit → Passes limit (λ n. before n program.now state.old.steps state.old.frames.items state.old.names (After.Enter number) values)) }
-    ensures fuel { IfOk result (λ g. g ≡ Going.On → fuel limit state.new.steps state.new.frames.items < fuel limit state.old.steps state.old.frames.items + 2) }
+    ensures moves { IfOk result (λ g. g ≡ Going.On → Moves (outcome_by (after_task (After.Enter number) values) state.old program.now) (outcome state.new program.now)) }
+    ensures limit { IfOk result (λ g. g ≡ Going.Limit → Passes limit (outcome_by (after_task (After.Enter number) values) state.old program.now)) }
+    ensures fuel { IfOk result (λ g. g ≡ Going.On → fuel limit state.new < fuel limit state.old + 2) }
     ensures bound { IfOk result (λ g. state.old.steps ≤ limit → state.new.steps ≤ limit) }
 {
     match item_at(program, number as usize) {
@@ -127,9 +129,9 @@ fn enter_function<'a>(
     function: &'a Function,
     values: Items,
 ) -> Result<Going, NoMemory>
-    ensures same { IfOk result (λ g. g ≡ Going.On → (n : ℕ) (p : Program) → plus state.old.steps (andthen (results_of (length function.now.results) function.now.body (meaning n p) values) (rest n p state.old.frames.items state.old.names)) ≡ whole n p state.new.steps state.new.frames.items state.new.names (given_values state.new.given)) }
-    ensures limit { IfOk result (λ g. g ≡ Going.Limit → (p : Program) → Passes limit (λ n. plus state.old.steps (andthen (results_of (length function.now.results) function.now.body (meaning n p) values) (rest n p state.old.frames.items state.old.names)))) }
-    ensures fuel { IfOk result (λ g. g ≡ Going.On → fuel limit state.new.steps state.new.frames.items < fuel limit state.old.steps state.old.frames.items + 2) }
+    ensures same { IfOk result (λ g. g ≡ Going.On → Same (outcome_by (function_task function.now values) state.old) (outcome state.new)) }
+    ensures limit { IfOk result (λ g. g ≡ Going.Limit → Exceeds limit (outcome_by (function_task function.now values) state.old)) }
+    ensures fuel { IfOk result (λ g. g ≡ Going.On → fuel limit state.new < fuel limit state.old + 2) }
     ensures bound { IfOk result (λ g. state.old.steps ≤ limit → state.new.steps ≤ limit) }
 {
     match &function.body {
@@ -154,7 +156,7 @@ fn choose<'a>(
     results: usize,
     values: Items,
 ) -> Result<(), NoMemory>
-    ensures same { OnOk result ((n : ℕ) (p : Program) → before n p state.old.steps state.old.frames.items state.old.names (After.Choose yes.entry no.entry results) values ≡ whole n p state.new.steps state.new.frames.items state.new.names (given_values state.new.given)) }
+    ensures same { OnOk result (Same (outcome_by (after_task (After.Choose yes.entry no.entry results) values) state.old) (outcome state.new)) }
     ensures steps { state.new.steps ≡ state.old.steps }
     ensures load { OnOk result (load state.new.frames.items ≤ load state.old.frames.items + 1) }
 {
@@ -196,7 +198,7 @@ fn pick<'a>(
     results: usize,
     values: Items,
 ) -> Result<(), NoMemory>
-    ensures same { OnOk result ((n : ℕ) (p : Program) → before n p state.old.steps state.old.frames.items state.old.names (After.Pick case.entry arms.entry results) values ≡ whole n p state.new.steps state.new.frames.items state.new.names (given_values state.new.given)) }
+    ensures same { OnOk result (Same (outcome_by (after_task (After.Pick case.entry arms.entry results) values) state.old) (outcome state.new)) }
     ensures steps { state.new.steps ≡ state.old.steps }
     ensures load { OnOk result (load state.new.frames.items ≤ load state.old.frames.items + 1) }
 {
@@ -228,8 +230,7 @@ fn enter_arm<'a>(
     place: u32,
     content: Val,
 ) -> Result<(), NoMemory>
-    ensures means { OnOk result ((n : ℕ) (p : Program) → rest n p state.new.frames.items state.new.names (given_values state.new.given)
-        ≡ andthen (arm_at case.now results (map all_of (map (map (meaning n p)) arms.now)) place content state.old.names) (rest n p state.old.frames.items state.old.names)) }
+    ensures means { OnOk result (Same (future state.new) (future_by (arm_task case.now results arms.now place content) state.old)) }
     ensures steps { state.new.steps ≡ state.old.steps }
     ensures load { OnOk result (load state.new.frames.items ≤ load state.old.frames.items + 1) }
 {
@@ -262,9 +263,9 @@ pub fn finish<'a>(
     after: After<'a>,
     values: Items,
 ) -> Result<Going, NoMemory>
-    ensures moves { IfOk result (λ g. g ≡ Going.On → Moves (λ n. before n program.now state.old.steps state.old.frames.items state.old.names after.entry values) (λ n. whole n program.now state.new.steps state.new.frames.items state.new.names (given_values state.new.given))) }
-    ensures limit { IfOk result (λ g. g ≡ Going.Limit → Passes limit (λ n. before n program.now state.old.steps state.old.frames.items state.old.names after.entry values)) }
-    ensures fuel { IfOk result (λ g. g ≡ Going.On → fuel limit state.new.steps state.new.frames.items < fuel limit state.old.steps state.old.frames.items + weight after.entry) }
+    ensures moves { IfOk result (λ g. g ≡ Going.On → Moves (outcome_by (after_task after.entry values) state.old program.now) (outcome state.new program.now)) }
+    ensures limit { IfOk result (λ g. g ≡ Going.Limit → Passes limit (outcome_by (after_task after.entry values) state.old program.now)) }
+    ensures fuel { IfOk result (λ g. g ≡ Going.On → fuel limit state.new < fuel limit state.old + weight after.entry) }
     ensures bound { IfOk result (λ g. state.old.steps ≤ limit → state.new.steps ≤ limit) }
 {
     match after {

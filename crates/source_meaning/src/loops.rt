@@ -1,10 +1,9 @@
 //! Loops.
-ghost use Rattle.std.specs.Prelude.{◌≡◌, ℕ, ◌+◌, ◌<◌, ◌≤◌, [], ◌∷◌, ◌++◌, OnOk, IfOk, take, drop, length, slice_get, slice_set, unwrap_or, MatchOption};
-ghost use Rattle.meaning.specs.Timed.{andthen, plus, Moves, Passes};
-ghost use Rattle.meaning.specs.Words.{goes_on, test_of};
-ghost use Rattle.source_meaning.specs.Slots.{slot_values, given_values};
-ghost use Rattle.meaning.specs.Meaning.{over, renew as renewed_names};
-ghost use Rattle.source_meaning.specs.Pending.{Program, rest, load, whole, before, fuel, walked_body, walk, spanned, tested, ended};
+ghost use Rattle.std.specs.Prelude.{◌≡◌, ◌+◌, ◌<◌, ◌≤◌, [], ◌∷◌, ◌++◌, OnOk, IfOk, take, drop, length, slice_get, slice_set, unwrap_or, MatchOption};
+ghost use Rattle.meaning.specs.Timed.{Moves};
+ghost use Rattle.source_meaning.specs.Loops.{renewal};
+ghost use Rattle.source_meaning.specs.Pending.{Program, load};
+ghost use Rattle.source_meaning.specs.Tasks.{Same, Exceeds, later, future, future_by, outcome, outcome_by, fuel, after_task, walk_task, span_task, places_task, turn_task, end_task};
 
 use crate::finish::give_failed;
 use crate::rows::{add_row, made, no_rows};
@@ -23,9 +22,9 @@ fn iterate<'a>(
     state: &mut State<'a>,
     walked: Walk<'a>,
 ) -> Result<Going, NoMemory>
-    ensures same { IfOk result (λ g. g ≡ Going.On → (n : ℕ) (p : Program) → plus state.old.steps (walk n p walked.entry (rest n p state.old.frames.items) state.old.names walked.entry.clauses.items) ≡ whole n p state.new.steps state.new.frames.items state.new.names (given_values state.new.given)) }
-    ensures limit { IfOk result (λ g. g ≡ Going.Limit → (p : Program) → Passes limit (λ n. plus state.old.steps (walk n p walked.entry (rest n p state.old.frames.items) state.old.names walked.entry.clauses.items))) }
-    ensures fuel { IfOk result (λ g. g ≡ Going.On → fuel limit state.new.steps state.new.frames.items < fuel limit state.old.steps state.old.frames.items + 1) }
+    ensures same { IfOk result (λ g. g ≡ Going.On → Same (outcome_by (walk_task walked.entry) state.old) (outcome state.new)) }
+    ensures limit { IfOk result (λ g. g ≡ Going.Limit → Exceeds limit (outcome_by (walk_task walked.entry) state.old)) }
+    ensures fuel { IfOk result (λ g. g ≡ Going.On → fuel limit state.new < fuel limit state.old + 1) }
     ensures bound { IfOk result (λ g. state.old.steps ≤ limit → state.new.steps ≤ limit) }
 {
     if walked.left == 0 {
@@ -47,9 +46,9 @@ fn end_walk<'a>(
     walked: Walk<'a>,
 ) -> Result<Going, NoMemory>
     requires { walked.left ≡ 0 }
-    ensures same { IfOk result (λ g. g ≡ Going.On → (n : ℕ) (p : Program) → plus state.old.steps (walk n p walked.entry (rest n p state.old.frames.items) state.old.names walked.entry.clauses.items) ≡ whole n p state.new.steps state.new.frames.items state.new.names (given_values state.new.given)) }
-    ensures limit { IfOk result (λ g. g ≡ Going.Limit → (p : Program) → Passes limit (λ n. plus state.old.steps (walk n p walked.entry (rest n p state.old.frames.items) state.old.names walked.entry.clauses.items))) }
-    ensures fuel { IfOk result (λ g. g ≡ Going.On → fuel limit state.new.steps state.new.frames.items < fuel limit state.old.steps state.old.frames.items + 1) }
+    ensures same { IfOk result (λ g. g ≡ Going.On → Same (outcome_by (walk_task walked.entry) state.old) (outcome state.new)) }
+    ensures limit { IfOk result (λ g. g ≡ Going.Limit → Exceeds limit (outcome_by (walk_task walked.entry) state.old)) }
+    ensures fuel { IfOk result (λ g. g ≡ Going.On → fuel limit state.new < fuel limit state.old + 1) }
     ensures bound { IfOk result (λ g. state.old.steps ≤ limit → state.new.steps ≤ limit) }
 {
     if !state.count(limit, walked.parts.form.clauses.len()) {
@@ -64,7 +63,7 @@ fn end_walk<'a>(
 /// Begins a place of a loop over generators, whose step is counted.
 fn begin_place<'a>(alloc: Global, state: &mut State<'a>, walked: Walk<'a>) -> Result<(), NoMemory>
     requires { 0 < walked.left }
-    ensures means { OnOk result ((n : ℕ) (p : Program) → plus 1 (rest n p state.new.frames.items state.new.names (given_values state.new.given)) ≡ walk n p walked.entry (rest n p state.old.frames.items) state.old.names walked.entry.clauses.items) }
+    ensures means { OnOk result (Same (later 1 (future state.new)) (future_by (walk_task walked.entry) state.old)) }
     ensures steps { state.new.steps ≡ state.old.steps }
     ensures load { OnOk result (load state.new.frames.items ≤ load state.old.frames.items + 3) }
 {
@@ -99,9 +98,9 @@ pub fn span<'a>(
     parts: Walked<'a>,
     bounds: Seq<Slot>,
 ) -> Result<Going, NoMemory>
-    ensures same { IfOk result (λ g. g ≡ Going.On → (n : ℕ) (p : Program) → plus state.old.steps (spanned n p parts.entry (rest n p state.old.frames.items) state.old.names (slot_values state.old.names bounds)) ≡ whole n p state.new.steps state.new.frames.items state.new.names (given_values state.new.given)) }
-    ensures limit { IfOk result (λ g. g ≡ Going.Limit → (p : Program) → Passes limit (λ n. plus state.old.steps (spanned n p parts.entry (rest n p state.old.frames.items) state.old.names (slot_values state.old.names bounds)))) }
-    ensures fuel { IfOk result (λ g. g ≡ Going.On → fuel limit state.new.steps state.new.frames.items < fuel limit state.old.steps state.old.frames.items + 1) }
+    ensures same { IfOk result (λ g. g ≡ Going.On → Same (outcome_by (span_task parts.entry bounds) state.old) (outcome state.new)) }
+    ensures limit { IfOk result (λ g. g ≡ Going.Limit → Exceeds limit (outcome_by (span_task parts.entry bounds) state.old)) }
+    ensures fuel { IfOk result (λ g. g ≡ Going.On → fuel limit state.new < fuel limit state.old + 1) }
     ensures bound { IfOk result (λ g. state.old.steps ≤ limit → state.new.steps ≤ limit) }
 {
     let sources = parts.form.sources.as_slice();
@@ -122,9 +121,9 @@ fn open<'a>(
     bounds: Seq<Slot>,
     places: Places,
 ) -> Result<Going, NoMemory>
-    ensures same { IfOk result (λ g. g ≡ Going.On → (n : ℕ) (p : Program) → plus state.old.steps (andthen (over parts.entry.form.now parts.entry.results (walked_body n p parts.entry) (slot_values state.old.names bounds) places state.old.names) (rest n p state.old.frames.items state.old.names)) ≡ whole n p state.new.steps state.new.frames.items state.new.names (given_values state.new.given)) }
-    ensures limit { IfOk result (λ g. g ≡ Going.Limit → (p : Program) → Passes limit (λ n. plus state.old.steps (andthen (over parts.entry.form.now parts.entry.results (walked_body n p parts.entry) (slot_values state.old.names bounds) places state.old.names) (rest n p state.old.frames.items state.old.names)))) }
-    ensures fuel { IfOk result (λ g. g ≡ Going.On → fuel limit state.new.steps state.new.frames.items < fuel limit state.old.steps state.old.frames.items + 1) }
+    ensures same { IfOk result (λ g. g ≡ Going.On → Same (outcome_by (places_task parts.entry bounds places) state.old) (outcome state.new)) }
+    ensures limit { IfOk result (λ g. g ≡ Going.Limit → Exceeds limit (outcome_by (places_task parts.entry bounds places) state.old)) }
+    ensures fuel { IfOk result (λ g. g ≡ Going.On → fuel limit state.new < fuel limit state.old + 1) }
     ensures bound { IfOk result (λ g. state.old.steps ≤ limit → state.new.steps ≤ limit) }
 {
     match places {
@@ -148,9 +147,9 @@ fn begin_walk<'a>(
     bounds: Seq<Slot>,
     count: usize,
 ) -> Result<Going, NoMemory>
-    ensures same { IfOk result (λ g. g ≡ Going.On → (n : ℕ) (p : Program) → plus state.old.steps (andthen (over parts.entry.form.now parts.entry.results (walked_body n p parts.entry) (slot_values state.old.names bounds) (Places.Count count) state.old.names) (rest n p state.old.frames.items state.old.names)) ≡ whole n p state.new.steps state.new.frames.items state.new.names (given_values state.new.given)) }
-    ensures limit { IfOk result (λ g. g ≡ Going.Limit → (p : Program) → Passes limit (λ n. plus state.old.steps (andthen (over parts.entry.form.now parts.entry.results (walked_body n p parts.entry) (slot_values state.old.names bounds) (Places.Count count) state.old.names) (rest n p state.old.frames.items state.old.names)))) }
-    ensures fuel { IfOk result (λ g. g ≡ Going.On → fuel limit state.new.steps state.new.frames.items < fuel limit state.old.steps state.old.frames.items + 1) }
+    ensures same { IfOk result (λ g. g ≡ Going.On → Same (outcome_by (places_task parts.entry bounds (Places.Count count)) state.old) (outcome state.new)) }
+    ensures limit { IfOk result (λ g. g ≡ Going.Limit → Exceeds limit (outcome_by (places_task parts.entry bounds (Places.Count count)) state.old)) }
+    ensures fuel { IfOk result (λ g. g ≡ Going.On → fuel limit state.new < fuel limit state.old + 1) }
     ensures bound { IfOk result (λ g. state.old.steps ≤ limit → state.new.steps ≤ limit) }
 {
     let clauses = no_rows(alloc, parts.form.clauses.as_slice())?;
@@ -174,9 +173,9 @@ pub fn end_place<'a>(
     walked: Walk<'a>,
     values: Items,
 ) -> Result<Going, NoMemory>
-    ensures same { IfOk result (λ g. g ≡ Going.On → (n : ℕ) (p : Program) → before n p state.old.steps state.old.frames.items state.old.names (After.Next walked.entry) values ≡ whole n p state.new.steps state.new.frames.items state.new.names (given_values state.new.given)) }
-    ensures limit { IfOk result (λ g. g ≡ Going.Limit → (p : Program) → Passes limit (λ n. before n p state.old.steps state.old.frames.items state.old.names (After.Next walked.entry) values)) }
-    ensures fuel { IfOk result (λ g. g ≡ Going.On → fuel limit state.new.steps state.new.frames.items < fuel limit state.old.steps state.old.frames.items + 1) }
+    ensures same { IfOk result (λ g. g ≡ Going.On → Same (outcome_by (after_task (After.Next walked.entry) values) state.old) (outcome state.new)) }
+    ensures limit { IfOk result (λ g. g ≡ Going.Limit → Exceeds limit (outcome_by (after_task (After.Next walked.entry) values) state.old)) }
+    ensures fuel { IfOk result (λ g. g ≡ Going.On → fuel limit state.new < fuel limit state.old + 1) }
     ensures bound { IfOk result (λ g. state.old.steps ≤ limit → state.new.steps ≤ limit) }
 {
     let mut walked = walked;
@@ -196,7 +195,7 @@ pub fn begin_round<'a>(
     state: &mut State<'a>,
     round: Round<'a>,
 ) -> Result<(), NoMemory>
-    ensures moves { OnOk result ((p : Program) → Moves (λ n. before n p state.old.steps state.old.frames.items state.old.names (After.Start round.entry) []) (λ n. whole n p state.new.steps state.new.frames.items state.new.names (given_values state.new.given))) }
+    ensures moves { OnOk result ((p : Program) → Moves (outcome_by (after_task (After.Start round.entry) []) state.old p) (outcome state.new p)) }
     ensures steps { state.new.steps ≡ state.old.steps }
     ensures load { OnOk result (load state.new.frames.items ≤ load state.old.frames.items + 2) }
 {
@@ -230,9 +229,9 @@ fn go<'a>(
     state: &mut State<'a>,
     round: Round<'a>,
 ) -> Result<Going, NoMemory>
-    ensures same { IfOk result (λ g. g ≡ Going.On → (n : ℕ) (p : Program) → plus state.old.steps (tested n p round.entry.parts (rest n p state.old.frames.items) (take round.entry.mark state.old.names) round.entry.clauses.items (drop round.entry.mark state.old.names) Test.Yes) ≡ whole n p state.new.steps state.new.frames.items state.new.names (given_values state.new.given)) }
-    ensures limit { IfOk result (λ g. g ≡ Going.Limit → (p : Program) → Passes limit (λ n. plus state.old.steps (tested n p round.entry.parts (rest n p state.old.frames.items) (take round.entry.mark state.old.names) round.entry.clauses.items (drop round.entry.mark state.old.names) Test.Yes))) }
-    ensures fuel { IfOk result (λ g. g ≡ Going.On → fuel limit state.new.steps state.new.frames.items < fuel limit state.old.steps state.old.frames.items + 1) }
+    ensures same { IfOk result (λ g. g ≡ Going.On → Same (outcome_by (turn_task round.entry) state.old) (outcome state.new)) }
+    ensures limit { IfOk result (λ g. g ≡ Going.Limit → Exceeds limit (outcome_by (turn_task round.entry) state.old)) }
+    ensures fuel { IfOk result (λ g. g ≡ Going.On → fuel limit state.new < fuel limit state.old + 1) }
     ensures bound { IfOk result (λ g. state.old.steps ≤ limit → state.new.steps ≤ limit) }
 {
     if !state.count(limit, 1) {
@@ -258,9 +257,9 @@ pub fn collect<'a>(
     round: Round<'a>,
     values: Items,
 ) -> Result<Going, NoMemory>
-    ensures same { IfOk result (λ g. g ≡ Going.On → (n : ℕ) (p : Program) → before n p state.old.steps state.old.frames.items state.old.names (After.Kept round.entry) values ≡ whole n p state.new.steps state.new.frames.items state.new.names (given_values state.new.given)) }
-    ensures limit { IfOk result (λ g. g ≡ Going.Limit → (p : Program) → Passes limit (λ n. before n p state.old.steps state.old.frames.items state.old.names (After.Kept round.entry) values)) }
-    ensures fuel { IfOk result (λ g. g ≡ Going.On → fuel limit state.new.steps state.new.frames.items < fuel limit state.old.steps state.old.frames.items + 2) }
+    ensures same { IfOk result (λ g. g ≡ Going.On → Same (outcome_by (after_task (After.Kept round.entry) values) state.old) (outcome state.new)) }
+    ensures limit { IfOk result (λ g. g ≡ Going.Limit → Exceeds limit (outcome_by (after_task (After.Kept round.entry) values) state.old)) }
+    ensures fuel { IfOk result (λ g. g ≡ Going.On → fuel limit state.new < fuel limit state.old + 2) }
     ensures bound { IfOk result (λ g. state.old.steps ≤ limit → state.new.steps ≤ limit) }
 {
     let mut round = round;
@@ -287,9 +286,9 @@ pub fn end_turn<'a>(
     round: Round<'a>,
     values: Items,
 ) -> Result<Going, NoMemory>
-    ensures same { IfOk result (λ g. g ≡ Going.On → (n : ℕ) (p : Program) → before n p state.old.steps state.old.frames.items state.old.names (After.Tested round.entry) values ≡ whole n p state.new.steps state.new.frames.items state.new.names (given_values state.new.given)) }
-    ensures limit { IfOk result (λ g. g ≡ Going.Limit → (p : Program) → Passes limit (λ n. before n p state.old.steps state.old.frames.items state.old.names (After.Tested round.entry) values)) }
-    ensures fuel { IfOk result (λ g. g ≡ Going.On → fuel limit state.new.steps state.new.frames.items < fuel limit state.old.steps state.old.frames.items + 1) }
+    ensures same { IfOk result (λ g. g ≡ Going.On → Same (outcome_by (after_task (After.Tested round.entry) values) state.old) (outcome state.new)) }
+    ensures limit { IfOk result (λ g. g ≡ Going.Limit → Exceeds limit (outcome_by (after_task (After.Tested round.entry) values) state.old)) }
+    ensures fuel { IfOk result (λ g. g ≡ Going.On → fuel limit state.new < fuel limit state.old + 1) }
     ensures bound { IfOk result (λ g. state.old.steps ≤ limit → state.new.steps ≤ limit) }
 {
     match goes_on(round.parts.form.is_until, test_of(values.as_slice())) {
@@ -316,9 +315,9 @@ fn end_loop<'a>(
     state: &mut State<'a>,
     round: Round<'a>,
 ) -> Result<Going, NoMemory>
-    ensures same { IfOk result (λ g. g ≡ Going.On → (n : ℕ) (p : Program) → plus state.old.steps (ended round.entry.parts (rest n p state.old.frames.items) (take round.entry.mark state.old.names) round.entry.clauses.items) ≡ whole n p state.new.steps state.new.frames.items state.new.names (given_values state.new.given)) }
-    ensures limit { IfOk result (λ g. g ≡ Going.Limit → (p : Program) → Passes limit (λ n. plus state.old.steps (ended round.entry.parts (rest n p state.old.frames.items) (take round.entry.mark state.old.names) round.entry.clauses.items))) }
-    ensures fuel { IfOk result (λ g. g ≡ Going.On → fuel limit state.new.steps state.new.frames.items < fuel limit state.old.steps state.old.frames.items + 1) }
+    ensures same { IfOk result (λ g. g ≡ Going.On → Same (outcome_by (end_task round.entry) state.old) (outcome state.new)) }
+    ensures limit { IfOk result (λ g. g ≡ Going.Limit → Exceeds limit (outcome_by (end_task round.entry) state.old)) }
+    ensures fuel { IfOk result (λ g. g ≡ Going.On → fuel limit state.new < fuel limit state.old + 1) }
     ensures bound { IfOk result (λ g. state.old.steps ≤ limit → state.new.steps ≤ limit) }
 {
     state.names.truncate(round.mark);
@@ -370,7 +369,7 @@ fn loop_name(renewed: &[Option<u32>], place: usize) -> Option<u32>
 fn renew_last(names: &mut Items, mark: usize, height: usize, renewed: &[Option<u32>], v: Val)
     requires within { mark ≤ height }
     requires there { height ≤ length names.old }
-    ensures same { take mark names.new ++ renewed_names renewed.now (drop height names.new) (drop mark (take height names.new)) ≡ take mark names.old ++ renewed_names renewed.now (drop height names.old ++ v ∷ []) (drop mark (take height names.old)) }
+    ensures same { renewal renewed.now mark height names.new ≡ renewal renewed.now mark height (names.old ++ v ∷ []) }
     ensures length { length names.new ≡ length names.old }
 {
     if let Some(place) = loop_name(renewed, names.len() - height) {
@@ -381,7 +380,7 @@ fn renew_last(names: &mut Items, mark: usize, height: usize, renewed: &[Option<u
 /// Gives the loop names the values of the names of the turn that renew them, and takes those off.
 fn renew_names(names: &mut Items, mark: usize, height: usize, renewed: &[Option<u32>])
     requires { mark ≤ height }
-    ensures { names.new ≡ take mark names.old ++ renewed_names renewed.now (drop height names.old) (drop mark (take height names.old)) }
+    ensures { names.new ≡ renewal renewed.now mark height names.old }
 {
     while let Some(v) = last_above(names, height) {
         renew_last(names, mark, height, renewed, v);
@@ -390,7 +389,7 @@ fn renew_names(names: &mut Items, mark: usize, height: usize, renewed: &[Option<
 
 /// Begins the next round of a loop after its turn.
 pub fn renew<'a>(alloc: Global, state: &mut State<'a>, round: Round<'a>) -> Result<(), NoMemory>
-    ensures moves { OnOk result ((p : Program) → Moves (λ n. before n p state.old.steps state.old.frames.items state.old.names (After.Renew round.entry) []) (λ n. whole n p state.new.steps state.new.frames.items state.new.names (given_values state.new.given))) }
+    ensures moves { OnOk result ((p : Program) → Moves (outcome_by (after_task (After.Renew round.entry) []) state.old p) (outcome state.new p)) }
     ensures steps { state.new.steps ≡ state.old.steps }
     ensures load { OnOk result (load state.new.frames.items ≤ load state.old.frames.items + 2) }
 {

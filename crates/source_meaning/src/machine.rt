@@ -1,9 +1,9 @@
 //! The evaluator. All pending work stands in its frames, on the heap.
-ghost use Rattle.std.specs.Prelude.{◌≡◌, ℕ, ◌+◌, ◌-◌, ◌*◌, ◌<◌, ◌≤◌, List, [], ◌∷◌, ◌++◌, OnOk, IfOk, IsTrue};
-ghost use Rattle.meaning.specs.Timed.{given, andthen, plus, Moves, Passes};
-ghost use Rattle.meaning.specs.Meaning.{meaning};
-ghost use Rattle.source_meaning.specs.Slots.{slot_values, given_values};
-ghost use Rattle.source_meaning.specs.Pending.{Program, rest, frame_rest, frame_weight, load, whole, before_work, fuel};
+ghost use Rattle.std.specs.Prelude.{◌≡◌, ◌+◌, ◌<◌, ◌≤◌, [], OnOk, IfOk};
+ghost use Rattle.meaning.specs.Timed.{Moves, Passes};
+ghost use Rattle.source_meaning.specs.Slots.{given_values};
+ghost use Rattle.source_meaning.specs.Pending.{frame_weight, load};
+ghost use Rattle.source_meaning.specs.Tasks.{Same, Exceeds, later, future, future_by, outcome, outcome_by, answer, fuel, frame_task, part_task, work_task};
 
 use crate::begin::begin;
 use crate::finish::finish;
@@ -22,7 +22,7 @@ fn part<'a>(
     frame: Frame<'a>,
     e: &'a TypedExpr,
 ) -> Result<(), NoMemory>
-    ensures means { OnOk result ((n : ℕ) (p : Program) → plus 1 (rest n p state.new.frames.items state.new.names (given_values state.new.given)) ≡ andthen (meaning n p e.now state.old.names) (frame_rest n p (rest n p state.old.frames.items) frame.entry state.old.names)) }
+    ensures means { OnOk result (Same (later 1 (future state.new)) (future_by (part_task frame.entry e.now) state.old)) }
     ensures steps { state.new.steps ≡ state.old.steps }
     ensures load { OnOk result (load state.new.frames.items ≤ load state.old.frames.items + frame_weight frame.entry + 5) }
 {
@@ -40,9 +40,9 @@ fn advance_listing<'a>(
     state: &mut State<'a>,
     listing: Listing<'a>,
 ) -> Result<Going, NoMemory>
-    ensures moves { IfOk result (λ g. g ≡ Going.On → Moves (λ n. plus state.old.steps (frame_rest n program.now (rest n program.now state.old.frames.items) (Frame.Listing listing.entry) state.old.names (given_values state.old.given))) (λ n. whole n program.now state.new.steps state.new.frames.items state.new.names (given_values state.new.given))) }
-    ensures limit { IfOk result (λ g. g ≡ Going.Limit → Passes limit (λ n. plus state.old.steps (frame_rest n program.now (rest n program.now state.old.frames.items) (Frame.Listing listing.entry) state.old.names (given_values state.old.given)))) }
-    ensures fuel { IfOk result (λ g. g ≡ Going.On → fuel limit state.new.steps state.new.frames.items < fuel limit state.old.steps state.old.frames.items + frame_weight (Frame.Listing listing.entry)) }
+    ensures moves { IfOk result (λ g. g ≡ Going.On → Moves (outcome_by (frame_task (Frame.Listing listing.entry) state.old.given) state.old program.now) (outcome state.new program.now)) }
+    ensures limit { IfOk result (λ g. g ≡ Going.Limit → Passes limit (outcome_by (frame_task (Frame.Listing listing.entry) state.old.given) state.old program.now)) }
+    ensures fuel { IfOk result (λ g. g ≡ Going.On → fuel limit state.new < fuel limit state.old + frame_weight (Frame.Listing listing.entry)) }
     ensures bound { IfOk result (λ g. state.old.steps ≤ limit → state.new.steps ≤ limit) }
 {
     let Listing {
@@ -77,7 +77,7 @@ fn operand<'a>(
     e: &'a TypedExpr,
 ) -> Result<(), NoMemory>
     requires { given_values state.old.given ≡ [] }
-    ensures means { OnOk result ((n : ℕ) (p : Program) → plus 1 (rest n p state.new.frames.items state.new.names (given_values state.new.given)) ≡ andthen (meaning n p e.now state.old.names) (frame_rest n p (rest n p state.old.frames.items) (Frame.Operating operating.entry) state.old.names)) }
+    ensures means { OnOk result (Same (later 1 (future state.new)) (future_by (part_task (Frame.Operating operating.entry) e.now) state.old)) }
     ensures steps { state.new.steps ≡ state.old.steps }
     ensures load { OnOk result (load state.new.frames.items ≤ load state.old.frames.items + 6) }
 {
@@ -102,9 +102,9 @@ fn work<'a>(
     work: Work<'a>,
     slots: Seq<Slot>,
 ) -> Result<Going, NoMemory>
-    ensures same { IfOk result (λ g. g ≡ Going.On → (n : ℕ) (p : Program) → before_work n p state.old.steps state.old.frames.items state.old.names work.entry (slot_values state.old.names slots) ≡ whole n p state.new.steps state.new.frames.items state.new.names (given_values state.new.given)) }
-    ensures limit { IfOk result (λ g. g ≡ Going.Limit → (p : Program) → Passes limit (λ n. before_work n p state.old.steps state.old.frames.items state.old.names work.entry (slot_values state.old.names slots))) }
-    ensures fuel { IfOk result (λ g. g ≡ Going.On → fuel limit state.new.steps state.new.frames.items < fuel limit state.old.steps state.old.frames.items + 1) }
+    ensures same { IfOk result (λ g. g ≡ Going.On → Same (outcome_by (work_task work.entry slots) state.old) (outcome state.new)) }
+    ensures limit { IfOk result (λ g. g ≡ Going.Limit → Exceeds limit (outcome_by (work_task work.entry slots) state.old)) }
+    ensures fuel { IfOk result (λ g. g ≡ Going.On → fuel limit state.new < fuel limit state.old + 1) }
     ensures bound { IfOk result (λ g. state.old.steps ≤ limit → state.new.steps ≤ limit) }
 {
     match work {
@@ -127,9 +127,9 @@ fn advance_operating<'a>(
     state: &mut State<'a>,
     operating: Operating<'a>,
 ) -> Result<Going, NoMemory>
-    ensures same { IfOk result (λ g. g ≡ Going.On → (n : ℕ) (p : Program) → plus state.old.steps (frame_rest n p (rest n p state.old.frames.items) (Frame.Operating operating.entry) state.old.names (given_values state.old.given)) ≡ whole n p state.new.steps state.new.frames.items state.new.names (given_values state.new.given)) }
-    ensures limit { IfOk result (λ g. g ≡ Going.Limit → (p : Program) → Passes limit (λ n. plus state.old.steps (frame_rest n p (rest n p state.old.frames.items) (Frame.Operating operating.entry) state.old.names (given_values state.old.given)))) }
-    ensures fuel { IfOk result (λ g. g ≡ Going.On → fuel limit state.new.steps state.new.frames.items < fuel limit state.old.steps state.old.frames.items + 1) }
+    ensures same { IfOk result (λ g. g ≡ Going.On → Same (outcome_by (frame_task (Frame.Operating operating.entry) state.old.given) state.old) (outcome state.new)) }
+    ensures limit { IfOk result (λ g. g ≡ Going.Limit → Exceeds limit (outcome_by (frame_task (Frame.Operating operating.entry) state.old.given) state.old)) }
+    ensures fuel { IfOk result (λ g. g ≡ Going.On → fuel limit state.new < fuel limit state.old + 1) }
     ensures bound { IfOk result (λ g. state.old.steps ≤ limit → state.new.steps ≤ limit) }
 {
     let Operating {
@@ -167,9 +167,9 @@ fn advance<'a>(
     state: &mut State<'a>,
     frame: Frame<'a>,
 ) -> Result<Going, NoMemory>
-    ensures moves { IfOk result (λ g. g ≡ Going.On → Moves (λ n. plus state.old.steps (frame_rest n program.now (rest n program.now state.old.frames.items) frame.entry state.old.names (given_values state.old.given))) (λ n. whole n program.now state.new.steps state.new.frames.items state.new.names (given_values state.new.given))) }
-    ensures limit { IfOk result (λ g. g ≡ Going.Limit → Passes limit (λ n. plus state.old.steps (frame_rest n program.now (rest n program.now state.old.frames.items) frame.entry state.old.names (given_values state.old.given)))) }
-    ensures fuel { IfOk result (λ g. g ≡ Going.On → fuel limit state.new.steps state.new.frames.items < fuel limit state.old.steps state.old.frames.items + frame_weight frame.entry) }
+    ensures moves { IfOk result (λ g. g ≡ Going.On → Moves (outcome_by (frame_task frame.entry state.old.given) state.old program.now) (outcome state.new program.now)) }
+    ensures limit { IfOk result (λ g. g ≡ Going.Limit → Passes limit (outcome_by (frame_task frame.entry state.old.given) state.old program.now)) }
+    ensures fuel { IfOk result (λ g. g ≡ Going.On → fuel limit state.new < fuel limit state.old + frame_weight frame.entry) }
     ensures bound { IfOk result (λ g. state.old.steps ≤ limit → state.new.steps ≤ limit) }
 {
     match frame {
@@ -191,8 +191,8 @@ pub fn run<'a>(
     limit: u64,
     state: &mut State<'a>,
 ) -> Result<Going, NoMemory>
-    ensures moves { IfOk result (λ g. g ≡ Going.On → Moves (λ n. whole n program.now state.old.steps state.old.frames.items state.old.names (given_values state.old.given)) (λ n. plus state.new.steps (given (given_values state.new.given)))) }
-    ensures limit { IfOk result (λ g. g ≡ Going.Limit → Passes limit (λ n. whole n program.now state.old.steps state.old.frames.items state.old.names (given_values state.old.given))) }
+    ensures moves { IfOk result (λ g. g ≡ Going.On → Moves (outcome state.old program.now) (answer state.new)) }
+    ensures limit { IfOk result (λ g. g ≡ Going.Limit → Passes limit (outcome state.old program.now)) }
     ensures bound { IfOk result (λ g. state.old.steps ≤ limit → state.new.steps ≤ limit) }
 {
     while let Some(frame) = state.frames.pop() {

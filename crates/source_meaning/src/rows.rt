@@ -1,10 +1,11 @@
 //! The clauses of a loop.
-ghost use Rattle.std.specs.Prelude.{◌≡◌, ◌+◌, List, ◌∷◌, ◌++◌, take, drop, IfOk, OnOk};
+ghost use Rattle.std.specs.Prelude.{◌≡◌, ◌+◌, List, ◌∷◌, drop, IfOk, OnOk};
 ghost use Rattle.std.specs.Vec.Iter.{into_iter_items};
 ghost use Rattle.loop_folds.specs.Clauses.{Cell};
 ghost use Rattle.loop_folds.specs.Masks.{keep_of};
-ghost use Rattle.meaning.specs.Rows.{no_rows, span, with_cells, with_row, made};
+ghost use Rattle.meaning.specs.Rows.{no_rows, span, with_row, made};
 ghost use Rattle.meaning.specs.Words.{value_at};
+ghost use Rattle.source_meaning.specs.Loops.{with_cells_from};
 
 use flow_value::{Cause, Items, NoMemory, Val};
 use loop_folds::{Clause, Keep, Masking, keep};
@@ -53,7 +54,7 @@ fn next_value(left: &mut IntoIter<Val>) -> Val
 
 /// Adds a value to the clause at a place, if there is one.
 fn put_at(clauses: &mut Vec<Clause>, place: usize, v: Val, said: Keep) -> Result<(), NoMemory>
-    ensures { OnOk result ((more : List Cell) → take (place + 1) clauses.new.items ++ with_cells (drop (place + 1) clauses.new.items) more ≡ take place clauses.old.items ++ with_cells (drop place clauses.old.items) ((v, said) ∷ more)) }
+    ensures { OnOk result ((more : List Cell) → with_cells_from (place + 1) clauses.new.items more ≡ with_cells_from place clauses.old.items ((v, said) ∷ more)) }
 {
     if place < clauses.len() {
         clauses[place].put(v, said)?;

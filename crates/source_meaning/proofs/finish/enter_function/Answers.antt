@@ -1,4 +1,4 @@
-use Rattle.std.proofs.Common.{◌≡◌, ℕ, None, length, sym, subst}
+use Rattle.std.proofs.Common.{length, sym, subst}
 use Rattle.flow_value.specs.declared.cause.Cause.TheVariants as cause
 use Rattle.meaning.specs.Timed.{given, plus, andthen, Passes}
 use Rattle.meaning.specs.Words.{failed}

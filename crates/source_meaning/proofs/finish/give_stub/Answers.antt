@@ -3,7 +3,8 @@ use Rattle.flow_value.specs.declared.value.Val.{Val}
 use Rattle.flow_value.specs.declared.cause.Cause.TheVariants as cause
 use Rattle.meaning.specs.Words.{failed}
 use Rattle.source_meaning.specs.Slots.{given_values}
-use Rattle.source_meaning.specs.Pending.{rest, whole}
+use Rattle.source_meaning.specs.Pending.{rest}
+use Rattle.source_meaning.proofs.Wholes.{whole}
 use Rattle.source_meaning.proofs.Laws.{passes_now}
 use Rattle.source_meaning.proofs.Rests.{stepped}
 use Rattle.source_meaning.proofs.Follows.{whole_as}

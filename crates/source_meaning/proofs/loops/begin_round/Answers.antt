@@ -1,7 +1,8 @@
 use Rattle.std.proofs.Common.{[], refl, ap, ◌∙◌}
 use Rattle.meaning.specs.Timed.{plus, andthen}
 use Rattle.source_meaning.specs.Slots.{given_values}
-use Rattle.source_meaning.specs.Pending.{whole, rest, finish}
+use Rattle.source_meaning.specs.Pending.{rest, finish}
+use Rattle.source_meaning.proofs.Wholes.{whole}
 use Rattle.meaning.specs.Meaning.{meanings}
 use Rattle.source_meaning.specs.declared.state.After.TheVariants as after
 use Rattle.source_meaning.proofs.Walks.{whole_is}

@@ -5,7 +5,8 @@ use Rattle.source_meaning.specs.declared.state.Frame.TheVariants as frame
 use Rattle.meaning.specs.Timed.{andthen, plus}
 use Rattle.source_meaning.specs.Slots.{given_values}
 use Rattle.meaning.specs.Meaning.{meaning}
-use Rattle.source_meaning.specs.Pending.{Program, rest, frame_rest, before}
+use Rattle.source_meaning.specs.Pending.{Program, rest, frame_rest}
+use Rattle.source_meaning.proofs.Wholes.{before}
 use Rattle.source_meaning.proofs.Laws.{moves_same, moves_on}
 use Rattle.source_meaning.proofs.Rests.{nil_of}
 use Rattle.source_meaning.proofs.Parts.{listing_step, listing_last}

@@ -1,6 +1,6 @@
 use Rattle.std.proofs.Common.{rules, ◌≡◌, [], refl, sym, ap}
 use Rattle.source_meaning.specs.Slots.{given_values}
-use Rattle.source_meaning.specs.Pending.{whole}
+use Rattle.source_meaning.proofs.Wholes.{whole}
 use Rattle.source_meaning.proofs.Laws.{moves_same, moves_on, moves_to, passes_back}
 use Rattle.source_meaning.proofs.Parts.{taken}
 use Rattle.source_meaning.proofs.machine.run.Goals as goal

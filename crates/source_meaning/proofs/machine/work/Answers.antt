@@ -2,7 +2,8 @@ use Rattle.std.proofs.Common.{◌≡◌, [], ◌∷◌, sym, ap, subst, ◌∙�
 use Rattle.value_ops.specs.Operations.{op_value}
 use Rattle.meaning.specs.Timed.{plus, Passes}
 use Rattle.source_meaning.specs.Slots.{slot_values}
-use Rattle.source_meaning.specs.Pending.{rest, before_work}
+use Rattle.source_meaning.specs.Pending.{rest}
+use Rattle.source_meaning.proofs.Wholes.{before_work}
 use Rattle.source_meaning.proofs.machine.work.Goals as goal
 
 pub returns-in_ok-v-in-Apply-clause-same : goal.returns-in_ok-v-in-Apply-clause-same
