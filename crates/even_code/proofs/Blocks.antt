@@ -39,12 +39,12 @@ stays-there X room begin end a (l ∷ ls) h (suc i) lt =
     let z : suc a + i ≡ a + suc i = omega arith in
     subst (λ pc. Stays X room begin end pc (get_or ls i last_line).step) z (stays-there X room begin end (suc a) ls h.1 i (omega (arith, lt)))
 
-even-there : (P : Plan) (n : ℕ) (ls : List Line) → AllEven P n ls → (i : ℕ) → i < length ls → IsStepEven P n (get_or ls i last_line).origin (get_or ls i last_line).step
-even-there P n [] h i lt = absurd (omega (arith, lt))
-even-there P n (l ∷ ls) h zero lt = h.0
-even-there P n (l ∷ ls) h (suc i) lt = even-there P n ls h.1 i (omega (arith, lt))
+even-there : (P : Plan) (functions : List ℕ) (n : ℕ) (ls : List Line) → AllEven P functions n ls → (i : ℕ) → i < length ls → IsStepEven P functions n (get_or ls i last_line).origin (get_or ls i last_line).step
+even-there P functions n [] h i lt = absurd (omega (arith, lt))
+even-there P functions n (l ∷ ls) h zero lt = h.0
+even-there P functions n (l ∷ ls) h (suc i) lt = even-there P functions n ls h.1 i (omega (arith, lt))
 
-module _ (P : Plan) (W : Weighing) (u : Network) (order : ℕ → List Vertex) (functions : List ℕ) (n : ℕ) (right : IsRightPlan P W u order functions n) (even : IsEven P) where
+module _ (P : Plan) (W : Weighing) (u : Network) (order : ℕ → List Vertex) (functions : List ℕ) (n : ℕ) (right : IsRightPlan P W u order functions n) (even : IsEven P functions) where
   abbrev X : Layout
   X = laid P W u order functions n
 
@@ -79,7 +79,7 @@ module _ (P : Plan) (W : Weighing) (u : Network) (order : ℕ → List Vertex) (
     pub ends : begin + suc (P.size function) ≤ a + functions_size P fs
     pub same : (t : ℕ) → begin ≤ t → t < begin + suc (P.size function) → function_at P fs a t ≡ function
     pub stays : Stays X (room_of P function) begin (begin + suc (P.size function)) pc l.step
-    pub even : IsStepEven P (length (P.results function)) l.origin l.step
+    pub steady : IsStepEven P functions (length (P.results function)) l.origin l.step
 
   in-first : (f : ℕ) (fs : List ℕ) (a t : ℕ) → t < a + suc (P.size f) → function_at P (f ∷ fs) a t ≡ f
   in-first f fs a t lt = go (ltb t (a + suc (P.size f))) refl
@@ -109,7 +109,7 @@ module _ (P : Plan) (W : Weighing) (u : Network) (order : ℕ → List Vertex) (
         ends = omega (arith, ends);
         same = λ t a_t b_t. in-rest f fs a t (omega (arith, after, a_t)) ∙ h.same t a_t b_t;
         stays = h.stays;
-        even = h.even;
+        steady = h.steady;
       }
 
   place-at : (fs : List ℕ) (a : ℕ) → ((f : ℕ) → IsIn f fs → IsIn f functions) → (i : ℕ) → i < functions_size P fs → IsAt fs a (a + i) (get_or (functions_lines P n fs a) i last_line)
@@ -138,7 +138,7 @@ module _ (P : Plan) (W : Weighing) (u : Network) (order : ℕ → List Vertex) (
             ends = omega arith;
             same = λ t a_t b_t. in-first f fs a t b_t;
             stays = stays-there X (room_of P f) a (a + suc (P.size f)) a here (block-stays f a in_f) i there;
-            even = even-there P (length (P.results f)) here (lines-even P even n f a) i there;
+            steady = even-there P functions (length (P.results f)) here (lines-even P functions even n f a) i there;
           })
       go false e others =
           let le = ltb-false i (suc (P.size f)) e in
@@ -160,17 +160,18 @@ module _ (P : Plan) (W : Weighing) (u : Network) (order : ℕ → List Vertex) (
   -- the entry of a function is in its first block
   entry-at : (fs : List ℕ) (a f : ℕ) → IsIn f fs → (a ≤ entry_from P fs a f) × (function_at P fs a (entry_from P fs a f) ≡ f)
   entry-at [] a f h = absurd h
-  entry-at (g ∷ gs) a f h = go (eqb g f) refl h
+  entry-at (g ∷ gs) a f h = go (eqb g f) refl h (λ i. entry-at gs (a + suc (P.size g)) f i)
     where
+      other : eqb g f ≡ false → f ≡ g → ⊥
+      other e s = let t = eq-eqb g f (sym s) in let z : true ≡ false = sym t ∙ e in cc
+
       go : (b : Bool) → eqb g f ≡ b → IsIn f (g ∷ gs)
+          → (IsIn f gs → (a + suc (P.size g) ≤ entry_from P gs (a + suc (P.size g)) f) × (function_at P gs (a + suc (P.size g)) (entry_from P gs (a + suc (P.size g)) f) ≡ f))
           → (a ≤ (if b then a else entry_from P gs (a + suc (P.size g)) f)) × (function_at P (g ∷ gs) a (if b then a else entry_from P gs (a + suc (P.size g)) f) ≡ f)
-      go true e h = (omega arith, in-first g gs a a (omega arith) ∙ eqb-sound g f e)
-      go false e (inl s) = absurd (clash e)
-        where
-          clash : eqb g f ≡ false → ⊥
-          clash e = let t : eqb g f ≡ true = eq-eqb g f (sym s) in let z : true ≡ false = sym t ∙ e in cc
-      go false e (inr h) =
-          let x = entry-at gs (a + suc (P.size g)) f h in
+      go true e h rest = (omega arith, in-first g gs a a (omega arith) ∙ eqb-sound g f e)
+      go false e (inl s) rest = absurd (other e s)
+      go false e (inr h) rest =
+          let x = rest h in
           let le = x.0 in
           (omega (arith, le), in-rest g gs a (entry_from P gs (a + suc (P.size g)) f) le ∙ x.1)
 
@@ -190,4 +191,4 @@ places-in-blocks P W u order functions n right even = (
     as-block : {pc : ℕ} {l : Line} → IsAt P W u order functions n right even functions 0 pc l → IsInBlock P W u order functions n pc l
     as-block h =
         let ends = h.ends in
-        record { function = h.function; begin = h.begin; is_in = h.is_in; from = h.from; before = h.before; ends = omega (arith, ends); same = h.same; stays = h.stays; even = h.even }
+        record { function = h.function; begin = h.begin; is_in = h.is_in; from = h.from; before = h.before; ends = omega (arith, ends); same = h.same; stays = h.stays; even = h.steady }

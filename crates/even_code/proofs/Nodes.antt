@@ -105,7 +105,7 @@ module _ (u : Unit1) (order : ℕ → List Vertex) (t : Tables) (ready : IsReady
         results-of : results_at gs k ≡ results s
         results-of = ap (λ o. unwrap_or (option_map results o) 0) e
 
-    select-even : compound_at (out-Node n).op ≡ Some compound.Select → IsKindEven P v (Whole (form_of compound.Select gs (out-Node n).assoc))
+    select-even : compound_at (out-Node n).op ≡ Some compound.Select → IsKindEven P (functions_of u) v (Whole (form_of compound.Select gs (out-Node n).assoc))
     select-even is =
         all-mapped (λ g. P.width v ≡ length (P.results g)) (λ g. (out-Graph g).number) (drop 1 gs)
         (λ i a e.
@@ -113,7 +113,7 @@ module _ (u : Unit1) (order : ℕ → List Vertex) (t : Tables) (ready : IsReady
         subst (λ g. P.width v ≡ length (P.results g)) (number-is compound.Select is (suc i) a at)
         (width-is compound.Select is ∙ (sym (counted compound.Select is (suc i) a at part.Alternative refl) ∙ sym (long compound.Select is (suc i) a at))))
 
-    tag-even : compound_at (out-Node n).op ≡ Some compound.TagCase → IsKindEven P v (Whole (form_of compound.TagCase gs (out-Node n).assoc))
+    tag-even : compound_at (out-Node n).op ≡ Some compound.TagCase → IsKindEven P (functions_of u) v (Whole (form_of compound.TagCase gs (out-Node n).assoc))
     tag-even is =
         let h = compound-filled u ready p place n inside compound.TagCase is in
         all-arms (λ g. P.width v ≡ length (P.results g)) (part_number gs) (length gs) (out-Node n).assoc (arms-below (tags_of (carried u p.graph (label_of n) 1)) (length gs) (out-Node n).assoc h.list)
@@ -124,7 +124,7 @@ module _ (u : Unit1) (order : ℕ → List Vertex) (t : Tables) (ready : IsReady
     last-even : (c : Compound) (is : compound_at (out-Node n).op ≡ Some c) (k : ℕ) → k < length gs → outputs_in u (Whole (form_of c gs (out-Node n).assoc)) ≡ results_at gs k → P.width v ≡ length (P.results (part_number gs k))
     last-even c is k lt e = let s = got-below gs k lt in width-is c is ∙ (e ∙ (results-of c is k s.0 s.1 ∙ sym (long c is k s.0 s.1)))
 
-    kinds : (c : Compound) → compound_at (out-Node n).op ≡ Some c → IsKindEven P v (Whole (form_of c gs (out-Node n).assoc))
+    kinds : (c : Compound) → compound_at (out-Node n).op ≡ Some c → IsKindEven P (functions_of u) v (Whole (form_of c gs (out-Node n).assoc))
     kinds compound.Select is = select-even is
     kinds compound.TagCase is = tag-even is
     kinds compound.LoopA is =
@@ -140,14 +140,10 @@ module _ (u : Unit1) (order : ℕ → List Vertex) (t : Tables) (ready : IsReady
         let three = (compound-filled u ready p place n inside compound.ForAll is).parts in
         (subst (λ m. AreWithin m (P.collects (part_number gs 2))) (sym r.4) r.6.0, last-even compound.ForAll is 2 (omega (arith, three)) refl)
 
-    plain-even : (k : Kind) → v.kind ≡ k → ((form : form.Form) → k ≡ Whole form → ⊥) → IsKindEven P v k
-    plain-even (Plain row shape) e no = sym (ap (outputs_in u) e)
-    plain-even (Whole form) e no = absurd (no form refl)
-
-    kind-even : IsKindEven P v v.kind
+    kind-even : IsKindEven P (functions_of u) v v.kind
     kind-even = go (compound_at (out-Node n).op) (simple_at (out-Node n).op) refl refl
       where
-        go : (c : Option Compound) (o : Option Simple) → compound_at (out-Node n).op ≡ c → simple_at (out-Node n).op ≡ o → IsKindEven P v (kind_as u p.graph n c o)
+        go : (c : Option Compound) (o : Option Simple) → compound_at (out-Node n).op ≡ c → simple_at (out-Node n).op ≡ o → IsKindEven P (functions_of u) v (kind_as u p.graph n c o)
         go (Some c) o e f = kinds c e
         go None None e f = sym (ap (outputs_in u) (ap (λ c. kind_as u p.graph n c (simple_at (out-Node n).op)) e ∙ ap (kind_as u p.graph n None) f))
         go None (Some o) e f = by-call (is_call_as None (Some o)) refl
@@ -155,39 +151,39 @@ module _ (u : Unit1) (order : ℕ → List Vertex) (t : Tables) (ready : IsReady
             kind-of : v.kind ≡ simple_kind u p.graph (label_of n) o
             kind-of = ap (λ c. kind_as u p.graph n c (simple_at (out-Node n).op)) e ∙ ap (kind_as u p.graph n None) f
 
-            by-call : (b : Bool) → is_call_as None (Some o) ≡ b → IsKindEven P v (simple_kind u p.graph (label_of n) o)
+            by-call : (b : Bool) → is_call_as None (Some o) ≡ b → IsKindEven P (functions_of u) v (simple_kind u p.graph (label_of n) o)
             by-call true y =
                 let z : simple_kind u p.graph (label_of n) o ≡ Whole (form.Call (callee_number u p.graph (label_of n))) = ap (simple_kind u p.graph (label_of n)) (call-is o y) in
-                subst (IsKindEven P v) (sym z) (ap (outputs_in u) (kind-of ∙ z))
-            by-call false y = let z = plain-kind u p.graph (label_of n) o y in subst (IsKindEven P v) (sym z) (sym (ap (outputs_in u) (kind-of ∙ z)))
+                subst (IsKindEven P (functions_of u) v) (sym z) ((subst (Right (number_of p) v) (kind-of ∙ z) right).0, ap (outputs_in u) (kind-of ∙ z))
+            by-call false y = let z = plain-kind u p.graph (label_of n) o y in subst (IsKindEven P (functions_of u) v) (sym z) (sym (ap (outputs_in u) (kind-of ∙ z)))
 
   -- ---- each graph
 
   -- a node on what is collected is as wide as its row
-  refolded-one : (plain : ℕ) (left : (node port : ℕ) → Bool) (k : ℕ) (v : Vertex) (kind : Kind) → v.kind ≡ kind → IsKindEven P v kind → IsKindEven P (refolded_node plain left k v kind) (refolded_node plain left k v kind).kind
+  refolded-one : (plain : ℕ) (left : (node port : ℕ) → Bool) (k : ℕ) (v : Vertex) (kind : Kind) → v.kind ≡ kind → IsKindEven P (functions_of u) v kind → IsKindEven P (functions_of u) (refolded_node plain left k v kind) (refolded_node plain left k v kind).kind
   refolded-one plain left k v (Plain row shape) e h = refl
-  refolded-one plain left k v (Whole form) e h = subst (IsKindEven P v) (sym e) h
+  refolded-one plain left k v (Whole form) e h = subst (IsKindEven P (functions_of u) v) (sym e) h
 
-  refolded : (plain : ℕ) (left : (node port : ℕ) → Bool) (k : ℕ) (vs : List Vertex) → EachNode (λ v. IsKindEven P v v.kind) vs → EachNode (λ v. IsKindEven P v v.kind) (refolded_nodes plain left k vs)
+  refolded : (plain : ℕ) (left : (node port : ℕ) → Bool) (k : ℕ) (vs : List Vertex) → EachNode (λ v. IsKindEven P (functions_of u) v v.kind) vs → EachNode (λ v. IsKindEven P (functions_of u) v v.kind) (refolded_nodes plain left k vs)
   refolded plain left k [] h = tt
   refolded plain left k (v ∷ vs) h = (refolded-one plain left k v v.kind refl h.0, refolded plain left (k + length (node_collects plain left v v.kind)) vs h.1)
 
-  each-done : (g : ℕ) (vs : List Vertex) → EachNode (λ v. IsKindEven P v v.kind) vs → (o : Option ℕ) → EachNode (λ v. IsKindEven P v v.kind) (nodes_by u g o vs)
+  each-done : (g : ℕ) (vs : List Vertex) → EachNode (λ v. IsKindEven P (functions_of u) v v.kind) vs → (o : Option ℕ) → EachNode (λ v. IsKindEven P (functions_of u) v v.kind) (nodes_by u g o vs)
   each-done g vs h None = h
   each-done g vs h (Some plain) = refolded plain (is_left (storage_of u) g) 0 vs h
 
-  none-even : (g : ℕ) → place_of u g ≡ None → EachNode (λ v. IsKindEven P v v.kind) (order g)
-  none-even g e = subst (EachNode (λ v. IsKindEven P v v.kind)) (sym (no-nodes (order g) (subst (λ n. IsInOrder n (order g)) (ap (net_at u) e) (along g)))) tt
+  none-even : (g : ℕ) → place_of u g ≡ None → EachNode (λ v. IsKindEven P (functions_of u) v v.kind) (order g)
+  none-even g e = subst (EachNode (λ v. IsKindEven P (functions_of u) v v.kind)) (sym (no-nodes (order g) (subst (λ n. IsInOrder n (order g)) (ap (net_at u) e) (along g)))) tt
 
-  graph-even : (g : ℕ) → EachNode (λ v. IsKindEven P v v.kind) (P.nodes g)
+  graph-even : (g : ℕ) → EachNode (λ v. IsKindEven P (functions_of u) v v.kind) (P.nodes g)
   graph-even g = each-done g (order g) (go (place_of u g) refl) (plain_of u g)
     where
-      go : (o : Option Place) → place_of u g ≡ o → EachNode (λ v. IsKindEven P v v.kind) (order g)
+      go : (o : Option Place) → place_of u g ≡ o → EachNode (λ v. IsKindEven P (functions_of u) v v.kind) (order g)
       go None e = none-even g e
       go (Some p) e =
           let x = found-in (λ p. number_of p == g) (places u) p e in
-          subst (λ h. EachNode (λ v. IsKindEven P v v.kind) (order h)) (same-number (number_of p) g x.1)
-          (each-in-order u ready p x.0 (λ v. IsKindEven P v v.kind) (λ n c. kind-even p x.0 n c) (order (number_of p)) (along (number_of p)))
+          subst (λ h. EachNode (λ v. IsKindEven P (functions_of u) v v.kind) (order h)) (same-number (number_of p) g x.1)
+          (each-in-order u ready p x.0 (λ v. IsKindEven P (functions_of u) v v.kind) (λ n c. kind-even p x.0 n c) (order (number_of p)) (along (number_of p)))
 
 pub plans-even : AreUnitPlansEven
 plans-even u order t ready along = graph-even u order t ready along

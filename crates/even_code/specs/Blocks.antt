@@ -23,11 +23,11 @@ module _ (P : Plan) (W : Weighing) (u : Network) (order : ℕ → List Vertex) (
     pub ends : begin + suc (P.size function) ≤ functions_size P functions
     pub same : (t : ℕ) → begin ≤ t → t < begin + suc (P.size function) → function_at P functions 0 t ≡ function
     pub stays : Stays (laid P W u order functions levels) (room_of P function) begin (begin + suc (P.size function)) pc l.step
-    pub even : IsStepEven P (length (P.results function)) l.origin l.step
+    pub even : IsStepEven P functions (length (P.results function)) l.origin l.step
 
 -- so it is with each place, and a function's entry stands in its block
 abbrev pub DoPlacesStandInBlocks : Type 0
-DoPlacesStandInBlocks = (P : Plan) (W : Weighing) (u : Network) (order : ℕ → List Vertex) (functions : List ℕ) (levels : ℕ) → IsRightPlan P W u order functions levels → IsEven P
+DoPlacesStandInBlocks = (P : Plan) (W : Weighing) (u : Network) (order : ℕ → List Vertex) (functions : List ℕ) (levels : ℕ) → IsRightPlan P W u order functions levels → IsEven P functions
     → ((pc : ℕ) → pc < functions_size P functions → IsInBlock P W u order functions levels pc (get_or (functions_lines P levels functions 0) pc last_line))
     × ((f : ℕ) → IsIn f functions → (P.entry f < functions_size P functions) × (function_at P functions 0 (P.entry f) ≡ f))
     × (length (functions_lines P levels functions 0) ≡ functions_size P functions)

@@ -3,6 +3,7 @@ use Rattle.std.specs.Prelude.{◌≡◌, ℕ, List, [], ◌∷◌, length, map, 
 use Rattle.if1_graph.specs.Rows.{row_of}
 use Rattle.if1_graph.specs.declared.op.Simple.{Simple}
 use Rattle.graph_meaning.specs.Demand.{EachNode, Kind, Plain, Vertex, Whole}
+use Rattle.graph_meaning.specs.Entered.{IsIn}
 use Rattle.graph_meaning.specs.Forms as form
 use Rattle.graph_meaning.specs.Laws.{outputs_by}
 use Rattle.graph_meaning.specs.NodeValues.{Shape}
@@ -13,7 +14,7 @@ use Rattle.run_code.specs.Made.{Line, OfNode, Origin, Plan, function_lines}
 use Rattle.run_code.specs.Steps.{Add, Branch, Call, Count, Each, Fire, Keep, Move, Return, Spread, Step, Tag, Test}
 use Rattle.run_made.specs.Plans.{All}
 
-module _ (P : Plan) where
+module _ (P : Plan) (functions : List ℕ) where
   -- ---- nodes
 
   -- each of these graphs has so many results
@@ -26,7 +27,7 @@ module _ (P : Plan) where
 
   abbrev pub IsKindEven : Vertex → Kind → Type 0
   IsKindEven v (Plain row shape) = outputs_by (row_of row).gives shape ≡ P.width v
-  IsKindEven v (Whole (form.Call f)) = P.width v ≡ length (P.results f)
+  IsKindEven v (Whole (form.Call f)) = IsIn f functions × (P.width v ≡ length (P.results f))
   IsKindEven v (Whole (form.Select s gs n)) = GiveAll (P.width v) gs
   IsKindEven v (Whole (form.TagCase gs n)) = GiveAll (P.width v) gs
   IsKindEven v (Whole (form.LoopA i t b r n)) = IsLoopEven v i b r
@@ -44,7 +45,7 @@ module _ (P : Plan) where
   IsFiredFor o row shape ins w = ⊥
 
   abbrev pub IsCalledFor : Origin → (entry width : ℕ) → Type 0
-  IsCalledFor (OfNode g v) entry w = (f : ℕ) × (v.kind ≡ Whole (form.Call f)) × (entry ≡ P.entry f) × (w ≡ P.width v)
+  IsCalledFor (OfNode g v) entry w = (f : ℕ) × IsIn f functions × (v.kind ≡ Whole (form.Call f)) × (entry ≡ P.entry f) × (w ≡ P.width v)
   IsCalledFor o entry w = ⊥
 
   -- in a function with so many results
@@ -68,4 +69,4 @@ module _ (P : Plan) where
 
 -- the steps of each function are so
 abbrev pub AreLinesEven : Type 0
-AreLinesEven = (P : Plan) → IsEven P → (levels f place : ℕ) → AllEven P (length (P.results f)) (function_lines P levels f place)
+AreLinesEven = (P : Plan) (functions : List ℕ) → IsEven P functions → (levels f place : ℕ) → AllEven P functions (length (P.results f)) (function_lines P levels f place)

@@ -5,8 +5,8 @@ use Rattle.if1_graph.specs.Ready.{IsReady}
 use Rattle.graph_meaning.specs.Demand.{Vertex}
 use Rattle.graph_meaning.specs.Networks.{network}
 use Rattle.ordered_meaning.specs.Orders.{AreInOrder}
-use Rattle.unit_plan.specs.Plans.{Tables, plan_of}
+use Rattle.unit_plan.specs.Plans.{Tables, functions_of, plan_of}
 use Rattle.even_code.specs.Even.{IsEven}
 
 abbrev pub AreUnitPlansEven : Type 0
-AreUnitPlansEven = (u : Unit1) (order : (graph : ℕ) → List Vertex) (t : Tables) → IsReady u → AreInOrder (network u) order → IsEven (plan_of u order t)
+AreUnitPlansEven = (u : Unit1) (order : (graph : ℕ) → List Vertex) (t : Tables) → IsReady u → AreInOrder (network u) order → IsEven (plan_of u order t) (functions_of u)
