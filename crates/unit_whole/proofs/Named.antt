@@ -50,19 +50,13 @@ module _ (u : Unit1) (ready : IsReady u) (g : ℕ) (q : Place) (x : IsPlaced u g
       go (edge_into q.graph l 1) refl name
     where
       by-text : (e : Edge) → edge_into q.graph l 1 ≡ Some e → (o : Option (List ℕ)) → text_of e.from ≡ o → IsSome o → First
-      by-text e eq None t h = absurd (none h)
-        where
-          none : IsSome {A = List ℕ} None → ⊥
-          none h = cc
+      by-text e eq None t h = absurd cc
       by-text e eq (Some text) t h =
           let y = by-origin (want_at q.graph l 1) e.ty e.from text t in
           (y.0, ap (source_by u (want_at q.graph l 1)) eq ∙ y.1, width-over q.graph l 1 (port-filled q.graph l 1 e eq))
 
       go : (o : Option Edge) → edge_into q.graph l 1 ≡ o → IsSome (o >>= λ e. text_of e.from) → First
-      go None e h = absurd (none h)
-        where
-          none : IsSome {A = List ℕ} None → ⊥
-          none h = cc
+      go None e h = absurd cc
       go (Some e) eq h = by-text e eq (text_of e.from) refl h
 
   fixed-first : (w : ℕ) → First → 1 ≤ w → IsFixedFirst (sources u q.graph l 1 w)
