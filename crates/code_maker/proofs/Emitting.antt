@@ -1,5 +1,5 @@
 -- The parts of a graph's code, one behind another.
-use Rattle.std.proofs.Common.{◌≡◌, ℕ, zero, suc, ◌+◌, if◌then◌else◌, Bool, true, false, List, [], ◌∷◌, ◌++◌, map, drop, length, get_or, inl, inr, refl, sym, ap, ◌∙◌, subst, arith, append_assoc}
+use Rattle.std.proofs.Common.{◌≡◌, ℕ, zero, suc, ◌+◌, ◌<◌, if◌then◌else◌, Bool, true, false, List, [], ◌∷◌, ◌++◌, map, drop, length, get_or, inl, inr, refl, sym, ap, ◌∙◌, subst, arith, append_assoc}
 use Rattle.std.proofs.lemmas.List.{append-nil, length-map}
 use Rattle.graph_meaning.specs.Carried.{Unfilled}
 use Rattle.graph_meaning.specs.Forms as form
@@ -27,7 +27,7 @@ use Rattle.plan_data.specs.declared.plan.PlanData.{PlanData}
 use Rattle.plan_data.specs.declared.plan.PlanNode.{PlanNode}
 use Rattle.plan_data.specs.declared.plan.Work.{Work}
 use Rattle.plan_data.specs.declared.plan.Work.TheVariants as work
-use Rattle.plan_data.specs.Parts.{IsFormed, IsWhole, count_true, first_given, graph_collects, graph_refolded, graph_results, kind_of, mode_of, picks_of, size_in, table_of, work_steps}
+use Rattle.plan_data.specs.Parts.{IsFormed, IsWhole, count_true, extent_in, first_given, graph_collects, graph_refolded, graph_results, kind_of, mode_of, picks_of, size_in, table_of, work_steps}
 use Rattle.plan_data.specs.Stands.{AreFed, IsHandled, IsNode, Stands}
 use Rattle.step_code.specs.declared.step.Collect.{Collect}
 use Rattle.step_code.specs.declared.step.Counted.{Counted}
@@ -39,8 +39,8 @@ use Rattle.step_code.specs.Laid.{collect_in, handling_of, puts_of}
 use Rattle.code_maker.specs.declared.draft.Draft.{Draft}
 use Rattle.code_maker.specs.declared.seats.Seat.{Seat}
 use Rattle.code_maker.specs.declared.seats.Seat.TheVariants as seat
-use Rattle.code_maker.specs.Grows.{AreLaid, Begins, Grows, IsLaid, IsToldOf, read_as}
-use Rattle.code_maker.specs.Makes.{AreTold, ArmMade, ArmsMade, FirstMade, FunctionMade, FunctionsMade, GraphMade, IsCodeOf, NodeMade, NodesMade, PartsMade, RowsMade, TurnsMade, loop_work, one_if}
+use Rattle.code_maker.specs.Grows.{AreLaid, Begins, Grows, IsLaid, IsRoomOf, IsToldOf, read_as}
+use Rattle.code_maker.specs.Makes.{AreKnit, AreTold, ArmMade, ArmsMade, FirstMade, FunctionMade, FunctionsMade, GraphMade, IsCodeOf, NodeMade, NodesMade, PartsMade, RowsMade, TurnsMade, loop_work, one_if}
 use Rattle.code_maker.specs.Seats.{at_seat, at_seats, cells_from, copied_ports, first_seat, own_seats, seat_at, seats_at, stand_from, starts_from}
 use Rattle.code_maker.proofs.Growing.{grows-none, grows-then}
 use Rattle.code_maker.proofs.Standing.{cells-are, end-is, ends-are, fed-are, many-copied, modes-copied, own-are, picked-are, seats-then, stand-are, starts-are, with-cells, work-is}
@@ -61,7 +61,7 @@ along4 R a a' b b' c c' d d' e f g k h = along3 (λ x y z. R x y z d') a a' b b'
 puts-laid : (D : PlanData) (P : Plan) (code : Code) (xs : List step_of.Step) (l : Line) (ms : List Mode) (bs bs' : List Bool) (lives owns : Cells_of) → ((i : ℕ) → get_or bs i false ≡ get_or bs' i false)
     → AreLaid D P code xs (l ∷ []) (setting ms bs lives owns ∷ []) → AreLaid D P code xs (l ∷ []) (setting ms bs' lives owns ∷ [])
 puts-laid D P code [] l ms bs bs' lives owns same h = absurd h
-puts-laid D P code (x ∷ xs) l ms bs bs' lives owns same h = (record { step = h.0.step; modes = h.0.modes; puts = λ i. h.0.puts i ∙ same i; keeps = h.0.keeps; told = h.0.told }, h.1)
+puts-laid D P code (x ∷ xs) l ms bs bs' lives owns same h = (record { step = h.0.step; modes = h.0.modes; puts = λ i. h.0.puts i ∙ same i; keeps = h.0.keeps; told = h.0.told; knit = h.0.knit }, h.1)
 
 puts-line : (D : PlanData) (P : Plan) (b c : Draft) (l : Line) (ms : List Mode) (bs bs' : List Bool) (lives owns : Cells_of) → ((i : ℕ) → get_or bs i false ≡ get_or bs' i false)
     → Grows D P b c (l ∷ []) (setting ms bs lives owns ∷ []) → Grows D P b c (l ∷ []) (setting ms bs' lives owns ∷ [])
@@ -409,15 +409,16 @@ module _ (D : PlanData) (formed : IsFormed D) (room levels : ℕ) where
       (along2 (λ q m. Grows D P a b (line (OfNode g v) (Fire row (shape_of shape) q lo n.width) ∷ []) (setting m [] lives owns ∷ [])) (at_seats D (seats_at args first ports)) xs (map mode_of ports) (modes_at P S g v)
       (ap (λ q. at_seats D (seats_at args first q)) ports_are) (ap (map mode_of) ports_are ∙ sym modes) (fired P (OfNode g v) lives owns (n, shape, pair, work_is, refl, ap (map mode_of) ports_are)))
 
-  pub call-made : (n : PlanNode) (args : List Seat) (first f entry place lo : ℕ) (a b : Draft) (ports : List Port) → ports ≡ n.ins → n.work ≡ work.Call f → entry ≡ table_of D.entries f
-      → ((P : Plan) (o : Origin) (lives owns : Cells_of) → Grows D P a b (line o (Call entry room (at_seats D (seats_at args first ports)) lo n.width) ∷ []) (setting (map mode_of ports) [] lives owns ∷ []))
+  pub call-made : (n : PlanNode) (args : List Seat) (first f entry new place lo : ℕ) (a b : Draft) (ports : List Port) → ports ≡ n.ins → n.work ≡ work.Call f → entry ≡ table_of D.entries f
+      → new ≡ table_of D.params f + extent_in D f
+      → ((P : Plan) (o : Origin) (lives owns : Cells_of) → IsRoomOf D P new o → Grows D P a b (line o (Call entry room (at_seats D (seats_at args first ports)) lo n.width) ∷ []) (setting (map mode_of ports) [] lives owns ∷ []))
       → NodeMade D room levels args first n place lo a b
-  call-made n args first f entry place lo a b ports ports_are work_is entry_is called P S g v lives owns keep hold stands node pair =
+  call-made n args first f entry new place lo a b ports ports_are work_is entry_is new_is called P S g v lives owns keep hold stands node pair =
       let xs = at_seats D (seats_at args first n.ins) in
       let modes : modes_at P S g v ≡ map mode_of n.ins = subst (λ x. IsHandled D P S g n.ins v x) work_is node.handled in
       subst (λ x. Grows D P a b (kind_code P (graph_code P levels) room g v xs (kind_of x n.width) n.width place lo) (kind_settings P S (graph_settings P S levels) g v lives owns keep hold xs (kind_of x n.width) lo)) (sym work_is)
       (along3 (λ q r m. Grows D P a b (line (OfNode g v) (Call q room r lo n.width) ∷ []) (setting m [] lives owns ∷ [])) entry (P.entry f) (at_seats D (seats_at args first ports)) xs (map mode_of ports) (modes_at P S g v)
-      (entry_is ∙ sym (stands.entries f)) (ap (λ q. at_seats D (seats_at args first q)) ports_are) (ap (map mode_of) ports_are ∙ sym modes) (called P (OfNode g v) lives owns))
+      (entry_is ∙ sym (stands.entries f)) (ap (λ q. at_seats D (seats_at args first q)) ports_are) (ap (map mode_of) ports_are ∙ sym modes) (called P (OfNode g v) lives owns (n, f, pair, work_is, new_is)))
 
   -- a compound node is its count, its copies and its parts
   whole-case : (P : Plan) (S : Shares) (g : ℕ) (v : Vertex) (lives owns keep hold : Cells_of) (xs : List cells.Operand) (x : Work) (w place lo : ℕ) (a d : Draft) → IsWhole x
@@ -564,7 +565,7 @@ module _ (D : PlanData) (formed : IsFormed D) (levels : ℕ) where
 -- ---- by place
 
 laid-at : (D : PlanData) (P : Plan) (code : Code) (xs : List step_of.Step) (ls : List Line) (ss : List Setting) → AreLaid D P code xs ls ss → (pc : ℕ) → IsLaid D P code (get_or xs pc (step.Return 0 0)) (get_or ls pc last_line) (get_or ss pc last_setting)
-laid-at D P code [] [] [] h pc = record { step = refl; modes = refl; puts = λ i. refl; keeps = λ c. refl; told = tt }
+laid-at D P code [] [] [] h pc = record { step = refl; modes = refl; puts = λ i. refl; keeps = λ c. refl; told = tt; knit = λ some. record { there = omega arith; long = refl; plain = tt } }
 laid-at D P code (x ∷ xs) (l ∷ ls) (s ∷ ss) h zero = h.0
 laid-at D P code (x ∷ xs) (l ∷ ls) (s ∷ ss) h (suc pc) = laid-at D P code xs ls ss h.1 pc
 laid-at D P code [] (l ∷ ls) ss h pc = absurd h
@@ -574,7 +575,7 @@ laid-at D P code (x ∷ xs) (l ∷ ls) [] h pc = absurd h
 
 code-laid : (D : PlanData) (levels : ℕ) (fs : List ℕ) (d : Draft) (code : Code) → code.steps ≡ d.steps → code.operands ≡ d.operands → code.targets ≡ d.targets → code.collects ≡ d.collects → code.marks ≡ D.marks → code.literals ≡ D.literals
     → FunctionsMade D levels fs d → (P : Plan) (S : Shares) → Stands D P S
-    → (pc : ℕ) → IsLaid D P code (get_or code.steps pc (step.Return 0 0)) (get_or (functions_lines P levels fs 0) pc last_line) (get_or (functions_settings P S levels fs) pc last_setting)
+    → AreLaid D P code code.steps (functions_lines P levels fs 0) (functions_settings P S levels fs)
 code-laid D levels fs d code a b c e m l made P S stands =
     let ls = functions_lines P levels fs 0 in
     let ss = functions_settings P S levels fs in
@@ -586,14 +587,21 @@ code-laid D levels fs d code a b c e m l made P S stands =
       marks = m;
       literals = l;
     } in
-    let laid : AreLaid D P code code.steps ls ss = subst (λ xs. AreLaid D P code xs ls ss) (sym (a ∙ g.steps.1)) (g.steps.2 code begins) in
-    laid-at D P code code.steps ls ss laid
+    subst (λ xs. AreLaid D P code xs ls ss) (sym (a ∙ g.steps.1)) (g.steps.2 code begins)
+
+laid-long : (D : PlanData) (P : Plan) (code : Code) (xs : List step_of.Step) (ls : List Line) (ss : List Setting) → AreLaid D P code xs ls ss → length xs ≡ length ls
+laid-long D P code [] [] [] h = refl
+laid-long D P code (x ∷ xs) (l ∷ ls) (s ∷ ss) h = ap suc (laid-long D P code xs ls ss h.1)
+laid-long D P code [] (l ∷ ls) ss h = absurd h
+laid-long D P code [] [] (s ∷ ss) h = absurd h
+laid-long D P code (x ∷ xs) [] ss h = absurd h
+laid-long D P code (x ∷ xs) (l ∷ ls) [] h = absurd h
 
 pub code-made : (D : PlanData) (levels : ℕ) (fs : List ℕ) (d : Draft) (code : Code) → code.steps ≡ d.steps → code.operands ≡ d.operands → code.targets ≡ d.targets → code.collects ≡ d.collects → code.marks ≡ D.marks → code.literals ≡ D.literals
     → FunctionsMade D levels fs d → (P : Plan) (S : Shares) → Stands D P S → IsCodeOf P S levels fs code
 code-made D levels fs d code a b c e m l made P S stands =
     let ss = functions_settings P S levels fs in
-    let at = code-laid D levels fs d code a b c e m l made P S stands in
+    let at = laid-at D P code code.steps (functions_lines P levels fs 0) ss (code-laid D levels fs d code a b c e m l made P S stands) in
     record {
       steps = λ pc. (at pc).step;
       modes = λ pc. subst (λ x. read_as (handling_of code pc).modes (reads_of x) ≡ read_as (get_or ss pc last_setting).modes (reads_of x)) (sym (at pc).step) (at pc).modes;
@@ -603,4 +611,13 @@ code-made D levels fs d code a b c e m l made P S stands =
 
 pub code-told : (D : PlanData) (levels : ℕ) (fs : List ℕ) (d : Draft) (code : Code) → code.steps ≡ d.steps → code.operands ≡ d.operands → code.targets ≡ d.targets → code.collects ≡ d.collects → code.marks ≡ D.marks → code.literals ≡ D.literals
     → FunctionsMade D levels fs d → (P : Plan) (S : Shares) → Stands D P S → AreTold D P S levels fs code
-code-told D levels fs d code a b c e m l made P S stands = record { steps = λ pc. (code-laid D levels fs d code a b c e m l made P S stands pc).told; marks = m }
+code-told D levels fs d code a b c e m l made P S stands =
+    record { steps = λ pc. (laid-at D P code code.steps (functions_lines P levels fs 0) (functions_settings P S levels fs) (code-laid D levels fs d code a b c e m l made P S stands) pc).told; marks = m }
+
+pub code-knit : (D : PlanData) (levels : ℕ) (fs : List ℕ) (d : Draft) (code : Code) → code.steps ≡ d.steps → code.operands ≡ d.operands → code.targets ≡ d.targets → code.collects ≡ d.collects → code.marks ≡ D.marks → code.literals ≡ D.literals
+    → FunctionsMade D levels fs d → (P : Plan) (S : Shares) → Stands D P S → 0 < length D.literals → AreKnit D P levels fs code
+code-knit D levels fs d code a b c e m l made P S stands some =
+    let ls = functions_lines P levels fs 0 in
+    let ss = functions_settings P S levels fs in
+    let laid = code-laid D levels fs d code a b c e m l made P S stands in
+    record { steps = λ pc. (laid-at D P code code.steps ls ss laid pc).knit some; long = laid-long D P code code.steps ls ss laid }

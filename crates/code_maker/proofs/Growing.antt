@@ -1,6 +1,6 @@
 -- Drafts that grow, one part behind another.
-use Rattle.std.proofs.Common.{◌≡◌, ℕ, List, [], ◌∷◌, ◌++◌, length, sym, ap, ◌∙◌, append_assoc}
-use Rattle.std.proofs.lemmas.List.{append-nil}
+use Rattle.std.proofs.Common.{◌≡◌, ℕ, ◌+◌, ◌≤◌, List, [], ◌∷◌, ◌++◌, length, sym, ap, ◌∙◌, arith, append_assoc}
+use Rattle.std.proofs.lemmas.List.{append-nil, length-append}
 use Rattle.run_code.specs.Made.{Line, Plan}
 use Rattle.made_store.specs.Settled.{Setting}
 use Rattle.step_code.specs.declared.code.Code.{Code}
@@ -84,3 +84,21 @@ targets-named D old new code ts i n h e f g = named old.targets new.targets code
 
 pub collects-named : (D : PlanData) (old new : Draft) (code : Code) (cs : List Collect) (i n : ℕ) → Begins D new code → new.collects ≡ old.collects ++ cs → i ≡ length old.collects → n ≡ length cs → so_many i n code.collects ≡ cs
 collects-named D old new code cs i n h e f g = named old.collects new.collects code.collects h.collects.0 cs i n h.collects.1 e f g
+
+-- and there is as much
+there : {A : Type 0} (old new all more xs : List A) (i n : ℕ) → all ≡ new ++ more → new ≡ old ++ xs → i ≡ length old → n ≡ length xs → i + n ≤ length all
+there old new all more xs i n a e f g =
+    let x = ap length a in
+    let y = length-append new more in
+    let z = ap length e in
+    let w = length-append old xs in
+    omega (arith, x, y, z, w, f, g)
+
+pub operands-there : (D : PlanData) (old new : Draft) (code : Code) (os : List Operand) (i n : ℕ) → Begins D new code → new.operands ≡ old.operands ++ os → i ≡ length old.operands → n ≡ length os → i + n ≤ length code.operands
+operands-there D old new code os i n h e f g = there old.operands new.operands code.operands h.operands.0 os i n h.operands.1 e f g
+
+pub targets-there : (D : PlanData) (old new : Draft) (code : Code) (ts : List ℕ) (i n : ℕ) → Begins D new code → new.targets ≡ old.targets ++ ts → i ≡ length old.targets → n ≡ length ts → i + n ≤ length code.targets
+targets-there D old new code ts i n h e f g = there old.targets new.targets code.targets h.targets.0 ts i n h.targets.1 e f g
+
+pub collects-there : (D : PlanData) (old new : Draft) (code : Code) (cs : List Collect) (i n : ℕ) → Begins D new code → new.collects ≡ old.collects ++ cs → i ≡ length old.collects → n ≡ length cs → i + n ≤ length code.collects
+collects-there D old new code cs i n h e f g = there old.collects new.collects code.collects h.collects.0 cs i n h.collects.1 e f g

@@ -1,5 +1,6 @@
 -- What operands that were laid are to the machines of the laws.
-use Rattle.std.proofs.Common.{◌≡◌, ℕ, zero, suc, ◌-◌, ◌≤◌, ltb, if◌then◌else◌, Bool, true, false, List, [], ◌∷◌, ◌++◌, map, take, drop, length, get_or, refl, ap, ◌∙◌, arith, append_assoc}
+use Rattle.std.proofs.Common.{◌≡◌, ℕ, zero, suc, ◌-◌, ◌<◌, ◌≤◌, ltb, if◌then◌else◌, Bool, true, false, List, [], ◌∷◌, ◌++◌, map, take, drop, length, get_or, refl, sym, ap, ◌∙◌, subst, arith, append_assoc}
+use Rattle.std.proofs.lemmas.Bool.{ltb-false, ltb-true}
 use Rattle.std.proofs.Math.Seq.{take-append_seam, drop-append_seam}
 use Rattle.run_code.specs.Cells as cells
 use Rattle.run_code.specs.Cells.{cells_at}
@@ -18,11 +19,11 @@ use Rattle.plan_data.specs.declared.plan.Handled.{Handled}
 use Rattle.plan_data.specs.declared.plan.Handled.TheVariants as handled
 use Rattle.plan_data.specs.declared.plan.Port.{Port}
 use Rattle.plan_data.specs.declared.plan.PlanData.{PlanData}
-use Rattle.plan_data.specs.Parts.{mode_by, mode_of}
+use Rattle.plan_data.specs.Parts.{IsFormed, literal_in, mode_by, mode_of}
 use Rattle.code_maker.specs.declared.seats.Seat.{Seat}
 use Rattle.code_maker.specs.declared.seats.Seat.TheVariants as seat
-use Rattle.code_maker.specs.Seats.{at_seat, at_seats, laid, looked_at, seat_at, seats_at, sifts_among, with_mode}
-use Rattle.code_maker.specs.Grows.{read_as}
+use Rattle.code_maker.specs.Seats.{at_seat, at_seats, laid, looked_at, number_in, seat_at, seats_at, sifts_among, with_mode}
+use Rattle.code_maker.specs.Grows.{ArePlain, IsPlain, read_as}
 
 -- ---- stretches of lists
 
@@ -71,48 +72,78 @@ taken-same (suc n) = ap (λ x. Takes ∷ x) (taken-same n)
 
 -- ---- operands
 
-is-kept : (h : Handled) (s : Seat) → is_kept (with_mode h s) ≡ true
-is-kept h (seat.Literal n) = refl
-is-kept handled.Looks (seat.Cell c) = refl
-is-kept handled.Copies (seat.Cell c) = refl
-is-kept handled.Takes (seat.Cell c) = refl
+is-kept : (D : PlanData) (h : Handled) (s : Seat) → is_kept (with_mode D h s) ≡ true
+is-kept D h (seat.Literal n) = refl
+is-kept D handled.Looks (seat.Cell c) = refl
+is-kept D handled.Copies (seat.Cell c) = refl
+is-kept D handled.Takes (seat.Cell c) = refl
 
-pub ports-kept : (args : List Seat) (first : ℕ) (xs : List Port) (k : ℕ) → get_or (map is_kept (map (laid args first) xs)) k true ≡ true
-ports-kept args first [] k = refl
-ports-kept args first (x ∷ xs) zero = is-kept x.handled (seat_at args first x.feed)
-ports-kept args first (x ∷ xs) (suc k) = ports-kept args first xs k
+pub ports-kept : (D : PlanData) (args : List Seat) (first : ℕ) (xs : List Port) (k : ℕ) → get_or (map is_kept (map (laid D args first) xs)) k true ≡ true
+ports-kept D args first [] k = refl
+ports-kept D args first (x ∷ xs) zero = is-kept D x.handled (seat_at args first x.feed)
+ports-kept D args first (x ∷ xs) (suc k) = ports-kept D args first xs k
 
-module _ (D : PlanData) (code : Code) (same : code.literals ≡ D.literals) where
-  pub operand-is : (h : Handled) (s : Seat) → operand_in code (with_mode h s) ≡ at_seat D s
-  operand-is h (seat.Literal n) = ap (λ ls. cells.Lit (owned_in (held (get_or ls n cell.Empty)))) same
+get-past : {A : Type 0} (xs : List A) (n : ℕ) (other : A) → length xs ≤ n → get_or xs n other ≡ other
+get-past [] n other le = refl
+get-past (x ∷ xs) zero other le = absurd (omega (arith, le))
+get-past (x ∷ xs) (suc n) other le = get-past xs n other (omega (arith, le))
+
+module _ (D : PlanData) (formed : IsFormed D) (code : Code) (same : code.literals ≡ D.literals) where
+  -- a literal that is not there is as the first one
+  literal-as : (n : ℕ) → literal_in D (number_in D n) ≡ literal_in D n
+  literal-as n = go (ltb n (length D.literals)) refl
+    where
+      go : (b : Bool) → ltb n (length D.literals) ≡ b → literal_in D (if b then n else 0) ≡ literal_in D n
+      go true e = refl
+      go false e = let le = ltb-false n (length D.literals) e in formed.unfilled ∙ sym (ap (λ c. owned_in (held c)) (get-past D.literals n cell.Empty (omega (arith, le))))
+
+  number-there : 0 < length D.literals → (n : ℕ) → number_in D n < length D.literals
+  number-there some n = go (ltb n (length D.literals)) refl
+    where
+      go : (b : Bool) → ltb n (length D.literals) ≡ b → (if b then n else 0) < length D.literals
+      go true e = ltb-true n (length D.literals) e
+      go false e = some
+
+  pub plain-one : 0 < length D.literals → (h : Handled) (s : Seat) → IsPlain code (with_mode D h s)
+  plain-one some h (seat.Literal n) = subst (λ ls. number_in D n < length ls) (sym same) (number-there some n)
+  plain-one some handled.Looks (seat.Cell c) = tt
+  plain-one some handled.Copies (seat.Cell c) = tt
+  plain-one some handled.Takes (seat.Cell c) = tt
+
+  pub ports-plain : 0 < length D.literals → (args : List Seat) (first : ℕ) (xs : List Port) → ArePlain code (map (laid D args first) xs)
+  ports-plain some args first [] = tt
+  ports-plain some args first (x ∷ xs) = (plain-one some x.handled (seat_at args first x.feed), ports-plain some args first xs)
+
+  pub operand-is : (h : Handled) (s : Seat) → operand_in code (with_mode D h s) ≡ at_seat D s
+  operand-is h (seat.Literal n) = ap (λ ls. cells.Lit (owned_in (held (get_or ls (number_in D n) cell.Empty)))) same ∙ ap cells.Lit (literal-as n)
   operand-is handled.Looks (seat.Cell c) = refl
   operand-is handled.Copies (seat.Cell c) = refl
   operand-is handled.Takes (seat.Cell c) = refl
 
-  pub operands-are : (args : List Seat) (first : ℕ) (xs : List Port) → map (operand_in code) (map (laid args first) xs) ≡ at_seats D (seats_at args first xs)
+  pub operands-are : (args : List Seat) (first : ℕ) (xs : List Port) → map (operand_in code) (map (laid D args first) xs) ≡ at_seats D (seats_at args first xs)
   operands-are args first [] = refl
   operands-are args first (x ∷ xs) =
-      ap (λ o. o ∷ map (operand_in code) (map (laid args first) xs)) (operand-is x.handled (seat_at args first x.feed))
+      ap (λ o. o ∷ map (operand_in code) (map (laid D args first) xs)) (operand-is x.handled (seat_at args first x.feed))
       ∙ ap (λ os. at_seat D (seat_at args first x.feed) ∷ os) (operands-are args first xs)
 
   pub read-one : (h : Handled) (s : Seat) (ms ms' : List Mode) (os : List cells.Operand) → read_as ms os ≡ read_as ms' os
-      → read_as (mode_in code (with_mode h s) ∷ ms) (at_seat D s ∷ os) ≡ read_as (mode_by h ∷ ms') (at_seat D s ∷ os)
+      → read_as (mode_in code (with_mode D h s) ∷ ms) (at_seat D s ∷ os) ≡ read_as (mode_by h ∷ ms') (at_seat D s ∷ os)
   read-one h (seat.Literal n) ms ms' os e = ap (λ x. Looks ∷ x) e
   read-one handled.Looks (seat.Cell c) ms ms' os e = ap (λ x. Looks ∷ x) e
   read-one handled.Copies (seat.Cell c) ms ms' os e = ap (λ x. Copies ∷ x) e
   read-one handled.Takes (seat.Cell c) ms ms' os e = ap (λ x. Takes ∷ x) e
 
-  pub ports-read : (args : List Seat) (first : ℕ) (xs : List Port) → read_as (map (mode_in code) (map (laid args first) xs)) (at_seats D (seats_at args first xs)) ≡ read_as (map mode_of xs) (at_seats D (seats_at args first xs))
+  pub ports-read : (args : List Seat) (first : ℕ) (xs : List Port) → read_as (map (mode_in code) (map (laid D args first) xs)) (at_seats D (seats_at args first xs)) ≡ read_as (map mode_of xs) (at_seats D (seats_at args first xs))
   ports-read args first [] = refl
   ports-read args first (x ∷ xs) =
-      read-one x.handled (seat_at args first x.feed) (map (mode_in code) (map (laid args first) xs)) (map mode_of xs) (at_seats D (seats_at args first xs)) (ports-read args first xs)
+      read-one x.handled (seat_at args first x.feed) (map (mode_in code) (map (laid D args first) xs)) (map mode_of xs) (at_seats D (seats_at args first xs)) (ports-read args first xs)
 
   -- and what stands behind them
   pub more-read : (args : List Seat) (first : ℕ) (xs : List Port) (ms ms' : List Mode) (os : List cells.Operand) → read_as ms os ≡ read_as ms' os
-      → read_as (map (mode_in code) (map (laid args first) xs) ++ ms) (at_seats D (seats_at args first xs) ++ os) ≡ read_as (map mode_of xs ++ ms') (at_seats D (seats_at args first xs) ++ os)
+      → read_as (map (mode_in code) (map (laid D args first) xs) ++ ms) (at_seats D (seats_at args first xs) ++ os) ≡ read_as (map mode_of xs ++ ms') (at_seats D (seats_at args first xs) ++ os)
   more-read args first [] ms ms' os e = e
   more-read args first (x ∷ xs) ms ms' os e =
-      read-one x.handled (seat_at args first x.feed) (map (mode_in code) (map (laid args first) xs) ++ ms) (map mode_of xs ++ ms') (at_seats D (seats_at args first xs) ++ os) (more-read args first xs ms ms' os e)
+      read-one x.handled (seat_at args first x.feed) (map (mode_in code) (map (laid D args first) xs) ++ ms) (map mode_of xs ++ ms') (at_seats D (seats_at args first xs) ++ os) (more-read args first xs ms ms' os e)
 
   pub looked-are : (i n : ℕ) → map (operand_in code) (looked_at i n) ≡ cells_at i n
   looked-are i zero = refl

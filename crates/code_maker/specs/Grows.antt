@@ -1,5 +1,5 @@
 -- Steps that are added to code are these lines, with these settings, whatever is added behind them.
-use Rattle.std.specs.Prelude.{◌≡◌, ◌⊎◌, ℕ, map, true, false, List, [], ◌∷◌, ◌++◌, get_or}
+use Rattle.std.specs.Prelude.{◌≡◌, ◌⊎◌, ◌+◌, ◌<◌, ◌≤◌, ℕ, map, length, true, false, List, [], ◌∷◌, ◌++◌, get_or}
 use Rattle.flow_value.specs.declared.operands.Shape.{Shape}
 use Rattle.if1_graph.specs.declared.op.Simple.{Simple}
 use Rattle.graph_meaning.specs.Demand.{Vertex}
@@ -10,17 +10,20 @@ use Rattle.run_store.specs.Stored.{Mode, Looks, mode_at, tail}
 use Rattle.made_store.specs.Settled.{Setting}
 use Rattle.step_code.specs.declared.code.Code.{Code}
 use Rattle.step_code.specs.declared.code.Operand.{Operand}
+use Rattle.step_code.specs.declared.code.Operand.TheVariants as operand
 use Rattle.step_code.specs.declared.step.Collect.{Collect}
 use Rattle.step_code.specs.declared.step.Counted.{Counted}
 use Rattle.step_code.specs.declared.step.Step.{Step}
 use Rattle.step_code.specs.declared.step.Step.TheVariants as step
 use Rattle.step_code.specs.declared.step.Written.{Written}
 use Rattle.step_code.specs.Laid.{handling_in, step_in}
+use Rattle.step_code.specs.Reading.{listed}
 use Rattle.plan_data.specs.declared.plan.PlanData.{PlanData}
 use Rattle.plan_data.specs.declared.plan.PlanNode.{PlanNode}
 use Rattle.plan_data.specs.declared.plan.Work.TheVariants as work
-use Rattle.plan_data.specs.Parts.{graph_nodes, mode_of}
+use Rattle.plan_data.specs.Parts.{extent_in, graph_nodes, mode_of, table_of}
 use Rattle.code_maker.specs.declared.draft.Draft.{Draft}
+use Rattle.code_maker.specs.Seats.{looked_at}
 
 -- how operands are read in these modes: literals are looked at
 abbrev pub read_as : List Mode → List cells.Operand → List Mode
@@ -54,15 +57,68 @@ module _ (D : PlanData) (P : Plan) where
   IsTold (step.Fire row writes shape ins n out w kept copies) ms o = IsToldOf row writes copies w ms o
   IsTold x ms o = Unit {0}
 
+-- ---- what a step names
+
+-- a cell, or a literal that is there
+abbrev pub IsPlain : Code → Operand → Type 0
+IsPlain code (operand.Literal n) = n < length code.literals
+IsPlain code (operand.Looks i) = Unit {0}
+IsPlain code (operand.Copies i) = Unit {0}
+IsPlain code (operand.Takes i) = Unit {0}
+IsPlain code (operand.LooksAt r) = ⊥
+IsPlain code (operand.CopiesOf r) = ⊥
+
+abbrev pub ArePlain : Code → List Operand → Type 0
+ArePlain code [] = Unit {0}
+ArePlain code (a ∷ as₁) = IsPlain code a × ArePlain code as₁
+
+-- so many operands from one on
+pub record AreNamed (code : Code) (first many : ℕ) : Type 0 where
+  pub there : first + many ≤ length code.operands
+  pub long : length (listed code first many) ≡ many
+  pub plain : ArePlain code (listed code first many)
+
+-- so many collections from one on
+abbrev pub AreCollected : Code → (first many : ℕ) → Type 0
+AreCollected code i n = i + n ≤ length code.collects
+
+abbrev pub AreTargets : Code → (first many : ℕ) → Type 0
+AreTargets code i n = i + n ≤ length code.targets
+
+-- the new block has as many cells as the function that the node calls
+abbrev pub IsRoomOf : PlanData → Plan → (room : ℕ) → Origin → Type 0
+IsRoomOf D P room (OfNode g v) = (n : PlanNode) × (f : ℕ) × IsPair (graph_nodes D g) (P.nodes g) n v × (n.work ≡ work.Call f) × (room ≡ table_of D.params f + extent_in D f)
+IsRoomOf D P room o = ⊥
+
+-- what the step of such a line names in the lists of code is there
+abbrev pub IsKnit : PlanData → Plan → Code → Step → Origin → Type 0
+IsKnit D P code (step.One op a out) o = ⊥
+IsKnit D P code (step.Two op a b out) o = ⊥
+IsKnit D P code (step.Bring a out next) o = ⊥
+IsKnit D P code step.Count o = Unit {0}
+IsKnit D P code (step.Fire row x shape ins n out w kept k) o = AreNamed code ins n
+IsKnit D P code (step.Move froms n out w next) o = AreNamed code froms n
+IsKnit D P code (step.Tag a ts n content keeps out w next) o = IsPlain code a × AreTargets code ts n
+IsKnit D P code (step.Branch a ts n out w next) o = IsPlain code a × AreTargets code ts n
+IsKnit D P code (step.Test a turn leave out w next) o = IsPlain code a
+IsKnit D P code (step.Keep begins cs k froms n out next) o = AreNamed code froms n × AreCollected code cs k
+IsKnit D P code (step.Spread froms n cs k to turns out w next) o = AreNamed code froms n × AreCollected code cs k
+IsKnit D P code (step.Each ms n from count kept turn leave) o = (ms + n ≤ length code.operands) × (listed code ms n ≡ looked_at from n)
+IsKnit D P code (step.Add cs k froms n out next) o = AreNamed code froms n × AreCollected code cs k
+IsKnit D P code (step.Call entry size room args n out w) o = AreNamed code args n × IsRoomOf D P room o
+IsKnit D P code (step.Return froms n) o = AreNamed code froms n
+
 -- ---- lines
 
--- The step is that of this line, and handles what it reads as its setting says. It writes and copies what is told of its node.
+-- The step is that of this line, and handles what it reads as its setting says. It writes and copies what is told of its node, and what
+-- it names is there.
 pub record IsLaid (D : PlanData) (P : Plan) (code : Code) (x : Step) (l : Line) (s : Setting) : Type 0 where
   pub step : step_in code x ≡ l.step
   pub modes : read_as (handling_in code x).modes (reads_of l.step) ≡ read_as s.modes (reads_of l.step)
   pub puts : (i : ℕ) → get_or (handling_in code x).puts i false ≡ get_or s.puts i false
   pub keeps : (c : ℕ) → (handling_in code x).keeps c ≡ true
   pub told : IsTold D P x s.modes l.origin
+  pub knit : 0 < length D.literals → IsKnit D P code x l.origin
 
 abbrev pub AreLaid : PlanData → Plan → Code → List Step → List Line → List Setting → Type 0
 AreLaid D P code [] [] [] = Unit {0}

@@ -24,7 +24,7 @@ use Rattle.plan_data.specs.Parts.{graph_nodes, kind_of}
 use Rattle.plan_data.specs.Stands.{AreNodes, IsNode, Stands}
 use Rattle.code_maker.specs.declared.draft.Draft.{Draft}
 use Rattle.code_maker.specs.declared.seats.Seat.{Seat}
-use Rattle.code_maker.specs.Grows.{ArePairs, Grows, IsPair, IsTold, read_as}
+use Rattle.code_maker.specs.Grows.{ArePairs, Grows, IsKnit, IsPair, IsTold, read_as}
 use Rattle.code_maker.specs.Seats.{at_seats, seats_at}
 
 -- a loop with its body before its first test, or after it
@@ -120,3 +120,8 @@ pub record IsCodeOf (P : Plan) (S : Shares) (levels : ℕ) (functions : List ℕ
 pub record AreTold (D : PlanData) (P : Plan) (S : Shares) (levels : ℕ) (functions : List ℕ) (code : Code) : Type 0 where
   pub steps : (pc : ℕ) → IsTold D P (get_or code.steps pc (step.Return 0 0)) (settled.handling_of (functions_settings P S levels functions) pc).modes (get_or (functions_lines P levels functions 0) pc last_line).origin
   pub marks : code.marks ≡ D.marks
+
+-- What the step at each place names is there, and there are as many steps as lines.
+pub record AreKnit (D : PlanData) (P : Plan) (levels : ℕ) (functions : List ℕ) (code : Code) : Type 0 where
+  pub steps : (pc : ℕ) → IsKnit D P code (get_or code.steps pc (step.Return 0 0)) (get_or (functions_lines P levels functions 0) pc last_line).origin
+  pub long : length code.steps ≡ length (functions_lines P levels functions 0)

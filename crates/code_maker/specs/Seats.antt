@@ -1,5 +1,5 @@
 -- Where what is read stands, and how it is read.
-use Rattle.std.specs.Prelude.{ℕ, zero, suc, ◌+◌, if◌then◌else◌, Bool, true, false, List, [], ◌∷◌, map, get_or}
+use Rattle.std.specs.Prelude.{ℕ, zero, suc, ◌+◌, ltb, if◌then◌else◌, Bool, true, false, List, [], ◌∷◌, length, map, get_or}
 use Rattle.run_code.specs.Cells as cells
 use Rattle.step_code.specs.declared.code.Operand.{Operand}
 use Rattle.step_code.specs.declared.code.Operand.TheVariants as operand
@@ -48,14 +48,18 @@ stand_from (collect.Final j ∷ cs) own first = seat.Cell (first + j) ∷ stand_
 
 -- ---- operands
 
-abbrev pub with_mode : Handled → Seat → Operand
-with_mode h (seat.Literal n) = operand.Literal n
-with_mode handled.Looks (seat.Cell c) = operand.Looks c
-with_mode handled.Copies (seat.Cell c) = operand.Copies c
-with_mode handled.Takes (seat.Cell c) = operand.Takes c
+-- one that is not there is what an unfilled port has
+abbrev pub number_in : PlanData → (literal : ℕ) → ℕ
+number_in D n = if ltb n (length D.literals) then n else 0
 
-abbrev pub laid : List Seat → (first : ℕ) → Port → Operand
-laid args first x = with_mode x.handled (seat_at args first x.feed)
+abbrev pub with_mode : PlanData → Handled → Seat → Operand
+with_mode D h (seat.Literal n) = operand.Literal (number_in D n)
+with_mode D handled.Looks (seat.Cell c) = operand.Looks c
+with_mode D handled.Copies (seat.Cell c) = operand.Copies c
+with_mode D handled.Takes (seat.Cell c) = operand.Takes c
+
+abbrev pub laid : PlanData → List Seat → (first : ℕ) → Port → Operand
+laid D args first x = with_mode D x.handled (seat_at args first x.feed)
 
 -- those ports that are copied
 abbrev pub copied_ports : List Port → List Port

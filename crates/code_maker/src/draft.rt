@@ -34,15 +34,16 @@ pub fn count_of(many: usize) -> Result<u32, NoMemory>
 /// Adds what fills these ports.
 pub fn add_ports(
     operands: &mut Seq<Operand>,
+    plan: &PlanData,
     args: &[Seat],
     first: u32,
     ports: &[Port],
 ) -> Result<(), NoMemory>
     requires { AreBelow (2 ^ 32 - first) ports.now }
-    ensures { OnOk result (operands.new ≡ operands.old ++ map (laid args.now first) ports.now) }
+    ensures { OnOk result (operands.new ≡ operands.old ++ map (laid plan.now args.now first) ports.now) }
 {
     for port in ports {
-        operands.add(laid(args, first, *port))?;
+        operands.add(laid(plan, args, first, *port))?;
     }
     Ok(())
 }
@@ -50,16 +51,17 @@ pub fn add_ports(
 /// Adds what fills those of these ports that are copied.
 pub fn add_copied(
     operands: &mut Seq<Operand>,
+    plan: &PlanData,
     args: &[Seat],
     first: u32,
     ports: &[Port],
 ) -> Result<(), NoMemory>
     requires { AreBelow (2 ^ 32 - first) ports.now }
-    ensures { OnOk result (operands.new ≡ operands.old ++ map (laid args.now first) (copied_ports ports.now)) }
+    ensures { OnOk result (operands.new ≡ operands.old ++ map (laid plan.now args.now first) (copied_ports ports.now)) }
 {
     for port in ports {
         if let Handled::Copies = port.handled {
-            operands.add(laid(args, first, *port))?;
+            operands.add(laid(plan, args, first, *port))?;
         }
     }
     Ok(())

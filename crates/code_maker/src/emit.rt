@@ -163,13 +163,13 @@ fn emit_node(
     let ports = node.ins.as_slice();
     match &node.work {
         Work::Plain(row, shape, written, counted) => add_fire(
-            draft, args, first, ports, *row, *shape, *written, *counted, lo, node.width,
+            draft, plan, args, first, ports, *row, *shape, *written, *counted, lo, node.width,
         ),
         Work::Call(function) => {
             let entry = number_at(plan.entries.as_slice(), *function);
             let inputs = number_at(plan.params.as_slice(), *function);
             let new = inputs + number_at(plan.extents.as_slice(), *function);
-            add_call(draft, args, first, ports, entry, room, new, lo, node.width)
+            add_call(draft, plan, args, first, ports, entry, room, new, lo, node.width)
         }
         _ => emit_whole(
             alloc, plan, room, levels, args, first, node, place, lo, draft,
@@ -203,7 +203,7 @@ fn emit_whole(
     let many = copied(ports) as u32;
     let up = lo + node.width;
     add_count(draft)?;
-    add_copies(draft, args, first, ports, many, up, place + 2)?;
+    add_copies(draft, plan, args, first, ports, many, up, place + 2)?;
     let own = own_seats(alloc, args, first, ports, up)?;
     emit_parts(
         alloc,
@@ -412,7 +412,7 @@ fn emit_arm(
 {
     emit_graph(alloc, plan, room, levels, args, graph, place, up, draft)?;
     let ports = results_in(plan.graphs.as_slice(), graph);
-    add_move(draft, args, up, ports, lo, width, next)
+    add_move(draft, plan, args, up, ports, lo, width, next)
 }
 
 /// Makes the parts of a loop, whose body comes before its first test or after it.
@@ -491,7 +491,7 @@ fn emit_first(
     let graphs = plan.graphs.as_slice();
     let collects = collects_in(graphs, parts.returns);
     let ports = results_in(graphs, parts.init);
-    add_begin(draft, collects, own, mid, ports, mid, starts)
+    add_begin(draft, plan, collects, own, mid, ports, mid, starts)
 }
 
 /// Makes the body of a loop and its test, on these inputs and loop values.
@@ -526,12 +526,12 @@ fn emit_turns(
         alloc, plan, room, levels, lent, parts.body, turn, top, draft,
     )?;
     let values = results_in(graphs, parts.body);
-    add_keep(draft, collects, lent, top, values, mid, tests)?;
+    add_keep(draft, plan, collects, lent, top, values, mid, tests)?;
     emit_graph(
         alloc, plan, room, levels, lent, parts.test, tests, top, draft,
     )?;
     let told = first_seat(lent, top, results_in(graphs, parts.test));
-    add_test(draft, told, turn, leave, lo, width, next)
+    add_test(draft, plan, told, turn, leave, lo, width, next)
 }
 
 /// Makes the parts of a ForAll.
@@ -568,7 +568,7 @@ fn emit_for_all(
     let top = mid + lists + many;
     emit_graph(alloc, plan, room, levels, own, generator, place, mid, draft)?;
     add_spread(
-        draft, collects, own, mid, ports, mid, turns, lo, width, next,
+        draft, plan, collects, own, mid, ports, mid, turns, lo, width, next,
     )?;
     let into = mid + lists;
     let up = top + 1 + lists;
@@ -613,5 +613,5 @@ fn emit_rows(
     let graphs = plan.graphs.as_slice();
     let collects = collects_in(graphs, returns);
     let ports = results_in(graphs, body);
-    add_put(draft, collects, lent, up, ports, into, turns)
+    add_put(draft, plan, collects, lent, up, ports, into, turns)
 }

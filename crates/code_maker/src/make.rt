@@ -1,11 +1,11 @@
 //! The code of functions.
-ghost use Rattle.std.specs.Prelude.{◌≡◌, ℕ, suc, ◌+◌, ◌≤◌, [], IfOk, OnOk};
+ghost use Rattle.std.specs.Prelude.{◌≡◌, ℕ, suc, ◌+◌, ◌<◌, ◌≤◌, [], length, IfOk, OnOk};
 ghost use Rattle.run_code.specs.Made.{Plan};
 ghost use Rattle.made_store.specs.Settings.{Shares};
 ghost use Rattle.plan_data.specs.Parts.{IsFormed, arms_steps, size_in};
 ghost use Rattle.plan_data.specs.Stands.{Stands};
 ghost use Rattle.code_maker.specs.Makes.{FunctionMade, FunctionsMade};
-ghost use Rattle.code_maker.specs.Makes.{AreTold, IsCodeOf};
+ghost use Rattle.code_maker.specs.Makes.{AreKnit, AreTold, IsCodeOf};
 
 use crate::draft::Draft;
 use crate::emit::emit_graph;
@@ -37,7 +37,7 @@ fn emit_function(
         alloc, plan, room, levels, args, function, place, params, draft,
     )?;
     let ports = results_in(plan.graphs.as_slice(), function);
-    add_return(draft, args, params, ports)
+    add_return(draft, plan, args, params, ports)
 }
 
 /// Makes functions, one behind another.
@@ -68,7 +68,7 @@ fn draft_of(
 /// The code of these functions, one behind another, where graphs are followed down to so many
 /// levels: of each plan, with its shares, that stands in the data, each step is that of its line, and
 /// handles what it reads as its setting says; a step that fires a node writes and copies what the data
-/// tells of it.
+/// tells of it, and what a step names is there.
 pub fn code_of(
     alloc: Global,
     plan: PlanData,
@@ -79,6 +79,7 @@ pub fn code_of(
     requires steps { arms_steps plan functions.now ≤ u32.MAX }
     ensures made { IfOk result (λ code. (P : Plan) (S : Shares) → Stands plan P S → IsCodeOf P S levels functions.now code) }
     ensures told { IfOk result (λ code. (P : Plan) (S : Shares) → Stands plan P S → AreTold plan P S levels functions.now code) }
+    ensures knit { IfOk result (λ code. (P : Plan) (S : Shares) → Stands plan P S → 0 < length plan.literals → AreKnit plan P levels functions.now code) }
 {
     let draft = draft_of(alloc, &plan, levels, functions)?;
     let Draft {

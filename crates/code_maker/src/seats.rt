@@ -2,10 +2,10 @@
 ghost use Rattle.std.specs.Prelude.{◌≡◌, ◌+◌, ◌-◌, ◌^◌, ◌≤◌, ◌++◌, ◌∷◌, drop, get_or, map, length, IfOk};
 ghost use Rattle.plan_data.specs.Parts.{AreBelow, AreColumnsBelow, IsBelow, count_true, picks_of};
 ghost use Rattle.code_maker.specs.declared.seats.Seat.TheVariants as Seat;
-ghost use Rattle.code_maker.specs.Seats.{cells_from, first_seat, laid, own_seats, seat_at, seats_at, stand_from, with_mode};
+ghost use Rattle.code_maker.specs.Seats.{cells_from, first_seat, laid, own_seats, number_in, seat_at, seats_at, stand_from, with_mode};
 
 use flow_value::{NoMemory, Seq};
-use plan_data::{Feed, Handled, Port};
+use plan_data::{Feed, Handled, PlanData, Port};
 use std::alloc::Global;
 use step_code::{Collect, Operand};
 
@@ -33,12 +33,23 @@ pub fn seat_at(args: &[Seat], first: u32, feed: Feed) -> Seat
     }
 }
 
+/// The number of a literal of the data; one that is not there is what an unfilled port has.
+fn literal_number(plan: &PlanData, number: u32) -> u32
+    ensures { result ≡ number_in plan.now number }
+{
+    if (number as usize) < plan.literals.len() {
+        number
+    } else {
+        0
+    }
+}
+
 /// What stands there, read in this way. Literals are looked at.
-pub fn operand(handled: Handled, seat: Seat) -> Operand
-    ensures { result ≡ with_mode handled seat }
+pub fn operand(plan: &PlanData, handled: Handled, seat: Seat) -> Operand
+    ensures { result ≡ with_mode plan.now handled seat }
 {
     match seat {
-        Seat::Literal(number) => Operand::Literal(number),
+        Seat::Literal(number) => Operand::Literal(literal_number(plan, number)),
         Seat::Cell(cell) => match handled {
             Handled::Looks => Operand::Looks(cell),
             Handled::Copies => Operand::Copies(cell),
@@ -48,11 +59,11 @@ pub fn operand(handled: Handled, seat: Seat) -> Operand
 }
 
 /// What fills a port, as an operand.
-pub fn laid(args: &[Seat], first: u32, port: Port) -> Operand
+pub fn laid(plan: &PlanData, args: &[Seat], first: u32, port: Port) -> Operand
     requires { IsBelow (2 ^ 32 - first) port.feed }
-    ensures { result ≡ laid args.now first port }
+    ensures { result ≡ laid plan.now args.now first port }
 {
-    operand(port.handled, seat_at(args, first, port.feed))
+    operand(plan, port.handled, seat_at(args, first, port.feed))
 }
 
 /// Where what fills the first of these ports stands.

@@ -11,7 +11,7 @@ ghost use Rattle.step_code.specs.Laid.{collect_in, puts_of};
 ghost use Rattle.plan_data.specs.declared.plan.PlanData.{PlanData};
 ghost use Rattle.plan_data.specs.Parts.{AreBelow, IsFormed, arms_steps, mode_by, mode_of};
 ghost use Rattle.code_maker.specs.Seats.{at_seat, at_seats, copied_ports, seats_at, starts_from};
-ghost use Rattle.code_maker.specs.Grows.{Grows, IsToldOf};
+ghost use Rattle.code_maker.specs.Grows.{Grows, IsRoomOf, IsToldOf};
 
 use crate::draft::{
     Draft, add_collects, add_copied, add_looked, add_ports, add_sifts, add_starts, count_of, sifts,
@@ -39,6 +39,7 @@ pub fn add_early(draft: &mut Draft, early: bool) -> Result<(), NoMemory>
 /// Adds a step that fires a simple node.
 pub fn add_fire(
     draft: &mut Draft,
+    plan: &PlanData,
     args: &[Seat],
     first: u32,
     ports: &[Port],
@@ -49,12 +50,13 @@ pub fn add_fire(
     out: u32,
     width: u32,
 ) -> Result<(), NoMemory>
-    requires { AreBelow (2 ^ 32 - first) ports.now }
-    ensures { OnOk result ((D : PlanData) (P : Plan) (o : Origin) (lives owns : Cells_of) → IsFormed D → IsToldOf D P row written counted width (map mode_of ports.now) o → Grows D P draft.old draft.new (line o (Made.Fire row (shape_of shape) (at_seats D (seats_at args.now first ports.now)) out width) ∷ []) (setting (map mode_of ports.now) [] lives owns ∷ [])) }
+    requires formed { IsFormed plan.now }
+    requires below { AreBelow (2 ^ 32 - first) ports.now }
+    ensures { OnOk result ((P : Plan) (o : Origin) (lives owns : Cells_of) → IsToldOf plan.now P row written counted width (map mode_of ports.now) o → Grows plan.now P draft.old draft.new (line o (Made.Fire row (shape_of shape) (at_seats plan.now (seats_at args.now first ports.now)) out width) ∷ []) (setting (map mode_of ports.now) [] lives owns ∷ [])) }
 {
     let ins = count_of(draft.operands.len())?;
     let many = count_of(ports.len())?;
-    add_ports(&mut draft.operands, args, first, ports)?;
+    add_ports(&mut draft.operands, plan, args, first, ports)?;
     draft.steps.add(Step::Fire {
         row,
         written,
@@ -72,6 +74,7 @@ pub fn add_fire(
 /// many.
 pub fn add_call(
     draft: &mut Draft,
+    plan: &PlanData,
     args: &[Seat],
     first: u32,
     ports: &[Port],
@@ -81,12 +84,13 @@ pub fn add_call(
     out: u32,
     width: u32,
 ) -> Result<(), NoMemory>
-    requires { AreBelow (2 ^ 32 - first) ports.now }
-    ensures { OnOk result ((D : PlanData) (P : Plan) (o : Origin) (lives owns : Cells_of) → Grows D P draft.old draft.new (line o (Made.Call entry size (at_seats D (seats_at args.now first ports.now)) out width) ∷ []) (setting (map mode_of ports.now) [] lives owns ∷ [])) }
+    requires formed { IsFormed plan.now }
+    requires below { AreBelow (2 ^ 32 - first) ports.now }
+    ensures { OnOk result ((P : Plan) (o : Origin) (lives owns : Cells_of) → IsRoomOf plan.now P room o → Grows plan.now P draft.old draft.new (line o (Made.Call entry size (at_seats plan.now (seats_at args.now first ports.now)) out width) ∷ []) (setting (map mode_of ports.now) [] lives owns ∷ [])) }
 {
     let start = count_of(draft.operands.len())?;
     let many = count_of(ports.len())?;
-    add_ports(&mut draft.operands, args, first, ports)?;
+    add_ports(&mut draft.operands, plan, args, first, ports)?;
     draft.steps.add(Step::Call {
         entry,
         size,
@@ -101,22 +105,25 @@ pub fn add_call(
 /// Adds a step that leaves the block.
 pub fn add_return(
     draft: &mut Draft,
+    plan: &PlanData,
     args: &[Seat],
     first: u32,
     ports: &[Port],
 ) -> Result<(), NoMemory>
-    requires { AreBelow (2 ^ 32 - first) ports.now }
-    ensures { OnOk result ((D : PlanData) (P : Plan) (o : Origin) (lives owns : Cells_of) → Grows D P draft.old draft.new (line o (Made.Return (at_seats D (seats_at args.now first ports.now))) ∷ []) (setting (map mode_of ports.now) [] lives owns ∷ [])) }
+    requires formed { IsFormed plan.now }
+    requires below { AreBelow (2 ^ 32 - first) ports.now }
+    ensures { OnOk result ((P : Plan) (o : Origin) (lives owns : Cells_of) → Grows plan.now P draft.old draft.new (line o (Made.Return (at_seats plan.now (seats_at args.now first ports.now))) ∷ []) (setting (map mode_of ports.now) [] lives owns ∷ [])) }
 {
     let froms = count_of(draft.operands.len())?;
     let many = count_of(ports.len())?;
-    add_ports(&mut draft.operands, args, first, ports)?;
+    add_ports(&mut draft.operands, plan, args, first, ports)?;
     draft.steps.add(Step::Return { froms, many })
 }
 
 /// Adds a step that brings what fills ports to cells.
 pub fn add_move(
     draft: &mut Draft,
+    plan: &PlanData,
     args: &[Seat],
     first: u32,
     ports: &[Port],
@@ -124,12 +131,13 @@ pub fn add_move(
     width: u32,
     next: u32,
 ) -> Result<(), NoMemory>
-    requires { AreBelow (2 ^ 32 - first) ports.now }
-    ensures { OnOk result ((D : PlanData) (P : Plan) (o : Origin) (lives owns : Cells_of) → Grows D P draft.old draft.new (line o (Made.Move (at_seats D (seats_at args.now first ports.now)) out width next) ∷ []) (setting (map mode_of ports.now) [] lives owns ∷ [])) }
+    requires formed { IsFormed plan.now }
+    requires below { AreBelow (2 ^ 32 - first) ports.now }
+    ensures { OnOk result ((P : Plan) (o : Origin) (lives owns : Cells_of) → Grows plan.now P draft.old draft.new (line o (Made.Move (at_seats plan.now (seats_at args.now first ports.now)) out width next) ∷ []) (setting (map mode_of ports.now) [] lives owns ∷ [])) }
 {
     let froms = count_of(draft.operands.len())?;
     let many = count_of(ports.len())?;
-    add_ports(&mut draft.operands, args, first, ports)?;
+    add_ports(&mut draft.operands, plan, args, first, ports)?;
     draft.steps.add(Step::Move {
         froms,
         many,
@@ -142,6 +150,7 @@ pub fn add_move(
 /// Adds a step that brings what fills the ports that are copied, so many, to cells.
 pub fn add_copies(
     draft: &mut Draft,
+    plan: &PlanData,
     args: &[Seat],
     first: u32,
     ports: &[Port],
@@ -149,12 +158,13 @@ pub fn add_copies(
     out: u32,
     next: u32,
 ) -> Result<(), NoMemory>
+    requires formed { IsFormed plan.now }
     requires below { AreBelow (2 ^ 32 - first) ports.now }
     requires many { many ≡ length (copied_ports ports.now) }
-    ensures { OnOk result ((D : PlanData) (P : Plan) (o : Origin) (lives owns : Cells_of) → Grows D P draft.old draft.new (line o (Made.Move (at_seats D (seats_at args.now first (copied_ports ports.now))) out many next) ∷ []) (setting (map mode_of (copied_ports ports.now)) [] lives owns ∷ [])) }
+    ensures { OnOk result ((P : Plan) (o : Origin) (lives owns : Cells_of) → Grows plan.now P draft.old draft.new (line o (Made.Move (at_seats plan.now (seats_at args.now first (copied_ports ports.now))) out many next) ∷ []) (setting (map mode_of (copied_ports ports.now)) [] lives owns ∷ [])) }
 {
     let froms = count_of(draft.operands.len())?;
-    add_copied(&mut draft.operands, args, first, ports)?;
+    add_copied(&mut draft.operands, plan, args, first, ports)?;
     draft.steps.add(Step::Move {
         froms,
         many,
@@ -175,14 +185,15 @@ pub fn add_branch(
     width: u32,
     next: u32,
 ) -> Result<(), NoMemory>
-    requires { begin + arms_steps plan.now arms.now ≤ u32.MAX }
+    requires formed { IsFormed plan.now }
+    requires steps { begin + arms_steps plan.now arms.now ≤ u32.MAX }
     ensures { OnOk result ((P : Plan) (o : Origin) (lives owns : Cells_of) → Grows plan.now P draft.old draft.new (line o (Made.Branch (at_seat plan.now selector) (starts_from plan.now arms.now begin) out width next) ∷ []) (setting (Looks ∷ []) [] lives owns ∷ [])) }
 {
     let targets = count_of(draft.targets.len())?;
     let many = count_of(arms.len())?;
     add_starts(&mut draft.targets, plan, arms, begin)?;
     draft.steps.add(Step::Branch {
-        selector: operand(Handled::Looks, selector),
+        selector: operand(plan, Handled::Looks, selector),
         targets,
         many,
         out,
@@ -204,14 +215,15 @@ pub fn add_tag(
     width: u32,
     next: u32,
 ) -> Result<(), NoMemory>
-    requires { begin + arms_steps plan.now arms.now ≤ u32.MAX }
+    requires formed { IsFormed plan.now }
+    requires steps { begin + arms_steps plan.now arms.now ≤ u32.MAX }
     ensures { OnOk result ((P : Plan) (o : Origin) (lives owns : Cells_of) → Grows plan.now P draft.old draft.new (line o (Made.Tag (at_seat plan.now union) (starts_from plan.now arms.now begin) content out width next) ∷ []) (setting (mode_by handled ∷ []) [] lives owns ∷ [])) }
 {
     let targets = count_of(draft.targets.len())?;
     let many = count_of(arms.len())?;
     add_starts(&mut draft.targets, plan, arms, begin)?;
     draft.steps.add(Step::Tag {
-        union: operand(handled, union),
+        union: operand(plan, handled, union),
         targets,
         many,
         content,
@@ -225,6 +237,7 @@ pub fn add_tag(
 /// Adds a step that begins a turn, or leaves a loop.
 pub fn add_test(
     draft: &mut Draft,
+    plan: &PlanData,
     test: Seat,
     turn: u32,
     leave: u32,
@@ -232,10 +245,11 @@ pub fn add_test(
     width: u32,
     next: u32,
 ) -> Result<(), NoMemory>
-    ensures { OnOk result ((D : PlanData) (P : Plan) (o : Origin) (lives owns : Cells_of) → Grows D P draft.old draft.new (line o (Made.Test (at_seat D test) turn leave out width next) ∷ []) (setting (Looks ∷ []) [] lives owns ∷ [])) }
+    requires { IsFormed plan.now }
+    ensures { OnOk result ((P : Plan) (o : Origin) (lives owns : Cells_of) → Grows plan.now P draft.old draft.new (line o (Made.Test (at_seat plan.now test) turn leave out width next) ∷ []) (setting (Looks ∷ []) [] lives owns ∷ [])) }
 {
     draft.steps.add(Step::Test {
-        test: operand(Handled::Looks, test),
+        test: operand(plan, Handled::Looks, test),
         turn,
         leave,
         out,
@@ -247,6 +261,7 @@ pub fn add_test(
 /// Adds a step that keeps the first loop values, and begins what is sifted of collections with them.
 pub fn add_begin(
     draft: &mut Draft,
+    plan: &PlanData,
     collects: &[Collect],
     args: &[Seat],
     first: u32,
@@ -254,14 +269,15 @@ pub fn add_begin(
     out: u32,
     next: u32,
 ) -> Result<(), NoMemory>
-    requires { AreBelow (2 ^ 32 - first) ports.now }
-    ensures { OnOk result ((D : PlanData) (P : Plan) (o : Origin) (lives owns : Cells_of) → Grows D P draft.old draft.new (line o (Made.Keep true (sifts_in (map collect_in collects.now)) (at_seats D (seats_at args.now first ports.now)) out next) ∷ []) (setting (map mode_of ports.now) [] lives owns ∷ [])) }
+    requires formed { IsFormed plan.now }
+    requires below { AreBelow (2 ^ 32 - first) ports.now }
+    ensures { OnOk result ((P : Plan) (o : Origin) (lives owns : Cells_of) → Grows plan.now P draft.old draft.new (line o (Made.Keep true (sifts_in (map collect_in collects.now)) (at_seats plan.now (seats_at args.now first ports.now)) out next) ∷ []) (setting (map mode_of ports.now) [] lives owns ∷ [])) }
 {
     let froms = count_of(draft.operands.len())?;
     let many = count_of(ports.len())?;
     let start = count_of(draft.collects.len())?;
     let count = count_of(sifts(collects))?;
-    add_ports(&mut draft.operands, args, first, ports)?;
+    add_ports(&mut draft.operands, plan, args, first, ports)?;
     add_sifts(&mut draft.collects, collects)?;
     draft.steps.add(Step::Keep {
         begins: true,
@@ -277,6 +293,7 @@ pub fn add_begin(
 /// Adds a step that keeps loop values, and puts them to what is sifted of collections.
 pub fn add_keep(
     draft: &mut Draft,
+    plan: &PlanData,
     collects: &[Collect],
     args: &[Seat],
     first: u32,
@@ -284,14 +301,15 @@ pub fn add_keep(
     out: u32,
     next: u32,
 ) -> Result<(), NoMemory>
-    requires { AreBelow (2 ^ 32 - first) ports.now }
-    ensures { OnOk result ((D : PlanData) (P : Plan) (o : Origin) (lives owns : Cells_of) → Grows D P draft.old draft.new (line o (Made.Keep false (sifts_in (map collect_in collects.now)) (at_seats D (seats_at args.now first ports.now)) out next) ∷ []) (setting (map mode_of ports.now ++ takes_all (length (sifts_in (map collect_in collects.now)))) [] lives owns ∷ [])) }
+    requires formed { IsFormed plan.now }
+    requires below { AreBelow (2 ^ 32 - first) ports.now }
+    ensures { OnOk result ((P : Plan) (o : Origin) (lives owns : Cells_of) → Grows plan.now P draft.old draft.new (line o (Made.Keep false (sifts_in (map collect_in collects.now)) (at_seats plan.now (seats_at args.now first ports.now)) out next) ∷ []) (setting (map mode_of ports.now ++ takes_all (length (sifts_in (map collect_in collects.now)))) [] lives owns ∷ [])) }
 {
     let froms = count_of(draft.operands.len())?;
     let many = count_of(ports.len())?;
     let start = count_of(draft.collects.len())?;
     let count = count_of(sifts(collects))?;
-    add_ports(&mut draft.operands, args, first, ports)?;
+    add_ports(&mut draft.operands, plan, args, first, ports)?;
     add_sifts(&mut draft.collects, collects)?;
     draft.steps.add(Step::Keep {
         begins: false,
@@ -307,6 +325,7 @@ pub fn add_keep(
 /// Adds a step that brings multiples to cells, with empty collections and 0 behind them.
 pub fn add_spread(
     draft: &mut Draft,
+    plan: &PlanData,
     collects: &[Collect],
     args: &[Seat],
     first: u32,
@@ -317,14 +336,15 @@ pub fn add_spread(
     width: u32,
     next: u32,
 ) -> Result<(), NoMemory>
-    requires { AreBelow (2 ^ 32 - first) ports.now }
-    ensures { OnOk result ((D : PlanData) (P : Plan) (o : Origin) (lives owns : Cells_of) → Grows D P draft.old draft.new (line o (Made.Spread (at_seats D (seats_at args.now first ports.now)) (map collect_in collects.now) to turns out width next) ∷ []) (setting (map mode_of ports.now) [] lives owns ∷ [])) }
+    requires formed { IsFormed plan.now }
+    requires below { AreBelow (2 ^ 32 - first) ports.now }
+    ensures { OnOk result ((P : Plan) (o : Origin) (lives owns : Cells_of) → Grows plan.now P draft.old draft.new (line o (Made.Spread (at_seats plan.now (seats_at args.now first ports.now)) (map collect_in collects.now) to turns out width next) ∷ []) (setting (map mode_of ports.now) [] lives owns ∷ [])) }
 {
     let froms = count_of(draft.operands.len())?;
     let many = count_of(ports.len())?;
     let start = count_of(draft.collects.len())?;
     let count = count_of(collects.len())?;
-    add_ports(&mut draft.operands, args, first, ports)?;
+    add_ports(&mut draft.operands, plan, args, first, ports)?;
     add_collects(&mut draft.collects, collects)?;
     draft.steps.add(Step::Spread {
         froms,
@@ -367,6 +387,7 @@ pub fn add_each(
 /// Adds a step that puts what fills ports to collections.
 pub fn add_put(
     draft: &mut Draft,
+    plan: &PlanData,
     collects: &[Collect],
     args: &[Seat],
     first: u32,
@@ -374,14 +395,15 @@ pub fn add_put(
     out: u32,
     next: u32,
 ) -> Result<(), NoMemory>
-    requires { AreBelow (2 ^ 32 - first) ports.now }
-    ensures { OnOk result ((D : PlanData) (P : Plan) (o : Origin) (lives owns : Cells_of) → Grows D P draft.old draft.new (line o (Made.Add (map collect_in collects.now) (at_seats D (seats_at args.now first ports.now)) out next) ∷ []) (setting (map mode_of ports.now ++ takes_all (length collects.now)) (map puts_of collects.now) lives owns ∷ [])) }
+    requires formed { IsFormed plan.now }
+    requires below { AreBelow (2 ^ 32 - first) ports.now }
+    ensures { OnOk result ((P : Plan) (o : Origin) (lives owns : Cells_of) → Grows plan.now P draft.old draft.new (line o (Made.Add (map collect_in collects.now) (at_seats plan.now (seats_at args.now first ports.now)) out next) ∷ []) (setting (map mode_of ports.now ++ takes_all (length collects.now)) (map puts_of collects.now) lives owns ∷ [])) }
 {
     let froms = count_of(draft.operands.len())?;
     let many = count_of(ports.len())?;
     let start = count_of(draft.collects.len())?;
     let count = count_of(collects.len())?;
-    add_ports(&mut draft.operands, args, first, ports)?;
+    add_ports(&mut draft.operands, plan, args, first, ports)?;
     add_collects(&mut draft.collects, collects)?;
     draft.steps.add(Step::Add {
         collects: start,

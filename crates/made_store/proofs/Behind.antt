@@ -10,9 +10,10 @@ use Rattle.run_store.specs.Lively.{AllMayBe, Live}
 use Rattle.run_store.specs.Refines.{IsTaken}
 use Rattle.run_store.specs.Stored.{Mode, copied, copied_as, put_copied}
 use Rattle.made_store.proofs.Alive.{lit-no, same-cell, true-false}
-use Rattle.made_store.proofs.Flows.{none-copied}
-use Rattle.made_store.proofs.Owned.{get-split}
+use Rattle.made_store.proofs.Flows.{none-copied, none-of}
+use Rattle.made_store.proofs.Owned.{cells-is, get-split}
 use Rattle.made_store.proofs.Scenes.{IsScene}
+use Rattle.made_store.specs.Last.{AreTakenLast, IsNoneOf}
 use Rattle.made_store.specs.Settings.{Cells_of, Shares, takes_all}
 
 -- ---- scenes
@@ -147,6 +148,19 @@ takes-range c (suc k) i (inr h) =
 pub may-take-all : (live own : Live) (pc c k : ℕ) → ((i : ℕ) → c ≤ i → i < c + k → own pc i ≡ true) → AllMayBe live own pc (takes_all k) (cells_at c k)
 may-take-all live own pc c zero owns = tt
 may-take-all live own pc c (suc k) owns = (owns c (omega arith) (omega arith), may-take-all live own pc (suc c) k (λ i a b. owns i (omega (arith, a)) (omega (arith, b))))
+
+-- a cell beside these is none of them
+pub beside-cells : (i c k : ℕ) → (i < c) ⊎ (c + k ≤ i) → IsNoneOf i (cells_at c k)
+beside-cells i c k out = none-of (cells_at c k) i (λ q e. let x = cells-is c k q i e in clash q x.0 x.1 out)
+  where
+    clash : (q : ℕ) → q < k → i ≡ c + q → (i < c) ⊎ (c + k ≤ i) → ⊥
+    clash q lt s (inl x) = omega (arith, s, x)
+    clash q lt s (inr x) = omega (arith, lt, s, x)
+
+-- each is read once
+pub taken-all-last : (c k : ℕ) → AreTakenLast (takes_all k) (cells_at c k)
+taken-all-last c zero = tt
+taken-all-last c (suc k) = (beside-cells c (suc c) k (inl (omega arith)), taken-all-last (suc c) k)
 
 takes-copied : (k : ℕ) (ks : List Carried) → copied (takes_all k) ks ≡ 0
 takes-copied zero ks = none-copied ks

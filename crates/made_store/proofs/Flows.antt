@@ -11,6 +11,7 @@ use Rattle.run_store.specs.Lively.{AllMayBe, CallsLively, MayBe, Follows, IsLive
 use Rattle.run_store.specs.Ports.{copies_of, mode_of, modes_of}
 use Rattle.run_store.specs.Refines.{HavePaths, IsHandled, IsTaken, IsWeighed, LendsInside}
 use Rattle.run_store.specs.Stored.{Copies, CopiesOf, Handling, Looks, LooksAt, Mode, Takes, copied}
+use Rattle.made_store.specs.Last.{AreTakenLast, IsLast, IsNoneOf}
 use Rattle.made_store.specs.Settings.{Cells_of}
 
 -- ---- modes that read no path
@@ -104,6 +105,65 @@ taken-of (m ∷ ms) ns (x ∷ xs) ys i many (inr h) = later (taken-of ms ns xs y
     later (inl t) = inl (inr t)
     later (inr t) = inr t
 
+-- ---- what is taken is read last
+
+pub none-last : (args : List Operand) → AreTakenLast [] args
+none-last [] = tt
+none-last (a ∷ args) = (tt, none-last args)
+
+pub copies-last : (bs : List Bool) (args : List Operand) → AreTakenLast (copies_of bs) args
+copies-last [] args = none-last args
+copies-last (true ∷ bs) [] = tt
+copies-last (true ∷ bs) (a ∷ args) = (tt, copies-last bs args)
+copies-last (false ∷ bs) args = copies-last bs args
+
+pub none-of : (args : List Operand) (i : ℕ) → ((q : ℕ) → get_or args q (Lit Unfilled) ≡ At i → ⊥) → IsNoneOf i args
+none-of [] i h = tt
+none-of (a ∷ args) i h = ((λ e. h 0 e), none-of args i (λ q e. h (suc q) e))
+
+-- where each cell that is taken is read once
+pub modes-last : (takes copies : ℕ → Bool) (os : List Source) (args : List Operand) (first : ℕ) → length args ≡ length os
+    → ((j i q : ℕ) → takes (first + j) ≡ true → get_or args j (Lit Unfilled) ≡ At i → get_or args q (Lit Unfilled) ≡ At i → q ≡ j) → AreTakenLast (modes_of takes copies first os) args
+modes-last takes copies [] [] first many once = tt
+modes-last takes copies [] (a ∷ args) first many once = absurd (omega (arith, many))
+modes-last takes copies (o ∷ os) [] first many once = tt
+modes-last takes copies (o ∷ os) (At c ∷ args) first many once = (
+  here (takes first) (copies first) refl,
+  modes-last takes copies os args (suc first) (omega (arith, many)) (λ j i q t e f. let s = once (suc j) i (suc q) (ap takes (omega arith) ∙ t) e f in omega (arith, s)),
+)
+  where
+    here : (t k : Bool) → takes first ≡ t → IsLast (mode_of t k) (At c) args
+    here true k e = none-of args c (λ q f. let s = once 0 c (suc q) (ap takes (omega arith) ∙ e) refl f in omega (arith, s))
+    here false true e = tt
+    here false false e = tt
+modes-last takes copies (o ∷ os) (Lit k ∷ args) first many once = (
+  here (takes first) (copies first),
+  modes-last takes copies os args (suc first) (omega (arith, many)) (λ j i q t e f. let s = once (suc j) i (suc q) (ap takes (omega arith) ∙ t) e f in omega (arith, s)),
+)
+  where
+    here : (t c : Bool) → IsLast (mode_of t c) (Lit k) args
+    here true c = tt
+    here false true = tt
+    here false false = tt
+
+none-both : (xs ys : List Operand) (i : ℕ) → IsNoneOf i xs → IsNoneOf i ys → IsNoneOf i (xs ++ ys)
+none-both [] ys i h k = k
+none-both (x ∷ xs) ys i h k = (h.0, none-both xs ys i h.1 k)
+
+last-more : (m : Mode) (x : Operand) (xs ys : List Operand) → IsLast m x xs → ((i : ℕ) → m ≡ Takes → x ≡ At i → IsNoneOf i ys) → IsLast m x (xs ++ ys)
+last-more Looks x xs ys h out = tt
+last-more Copies x xs ys h out = tt
+last-more Takes (At i) xs ys h out = none-both xs ys i h (out i refl refl)
+last-more Takes (Lit c) xs ys h out = tt
+last-more (LooksAt p) x xs ys h out = tt
+last-more (CopiesOf p) x xs ys h out = tt
+
+pub both-last : (ms ns : List Mode) (xs ys : List Operand) → length ms ≡ length xs → AreTakenLast ms xs → AreTakenLast ns ys → ((i : ℕ) → IsTaken ms xs i → IsNoneOf i ys) → AreTakenLast (ms ++ ns) (xs ++ ys)
+both-last [] ns [] ys many h k out = k
+both-last [] ns (x ∷ xs) ys many h k out = absurd (omega (arith, many))
+both-last (m ∷ ms) ns [] ys many h k out = absurd (omega (arith, many))
+both-last (m ∷ ms) ns (x ∷ xs) ys many h k out = (last-more m x xs ys h.0 (λ i e f. out i (inl (e, f))), both-last ms ns xs ys (omega (arith, many)) h.1 k (λ i t. out i (inr t)))
+
 -- ---- what may be read
 
 module _ (live own : Live) (pc : ℕ) where
@@ -180,7 +240,7 @@ module _ (W : Weighing) (handling : ℕ → Handling) (live own : Live) where
 
   -- what is asked of the step of a line
   abbrev pub FineAt : (pc : ℕ) → Line → Type 0
-  FineAt pc l = IsHandled (λ p ks rs. adds W l.origin ks rs) no_facts pc l.step (handling pc) × IsLively live own (handling pc) pc l.step
+  FineAt pc l = IsHandled (λ p ks rs. adds W l.origin ks rs) no_facts pc l.step (handling pc) × IsLively live own (handling pc) pc l.step × AreTakenLast (handling pc).modes (reads_of l.step)
 
   abbrev pub AllFine : (pc : ℕ) → List Line → Type 0
   AllFine a [] = Unit {0}
@@ -228,10 +288,11 @@ module _ (W : Weighing) (handling : ℕ → Handling) (live own : Live) where
 
   -- a step that calls nothing
   pub fine-at : (pc : ℕ) (l : Line) (ms : List Mode) (puts : List Bool) (lives owns : Cells_of) → Standing pc ms puts lives owns → ArePlain ms → LendsInside ms l.step
-      → IsWeighed (λ p ks rs. adds W l.origin ks rs) (handled_as ms puts) pc l.step → AllMayBe live own pc ms (reads_of l.step) → AllFollow pc (handled_as ms puts) (reads_of l.step) (leads l.step pc) → CallsLively live own (handled_as ms puts) pc l.step
+      → IsWeighed (λ p ks rs. adds W l.origin ks rs) (handled_as ms puts) pc l.step → AllMayBe live own pc ms (reads_of l.step) → AreTakenLast ms (reads_of l.step) → AllFollow pc (handled_as ms puts) (reads_of l.step) (leads l.step pc) → CallsLively live own (handled_as ms puts) pc l.step
       → FineAt pc l
-  fine-at pc l ms puts lives owns s plain lends weighed may follows calls =
-      subst (λ H. IsHandled (λ p ks rs. adds W l.origin ks rs) no_facts pc l.step H × IsLively live own H pc l.step) (sym s.0) (
+  fine-at pc l ms puts lives owns s plain lends weighed may last follows calls =
+      subst (λ H. IsHandled (λ p ks rs. adds W l.origin ks rs) no_facts pc l.step H × IsLively live own H pc l.step × AreTakenLast H.modes (reads_of l.step)) (sym s.0) (
         record { paths = plain-paths no_facts pc ms (reads_of l.step) plain; lends = lends; weighed = weighed },
         record { reads = may; leads_on = λ next out w o. all-follow pc (handled_as ms puts) (reads_of l.step) (leads l.step pc) follows next out w o; calls = calls },
+        last,
       )

@@ -16,8 +16,8 @@ use Rattle.run_store.specs.Refines.{IsTaken}
 use Rattle.run_store.specs.Stored.{Handling, put_copied}
 use Rattle.made_store.proofs.Alive.{or-either, or-left, or-right, range-so, range-sound, same-cell, true-false, where-sound}
 use Rattle.made_store.proofs.Around.{taken-index}
-use Rattle.made_store.proofs.Behind.{behind-scene, both-low, cells-long, front-copied, may-take-all, none-scene, put-taken, takes-range}
-use Rattle.made_store.proofs.Flows.{AllFine, FineAt, Opens, fine-at, fine-both, follow, may-both, may-look, may-modes, modes-long, none-copied, none-taken, plain-both, plain-modes, set-opens, taken-of}
+use Rattle.made_store.proofs.Behind.{behind-scene, both-low, cells-long, front-copied, may-take-all, none-scene, put-taken, taken-all-last, takes-range}
+use Rattle.made_store.proofs.Flows.{AllFine, FineAt, Opens, both-last, fine-at, fine-both, follow, may-both, may-look, may-modes, modes-last, modes-long, none-copied, none-last, none-of, none-taken, plain-both, plain-modes, set-opens, taken-of}
 use Rattle.made_store.proofs.Loops.{part-fine, plain-takes, shrink, under, under-own}
 use Rattle.made_store.proofs.Owned.{IsGivenTo, cells-is, get-split, part-scene}
 use Rattle.made_store.proofs.Parts.{DoesFine, EndsSo, arm-fine, begins-all, end-flows}
@@ -188,7 +188,8 @@ module _ (P : Plan) (S : Shares) (W : Weighing) (handling : ℕ → Handling) (l
       let g = end-flows P S W handling live own room shared keep hold args e mid lo w scene (either_of (range_of lo w) keep) (either_of (range_of lo w) hold) q (λ c z. or-either (range_of lo w c) (keep c) z) (λ c z. or-either (range_of lo w c) (hold c) z)
       (λ c z. (h.kept c z).1) (λ c z. (h.held c z).1) in
       fine-at W handling live own m (line (OfResults e) (Spread froms (P.collects r) mid turns lo w past)) (result_modes P S e) [] (live_behind P S keep args e mid) (own_behind P S hold args e mid) set.1 (plain-modes (S.takes e 0) (S.copies e 0) 1 (P.results e)) tt
-      (shared e).results (may-modes live own m (S.takes e 0) (S.copies e 0) (P.results e) froms 1 many (λ j c z. set.1.1 c ∙ q.looks j c z) (λ j c o z. set.1.2 c ∙ (q.takes j c o z).0)) (
+      (shared e).results (may-modes live own m (S.takes e 0) (S.copies e 0) (P.results e) froms 1 many (λ j c z. set.1.1 c ∙ q.looks j c z) (λ j c o z. set.1.2 c ∙ (q.takes j c o z).0))
+      (modes-last (S.takes e 0) (S.copies e 0) (P.results e) froms 1 many q.once) (
         follow W handling live own m past lo w (result_modes P S e) [] froms (live_behind P S keep args e mid) (own_behind P S hold args e mid) (either_of (range_of lo w) keep) (either_of (range_of lo w) hold) set.1 o_past g.0 g.1,
         (follow W handling live own m turns mid (suc (length froms + k)) (result_modes P S e) [] froms (live_behind P S keep args e mid) (own_behind P S hold args e mid) V VO set.1 o_turns f.0 f.1, tt),
       ) tt
@@ -216,7 +217,10 @@ module _ (P : Plan) (S : Shares) (W : Weighing) (handling : ℕ → Handling) (l
       omega (arith, z, w, u, v))
       (may-both live own m (result_modes P S b) (takes_all k) froms (cells_at (mid + n) k) (modes-long (S.takes b 0) (S.copies b 0) 1 (P.results b) ∙ sym many)
       (may-modes live own m (S.takes b 0) (S.copies b 0) (P.results b) froms 1 many (λ j c z. set.1.1 c ∙ q.looks j c z) (λ j c o z. set.1.2 c ∙ (q.takes j c o z).0))
-      (may-take-all live own m (mid + n) k (λ c u v. set.1.2 c ∙ or-left (VO c) _ (v-so hold c (omega (arith, u)) (omega (arith, v)))))) (
+      (may-take-all live own m (mid + n) k (λ c u v. set.1.2 c ∙ or-left (VO c) _ (v-so hold c (omega (arith, u)) (omega (arith, v))))))
+      (both-last (result_modes P S b) (takes_all k) froms (cells_at (mid + n) k) (modes-long (S.takes b 0) (S.copies b 0) 1 (P.results b) ∙ sym many)
+      (modes-last (S.takes b 0) (S.copies b 0) (P.results b) froms 1 many q.once) (taken-all-last (mid + n) k)
+      (λ c o. let z = taken-index (S.takes b 0) (S.copies b 0) (P.results b) froms 1 c many o in none-of (cells_at (mid + n) k) c (λ j f. kept-apart c j f (q.takes z.0 c z.1 z.2).1))) (
         follow W handling live own m turns (mid + n) k (result_modes P S b ++ takes_all k) (S.puts r) (froms ++ cells_at (mid + n) k) lives' owns' V VO set.1 next
             (λ c z. go lives' c (or-left (V c) _ z) (λ o. (q.takes o.0 c o.1 o.2).1 z) (ltb c (mid + n)) (ltb c ((mid + n) + k)) refl refl)
             (λ c z. go owns' c (or-left (VO c) _ z) (λ o. (q.takes o.0 c o.1 o.2).2 z) (ltb c (mid + n)) (ltb c ((mid + n) + k)) refl refl),
@@ -237,6 +241,13 @@ module _ (P : Plan) (S : Shares) (W : Weighing) (handling : ℕ → Handling) (l
 
       many : length froms ≡ length (P.results b)
       many = length-map (P.results b) (operand (placed P x (P.nodes b) (suc top + n)))
+
+      kept-apart : (c j : ℕ) → get_or (cells_at (mid + n) k) j (Lit Unfilled) ≡ At c → (V c ≡ true → ⊥) → ⊥
+      kept-apart c j f out =
+          let z = cells-is (mid + n) k j c f in
+          let lt = z.0 in
+          let s = z.1 in
+          out (v-so keep c (omega (arith, s)) (omega (arith, lt, s)))
 
       Past : Cells_of → ℕ → Type 0
       Past all c = ((mid + n ≤ c) × (c < (mid + n) + k)) ⊎ ((all c ≡ true) × (IsTaken (result_modes P S b ++ takes_all k) (froms ++ cells_at (mid + n) k) c → ⊥) × ((c < mid + n) ⊎ ((mid + n) + k ≤ c)))
@@ -267,7 +278,7 @@ module _ (P : Plan) (S : Shares) (W : Weighing) (handling : ℕ → Handling) (l
   each-fine : (turn turns leave : ℕ) → IsSet P S handling live own turns [] [] V VO → Opens W handling live own turn (either_of V (cells_where (S.has b) x)) (either_of VO (cells_where (S.owns b) x)) → Opens W handling live own leave V VO
       → FineAt W handling live own turns (line OfNothing (Each n mid top turn leave))
   each-fine turn turns leave set o_turn o_leave =
-      fine-at W handling live own turns (line OfNothing (Each n mid top turn leave)) [] [] V VO set tt tt none-copied (may-look live own turns reads (λ j c z. set.1 c ∙ look j c z)) (
+      fine-at W handling live own turns (line OfNothing (Each n mid top turn leave)) [] [] V VO set tt tt none-copied (may-look live own turns reads (λ j c z. set.1 c ∙ look j c z)) (none-last reads) (
         follow W handling live own turns turn top (suc n) [] [] reads V VO (either_of V (cells_where (S.has b) x)) (either_of VO (cells_where (S.owns b) x)) set o_turn
             (λ c z. go c (or-either (V c) (cells_where (S.has b) x c) z)) (λ c z. go_own c (or-either (VO c) (cells_where (S.owns b) x c) z)),
         (follow W handling live own turns leave 0 0 [] [] reads V VO V VO set o_leave (λ c z. inr (z, none-taken reads c, inr (omega arith))) (λ c z. inr (z, none-taken reads c, inr (omega arith))), tt),

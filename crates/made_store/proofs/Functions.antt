@@ -17,14 +17,16 @@ use Rattle.run_made.proofs.Lengths.{graph-long}
 use Rattle.run_made.proofs.Lying.{eqb-sound}
 use Rattle.run_made.proofs.Making.{function-long, lines-lie, made}
 use Rattle.run_made.specs.Plans.{CanLay, IsRightPlan, Weighing, adds, laid, last_line, lines_of}
+use Rattle.run_store.specs.Effects.{reads_of}
 use Rattle.run_store.specs.Lively.{Live}
 use Rattle.run_store.specs.Refines.{IsWeighed}
 use Rattle.run_store.specs.Stored.{Handling, copied}
-use Rattle.made_store.proofs.Flows.{AllFine, FineAt, Opens, fine-at, fine-both, may-modes, none-copied, plain-modes, set-opens}
+use Rattle.made_store.proofs.Flows.{AllFine, FineAt, Opens, fine-at, fine-both, may-modes, modes-last, none-copied, plain-modes, set-opens}
 use Rattle.made_store.proofs.Nodes.{ends-so, graph-fine, kind-opens}
 use Rattle.made_store.proofs.Owned.{cells-is}
 use Rattle.made_store.proofs.Scenes.{IsScene}
 use Rattle.made_store.proofs.Walks.{begins-live, begins-own}
+use Rattle.made_store.specs.Last.{AreTakenLast}
 use Rattle.made_store.specs.Laws.{IsSetStored}
 use Rattle.made_store.specs.Settings.{Cells_of, FunctionSet, FunctionsSet, GraphSet, NodesSet, Shares, cells_where, either_of, live_behind, live_in, none_of, own_behind, own_in, result_modes, taken_in}
 use Rattle.made_store.specs.Shared.{IsShared}
@@ -106,7 +108,8 @@ module _ (P : Plan) (S : Shares) (W : Weighing) (u : Network) (order : ℕ → L
         let x = graph-fine P S W u order functions handling live own room shared entries-open right.sized n none_of none_of args f a (P.params f) lays scene set.0 (omega arith) (set-opens W handling live own m (result_modes P S f) [] lives owns set.1) in
         let one = graph-long P W u order functions right.sized n room args f a (P.params f) lays in
         let leave = fine-at W handling live own m (line (OfResults f) (Return froms)) (result_modes P S f) [] lives owns set.1 (plain-modes (S.takes f 0) (S.copies f 0) 1 (P.results f)) tt (shared f).results
-        (may-modes live own m (S.takes f 0) (S.copies f 0) (P.results f) froms 1 (length-map (P.results f) (operand (placed P args (P.nodes f) (P.params f)))) (λ j i h. set.1.1 i ∙ e.looks j i h) (λ j i t h. set.1.2 i ∙ (e.takes j i t h).0)) tt tt in
+        (may-modes live own m (S.takes f 0) (S.copies f 0) (P.results f) froms 1 (length-map (P.results f) (operand (placed P args (P.nodes f) (P.params f)))) (λ j i h. set.1.1 i ∙ e.looks j i h) (λ j i t h. set.1.2 i ∙ (e.takes j i t h).0))
+        (modes-last (S.takes f 0) (S.copies f 0) (P.results f) froms 1 (length-map (P.results f) (operand (placed P args (P.nodes f) (P.params f)))) e.once) tt tt in
         fine-both W handling live own a m (graph_code P n room args f a (P.params f)) (line (OfResults f) (Return froms) ∷ []) (omega (arith, one)) x.0 (leave, tt)
 
     functions-fine : (fs : List ℕ) (a : ℕ) → ((f : ℕ) → IsIn f fs → IsIn f functions) → FunctionsSet P S handling live own n fs a → AllFine W handling live own a (functions_lines P n fs a)
@@ -150,6 +153,7 @@ module _ (P : Plan) (S : Shares) (W : Weighing) (u : Network) (order : ℕ → L
             subst (λ l. FineAt W handling live own pc l) (sym (past-last ls pc (omega (arith, le)))) (
               record { paths = tt; lends = tt; weighed = λ ks. subst (λ ms. copied ms ks ≡ 0) (sym none) (none-copied ks) },
               record { reads = tt; leads_on = λ next out w o. absurd o; calls = tt },
+              tt,
             )
 
 -- weights that are the same at a place
@@ -199,3 +203,7 @@ set-stored P S W u order functions n handling live own s right shared sets after
       preserves = λ pc. none-known pc (X.code pc);
       lively = λ pc. (each-fine P S W u order functions n handling live own right shared sets after pc).1;
     }
+
+pub set-last : (P : Plan) (S : Shares) (W : Weighing) (u : Network) (order : ℕ → List Vertex) (functions : List ℕ) (n : ℕ) (handling : ℕ → Handling) (live own : Live) → IsRightPlan P W u order functions n → ((g : ℕ) → IsShared P S W g)
+    → FunctionsSet P S handling live own n functions 0 → ((pc : ℕ) → functions_size P functions ≤ pc → (handling pc).modes ≡ []) → (pc : ℕ) → AreTakenLast (handling pc).modes (reads_of ((laid P W u order functions n).code pc))
+set-last P S W u order functions n handling live own right shared sets after pc = (each-fine P S W u order functions n handling live own right shared sets after pc).2

@@ -16,8 +16,8 @@ use Rattle.run_store.specs.Refines.{IsTaken}
 use Rattle.run_store.specs.Stored.{Handling, Looks, Mode}
 use Rattle.made_store.proofs.Alive.{or-either, or-left, or-right, range-so, range-sound, true-false, where-sound}
 use Rattle.made_store.proofs.Around.{taken-index}
-use Rattle.made_store.proofs.Behind.{all-copied, behind-scene, both-low, front-copied, last-within, may-take-all, none-put, none-scene, stand-alone, stand-is, takes-range}
-use Rattle.made_store.proofs.Flows.{AllFine, ArePlain, FineAt, Opens, fine-at, fine-both, follow, look-copied, look-untaken, may-both, may-look-one, may-modes, modes-long, plain-both, plain-modes, taken-of}
+use Rattle.made_store.proofs.Behind.{all-copied, behind-scene, both-low, front-copied, last-within, may-take-all, none-put, none-scene, stand-alone, stand-is, taken-all-last, takes-range}
+use Rattle.made_store.proofs.Flows.{AllFine, ArePlain, FineAt, Opens, both-last, fine-at, fine-both, follow, look-copied, look-untaken, may-both, may-look-one, may-modes, modes-last, modes-long, none-of, plain-both, plain-modes, taken-of}
 use Rattle.made_store.proofs.Owned.{IsGivenTo, cells-is, get-split, part-scene}
 use Rattle.made_store.proofs.Parts.{DoesFine, EndsSo, arm-fine, begins-all, end-flows}
 use Rattle.made_store.proofs.Scenes.{IsScene}
@@ -296,6 +296,7 @@ module _ (P : Plan) (S : Shares) (W : Weighing) (handling : ℕ → Handling) (l
           let q = (shared i).results (take (length froms) ks) in
           omega (arith, z, w, q))
           (may-modes live own m (S.takes i 0) (S.copies i 0) (P.results i) froms 1 many (λ j c z. set.1.1 c ∙ e.looks j c z) (λ j c o z. set.1.2 c ∙ (e.takes j c o z).0))
+          (modes-last (S.takes i 0) (S.copies i 0) (P.results i) froms 1 many e.once)
           (follow W handling live own m starts mid (length froms + few) (result_modes P S i) [] froms (live_behind P S keep args i mid) (own_behind P S hold args i mid) V VO set.1 next f.0 f.1, tt) tt
         where
           split : (some : Cells_of) (c : ℕ) → (some c ≡ true) ⊎ (range_of mid (n + few) c ≡ true) → (range_of mid (length (ends_at P args i mid) + few) c ≡ true) ⊎ (some c ≡ true)
@@ -320,7 +321,10 @@ module _ (P : Plan) (S : Shares) (W : Weighing) (handling : ℕ → Handling) (l
           omega (arith, z, w, q))
           (may-both live own m (result_modes P S b) (takes_all few) froms (cells_at (mid + length froms) few) (modes-long (S.takes b 0) (S.copies b 0) 1 (P.results b) ∙ sym many)
           (may-modes live own m (S.takes b 0) (S.copies b 0) (P.results b) froms 1 many (λ j c z. set.1.1 c ∙ e.looks j c z) (λ j c o z. set.1.2 c ∙ (e.takes j c o z).0))
-          (may-take-all live own m (mid + length froms) few (λ c u v. set.1.2 c ∙ or-left (HB c) _ (or-right (hold c) (range_of (mid + n) few c) (range-so (mid + n) few c (omega (arith, u, many, same)) (omega (arith, v, many, same))))))) (
+          (may-take-all live own m (mid + length froms) few (λ c u v. set.1.2 c ∙ or-left (HB c) _ (or-right (hold c) (range_of (mid + n) few c) (range-so (mid + n) few c (omega (arith, u, many, same)) (omega (arith, v, many, same)))))))
+          (both-last (result_modes P S b) (takes_all few) froms (cells_at (mid + length froms) few) (modes-long (S.takes b 0) (S.copies b 0) 1 (P.results b) ∙ sym many)
+          (modes-last (S.takes b 0) (S.copies b 0) (P.results b) froms 1 many e.once) (taken-all-last (mid + length froms) few)
+          (λ c o. let z = taken-index (S.takes b 0) (S.copies b 0) (P.results b) froms 1 c many o in none-of (cells_at (mid + length froms) few) c (λ q f. kept-apart c q f (e.takes z.0 c z.1 z.2).1))) (
             follow W handling live own m tests mid (length froms + few) (result_modes P S b ++ takes_all few) [] (froms ++ cells_at (mid + length froms) few) lives' owns' V VO set.1 next
                 (λ c z. go keep lives' c (or-either (keep c) (range_of mid (n + few) c) z) (λ z. or-left (KB c) _ (or-left (keep c) (range_of (mid + n) few c) z)) (λ z. under c z) (λ o z. (e.takes o.0 c o.1 o.2).1 (or-left (keep c) (range_of (mid + n) few c) z)))
                 (λ c z. go hold owns' c (or-either (hold c) (range_of mid (n + few) c) z) (λ z. or-left (HB c) _ (or-left (hold c) (range_of (mid + n) few c) z)) (λ z. under-own c z) (λ o z. (e.takes o.0 c o.1 o.2).2 (or-left (hold c) (range_of (mid + n) few c) z))),
@@ -341,6 +345,13 @@ module _ (P : Plan) (S : Shares) (W : Weighing) (handling : ℕ → Handling) (l
 
           many : length froms ≡ length (P.results b)
           many = length-map (P.results b) (operand (placed P x (P.nodes b) top))
+
+          kept-apart : (c q : ℕ) → get_or (cells_at (mid + length froms) few) q (Lit Unfilled) ≡ At c → (KB c ≡ true → ⊥) → ⊥
+          kept-apart c q f out =
+              let z = cells-is (mid + length froms) few q c f in
+              let lt = z.0 in
+              let s = z.1 in
+              out (or-right (keep c) (range_of (mid + n) few c) (range-so (mid + n) few c (omega (arith, s, many, same)) (omega (arith, lt, s, many, same))))
 
           go : (some all : Cells_of) (c : ℕ) → (some c ≡ true) ⊎ (range_of mid (n + few) c ≡ true) → (some c ≡ true → all c ≡ true) → (some c ≡ true → c < mid)
               → ((j : ℕ) × (S.takes b 0 (1 + j) ≡ true) × (get_or froms j (Lit Unfilled) ≡ At c) → some c ≡ true → ⊥)
@@ -363,7 +374,7 @@ module _ (P : Plan) (S : Shares) (W : Weighing) (handling : ℕ → Handling) (l
           → Opens W handling live own past (either_of (range_of lo w) keep) (either_of (range_of lo w) hold) → FineAt W handling live own (tests + P.size t) (line OfNothing (Test (end_at P x t top) turn leave lo w past))
       test-fine turn tests leave w past set o_turn o_leave o_past =
           let e = ends V VO x t top right_t test-scene in
-          fine-at W handling live own m (line OfNothing (Test go turn leave lo w past)) (Looks ∷ []) [] lives' owns' set.1 tt tt look-copied (may-look-one live own m go (λ c z. set.1.1 c ∙ e.looks 0 c z)) (
+          fine-at W handling live own m (line OfNothing (Test go turn leave lo w past)) (Looks ∷ []) [] lives' owns' set.1 tt tt look-copied (may-look-one live own m go (λ c z. set.1.1 c ∙ e.looks 0 c z)) (tt, tt) (
             follow W handling live own m past lo w (Looks ∷ []) [] (go ∷ []) lives' owns' (either_of (range_of lo w) keep) (either_of (range_of lo w) hold) set.1 o_past
                 (λ c z. out keep lives' c (or-either (range_of lo w c) (keep c) z) (λ z. or-left (V c) _ (kept-v c z)) (λ z. (h.kept c z).1)) (λ c z. out hold owns' c (or-either (range_of lo w c) (hold c) z) (λ z. or-left (VO c) _ (held-v c z)) (λ z. (h.held c z).1)),
             (

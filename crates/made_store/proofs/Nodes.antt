@@ -22,7 +22,7 @@ use Rattle.run_store.specs.Refines.{IsTaken}
 use Rattle.run_store.specs.Stored.{Handling, copied}
 use Rattle.made_store.proofs.Alive.{or-either, where-sound}
 use Rattle.made_store.proofs.Around.{IsAround}
-use Rattle.made_store.proofs.Flows.{AllFine, FineAt, Opens, copies-untaken, fine-at, fine-both, follow, may-copy, none-copied, plain-copies, set-opens}
+use Rattle.made_store.proofs.Flows.{AllFine, FineAt, Opens, copies-last, copies-untaken, fine-at, fine-both, follow, may-copy, none-copied, plain-copies, set-opens}
 use Rattle.made_store.proofs.ForAlls.{for-all-fine}
 use Rattle.made_store.proofs.Loops.{loop-fine}
 use Rattle.made_store.proofs.Owned.{IsGivenTo, given-to}
@@ -42,7 +42,7 @@ module _ (P : Plan) (S : Shares) (W : Weighing) (handling : ℕ → Handling) (l
   -- a count changes nothing
   pub count-fine : (pc : ℕ) (lives owns : Cells_of) → IsSet P S handling live own pc [] [] lives owns → Opens W handling live own (suc pc) lives owns → FineAt W handling live own pc (line OfNothing Count)
   count-fine pc lives owns s next =
-      fine-at W handling live own pc (line OfNothing Count) [] [] lives owns s tt tt none-copied tt
+      fine-at W handling live own pc (line OfNothing Count) [] [] lives owns s tt tt none-copied tt tt
       (follow W handling live own pc (suc pc) 0 0 [] [] [] lives owns lives owns s next (λ i e. inr (e, (λ t. t), inr (omega arith))) (λ i e. inr (e, (λ t. t), inr (omega arith))), tt) tt
 
   -- what stands at the first place of a node
@@ -73,7 +73,7 @@ module _ (P : Plan) (S : Shares) (W : Weighing) (u : Network) (order : ℕ → L
         let reads = picked picks args in (
           count-fine P S W handling live own a lives owns s0 (set-opens W handling live own (suc a) (copies_of picks) [] lives owns s1),
           (
-            fine-at W handling live own (suc a) (line (OfInputs g v) (Move reads (lo + w) (length reads) (suc (suc a)))) (copies_of picks) [] lives owns s1 (plain-copies picks) tt weighs (may-copy live own (suc a) picks args (λ j i e. s1.1 i ∙ (h.reads j i e).0)) (
+            fine-at W handling live own (suc a) (line (OfInputs g v) (Move reads (lo + w) (length reads) (suc (suc a)))) (copies_of picks) [] lives owns s1 (plain-copies picks) tt weighs (may-copy live own (suc a) picks args (λ j i e. s1.1 i ∙ (h.reads j i e).0)) (copies-last picks reads) (
               follow W handling live own (suc a) (suc (suc a)) (lo + w) (length reads) (copies_of picks) [] reads lives owns (either_of keep (cells_where (λ p. true) mine)) (either_of hold (cells_where (gives P S g v) mine)) s1 x.1
                   (λ i e. go i (or-either (keep i) (cells_where (λ p. true) mine i) e)) (λ i e. go_own i (or-either (hold i) (cells_where (gives P S g v) mine i) e)),
               tt,

@@ -13,7 +13,7 @@ use Rattle.run_store.specs.Refines.{IsTaken}
 use Rattle.run_store.specs.Stored.{Handling, Looks, Mode}
 use Rattle.made_store.proofs.Alive.{or-either, or-left, or-right, range-sound, true-false, where-as, where-sound}
 use Rattle.made_store.proofs.Around.{taken-index}
-use Rattle.made_store.proofs.Flows.{AllFine, AllFollow, Flows, Opens, Standing, fine-at, fine-both, follow, handled_as, look-copied, look-untaken, may-look-one, may-modes, plain-modes}
+use Rattle.made_store.proofs.Flows.{AllFine, AllFollow, Flows, Opens, Standing, fine-at, fine-both, follow, handled_as, look-copied, look-untaken, may-look-one, may-modes, modes-last, plain-modes}
 use Rattle.made_store.proofs.Owned.{IsGivenTo, part-scene, selector-scene}
 use Rattle.made_store.proofs.Scenes.{IsScene}
 use Rattle.made_store.proofs.Walks.{IsEnd}
@@ -66,6 +66,7 @@ module _ (P : Plan) (S : Shares) (W : Weighing) (handling : ℕ → Handling) (l
         let f = end-flows keep hold args g up lo w scene (either_of (range_of lo w) keep) (either_of (range_of lo w) hold) e (λ i h. or-either (range_of lo w i) (keep i) h) (λ i h. or-either (range_of lo w i) (hold i) h) low low_own in
         let move = fine-at W handling live own m (line (OfResults g) (Move froms lo w b)) (result_modes P S g) [] lives owns set.1 (plain-modes (S.takes g 0) (S.copies g 0) 1 (P.results g)) tt (shared g).results
         (may-modes live own m (S.takes g 0) (S.copies g 0) (P.results g) froms 1 (length-map (P.results g) (operand (placed P args (P.nodes g) up))) (λ j i h. set.1.1 i ∙ e.looks j i h) (λ j i t h. set.1.2 i ∙ (e.takes j i t h).0))
+        (modes-last (S.takes g 0) (S.copies g 0) (P.results g) froms 1 (length-map (P.results g) (operand (placed P args (P.nodes g) up))) e.once)
         (follow W handling live own m b lo w (result_modes P S g) [] froms lives owns (either_of (range_of lo w) keep) (either_of (range_of lo w) hold) set.1 next f.0 f.1, tt) tt in
         (fine-both W handling live own t m (make room args g t up) (line (OfResults g) (Move froms lo w b) ∷ []) (omega (arith, one)) x.0 (move, tt), x.1)
 
@@ -192,7 +193,7 @@ module _ (P : Plan) (S : Shares) (W : Weighing) (handling : ℕ → Handling) (l
           let x = fine all_kept all_held args s a mid right scene set.0.0 (omega (arith, fits, first)) ((λ i t. sym (set.0.1.1 i) ∙ t), λ i t. sym (set.0.1.2 i) ∙ t) in
           let y = arms-fine keep hold args gs (suc m) w b lo mid (as-arms mid (omega arith) gs others gives) set.1 (omega (arith, fits, second)) low low-own next in
           let f = branch-flows gs lives' owns' sel (λ i k. or-left (all_kept i) _ k) (λ i k. or-left (all_held i) _ k) gives in
-          let branch = fine-at W handling live own m (line OfNothing (Branch sel (arms_at P make room gs (suc m)) lo w b)) (Looks ∷ []) [] lives' owns' set.0.1 tt tt look-copied (may-look-one live own m sel (λ i t. set.0.1.1 i ∙ e.looks 0 i t)) (
+          let branch = fine-at W handling live own m (line OfNothing (Branch sel (arms_at P make room gs (suc m)) lo w b)) (Looks ∷ []) [] lives' owns' set.0.1 tt tt look-copied (may-look-one live own m sel (λ i t. set.0.1.1 i ∙ e.looks 0 i t)) (tt, tt) (
             follow W handling live own m b lo w (Looks ∷ []) [] (sel ∷ []) lives' owns' (either_of (range_of lo w) keep) (either_of (range_of lo w) hold) set.0.1 next (λ i t. past i (or-either (range_of lo w i) (keep i) t))
                 (λ i t. past-own i (or-either (range_of lo w i) (hold i) t)),
             arms-follow keep hold args m 0 0 (Looks ∷ []) (sel ∷ []) lives' owns' gs (suc m) set.0.1 y.1 f,

@@ -15,7 +15,7 @@ use Rattle.run_store.specs.Refines.{IsLent, IsLentThrough, IsTaken}
 use Rattle.run_store.specs.Stored.{Handling, Looks, copied}
 use Rattle.made_store.proofs.Alive.{or-either, range-sound, true-false, where-sound}
 use Rattle.made_store.proofs.Around.{IsAround, taken-index}
-use Rattle.made_store.proofs.Flows.{FineAt, Flows, Opens, Standing, fine-at, follow, may-modes, plain-modes}
+use Rattle.made_store.proofs.Flows.{FineAt, Flows, Opens, Standing, fine-at, follow, may-modes, modes-last, plain-modes}
 use Rattle.made_store.proofs.Owned.{cells-is}
 use Rattle.made_store.specs.Settings.{Cells_of, Shares, cells_where, either_of, modes_at, range_of}
 
@@ -64,6 +64,7 @@ module _ (P : Plan) (S : Shares) (W : Weighing) (handling : ℕ → Handling) (l
       let f = node-flows lives owns keep hold args (S.takes g v.label) (S.copies g v.label) v.ins (first_port v.kind) lo w h many in
       fine-at W handling live own a (line (OfNode g v) (Fire row shape args lo w)) (modes_at P S g v) [] lives owns s (plain-modes (S.takes g v.label) (S.copies g v.label) (first_port v.kind) v.ins) tt tt
       (may-modes live own a (S.takes g v.label) (S.copies g v.label) v.ins args (first_port v.kind) many (λ j i e. s.1 i ∙ (h.reads j i e).0) (λ j i t e. s.2 i ∙ (h.gone j i t e).0))
+      (modes-last (S.takes g v.label) (S.copies g v.label) v.ins args (first_port v.kind) many (λ j i q t e f. (h.gone j i t e).3 q f))
       (follow W handling live own a (suc a) lo w (modes_at P S g v) [] args lives owns (either_of (range_of lo w) keep) (either_of (range_of lo w) hold) s next f.0 f.1, tt) tt
 
   pub call-fine : (g : ℕ) (v : Vertex) (args : List Operand) (f : ℕ) (w a lo : ℕ) (lives owns keep hold : Cells_of) → IsAround lives owns keep hold args (S.takes g v.label) (first_port v.kind) lo → length args ≡ length v.ins → first_port v.kind ≡ 2
@@ -76,6 +77,7 @@ module _ (P : Plan) (S : Shares) (W : Weighing) (handling : ℕ → Handling) (l
       fine-at W handling live own a (line (OfNode g v) (Call (P.entry f) room args lo w)) (modes_at P S g v) [] lives owns s (plain-modes (S.takes g v.label) (S.copies g v.label) (first_port v.kind) v.ins)
       (λ i l. lent i (lent-index (S.takes g v.label) (S.copies g v.label) v.ins args (first_port v.kind) i many l)) weighs
       (may-modes live own a (S.takes g v.label) (S.copies g v.label) v.ins args (first_port v.kind) many (λ j i e. s.1 i ∙ (h.reads j i e).0) (λ j i t e. s.2 i ∙ (h.gone j i t e).0))
+      (modes-last (S.takes g v.label) (S.copies g v.label) v.ins args (first_port v.kind) many (λ j i q t e f. (h.gone j i t e).3 q f))
       tt (
         (λ i e. first i (where-sound (S.has f) (cells_at 0 (P.params f)) i (entry.0 i e))),
         (λ i e. mine i (where-sound (S.owns f) (cells_at 0 (P.params f)) i (entry.1 i e))),

@@ -14,6 +14,7 @@ use Rattle.made_store.proofs.Flows.{AllFine, ArePlain, Flows, Opens, fine-at, fo
 use Rattle.made_store.proofs.Owned.{IsGivenTo}
 use Rattle.made_store.proofs.Parts.{DoesFine, EndsSo, IsArm, arms-fine, arms-follow}
 use Rattle.made_store.proofs.Scenes.{IsScene}
+use Rattle.made_store.specs.Last.{AreTakenLast}
 use Rattle.made_store.specs.Settings.{Cells_of, Sets, Shares, TagSet, cells_where, either_of, range_of}
 use Rattle.made_store.specs.Shared.{IsShared}
 
@@ -37,6 +38,11 @@ copied-if false ks = look-copied ks
 may-if : (live own : Live) (pc : ℕ) (b : Bool) (a : Operand) → ((i : ℕ) → a ≡ At i → live pc i ≡ true) → (b ≡ true → (i : ℕ) → a ≡ At i → own pc i ≡ true) → AllMayBe live own pc (mode_if b) (a ∷ [])
 may-if live own pc true a lives owns = may-take-one live own pc a (owns refl)
 may-if live own pc false a lives owns = may-look-one live own pc a lives
+
+last-if : (b : Bool) (a : Operand) → AreTakenLast (mode_if b) (a ∷ [])
+last-if true (At c) = (tt, tt)
+last-if true (Lit k) = (tt, tt)
+last-if false a = (tt, tt)
 
 taken-if : (b : Bool) (a : Operand) (i : ℕ) → IsTaken (mode_if b) (a ∷ []) i → (b ≡ true) × (a ≡ At i)
 taken-if true a i (inl h) = (refl, h.1)
@@ -163,7 +169,7 @@ module _ (P : Plan) (S : Shares) (W : Weighing) (handling : ℕ → Handling) (l
   tag-fine gs a w b others gives set fits next =
       let y = arms-fine P S W handling live own room shared make sets lays long fine ends keep hold inner gs (suc a) w b lo (suc mid) (as-arms gs others gives) set.1 (omega (arith, fits)) (λ i k. (h.kept i k).1) (λ i k. (h.held i k).1) next in
       let tag = fine-at W handling live own a (line OfNothing (Tag union (arms_at P make room gs (suc a)) mid lo w b)) (mode_if (given 1)) [] all_kept all_held set.0 (plain-if (given 1)) tt (copied-if (given 1))
-      (may-if live own a (given 1) union (λ i t. set.0.1 i ∙ or-right (keep i) (cells_where (λ p. true) args i) (where-so (λ p. true) args i 0 refl t)) (λ g i t. set.0.2 i ∙ or-right (hold i) (cells_where given args i) (where-so given args i 0 g t))) (
+      (may-if live own a (given 1) union (λ i t. set.0.1 i ∙ or-right (keep i) (cells_where (λ p. true) args i) (where-so (λ p. true) args i 0 refl t)) (λ g i t. set.0.2 i ∙ or-right (hold i) (cells_where given args i) (where-so given args i 0 g t))) (last-if (given 1) union) (
         follow W handling live own a b lo w (mode_if (given 1)) [] (union ∷ []) all_kept all_held (either_of (range_of lo w) keep) (either_of (range_of lo w) hold) set.0 next (λ i t. past i (or-either (range_of lo w i) (keep i) t))
             (λ i t. past-own i (or-either (range_of lo w i) (hold i) t)),
         arms-follow P S W handling live own room shared make sets lays long fine ends keep hold inner a mid 1 (mode_if (given 1)) (union ∷ []) all_kept all_held gs (suc a) set.0 y.1 (arm-flows gs gives),

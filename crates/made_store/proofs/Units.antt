@@ -15,9 +15,10 @@ use Rattle.run_store.proofs.Sums.{unit-writes}
 use Rattle.run_store.proofs.Whole.{runs-begin, unit-decided}
 use Rattle.run_store.specs.Whole.{Begins, first_cells}
 use Rattle.made_store.proofs.Alive.{where-sound}
-use Rattle.made_store.proofs.Functions.{entries-open, set-stored}
+use Rattle.made_store.proofs.Functions.{entries-open, set-last, set-stored}
 use Rattle.made_store.proofs.Owned.{cells-is}
 use Rattle.made_store.proofs.Settling.{functions-full, functions-so, stand-in}
+use Rattle.made_store.specs.Last.{AreMadeTakenLast}
 use Rattle.made_store.specs.Laws.{AreMadeUnitRunsDecided, AreMadeWritesRecorded, IsMadeStored}
 use Rattle.made_store.specs.Settings.{FunctionsSet, Shares}
 use Rattle.made_store.specs.Settled.{Setting, functions_settings, handling_of, last_setting, live_of, own_of}
@@ -34,13 +35,23 @@ made-set P S W u order functions n right =
     let ss = functions_settings P S n functions in
     functions-so P S W u order functions (handling_of ss) (live_of ss) (own_of ss) right.sized n (λ f i. (right.graphs f i).1) functions 0 (λ x i. i) (stand-in P S W u order functions ss)
 
+past-modes : (P : Plan) (S : Shares) (W : Weighing) (u : Network) (order : ℕ → List Vertex) (functions : List ℕ) (n : ℕ) → IsRightPlan P W u order functions n → (pc : ℕ) → functions_size P functions ≤ pc
+    → (handling_of (functions_settings P S n functions) pc).modes ≡ []
+past-modes P S W u order functions n right pc le =
+    let ss = functions_settings P S n functions in
+    let long = functions-full P S W u order functions right.sized n (λ f i. (right.graphs f i).1) functions (λ x i. i) in
+    ap (λ (x : Setting). x.modes) (past-setting ss pc (omega (arith, le, long)))
+
 pub made-stored : IsMadeStored
 made-stored P S W u order functions n s right shared alike =
     let ss = functions_settings P S n functions in
     set-stored P S W u order functions n (handling_of ss) (live_of ss) (own_of ss) s right shared (made-set P S W u order functions n right)
-    (λ pc le.
-    let long = functions-full P S W u order functions right.sized n (λ f i. (right.graphs f i).1) functions (λ x i. i) in
-    ap (λ (x : Setting). x.modes) (past-setting ss pc (omega (arith, le, long)))) alike
+    (past-modes P S W u order functions n right) alike
+
+pub made-last : AreMadeTakenLast
+made-last P S W u order functions n right shared =
+    let ss = functions_settings P S n functions in
+    set-last P S W u order functions n (handling_of ss) (live_of ss) (own_of ss) right shared (made-set P S W u order functions n right) (past-modes P S W u order functions n right)
 
 -- a run begins with its arguments in the first cells
 begins : (u : Unit1) (P : Plan) (S : Shares) (W : Weighing) (order : ℕ → List Vertex) (functions : List ℕ) (n : ℕ) → IsRightPlan P W (network u) order functions n → ((g : ℕ) → IsShared P S W g) → (f : ℕ) (ins : List Carried) → IsIn f functions → length ins ≡ P.params f

@@ -10,7 +10,7 @@ use Rattle.run_code.specs.Made.{Plan, ends_at, placed}
 use Rattle.run_made.proofs.Lying.{PutsAll, are-labelled}
 use Rattle.run_made.specs.Plans.{Weighing}
 use Rattle.run_store.proofs.Ports.{IsOwnCell, Ranged, known-at, low, node-lively, own-input, own-output, reads-alive}
-use Rattle.run_store.specs.Ports.{AreInputsPlaced, IsAlive}
+use Rattle.run_store.specs.Ports.{AreInputsPlaced, IsAlive, KnowsPort}
 use Rattle.made_store.proofs.Alive.{alive-so, alive-sound, or-left, or-right, range-so, reads-there, seat-inputs, seat-is, seat-so, where-so}
 use Rattle.made_store.proofs.Around.{IsAround, around, none-filled}
 use Rattle.made_store.proofs.Scenes.{IsReached, IsScene, all-in, filled, inputs-owned, inputs-there, owned, seats-put, split-alive, there}
@@ -58,18 +58,36 @@ module _ (P : Plan) (S : Shares) (W : Weighing) (keep hold : Cells_of) (args : L
   pub record IsEnd (lives owns : Cells_of) : Type 0 where
     pub looks : (j i : ℕ) → get_or (ends_at P args g bottom) j (Lit Unfilled) ≡ At i → lives i ≡ true
     pub takes : (j i : ℕ) → S.takes g 0 (1 + j) ≡ true → get_or (ends_at P args g bottom) j (Lit Unfilled) ≡ At i → (owns i ≡ true) × (keep i ≡ true → ⊥) × (hold i ≡ true → ⊥)
+    pub once : (j i q : ℕ) → S.takes g 0 (1 + j) ≡ true → get_or (ends_at P args g bottom) j (Lit Unfilled) ≡ At i → get_or (ends_at P args g bottom) q (Lit Unfilled) ≡ At i → q ≡ j
 
-  end-of : (known : Known) (taken : Taken) (lo : ℕ) → IsOn known lo → KnowsAll known (P.results g) → NoneIsTaken taken (P.results g) → IsEnd (live_in P S keep args g bottom known taken) (own_in P S hold args g bottom known taken)
-  end-of known taken lo on knows none =
+  end-of : (known : Known) (taken : Taken) (lo : ℕ) → IsOn known lo → KnowsAll known (P.results g) → NoneIsTaken taken (P.results g) → TakesAlone (S.takes g 0) 1 (P.results g) → IsEnd (live_in P S keep args g bottom known taken) (own_in P S hold args g bottom known taken)
+  end-of known taken lo on knows none alone =
       record {
         looks = λ j i e.
             let x = all-in (IsAlive keep seats_there known taken) (map (operand seats_there) (P.results g)) j i (reads-alive keep seats_there known taken (P.results g) knows none) (as-there j i e) in
             alive-so P seats_there taken keep (length args) known i (λ p q. seat-inputs P (S.has g) args (P.nodes g) bottom i p q) x;
         takes = λ j i t e. let x = filled seats_there (P.results g) 1 j i (as-there j i e) in gone j i x.0 x.1 t x.2 x.3;
+        once = λ j i q t e f.
+            let x = filled seats_there (P.results g) 1 j i (as-there j i e) in
+            let y = filled seats_there (P.results g) 1 q i (as-there q i f) in
+            let s = (own-cell j x.0 x.1 t x.2).alone i y.0 y.1 x.3 (knows-port q y.0 y.1 y.2) y.3 in
+            let z = subst (λ z. Fills (1 + q) (P.results g) 1 z x.1) s.0 (subst (λ z. Fills (1 + q) (P.results g) 1 y.0 z) s.1 y.2) in
+            let n = alone (1 + j) (1 + q) x.0 x.1 x.2 t z in
+            omega (arith, n);
       }
     where
       as-there : (j i : ℕ) → get_or (ends_at P args g bottom) j (Lit Unfilled) ≡ At i → get_or (map (operand seats_there) (P.results g)) j (Lit Unfilled) ≡ At i
       as-there j i e = subst (λ x. get_or x j (Lit Unfilled) ≡ At i) (sym (reads-there P S W g args (P.nodes g) bottom (P.results g) shared.results_there)) e
+
+      own-cell : (j l p : ℕ) → S.takes g 0 (1 + j) ≡ true → Fills (1 + j) (P.results g) 1 l p → IsOwnCell keep seats_there known l p
+      own-cell j zero p t f =
+          own-input keep seats_there (S.owns g) bottom (inputs-there P S args g (P.nodes g) bottom keep hold shared.has_owned scene) known lo p on.ranged (shared.results_owned (1 + j) p f t)
+      own-cell j (suc l) p t f =
+          own-output keep seats_there (S.owns g) bottom (inputs-there P S args g (P.nodes g) bottom keep hold shared.has_owned scene) known lo (suc l) p on.ranged (known-at known 1 (P.results g) (1 + j) l p knows f)
+
+      knows-port : (j l p : ℕ) → Fills (1 + j) (P.results g) 1 l p → KnowsPort known l p
+      knows-port j zero p f = inl refl
+      knows-port j (suc l) p f = inr (known-at known 1 (P.results g) (1 + j) l p knows f)
 
       gone : (j i l p : ℕ) → S.takes g 0 (1 + j) ≡ true → Fills (1 + j) (P.results g) 1 l p → seats_there l p ≡ At i → (own_in P S hold args g bottom known taken i ≡ true) × (keep i ≡ true → ⊥) × (hold i ≡ true → ⊥)
       gone j i zero p t f e =
@@ -95,7 +113,7 @@ module _ (P : Plan) (S : Shares) (W : Weighing) (keep hold : Cells_of) (args : L
   -- along the nodes that are left
   along : (vs : List Vertex) (known : Known) (taken : Taken) (lo : ℕ) → IsOn known lo → PutsAll P seats_there vs lo → PutsAll P seats_owned vs lo → IsReadable P.width known vs → KnowsAll (known_after P.width known vs) (P.results g)
       → AreTakersLast (S.takes g) taken vs (P.results g) → IsEnd (live_in P S keep args g bottom (known_after P.width known vs) (taken_in P S g taken vs)) (own_in P S hold args g bottom (known_after P.width known vs) (taken_in P S g taken vs))
-  along [] known taken lo on puts puts_own readable knows last = end-of known taken lo on knows last.0
+  along [] known taken lo on puts puts_own readable knows last = end-of known taken lo on knows last.0 last.1
   along (v ∷ vs) known taken lo on puts puts_own readable knows last =
       along vs ((v.label, P.width v) ∷ known) (taken_by (S.takes g v.label) (first_port v.kind) v.ins taken) (lo + P.width v) (on-next known v lo on puts.0 puts_own.0) puts.1 puts_own.1 readable.3 knows last.2
 

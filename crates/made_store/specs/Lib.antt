@@ -1,6 +1,7 @@
 pub mod Settings
 pub mod Shared
 pub mod Settled
+pub mod Last
 pub mod Weights
 pub mod Marks
 pub mod UnitWeights

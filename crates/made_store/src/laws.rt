@@ -1,4 +1,5 @@
 //! The laws of code that is made with its settings.
+ghost use Rattle.made_store.specs.Last.{AreMadeTakenLast};
 ghost use Rattle.made_store.specs.Laws.{
   AreMadeUnitRunsDecided,
   AreMadeWritesRecorded,
@@ -19,6 +20,11 @@ pub fn code_that_is_set_is_stored_code()
 /// The settings that are made beside the steps set them so.
 pub fn code_that_is_made_is_stored_code()
     ensures { IsMadeStored }
+{}
+
+/// No step of it reads a cell behind an operand that takes it.
+pub fn no_step_reads_behind_what_it_takes()
+    ensures { AreMadeTakenLast }
 {}
 
 /// So each run of code that is made of a right plan of a ready unit with sound marks is decided.

@@ -6,9 +6,7 @@ use Rattle.run_words.specs.declared.command.RunSet.{RunSet}
 use Rattle.if1_graph.specs.declared.graph.Unit1.{Unit1}
 use Rattle.if1_valid.specs.Params.{params_of}
 use Rattle.graph_meaning.specs.Carried.{Value}
-use Rattle.unit_code.specs.Codes.{IsMadeOf}
 use Rattle.unit_code.specs.Runs.{AreTotalsOf}
-use Rattle.unit_code.specs.declared.code.UnitCode.{UnitCode}
 use Rattle.unit_code.specs.declared.runs.Totals.{Totals}
 use Rattle.graph_meaning.specs.Networks.{network}
 use Rattle.graph_meaning.specs.Plain.{Costs}
@@ -68,14 +66,6 @@ pub record PassesLimit (u : Unit1) (set : RunSet) : Type 0 where
   pub args : List Val
   pub call : IsCall u set function args
   pub longer : PassesOn u function args set.limit
-
--- the words are arguments of the entry, and code of the unit was made, but is not known to stay inside its blocks
-pub record HasNoCode (u : Unit1) (set : RunSet) : Type 0 where
-  pub function : ℕ
-  pub args : List Val
-  pub call : IsCall u set function args
-  pub code : UnitCode
-  pub made : IsMadeOf u code
 
 -- why there is no run
 abbrev pub IsRefused : Unit1 → RunSet → Refusal → Type 0

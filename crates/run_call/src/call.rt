@@ -1,9 +1,9 @@
 //! Runs of the entry of a unit on words.
-ghost use Rattle.std.specs.Prelude.{◌≡◌, IfOk, IfErr, IfSome, None, Ok, map};
+ghost use Rattle.std.specs.Prelude.{◌≡◌, IfOk, IfErr, map};
 ghost use Rattle.graph_meaning.specs.Carried.{Value};
 ghost use Rattle.unit_code.specs.Codes.{IsCodeOfUnit};
 ghost use Rattle.unit_code.specs.Runs.{AreArguments, AreTotalsOf};
-ghost use Rattle.run_call.specs.Calls.{Gives, HasNoCode, IsCall, IsRefused, IsStopped};
+ghost use Rattle.run_call.specs.Calls.{Gives, IsCall, IsRefused, IsStopped};
 
 use crate::entry::types_of;
 use flow_value::Items;
@@ -66,11 +66,9 @@ fn run_code(
     }
 }
 
-/// Runs the entry of a unit on the words, within the limit of firings, by code that is made of the unit; none
-/// where a test of that code fails.
-pub fn run(alloc: Global, unit: Sound, set: &RunSet) -> Result<Option<Totals>, Refusal>
-    ensures given { IfOk result (λ totals. IfSome totals (Gives unit set.now)) }
-    ensures no_code { result ≡ Ok None → HasNoCode unit set.now }
+/// Runs the entry of a unit on the words, within the limit of firings, by code that is made of the unit.
+pub fn run(alloc: Global, unit: Sound, set: &RunSet) -> Result<Totals, Refusal>
+    ensures given { IfOk result (Gives unit set.now) }
     ensures refused { IfErr result (IsRefused unit set.now) }
 {
     let Call {
@@ -78,11 +76,6 @@ pub fn run(alloc: Global, unit: Sound, set: &RunSet) -> Result<Option<Totals>, R
         function,
         args,
     } = call_of(alloc, unit, set)?;
-    match unit_code(alloc, &unit)? {
-        Some(code) => {
-            let totals = run_code(alloc, &unit, &code, function, args, set.limit)?;
-            Ok(Some(totals))
-        }
-        None => Ok(None),
-    }
+    let code = unit_code(alloc, &unit)?;
+    run_code(alloc, &unit, &code, function, args, set.limit)
 }

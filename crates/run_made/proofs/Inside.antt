@@ -87,7 +87,7 @@ module _ (P : Plan) (W : Weighing) (u : Network) (order : ℕ → List Vertex) (
         (kind-stays g v args v.kind (P.width v) a lo from (length-map v.ins (operand places)) right.0 (read-inside room places inside v.ins) (omega (arith, fits, first, picks)) (omega (arith, lt)))
         (nodes-stay g places inside vs m (lo + P.width v) (omega (arith, from)) right.1 (omega (arith, fits, second)) (omega (arith, lt)))
 
-  graph-stays : ((g : ℕ) → IsSized P g) → (n : ℕ) → DoStay X room begin end P (graph_code P n) (CanLay P W u order functions n)
+  pub graph-stays : ((g : ℕ) → IsSized P g) → (n : ℕ) → DoStay X room begin end P (graph_code P n) (CanLay P W u order functions n)
   graph-stays sized zero args g a lo from right ins fits lt = absurd right
   graph-stays sized (suc n) args g a lo from right ins fits lt =
       let steps = (sized g).0 in

@@ -1,5 +1,5 @@
 pub mod Counted
 pub mod Arguments
-pub mod Entering
+pub mod Rooms
 pub mod Makes
 pub mod Recorded

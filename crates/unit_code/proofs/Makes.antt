@@ -1,7 +1,8 @@
--- What is made of the data of a unit is its code.
-use Rattle.std.proofs.Common.{◌≡◌, ℕ, suc, List, length, sym, ap, subst, ◌∙◌}
+-- What is made of the data of a unit is its code, and whole.
+use Rattle.std.proofs.Common.{◌≡◌, ◌+◌, ◌<◌, ◌≤◌, ℕ, suc, List, length, sym, ap, subst, ◌∙◌, arith}
 use Rattle.if1_graph.specs.declared.graph.Unit1.{Unit1}
 use Rattle.if1_graph.specs.Ready.{IsReady}
+use Rattle.if1_marks.specs.Sound.{IsSound}
 use Rattle.graph_meaning.specs.Entered.{IsIn}
 use Rattle.run_code.specs.Made.{Plan}
 use Rattle.made_store.specs.Settings.{Shares}
@@ -11,7 +12,7 @@ use Rattle.step_code.specs.declared.code.Code.{Code}
 use Rattle.plan_data.specs.declared.plan.PlanData.{PlanData}
 use Rattle.plan_data.specs.Parts.{table_of}
 use Rattle.plan_data.specs.Stands.{Stands}
-use Rattle.code_maker.specs.Makes.{AreTold, IsCodeOf}
+use Rattle.code_maker.specs.Makes.{AreKnit, AreTold, IsCodeOf}
 use Rattle.sequential_run.specs.Totals.{CanEnter}
 use Rattle.unit_data.specs.Data.{IsDataOf, planned, shared, tables_of}
 use Rattle.unit_runs.specs.Runs.{IsUnitCode}
@@ -19,6 +20,7 @@ use Rattle.unit_counts.specs.Laws.{DoesToldCodeCount, DoesToldCodeWrite}
 use Rattle.unit_runs.proofs.QuickCode.{quick-unit-code}
 use Rattle.unit_runs.proofs.WritesOf.{quick-writes}
 use Rattle.quick_code.specs.Quick.{RunsSame}
+use Rattle.unit_whole.specs.Laws.{AreUnitCodesEntered, IsMadeOfData}
 use Rattle.unit_code.specs.declared.code.UnitCode.{UnitCode}
 use Rattle.unit_code.specs.Codes.{IsCodeOfUnit, IsMadeOf}
 use Rattle.unit_code.proofs.Counted.{places-many}
@@ -40,7 +42,10 @@ module _ (u : Unit1) (ready : IsReady u) (D : PlanData) (is : IsDataOf u D) (lev
   unit-told : AreTold D P S levels functions code → AreTold D P S (levels_of u) (functions_of u) code
   unit-told h = subst (λ n. AreTold D P S n (functions_of u) code) deep (subst (λ fs. AreTold D P S levels fs code) all h)
 
-  pub code-made : DoesToldCodeCount → DoesToldCodeWrite → (quick : Code) → RunsSame code quick → (entries rooms : List ℕ) → entries ≡ D.entries
+  unit-knit : AreKnit D P levels functions code → AreKnit D P (levels_of u) (functions_of u) code
+  unit-knit h = subst (λ n. AreKnit D P n (functions_of u) code) deep (subst (λ fs. AreKnit D P levels fs code) all h)
+
+  code-made : DoesToldCodeCount → DoesToldCodeWrite → (quick : Code) → RunsSame code quick → (entries rooms : List ℕ) → entries ≡ D.entries
       → ((P : Plan) (S : Shares) → Stands D P S → IsCodeOf P S levels functions code) → ((P : Plan) (S : Shares) → Stands D P S → AreTold D P S levels functions code)
       → IsMadeOf u (record { code = quick; entries = entries; rooms = rooms })
   code-made law writing quick runs entries rooms same made told =
@@ -58,6 +63,31 @@ module _ (u : Unit1) (ready : IsReady u) (D : PlanData) (is : IsDataOf u D) (lev
         entries = λ f. ap (λ es. table_of es f) (sym same);
       }
 
--- it can be entered at each function of the unit
-pub code-enters : (u : Unit1) (c : UnitCode) (functions : List ℕ) → functions ≡ functions_of u → IsMadeOf u c → ((f : ℕ) → IsIn f functions → CanEnter c.code (table_of c.entries f) (table_of c.rooms f)) → IsCodeOfUnit u c
-code-enters u c functions all made enters = record { code = made; enters = λ f i. enters f (subst (IsIn f) (sym all) i) }
+  -- it can be entered at each function of the unit
+  pub code-of-unit : DoesToldCodeCount → DoesToldCodeWrite → AreUnitCodesEntered → IsSound u → (quick : Code) → RunsSame code quick → (entries rooms : List ℕ) → entries ≡ D.entries → ((f : ℕ) → table_of rooms f ≡ table_of D.params f + table_of D.extents f)
+      → ((P : Plan) (S : Shares) → Stands D P S → IsCodeOf P S levels functions code) → ((P : Plan) (S : Shares) → Stands D P S → AreTold D P S levels functions code)
+      → ((P : Plan) (S : Shares) → Stands D P S → 0 < length D.literals → AreKnit D P levels functions code)
+      → IsCodeOfUnit u (record { code = quick; entries = entries; rooms = rooms })
+  code-of-unit counts writing enters sound quick runs entries rooms same own made told knit =
+      record {
+        code = code-made counts writing quick runs entries rooms same made told;
+        enters = λ f i.
+            let room = own f in
+            let params = is.1.stands.params f in
+            let extent = is.1.stands.extents f in
+            subst (λ es. CanEnter quick (table_of es f) (table_of rooms f)) (sym same)
+            (enters D u (order_by u is.0) (tables_of D) code quick ready sound of-data runs f (table_of rooms f) i (omega (arith, room, params, extent)));
+      }
+    where
+      of-data : IsMadeOfData D u (order_by u is.0) (tables_of D) code
+      of-data =
+          record {
+            in_order = is.1.in_order;
+            tables = is.1.tables;
+            stands = is.1.stands;
+            written = is.1.written;
+            few = is.1.steps;
+            made = unit-code (made P S is.1.stands);
+            told = unit-told (told P S is.1.stands);
+            knit = unit-knit (knit P S is.1.stands is.1.some);
+          }

@@ -1,9 +1,9 @@
 //! The code of a unit, and runs of its functions.
 #![tactic(auto)]
 
-mod blocks;
 mod code;
 mod make;
+mod rooms;
 mod runs;
 mod values;
 

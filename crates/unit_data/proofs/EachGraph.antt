@@ -1,7 +1,7 @@
 -- A graph, and a loop over all graphs of a unit.
 use Rattle.std.proofs.Common.{◌≡◌, ◌∙◌, ℕ, ◌+◌, ◌<◌, ◌++◌, Bool, List, [], ◌∷◌, map, length, get_or, slice_get, slice_index_or, Some, None, All, Contains, inl, inr, refl, sym, ap, subst, arith}
 use Rattle.std.proofs.lemmas.Bool.{cases_lt}
-use Rattle.std.proofs.lemmas.List.{get_or_append_left, get_or_push, length_push}
+use Rattle.std.proofs.lemmas.List.{get_or_append_left, get_or_push, length-append, length_push}
 use Rattle.std.proofs.lemmas.Option.{get_or_from_slice_get, slice_get-get_or, slice_get_within}
 use Rattle.if1_graph.specs.declared.graph.Graph.{Graph}
 use Rattle.if1_graph.specs.declared.graph.Graph.TheViews.{out-Graph}
@@ -89,6 +89,7 @@ module _ (D : PlanData) (u : Unit1) (ready : IsReady u) (os : ℕ → List ℕ) 
 -- the graphs of the first numbers are made, as many as there are lists so far
 pub record AreGraphsDone (u : Unit1) (orders : List (List ℕ)) (many : ℕ) (xs : List PlanGraph) (literals : List Cell) (marks : List Bool) : Type 0 where
   pub long : length xs ≡ many
+  pub some : 0 < length literals
   pub begun : (D : PlanData) → GoesOn literals marks D → IsBegun D
   pub made : (D : PlanData) (t : Tables) → GoesOn literals marks D → AreGraphsAt D u (λ g. slice_index_or orders g []) t xs
 
@@ -100,6 +101,7 @@ pub none-done : (u : Unit1) (orders : List (List ℕ)) (literals : List Cell) (m
 none-done u orders literals marks many xs e zero none =
     record {
       long = ap length none ∙ sym zero;
+      some = let one = ap length e in omega (arith, one);
       begun = λ D h. first-begun D (subst (λ cs. HasLiterals cs D) e h.literals);
       made = λ D t h. subst (AreGraphsAt D u (λ g. slice_index_or orders g []) t) (sym none) (λ g x at. absurd (let z : None ≡ Some x = at in cc));
     }
@@ -120,6 +122,13 @@ module _ (u : Unit1) (orders : List (List ℕ)) where
   graph-done many xs mid_literals literals mid_marks marks order x ys was kept is makes e =
       record {
         long = ap length e ∙ (length_push xs x ∙ omega (arith, was.long));
+        some =
+            let D : PlanData = record { graphs = []; sizes = []; extents = []; entries = []; params = []; literals = literals; marks = marks } in
+            let less = (kept D (goes-on D literals marks refl refl)).literals in
+            let long = ap length less.1 in
+            let both = length-append mid_literals less.0 in
+            let some = was.some in
+            omega (arith, long, both, some);
         begun = λ D h. was.begun D (kept D h);
         made = λ D t h g y at. one D t h g y (ap (λ zs. slice_get zs g) (sym e) ∙ at);
       }

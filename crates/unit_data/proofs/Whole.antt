@@ -137,7 +137,7 @@ module _ (u : Unit1) (ready : IsReady u) (normal : IsNormal u) (sound : IsSound 
       nodes-fit a b g le ns vs are.1 h.1 below.1,
     )
 
-  module _ (made : AreGraphsAt D u os (tables_of D) D.graphs) (unfilled : literal_in D 0 ≡ Unfilled) (tabled : AreTabled (functions_of u) D) (inputs : (f : ℕ) → table_of D.params f ≡ inputs_in u (place_of u f)) where
+  module _ (made : AreGraphsAt D u os (tables_of D) D.graphs) (unfilled : literal_in D 0 ≡ Unfilled) (some : 0 < length D.literals) (tabled : AreTabled (functions_of u) D) (inputs : (f : ℕ) → table_of D.params f ≡ inputs_in u (place_of u f)) where
     abbrev own : Tables
     own = tables_of D
 
@@ -182,6 +182,7 @@ module _ (u : Unit1) (ready : IsReady u) (normal : IsNormal u) (sound : IsSound 
           written = λ g. (at own made g).nodes.written;
           counted = λ g. (at own made g).nodes.counted;
           many = long;
+          some = some;
           steps = tabled.steps;
         }
 
@@ -198,8 +199,8 @@ module _ (u : Unit1) (ready : IsReady u) (normal : IsNormal u) (sound : IsSound 
   pub parts-of-unit : ArePartsAbove gs
   parts-of-unit = parts-above u ready normal sound os along bare long none (made bare none refl refl)
 
-  pub unit-data : ((D : PlanData) → D.literals ≡ ls → D.marks ≡ ms → literal_in D 0 ≡ Unfilled) → (D : PlanData) (fs ps : List ℕ) → D.graphs ≡ gs → D.literals ≡ ls → D.marks ≡ ms → D.params ≡ ps → fs ≡ functions_of u
+  pub unit-data : ((D : PlanData) → D.literals ≡ ls → D.marks ≡ ms → literal_in D 0 ≡ Unfilled) → 0 < length ls → (D : PlanData) (fs ps : List ℕ) → D.graphs ≡ gs → D.literals ≡ ls → D.marks ≡ ms → D.params ≡ ps → fs ≡ functions_of u
       → ps ≡ 0 ∷ map (λ x. x.all) (map (inputs_of u) (places u)) → AreTabled fs D → IsDataBy u os D
-  unit-data begun D fs ps graphs literals marks params functions inputs tabled =
-      data-by u ready normal sound os along D (ap length graphs ∙ long) (subst (AreGraphsAt D u os (tables_of D)) (sym graphs) (made D (tables_of D) literals marks)) (begun D literals marks)
+  unit-data begun some D fs ps graphs literals marks params functions inputs tabled =
+      data-by u ready normal sound os along D (ap length graphs ∙ long) (subst (AreGraphsAt D u os (tables_of D)) (sym graphs) (made D (tables_of D) literals marks)) (begun D literals marks) (subst (λ cs. 0 < length cs) (sym literals) some)
       (subst (λ fs. AreTabled fs D) functions tabled) (λ f. ap (λ ps. table_of ps f) (params ∙ inputs) ∙ params-are u ready normal f)

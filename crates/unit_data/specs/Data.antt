@@ -1,5 +1,5 @@
 -- The data of the plan of a unit.
-use Rattle.std.specs.Prelude.{◌≡◌, ◌≤◌, ◌-◌, ◌^◌, ℕ, suc, List, length}
+use Rattle.std.specs.Prelude.{◌≡◌, ◌<◌, ◌≤◌, ◌-◌, ◌^◌, ℕ, suc, List, length}
 use Rattle.if1_graph.specs.declared.graph.Unit1.{Unit1}
 use Rattle.if1_graph.specs.Units.{places}
 use Rattle.graph_meaning.specs.Demand.{Vertex}
@@ -30,7 +30,8 @@ module _ (u : Unit1) (os : (graph : ℕ) → List ℕ) (D : PlanData) where
   shared = shares_of u (order_by u os)
 
   -- The places are an order along edges and ordering lists, and the tables are right. The data is formed, the plan with its shares stands
-  -- in it, and it tells of each node what its row writes and copies. There is a graph for each number, and the steps can be counted.
+  -- in it, and it tells of each node what its row writes and copies. There is a graph for each number, and a literal, and the steps can be
+  -- counted.
   pub record IsDataBy : Type 0 where
     pub in_order : AreInOrder (network u) (order_by u os)
     pub tables : AreTables u (order_by u os) (tables_of D)
@@ -39,6 +40,7 @@ module _ (u : Unit1) (os : (graph : ℕ) → List ℕ) (D : PlanData) where
     pub written : (g : ℕ) (n : PlanNode) (v : Vertex) → IsPair (graph_nodes D g) (planned.nodes g) n v → IsWrittenByRow D u g v n.work
     pub counted : (g : ℕ) (n : PlanNode) (v : Vertex) → IsPair (graph_nodes D g) (planned.nodes g) n v → IsCountedByRow D u g v n n.work
     pub many : length D.graphs ≡ suc (length (places u))
+    pub some : 0 < length D.literals
     pub steps : arms_steps D (functions_of u) ≤ 2 ^ 32 - 1
 
 abbrev pub IsDataOf : Unit1 → PlanData → Type 0

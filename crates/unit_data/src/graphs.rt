@@ -1,5 +1,5 @@
 //! The graphs of the data of a unit.
-ghost use Rattle.std.specs.Prelude.{◌≡◌, ◌≤◌, ℕ, suc, [], List, Some, map, length, slice_get, slice_index_or, Contains, IfOk, OnOk};
+ghost use Rattle.std.specs.Prelude.{◌≡◌, ◌<◌, ◌≤◌, ℕ, suc, [], List, Some, map, length, slice_get, slice_index_or, Contains, IfOk, OnOk};
 ghost use Rattle.if1_graph.specs.Units.{Place, number_of, places};
 ghost use Rattle.firing_order.specs.Orders.{IsFiringOrder};
 ghost use Rattle.unit_plan.specs.Plans.{Tables, plain_of};
@@ -151,6 +151,7 @@ pub fn graphs_of(
     ensures long { IfOk result (λ x. length x.graphs ≡ suc (length (places unit.now))) }
     ensures made { IfOk result (λ x. (D : PlanData) (t : Tables) → D.literals ≡ x.literals → D.marks ≡ x.marks → AreGraphsAt D unit.now (λ g. slice_index_or orders.items g []) t x.graphs) }
     ensures begun { IfOk result (λ x. (D : PlanData) → D.literals ≡ x.literals → D.marks ≡ x.marks → IsBegun D) }
+    ensures some { IfOk result (λ x. 0 < length x.literals) }
 {
     let mut made = MadeGraphs {
         graphs: Seq::with_room(alloc, orders.len())?,

@@ -7,5 +7,5 @@ abbrev pub invariant-loop-port : goal.invariant-loop-port
 invariant-loop-port l =
     record {
       below : AreBelow (2 ^ 32 - l.first) (drop l.port-index l.ports);
-      same : l.operands ++ map (laid l.args l.first) (copied_ports (drop l.port-index l.ports)) ≡ l.initial.operands ++ map (laid l.args l.first) (copied_ports l.ports);
+      same : l.operands ++ map (laid l.plan l.args l.first) (copied_ports (drop l.port-index l.ports)) ≡ l.initial.operands ++ map (laid l.plan l.args l.first) (copied_ports l.ports);
     }

@@ -24,7 +24,7 @@ pub emit_arm-returns : goal.emit_arm-returns
 emit_arm-returns t c =
     on_ok_weaker c.add_move.result
     (λ e. arm-made c.args.plan.now c.requires.formed c.args.room c.args.levels c.args.args.now c.args.graph c.args.place c.args.width c.args.next c.args.lo c.args.up c.args.draft.now c.emit_graph.new.draft c.add_move.new.draft c.results_in-ports.result.now
-    (c.results_in-ports.ensures ∙ ap (λ x. results_of (slice_get x c.args.graph)) c.as_slice.ensures) c.in_ok-emit_graph.ensures (e c.args.plan.now))
+    (c.results_in-ports.ensures ∙ ap (λ x. results_of (slice_get x c.args.graph)) c.as_slice.ensures) c.in_ok-emit_graph.ensures e)
     c.add_move.ensures
 
 pub emit_first-returns : goal.emit_first-returns
@@ -32,7 +32,7 @@ emit_first-returns t c =
     on_ok_weaker c.add_begin.result
     (λ e. first-made c.args.plan.now c.requires.formed c.args.room c.args.levels c.args.own.now c.args.parts c.args.place c.args.starts c.args.mid c.args.draft.now c.emit_graph.new.draft c.add_begin.new.draft c.results_in-ports.result.now c.collects_in-collects.result.now
     (c.results_in-ports.ensures ∙ ap (λ x. results_of (slice_get x c.args.parts.init)) c.as_slice-graphs.ensures) (c.collects_in-collects.ensures ∙ ap (λ x. collects_of (slice_get x c.args.parts.returns)) c.as_slice-graphs.ensures)
-    c.in_ok-emit_graph.ensures (e c.args.plan.now))
+    c.in_ok-emit_graph.ensures e)
     c.add_begin.ensures
 
 pub emit_rows-returns : goal.emit_rows-returns
@@ -40,7 +40,7 @@ emit_rows-returns t c =
     on_ok_weaker c.add_put.result
     (λ e. rows-made c.args.plan.now c.requires.formed c.args.room c.args.levels c.args.lent.now c.args.body c.args.returns c.args.place c.args.turns c.args.into c.args.up c.args.draft.now c.emit_graph.new.draft c.add_put.new.draft c.results_in-ports.result.now c.collects_in-collects.result.now
     (c.results_in-ports.ensures ∙ ap (λ x. results_of (slice_get x c.args.body)) c.as_slice-graphs.ensures) (c.collects_in-collects.ensures ∙ ap (λ x. collects_of (slice_get x c.args.returns)) c.as_slice-graphs.ensures)
-    c.in_ok-emit_graph.ensures (e c.args.plan.now))
+    c.in_ok-emit_graph.ensures e)
     c.add_put.ensures
 
 pub emit_turns-returns : goal.emit_turns-returns
@@ -51,7 +51,7 @@ emit_turns-returns t c =
     c.args.draft.now c.emit_graph.new.draft c.add_keep.new.draft c.emit_graph-2.new.draft c.add_test.new.draft c.results_in-values.result.now c.collects_in-collects.result.now c.first_seat-told.result
     (c.results_in-values.ensures ∙ ap (λ x. results_of (slice_get x c.args.parts.body)) c.as_slice-graphs.ensures) (c.collects_in-collects.ensures ∙ ap (λ x. collects_of (slice_get x c.args.parts.returns)) c.as_slice-graphs.ensures)
     (c.first_seat-told.ensures ∙ ap (first_seat c.args.lent.now c.args.top) (c.results_in.ensures ∙ ap (λ x. results_of (slice_get x c.args.parts.test)) c.as_slice-graphs.ensures))
-    c.in_ok-emit_graph.ensures (c.in_ok-add_keep.ensures plan) c.in_ok-emit_graph-2.ensures (e plan))
+    c.in_ok-emit_graph.ensures c.in_ok-add_keep.ensures c.in_ok-emit_graph-2.ensures e)
     c.add_test.ensures
 
 pub emit_select-returns : goal.emit_select-returns
@@ -179,15 +179,18 @@ emit_node-returns-in-Plain t c =
     let plan = c.args.plan.now in
     on_ok_weaker c.add_fire.result
     (λ e. fire-made plan c.requires.formed c.args.room c.args.levels c.args.node.now c.args.args.now c.args.first c.in-Plain.row c.in-Plain.shape c.in-Plain.written c.in-Plain.counted c.args.place c.args.lo c.args.draft.now c.add_fire.new.draft
-    c.as_slice-ports.result.now c.as_slice-ports.ensures c.in-Plain.is (λ P o lives owns told. e plan P o lives owns c.requires.formed told))
+    c.as_slice-ports.result.now c.as_slice-ports.ensures c.in-Plain.is e)
     c.add_fire.ensures
 
 pub emit_node-returns-in-Call : goal.emit_node-returns-in-Call
 emit_node-returns-in-Call t c =
     let plan = c.args.plan.now in
+    let f = c.in-Call.function in
+    let inputs : c.number_at-inputs.result ≡ table_of plan.params f = c.number_at-inputs.ensures ∙ ap (λ x. table_of x f) c.as_slice-in-Call.ensures in
+    let cells : c.number_at.result ≡ table_of plan.extents f = c.number_at.ensures ∙ ap (λ x. table_of x f) c.as_slice-in-Call-2.ensures in
     on_ok_weaker c.add_call.result
-    (λ e. call-made plan c.requires.formed c.args.room c.args.levels c.args.node.now c.args.args.now c.args.first c.in-Call.function c.number_at-entry.result c.args.place c.args.lo c.args.draft.now c.add_call.new.draft
-    c.as_slice-ports.result.now c.as_slice-ports.ensures c.in-Call.is (c.number_at-entry.ensures ∙ ap (λ x. table_of x c.in-Call.function) c.as_slice.ensures) (e plan))
+    (λ e. call-made plan c.requires.formed c.args.room c.args.levels c.args.node.now c.args.args.now c.args.first c.in-Call.function c.number_at-entry.result (c.number_at-inputs.result + c.number_at.result) c.args.place c.args.lo c.args.draft.now c.add_call.new.draft
+    c.as_slice-ports.result.now c.as_slice-ports.ensures c.in-Call.is (c.number_at-entry.ensures ∙ ap (λ x. table_of x c.in-Call.function) c.as_slice.ensures) (omega (arith, inputs, cells)) e)
     c.add_call.ensures
 
 pub emit_whole-returns : goal.emit_whole-returns
@@ -196,7 +199,7 @@ emit_whole-returns t c =
     on_ok_weaker c.emit_parts.result
     (λ e. whole-made plan c.requires.formed c.args.room c.args.levels c.args.node.now c.args.args.now c.as_slice.result.now (parts.mode_by c.first_given.result) c.args.first c.args.place c.args.lo (c.args.lo + c.args.node.now.width) c.copied-many.result
     (c.args.place + c.work_steps.result) (c.args.lo + c.args.node.now.width + c.copied-many.result) c.args.draft.now c.add_count.new.draft c.add_copies.new.draft c.emit_parts.new.draft c.as_slice-ports.result.now c.as_slice-ports.ensures c.requires.whole
-    refl c.copied-many.ensures (ap (λ q. c.args.place + q) c.work_steps.ensures) refl c.first_given.ensures (c.as_slice.ensures ∙ c.in_ok-own.ensures) (c.in_ok-add_count.ensures plan) (c.in_ok-add_copies.ensures plan) e)
+    refl c.copied-many.ensures (ap (λ q. c.args.place + q) c.work_steps.ensures) refl c.first_given.ensures (c.as_slice.ensures ∙ c.in_ok-own.ensures) (c.in_ok-add_count.ensures plan) c.in_ok-add_copies.ensures e)
     c.emit_parts.ensures
 
 pub emit_whole-add_copies-requires-clause-many : goal.emit_whole-add_copies-requires-clause-many
@@ -256,22 +259,22 @@ emit_for_all-returns t c =
     c.args.draft.now c.emit_graph.new.draft c.add_spread.new.draft c.emit_rows.new.draft c.add_each.new.draft c.emit_arm.new.draft c.results_in-ports.result.now c.collects_in-collects.result.now ports_are cs_are
     (ap length ports_are) (ap length cs_are) (omega (arith, rg)) (omega (arith, rb)) (omega arith) (omega arith) refl (omega arith)
     (c.as_slice-turned.ensures ∙ (c.in_ok-lent.ensures ∙ ap (λ q. c.args.own.now ++ cells_from q n) up)) (c.as_slice.ensures ∙ c.in_ok-listed.ensures) (c.as_slice-folds.ensures ∙ c.in_ok-all.ensures)
-    c.in_ok-emit_graph.ensures (c.in_ok-add_spread.ensures plan) c.in_ok-emit_rows.ensures (λ P o lives owns. c.in_ok-add_each.ensures plan P o lives owns c.requires.formed)
+    c.in_ok-emit_graph.ensures c.in_ok-add_spread.ensures c.in_ok-emit_rows.ensures (λ P o lives owns. c.in_ok-add_each.ensures plan P o lives owns c.requires.formed)
     (subst (λ q. ArmMade plan c.args.room c.args.levels c.as_slice-folds.result.now q (turns + 1) c.args.width c.args.next c.args.lo top c.add_each.new.draft c.emit_arm.new.draft) (c.refolded_in-last.ensures ∙ ap (λ x. refolded_of r (slice_get x r)) c.as_slice-graphs.ensures) e))
     c.emit_arm.ensures
 
 -- ---- what the results of a graph are read of
 
-pub emit_arm-add_move-requires : goal.emit_arm-add_move-requires
-emit_arm-add_move-requires t c =
+pub emit_arm-add_move-requires-clause-below : goal.emit_arm-add_move-requires-clause-below
+emit_arm-add_move-requires-clause-below t c =
     results-below c.args.plan.now c.requires.formed c.args.graph c.args.up c.requires.cells c.results_in-ports.result.now (c.results_in-ports.ensures ∙ ap (λ x. results_of (slice_get x c.args.graph)) c.as_slice.ensures)
 
-pub emit_first-add_begin-requires : goal.emit_first-add_begin-requires
-emit_first-add_begin-requires t c =
+pub emit_first-add_begin-requires-clause-below : goal.emit_first-add_begin-requires-clause-below
+emit_first-add_begin-requires-clause-below t c =
     results-below c.args.plan.now c.requires.formed c.args.parts.init c.args.mid c.requires.cells c.results_in-ports.result.now (c.results_in-ports.ensures ∙ ap (λ x. results_of (slice_get x c.args.parts.init)) c.as_slice-graphs.ensures)
 
-pub emit_for_all-add_spread-requires : goal.emit_for_all-add_spread-requires
-emit_for_all-add_spread-requires t c =
+pub emit_for_all-add_spread-requires-clause-below : goal.emit_for_all-add_spread-requires-clause-below
+emit_for_all-add_spread-requires-clause-below t c =
     let plan = c.args.plan.now in
     let g = c.args.generator in
     let N = length (parts.graph_results plan g) in
@@ -279,8 +282,8 @@ emit_for_all-add_spread-requires t c =
     let cells = c.requires.cells in
     results-below plan c.requires.formed g c.args.mid (omega (arith, m, cells)) c.results_in-ports.result.now (c.results_in-ports.ensures ∙ ap (λ x. results_of (slice_get x g)) c.as_slice-graphs.ensures)
 
-pub emit_rows-add_put-requires : goal.emit_rows-add_put-requires
-emit_rows-add_put-requires t c =
+pub emit_rows-add_put-requires-clause-below : goal.emit_rows-add_put-requires-clause-below
+emit_rows-add_put-requires-clause-below t c =
     results-below c.args.plan.now c.requires.formed c.args.body c.args.up c.requires.cells c.results_in-ports.result.now (c.results_in-ports.ensures ∙ ap (λ x. results_of (slice_get x c.args.body)) c.as_slice-graphs.ensures)
 
 pub emit_select-first_seat-chosen-requires : goal.emit_select-first_seat-chosen-requires
@@ -290,8 +293,8 @@ emit_select-first_seat-chosen-requires t c =
     let cells = c.requires.cells in
     results-below plan c.requires.formed c.args.selector c.args.mid (omega (arith, m, cells)) c.results_in-ports.result.now (c.results_in-ports.ensures ∙ ap (λ x. results_of (slice_get x c.args.selector)) c.as_slice.ensures)
 
-pub emit_turns-add_keep-requires : goal.emit_turns-add_keep-requires
-emit_turns-add_keep-requires t c =
+pub emit_turns-add_keep-requires-clause-below : goal.emit_turns-add_keep-requires-clause-below
+emit_turns-add_keep-requires-clause-below t c =
     results-below c.args.plan.now c.requires.formed c.args.parts.body c.args.top c.requires.body_cells c.results_in-values.result.now (c.results_in-values.ensures ∙ ap (λ x. results_of (slice_get x c.args.parts.body)) c.as_slice-graphs.ensures)
 
 pub emit_turns-first_seat-told-requires : goal.emit_turns-first_seat-told-requires

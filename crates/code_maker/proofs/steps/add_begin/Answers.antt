@@ -6,5 +6,5 @@ use Rattle.code_maker.proofs.steps.add_begin.Goals as goal
 pub returns : goal.returns
 returns c =
     on_ok_weaker c.add.result
-    (λ e D P o lives owns. begin-grows D P c.args.draft.now _ o lives owns c.args.args.now c.args.first c.args.ports.now c.args.collects.now c.args.out c.args.next c.in_ok-froms.froms c.in_ok-many.many c.in_ok-start.start c.in_ok-count.count e c.in_ok-add_ports.ensures refl c.in_ok-add_sifts.ensures (c.in_ok-froms.ensures ∙ c.len.ensures) c.in_ok-many.ensures (c.in_ok-start.ensures ∙ c.len-2.ensures) (c.in_ok-count.ensures ∙ c.sifts.ensures))
+    (λ e P o lives owns. begin-grows c.args.plan.now c.requires.formed P c.args.draft.now _ o lives owns c.args.args.now c.args.first c.args.ports.now c.args.collects.now c.args.out c.args.next c.in_ok-froms.froms c.in_ok-many.many c.in_ok-start.start c.in_ok-count.count e c.in_ok-add_ports.ensures refl c.in_ok-add_sifts.ensures (c.in_ok-froms.ensures ∙ c.len.ensures) c.in_ok-many.ensures (c.in_ok-start.ensures ∙ c.len-2.ensures) (c.in_ok-count.ensures ∙ c.sifts.ensures))
     c.add.ensures.ok

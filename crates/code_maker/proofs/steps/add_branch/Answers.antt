@@ -11,5 +11,5 @@ use Rattle.code_maker.proofs.steps.add_branch.Goals as goal
 pub returns : goal.returns
 returns c =
     on_ok_weaker c.add.result
-    (λ e P o lives owns. branch-grows c.args.plan.now P c.args.draft.now _ o lives owns handled.Looks c.args.selector (starts_from c.args.plan.now c.args.arms.now c.args.begin) c.in_ok-targets.targets c.in_ok-many.many c.args.out c.args.width c.args.next (subst (λ q. c.add.new.self ≡ c.args.draft.now.steps ++ step.Branch q c.in_ok-targets.targets c.in_ok-many.many c.args.out c.args.width c.args.next ∷ []) c.operand.ensures e) refl c.in_ok-add_starts.ensures refl (c.in_ok-targets.ensures ∙ c.len.ensures) (c.in_ok-many.ensures ∙ starts-long c.args.plan.now c.args.arms.now c.args.begin))
+    (λ e P o lives owns. branch-grows c.args.plan.now c.requires.formed P c.args.draft.now _ o lives owns handled.Looks c.args.selector (starts_from c.args.plan.now c.args.arms.now c.args.begin) c.in_ok-targets.targets c.in_ok-many.many c.args.out c.args.width c.args.next (subst (λ q. c.add.new.self ≡ c.args.draft.now.steps ++ step.Branch q c.in_ok-targets.targets c.in_ok-many.many c.args.out c.args.width c.args.next ∷ []) c.operand.ensures e) refl c.in_ok-add_starts.ensures refl (c.in_ok-targets.ensures ∙ c.len.ensures) (c.in_ok-many.ensures ∙ starts-long c.args.plan.now c.args.arms.now c.args.begin))
     c.add.ensures.ok

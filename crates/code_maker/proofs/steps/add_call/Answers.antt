@@ -6,5 +6,5 @@ use Rattle.code_maker.proofs.steps.add_call.Goals as goal
 pub returns : goal.returns
 returns c =
     on_ok_weaker c.add.result
-    (λ e D P o lives owns. call-grows D P c.args.draft.now _ o lives owns c.args.args.now c.args.first c.args.ports.now c.args.entry c.args.size c.args.room c.args.out c.args.width c.in_ok-start.start c.in_ok-many.many e c.in_ok-add_ports.ensures refl refl (c.in_ok-start.ensures ∙ c.len.ensures) c.in_ok-many.ensures)
+    (λ e P o lives owns room. call-grows c.args.plan.now c.requires.formed P c.args.draft.now _ o lives owns c.args.args.now c.args.first c.args.ports.now c.args.entry c.args.size c.args.room c.args.out c.args.width c.in_ok-start.start c.in_ok-many.many room e c.in_ok-add_ports.ensures refl refl (c.in_ok-start.ensures ∙ c.len.ensures) c.in_ok-many.ensures)
     c.add.ensures.ok

@@ -9,5 +9,5 @@ use Rattle.code_maker.proofs.steps.add_test.Goals as goal
 pub returns : goal.returns
 returns c =
     on_ok_weaker c.add.result
-    (λ e D P o lives owns. test-grows D P c.args.draft.now _ o lives owns handled.Looks c.args.test c.args.turn c.args.leave c.args.out c.args.width c.args.next (subst (λ q. c.add.new.self ≡ c.args.draft.now.steps ++ step.Test q c.args.turn c.args.leave c.args.out c.args.width c.args.next ∷ []) c.operand.ensures e) refl refl refl)
+    (λ e P o lives owns. test-grows c.args.plan.now c.requires P c.args.draft.now _ o lives owns handled.Looks c.args.test c.args.turn c.args.leave c.args.out c.args.width c.args.next (subst (λ q. c.add.new.self ≡ c.args.draft.now.steps ++ step.Test q c.args.turn c.args.leave c.args.out c.args.width c.args.next ∷ []) c.operand.ensures e) refl refl refl)
     c.add.ensures.ok

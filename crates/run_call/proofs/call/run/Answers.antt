@@ -8,6 +8,3 @@ run_code-requires-clause-count c =
     let call = c.in_ok-unit.field-0 in
     subst (λ u. AreArguments u call.function call.args) (sym c.in_ok-unit.ensures.same)
     (are_arguments c.args.unit c.args.set.now call.function call.args c.in_ok-unit.ensures.call)
-
-pub run_code-requires-clause-code : goal.run_code-requires-clause-code
-run_code-requires-clause-code c = c.in_ok-code.ensures.code c.in-Some.code c.in-Some.is

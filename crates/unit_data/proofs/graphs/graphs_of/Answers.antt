@@ -59,3 +59,6 @@ returns-clause-made c = λ D t e f. c.loop-order.invariant.made D t (goes-on D c
 
 pub returns-clause-begun : goal.returns-clause-begun
 returns-clause-begun c = λ D e f. c.loop-order.invariant.begun D (goes-on D c.loop-order.made.literals c.loop-order.made.marks e f)
+
+pub returns-clause-some : goal.returns-clause-some
+returns-clause-some c = c.loop-order.invariant.some

@@ -41,5 +41,5 @@ returns c =
     let inputs = c.in_ok-params.ensures ∙ ap (λ (xs : List Inputs). 0 ∷ map (λ x. x.all) xs) (c.as_slice-3.ensures ∙ c.in_ok-facts.ensures.inputs) in (
       (λ g. slice_index_or c.in_ok-orders.orders.items g []),
       unit-data u w.ready w.normal w.sound (λ g. slice_index_or c.in_ok-orders.orders.items g []) c.in_ok-orders.ensures.in_order m.graphs m.literals m.marks c.in_ok-made.ensures.long c.in_ok-made.ensures.made
-          c.in_ok-made.ensures.begun c.in_ok-data.data c.as_slice-4.result.now c.in_ok-params.params d.graphs d.literals d.marks d.params fs inputs d.tabled,
+          c.in_ok-made.ensures.begun c.in_ok-made.ensures.some c.in_ok-data.data c.as_slice-4.result.now c.in_ok-params.params d.graphs d.literals d.marks d.params fs inputs d.tabled,
     )

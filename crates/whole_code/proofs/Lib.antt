@@ -1,4 +1,0 @@
-pub mod Cells
-pub mod Kept
-pub mod Paths
-pub mod Marked
