@@ -9,7 +9,7 @@ use Rattle.mean_call.specs.declared.fault.Refusal.TheVariants as refusal
 use Rattle.run_words.specs.Words.{IsCommand, HasFault}
 use Rattle.run_words.specs.declared.command.Command.{Command}
 use Rattle.run_words.specs.declared.command.Command.TheVariants as command
-use Rattle.sisal_top.specs.Outputs.{PrintsMeaning, PrintsGraphs, PrintsRun, HasTypeFault, HasNoGraphs, HasNoMeaning, HasNoRun, HasNoCode}
+use Rattle.sisal_top.specs.Outputs.{PrintsMeaning, PrintsGraphs, PrintsRun, HasTypeFault, HasNoGraphs, HasNoMeaning, HasNoRun}
 use Rattle.sisal_top.specs.Program.{IsBuilt, IsPlain, IsRefused, ReadsSisal, ReadsText}
 use Rattle.sisal_top.specs.Texts.{help_text, version_text}
 use Rattle.sisal_top.specs.declared.status.Status.{Status}
@@ -28,9 +28,9 @@ Asks (command.Gen n) bytes printed = printed ≡ program n
 Asks command.Help bytes printed = printed ≡ help_text
 Asks command.Version bytes printed = printed ≡ version_text
 
--- Which commands are not built yet; and a run of which there is no code that is known to be right is answered so too.
+-- which commands are not built yet
 abbrev pub IsLater : Command → List ℕ → Type 0
-IsLater (command.Run set) bytes = IsPlain set → HasNoCode set bytes
+IsLater (command.Run set) bytes = IsPlain set → ⊥
 IsLater (command.Compile set) bytes = IsBuilt set → ⊥
 IsLater command.Link bytes = Unit {0}
 IsLater (command.Verify set) bytes = Unit {0}

@@ -7,7 +7,7 @@ use Rattle.compile_call.specs.Calls.{HasUnit, Prints as PrintsOf}
 use Rattle.if1_graph.specs.declared.graph.Unit1.{Unit1}
 use Rattle.lowering.specs.TooMany.{too_many}
 use Rattle.marks_made.specs.Units.{marks_of}
-use Rattle.run_call.specs.Calls.{Gives as GivesRun, HasNoCode as HasNoCodeFor, IsRefused as HasNoTotals}
+use Rattle.run_call.specs.Calls.{Gives as GivesRun, IsRefused as HasNoTotals}
 use Rattle.run_call.specs.Texts.{IsUnitOf as IsIf1Of}
 use Rattle.unit_code.specs.declared.runs.Totals.{Totals}
 use Rattle.run_words.specs.declared.command.CompileSet.{CompileSet}
@@ -104,9 +104,3 @@ pub record HasNoRun (set : RunSet) (bytes : List ℕ) (refusal : Refusal) : Type
   pub unit : Unit1
   pub runs : RunsUnit set.if1 bytes unit
   pub refused : HasNoTotals unit set refusal
-
--- the entry and the words are right, and there is no code that is known to be right
-pub record HasNoCode (set : RunSet) (bytes : List ℕ) : Type 0 where
-  pub unit : Unit1
-  pub runs : RunsUnit set.if1 bytes unit
-  pub none : HasNoCodeFor unit set

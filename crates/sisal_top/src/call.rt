@@ -96,9 +96,7 @@ fn results(alloc: Global, set: &RunSet, bytes: &[u8]) -> Result<Text, Status>
     ensures of_bytes { IfErr result IsOfBytes }
 {
     let unit = unit_to_run(alloc, set, bytes)?;
-    let Some(totals) = run(alloc, unit, set)? else {
-        return Err(Status::Later);
-    };
+    let totals = run(alloc, unit, set)?;
     let printed = print_run(alloc, &totals, set.stats)?;
     Ok(printed)
 }
