@@ -35,6 +35,7 @@ pub fn load(
 }
 
 /// The operand at a place.
+#[inline(always)]
 pub fn operand_at(operands: &[Operand], place: usize) -> Operand
     requires { place < length operands.now }
     ensures { slice_get operands.now place ≡ Some result }

@@ -2,6 +2,7 @@
 #![tactic(auto)]
 
 mod counting;
+mod elements;
 mod firing;
 mod given;
 mod kept;
