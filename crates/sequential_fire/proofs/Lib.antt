@@ -7,4 +7,5 @@ pub mod LentSteps
 pub mod TakeSteps
 pub mod RouteSteps
 pub mod UpdateSteps
+pub mod ElementSteps
 pub mod RangeRows
