@@ -1,5 +1,6 @@
 //! What is brought to a cell.
-ghost use Rattle.std.specs.Prelude.{◌≡◌, ◌-◌, ◌+◌, true, length, IfOk, OnOk};
+ghost use Rattle.std.specs.Prelude.{◌≡◌, ◌-◌, ◌+◌, true, length, IfOk, IfSome, OnOk};
+ghost use Rattle.graph_meaning.specs.Carried.{Carried};
 ghost use Rattle.graph_meaning.specs.Storage.{capped, leaves_of};
 ghost use Rattle.run_store.specs.Stored as stored;
 ghost use Rattle.run_fuller.specs.Fuller.{IsWithin};
@@ -41,6 +42,25 @@ pub fn brought(
         Operand::Literal(_) => looked(alloc, code, cells.as_slice(), base, from),
         Operand::Looks(_) => looked(alloc, code, cells.as_slice(), base, from),
         Operand::LooksAt(_) => copy_of(alloc, code, cells.as_slice(), base, from),
+    }
+}
+
+/// An integer or a boolean that stands in a cell, where bringing it copies nothing.
+#[inline(always)]
+pub fn plain(code: &Code, cells: &[Cell], base: usize, from: Operand) -> Option<Cell>
+    requires { IsInside code.now (length cells.now - base) from }
+    ensures value { IfSome result (λ c. held c ≡ stored.Owns (stored.seen (heap_of cells.now) base (mode_in code.now from) (operand_in code.now from))) }
+    ensures none { IfSome result (λ c. (k : Carried) → stored.copied_as (mode_in code.now from) k ≡ 0) }
+{
+    match from {
+        Operand::Literal(_) | Operand::Looks(_) | Operand::Takes(_) => {
+            match direct(code, cells, base, from) {
+                Some(Cell::Int(n)) => Some(Cell::Int(*n)),
+                Some(Cell::Bool(b)) => Some(Cell::Bool(*b)),
+                _ => None,
+            }
+        }
+        _ => None,
     }
 }
 
