@@ -8,4 +8,5 @@ pub mod TakeSteps
 pub mod RouteSteps
 pub mod UpdateSteps
 pub mod ElementSteps
+pub mod PartRows
 pub mod RangeRows

@@ -8,6 +8,7 @@ mod given;
 mod kept;
 mod loaded;
 mod outputs;
+mod parts;
 mod ranges;
 mod routes;
 mod taking;
