@@ -22,7 +22,7 @@ mod tagging;
 pub use bringing::brought;
 pub use choices::spoil;
 pub use laws::steps_are_for_all;
-pub use loading::{load, operand_at};
+pub use loading::{load, operand_at, put_behind};
 pub use machine::{Machine, OpenCall, Turn};
 pub use moving::{operands_from, unload};
 pub use scalar::operand_of;
