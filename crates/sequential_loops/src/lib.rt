@@ -11,6 +11,7 @@ mod laying;
 mod lengths;
 mod numbers;
 mod once;
+mod pushing;
 mod putting;
 mod rows;
 mod spreading;
