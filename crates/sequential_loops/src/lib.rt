@@ -5,6 +5,7 @@
 mod adding;
 mod behind;
 mod columns;
+mod copying;
 mod iterating;
 mod keeping;
 mod laying;
