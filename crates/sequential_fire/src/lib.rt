@@ -9,6 +9,7 @@ mod loaded;
 mod outputs;
 mod ranges;
 mod routes;
+mod scattering;
 mod taking;
 mod updating;
 

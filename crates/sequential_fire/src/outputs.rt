@@ -10,6 +10,7 @@ ghost use Rattle.sequential_fire.specs.Outputs.{carried_out, AreHeld};
 
 use crate::given::all_given;
 use crate::ranges::range_of;
+use crate::scattering::is_scattered;
 use flow_value::{NoMemory, Outputs, Shape, Val};
 use if1_graph::Simple;
 use node_ops::fire;
@@ -35,8 +36,28 @@ pub fn outputs(
 {
     match range_of(code, cells, base, row, operands) {
         Some(cell) => only(cell, made),
-        None => listed_outputs(alloc, code, cells, base, row, shape, operands, made),
+        None => several(alloc, code, cells, base, row, shape, operands, made),
     }
+}
+
+fn several(
+    alloc: Global,
+    code: &Code,
+    cells: &[Cell],
+    base: usize,
+    row: Simple,
+    shape: Shape,
+    operands: &[Operand],
+    made: &mut Vec<Cell>,
+) -> Result<(), NoMemory>
+    requires inside { AreInside code.now (length cells.now - base) operands.now }
+    requires ports { length operands.now < 4294967296 }
+    ensures { OnOk result (AreHeld made.new.items (op row (shape_of shape) (seen_of code.now base (heap_of cells.now) operands.now))) }
+{
+    if is_scattered(alloc, code, cells, base, row, operands, made)? {
+        return Ok(());
+    }
+    listed_outputs(alloc, code, cells, base, row, shape, operands, made)
 }
 
 fn only(cell: Cell, made: &mut Vec<Cell>) -> Result<(), NoMemory>

@@ -1,13 +1,15 @@
 //! Copies of multiples.
-ghost use Rattle.std.specs.Prelude.{◌≡◌, ◌∷◌, [], ◌++◌, IfOk, OnOk};
+ghost use Rattle.std.specs.Prelude.{◌≡◌, IfOk};
 ghost use Rattle.flow_value.specs.declared.value.Val.TheViews.{out-Val};
 ghost use Rattle.flow_value.specs.declared.value.Val.TheVariants as val;
+ghost use Rattle.graph_meaning.specs.Carried.{Value};
 ghost use Rattle.node_ops.specs.Operands.{multiple_in};
 ghost use Rattle.run_store.specs.Stored as stored;
 ghost use Rattle.run_cells.specs.Held.{held};
 
-use flow_value::{Items, NoMemory, Seq, Val, copy};
+use flow_value::{Array, NoMemory, Val};
 use run_cells::{Boxed, Cell, Seen, copied};
+use sequential::copies_of;
 use std::alloc::Global;
 
 /// A copy of the multiple in a box.
@@ -28,46 +30,20 @@ fn listed(alloc: Global, items: &[Val]) -> Result<Cell, NoMemory>
     Ok(Cell::Many(Boxed::new(alloc, stream)?))
 }
 
-/// Equal values, in the same order.
-fn copies_of(alloc: Global, items: &[Val]) -> Result<Items, NoMemory>
-    ensures { IfOk result (λ vs. vs ≡ items.now) }
+/// A copy of a value.
+pub fn value_copied(alloc: Global, v: &Val) -> Result<Cell, NoMemory>
+    ensures { IfOk result (λ c. held c ≡ stored.Owns (Value v.now)) }
 {
-    let mut copies = Vec::with_capacity(alloc, items.len())?;
-    for item in items {
-        put_copy(alloc, &mut copies, item)?;
-    }
-    Ok(Seq::from_vec(copies))
-}
-
-/// Puts a copy of a value behind others; an integer goes there at once where there is room.
-#[inline(always)]
-fn put_copy(alloc: Global, copies: &mut Vec<Val>, item: &Val) -> Result<(), NoMemory>
-    ensures { OnOk result (copies.new.items ≡ copies.old.items ++ item.now ∷ []) }
-{
-    match item {
-        Val::Int(n) => put_int(copies, *n),
-        _ => put_any(alloc, copies, item),
+    match v {
+        Val::Int(n) => Ok(Cell::Int(*n)),
+        Val::Arr(a) => Ok(Cell::Owned(Boxed::new(alloc, array_copied(alloc, a)?)?)),
+        _ => copied(alloc, Seen::Value(v)),
     }
 }
 
-#[inline(always)]
-fn put_int(copies: &mut Vec<Val>, n: i64) -> Result<(), NoMemory>
-    ensures { OnOk result (copies.new.items ≡ copies.old.items ++ val.Int n ∷ []) }
+fn array_copied(alloc: Global, a: &Array) -> Result<Val, NoMemory>
+    ensures { IfOk result (λ v. v ≡ val.Arr a.now) }
 {
-    if copies.len() < copies.capacity() {
-        copies.push_reserved(Val::Int(n));
-        Ok(())
-    } else {
-        copies.push(Val::Int(n))?;
-        Ok(())
-    }
-}
-
-#[inline(never)]
-fn put_any(alloc: Global, copies: &mut Vec<Val>, item: &Val) -> Result<(), NoMemory>
-    ensures { OnOk result (copies.new.items ≡ copies.old.items ++ item.now ∷ []) }
-{
-    let value = copy(alloc, item)?;
-    copies.push(value)?;
-    Ok(())
+    let items = copies_of(alloc, a.as_slice())?;
+    Ok(Val::Arr(Array::made(a.lo(), items)))
 }
