@@ -5,6 +5,7 @@ mod bringing;
 mod calling;
 mod choices;
 mod choosing;
+mod copying;
 mod firing;
 mod handing;
 mod laws;
@@ -22,8 +23,9 @@ mod tagging;
 
 pub use bringing::brought;
 pub use choices::spoil;
+pub use copying::copies_of;
 pub use laws::steps_are_for_all;
-pub use loading::{load, operand_at};
+pub use loading::{load, operand_at, put_behind};
 pub use machine::{Machine, OpenCall, Turn};
 pub use moving::{operands_from, unload};
 pub use scalar::operand_of;

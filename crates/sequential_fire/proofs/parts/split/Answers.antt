@@ -9,4 +9,4 @@ use Rattle.sequential_fire.proofs.parts.split.Goals as goal
 pub loop-place-preserved : goal.loop-place-preserved
 loop-place-preserved c =
     let l = c.loop-place in
-    ap (map held) c.in_ok-push.ensures.ok.items ∙ fields-held l.made.items l.place (val.Rec c.args.fields.now ∷ []) c.in_ok-cell.cell l.invariant (c.in_ok-cell.ensures ∙ ap (λ v. stored.Owns (Value v)) (field-is l.place c.args.fields.now))
+    ap (map held) c.in_ok-put_behind.ensures ∙ fields-held l.made.items l.place (val.Rec c.args.fields.now ∷ []) c.in_ok-cell.cell l.invariant (c.in_ok-cell.ensures ∙ ap (λ v. stored.Owns (Value v)) (field-is l.place c.args.fields.now))
