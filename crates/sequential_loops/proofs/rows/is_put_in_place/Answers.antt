@@ -1,4 +1,4 @@
-use Rattle.std.proofs.Common.{◌≡◌, ◌∙◌, sym, ap}
+use Rattle.std.proofs.Common.{◌∙◌, sym, ap}
 use Rattle.run_code.specs.Collections.{put_in}
 use Rattle.run_store.specs.Stored as stored
 use Rattle.step_code.specs.Laid.{collect_in}
