@@ -1,4 +1,4 @@
-use Rattle.unit_code.proofs.Rooms.{AreRooms}
+use Rattle.unit_code.proofs.RoomTables.{AreRooms}
 use Rattle.unit_code.proofs.rooms.rooms_of.Given as goal
 
 abbrev pub invariant-loop-graph : goal.invariant-loop-graph
