@@ -135,8 +135,10 @@ module _ (u : Network) (number : ℕ → ℕ) (shape : ℕ → ℕ → Simple �
     };
   }
 
-  pub cons-drawn : (γ : List Ty) (slack : ℕ) (g : Lowers) (gs : List Lowers) (h : Means) (hs : List Means) → Drawn γ 1 0 g h → Drawn γ slack 0 (all_lowered gs) (all_of hs) → Drawn γ (suc slack) 0 (all_lowered (g ∷ gs)) (all_of (h ∷ hs))
-  cons-drawn γ slack g gs h hs a b = record {
+  -- a phrase before others
+  pub join-drawn : (γ : List Ty) (some slack : ℕ) (g : Lowers) (gs : List Lowers) (h t : Means) → Drawn γ some 0 g h → Drawn γ slack 0 (all_lowered gs) t
+      → Drawn γ (some + slack) 0 (all_lowered (g ∷ gs)) (λ names. andthen (h names) (λ vs. andthen (t names) (λ ws. given (vs ++ ws))))
+  join-drawn γ some slack g gs h t a b = record {
     free = λ env k q.
         let m = g env k q in
         let n = all_lowered gs env (k + length m.nodes) (q + length m.graphs) in
@@ -146,14 +148,14 @@ module _ (u : Network) (number : ℕ → ℕ) (shape : ℕ → ℕ → Simple �
         from-both env m (joined n l) x (from-both env n l y (both-wires (FromNames env) m.values n.values (values-from env m x) (values-from env n y)));
     runs = λ names vs i o e.
         let x = then-some (h names) _ vs i e in
-        let y = then-some (all_of hs names) (λ ws. given (x.mid ++ ws)) vs x.k x.second in
+        let y = then-some (t names) (λ ws. given (x.mid ++ ws)) vs x.k x.second in
         let z = given-is (x.mid ++ y.mid) vs y.k y.second in
         let r = a.runs names x.mid x.j o x.first in
-        let t = b.runs names y.mid y.j o y.first in
+        let w = b.runs names y.mid y.j o y.first in
         record {
-          limit = r.limit + t.limit;
-          bound = omega (arith, r.bound, t.bound, x.sum, y.sum, z.1);
-          draws = λ s k q env c pl. subst (λ ws. Done u number shape s k (all_lowered (g ∷ gs) env k q) ws (r.limit + t.limit)) z.0 (listed env k q s x.mid y.mid r.limit t.limit c pl r.draws t.draws);
+          limit = r.limit + w.limit;
+          bound = omega (arith, r.bound, w.bound, x.sum, y.sum, z.1);
+          draws = λ s k q env c pl. subst (λ ws. Done u number shape s k (all_lowered (g ∷ gs) env k q) ws (r.limit + w.limit)) z.0 (listed env k q s x.mid y.mid r.limit w.limit c pl r.draws w.draws);
         };
   }
     where
@@ -168,6 +170,16 @@ module _ (u : Network) (number : ℕ → ℕ) (shape : ℕ → ℕ → Simple �
           let w = dgs s (k + length m.nodes) (q + length m.graphs) env c (placed-left u number shape s (k + length m.nodes) (q + length m.graphs) n l pl') in
           let t = done-only u number shape s (k + length m.nodes + length n.nodes) l (vs ++ ws) refl (carry-both u number shape s m.values vs n.values ws z.held w.held) in
           done-more u number shape s k (joined m (joined n l)) (vs ++ ws) (i + (j + 0)) (i + j) (done-both u number shape s k m (joined n l) vs (vs ++ ws) i (j + 0) z (done-both u number shape s (k + length m.nodes) n l ws (vs ++ ws) j 0 w t)) (omega arith)
+
+  pub less-drawn : (γ : List Ty) (some slack credit more : ℕ) (g : Lowers) (h : Means) → slack ≤ some → credit ≤ more → Drawn γ some credit g h → Drawn γ slack more g h
+  less-drawn γ some slack credit more g h le lm b = record { free = b.free; runs = λ names vs i o e. let r = b.runs names vs i o e in record { limit = r.limit; bound = omega (arith, r.bound, le, lm); draws = r.draws } }
+
+  pub cons-drawn : (γ : List Ty) (slack : ℕ) (g : Lowers) (gs : List Lowers) (h : Means) (hs : List Means) → Drawn γ 1 0 g h → Drawn γ slack 0 (all_lowered gs) (all_of hs) → Drawn γ (suc slack) 0 (all_lowered (g ∷ gs)) (all_of (h ∷ hs))
+  cons-drawn γ slack g gs h hs a b = less-drawn γ (1 + slack) (suc slack) 0 0 (all_lowered (g ∷ gs)) (all_of (h ∷ hs)) (omega arith) (omega arith) (join-drawn γ 1 slack g gs h (all_of hs) a b)
+
+  -- what is given on values of the types is given by another
+  pub drawn-when : (γ : List Ty) (slack credit : ℕ) (g : Lowers) (h k : Means) → Drawn γ slack credit g h → ((names vs : List Val) (i : ℕ) → AreOf γ names → k names ≡ Some (vs, i) → h names ≡ Some (vs, i)) → Drawn γ slack credit g k
+  drawn-when γ slack credit g h k d w = record { free = d.free; runs = λ names vs i o e. d.runs names vs i o (w names vs i o e) }
 
   -- ---- one after the other
 
@@ -236,6 +248,3 @@ module _ (u : Network) (number : ℕ → ℕ) (shape : ℕ → ℕ → Simple �
     where
       drawn-less : (γ δ : List Ty) (some : ℕ) (gs : List Lowers) (hs : List Means) → Drawn (γ ++ δ) some 0 (all_lowered gs) (all_of hs) → Drawn (γ ++ δ) (some + 0) 0 (all_lowered gs) (all_of hs)
       drawn-less γ δ some gs hs b = record { free = b.free; runs = λ names vs i o e. let r = b.runs names vs i o e in record { limit = r.limit; bound = omega (arith, r.bound); draws = r.draws } }
-
-  pub less-drawn : (γ : List Ty) (some slack credit more : ℕ) (g : Lowers) (h : Means) → slack ≤ some → credit ≤ more → Drawn γ some credit g h → Drawn γ slack more g h
-  less-drawn γ some slack credit more g h le lm b = record { free = b.free; runs = λ names vs i o e. let r = b.runs names vs i o e in record { limit = r.limit; bound = omega (arith, r.bound, le, lm); draws = r.draws } }

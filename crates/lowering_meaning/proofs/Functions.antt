@@ -36,7 +36,7 @@ use Rattle.lowering.specs.Loops.{own_inputs}
 use Rattle.lowering.specs.Phrases.{each, phrase, lowers}
 use Rattle.lowering.specs.Programs.{stub, bodies, function_lowered}
 use Rattle.lowered_units.specs.Networks.{net_of}
-use Rattle.lowering_meaning.specs.Coverage.{Coverage, AreCovered, all_true, is_covered}
+use Rattle.lowering_meaning.specs.Coverage.{Coverage, AreCovered}
 use Rattle.lowering_meaning.proofs.Timed.{Yield, yield-given, yield-plus, yield-same, yield-deeper}
 use Rattle.lowering_meaning.proofs.Wires.{AllWires, left-wires, right-wires, weaker-wires, In, IsThere, FromNames, MadeFrom}
 use Rattle.lowering_meaning.proofs.Sites.{Site, AllCarry, AreAt, Done, as-values, vertices, done-made, done-more}

@@ -14,7 +14,7 @@ use Rattle.meaning.specs.Meaning.{Gives as Means, kind_gives, expr_gives, calls,
 use Rattle.lowering.specs.declared.feed.Wire.{Wire}
 use Rattle.lowering.specs.Loops.{Phrase}
 use Rattle.lowering.specs.Phrases.{Kind, expr_lowered, kind_lowered, phrase, phrase_kind, lowers}
-use Rattle.lowering_meaning.specs.Coverage.{Coverage, kind_covered, expr_covered, is_covered, is_covered_kind}
+use Rattle.lowering_meaning.specs.Coverage.{Coverage, Verdict, kind_covered, expr_covered, verdict, is_covered_kind}
 
 abbrev pub parts_meant : ℕ → List Function → TypedKind-F TypedKind TypedExpr → TypedKind-F (ℕ → Means) Means
 parts_meant n p x = map-TypedKind TypedKind TypedExpr (ℕ → Means) Means (kind_meaning n p) (meaning n p) x
@@ -35,13 +35,16 @@ lowers-is forms l ns y x is env =
     ap (λ (p : Phrase). p.lowers env) (fold-roll-TypedExpr Kind Phrase (kind_lowered forms) expr_lowered (record { line = l; types = ns; kind = y }))
     ∙ (ap (λ z. (phrase_kind forms z).lowers ns env) is ∙ ap (λ (z : Kind). z.lowers ns env) (fold-roll-TypedKind Kind Phrase (kind_lowered forms) expr_lowered x))
 
-abbrev pub parts_covered : Coverage → TypedKind-F TypedKind TypedExpr → TypedKind-F Bool Bool
-parts_covered c x = map-TypedKind TypedKind TypedExpr Bool Bool (is_covered_kind c) (is_covered c) x
+abbrev pub parts_covered : Coverage → TypedKind-F TypedKind TypedExpr → TypedKind-F Bool Verdict
+parts_covered c x = map-TypedKind TypedKind TypedExpr Bool Verdict (is_covered_kind c) (verdict c) x
 
-pub covered-is : (c : Coverage) (l : ℕ) (ns : List ℕ) (y : TypedKind) (x : TypedKind-F TypedKind TypedExpr) → y ≡ roll-TypedKind x → is_covered c (with l ns y) ≡ kind_covered c (parts_covered c x)
+pub covered-is : (c : Coverage) (l : ℕ) (ns : List ℕ) (y : TypedKind) (x : TypedKind-F TypedKind TypedExpr) → y ≡ roll-TypedKind x → (verdict c (with l ns y)).ok ≡ kind_covered c (parts_covered c x)
 covered-is c l ns y x is =
-    fold-roll-TypedExpr Bool Bool (kind_covered c) (expr_covered c) (record { line = l; types = ns; kind = y })
-    ∙ (ap (is_covered_kind c) is ∙ fold-roll-TypedKind Bool Bool (kind_covered c) (expr_covered c) x)
+    ap (λ (v : Verdict). v.ok) (fold-roll-TypedExpr Bool Verdict (kind_covered c) (expr_covered c) (record { line = l; types = ns; kind = y }))
+    ∙ (ap (is_covered_kind c) is ∙ fold-roll-TypedKind Bool Verdict (kind_covered c) (expr_covered c) x)
+
+pub count-is : (c : Coverage) (e : TypedExpr) → (verdict c e).count ≡ length e.types
+count-is c e = ap (λ (v : Verdict). v.count) (fold-roll-TypedExpr Bool Verdict (kind_covered c) (expr_covered c) (record { line = e.line; types = e.types; kind = e.kind }))
 
 pub and-true : (a b : Bool) → (a && b) ≡ true → (a ≡ true) × (b ≡ true)
 and-true true b e = (refl, e)

@@ -13,6 +13,7 @@ pub mod Operations
 pub mod ReadForms
 pub mod IfReads
 pub mod Layers
+pub mod Widths
 pub mod Trees
 pub mod TreeReads
 pub mod Functions

@@ -125,15 +125,15 @@ module _ (p : Program) (u : Unit1) (fit : IsFitting p) (t : IsTranslated p u) wh
           arrays = arrays;
           operation = λ o c γ tys a n r. operation-drawn N num S p.types arrays records o c γ tys a n r;
           no_case = refl;
-          product = λ q c. absurd (none c);
-          initial = λ q c. absurd (none c);
+          product = λ q ks c. absurd (none c);
+          initial = λ q ks c. absurd (none c);
         }
       where
         none : false ≡ true → ⊥
         none e = cc
 
     reads : FormsRead N num S p.types p.names fit.headers p.functions plain_forms
-    reads = record { product = λ q c. absurd (none c); initial = λ q c. absurd (none c) }
+    reads = record { product = λ q ks c. absurd (none c); initial = λ q ks c. absurd (none c) }
       where
         none : false ≡ true → ⊥
         none e = cc

@@ -34,14 +34,14 @@ use Rattle.lowering.specs.Operations.{Lowers, all_lowered, defs_lowered, body_lo
 use Rattle.lowering.specs.Choices.{applied}
 use Rattle.lowering.specs.Loops.{Phrase}
 use Rattle.lowering.specs.Phrases.{each, kind_lowered, phrase, lowers}
-use Rattle.lowering_meaning.specs.Coverage.{Coverage, all_true, each_true, kind_covered, is_covered}
+use Rattle.lowering_meaning.specs.Coverage.{Coverage, all_ok, each_ok, counts, kind_covered, verdict}
 use Rattle.lowering_meaning.proofs.Layers.{parts_meant, meaning-is, parts_lowered, lowers-is, parts_covered, covered-is, and-true}
 use Rattle.lowering_meaning.proofs.Timed.{Yield}
 use Rattle.lowering_meaning.proofs.Forms.{Typed}
 use Rattle.lowering_meaning.proofs.ReadForms.{Read, DrawnAll, TypedAll, read-as, step-read, given-read, nil-read, cons-read, then-read, given-on, nil-defs-read, cons-defs-read, body-read, call-on}
 use Rattle.lowering_meaning.proofs.IfReads.{if-read}
 use Rattle.lowering_meaning.proofs.Trees as trees
-use Rattle.lowering_meaning.proofs.Trees.{FitsTo, AllFitTo, DefsFitTo, several, several_lists, means, means_lists, EachDrawn, CallsDrawn, FormsDrawn}
+use Rattle.lowering_meaning.proofs.Trees.{FitsTo, AllFitTo, DefsFitTo, several, several_lists, means, means_lists, EachDrawn, EachOf, CallsDrawn, FormsDrawn}
 
 module _ (u : Network) (number : ℕ → ℕ) (shape : ℕ → ℕ → Simple → Shape) (forms : List Form) (spellings : List (List ℕ)) (hs : List Header) (p : List Function) (cover : Coverage) where
   -- phrases one for one, at a depth
@@ -53,31 +53,31 @@ module _ (u : Network) (number : ℕ → ℕ) (shape : ℕ → ℕ → Simple �
   Each γ gs ks = (n : ℕ) → EachDrawn u number shape forms spellings hs p cover γ gs (ks n)
 
   -- a loop over generators, where its bounds, definitions and clauses are read
-  abbrev pub ProductRead : Product → Type 0
-  ProductRead q = (γ tys xs δ row made : List Ty) (ns : List ℕ) (bs : List Phrase) (ds : List (List Phrase)) (gs : List Phrase) (kb : ℕ → List Means) (kd : ℕ → List (List Means)) (ks : ℕ → List Means)
+  abbrev pub ProductRead : Product → List ℕ → Type 0
+  ProductRead q arity = (γ tys xs δ row made : List Ty) (ns : List ℕ) (bs : List Phrase) (ds : List (List Phrase)) (gs : List Phrase) (kb : ℕ → List Means) (kd : ℕ → List (List Means)) (ks : ℕ → List Means)
       → Goes q.sources tys xs → AreMade q.clauses row made → AreNumbers forms spellings ns made
       → Each γ bs kb → TypedAll u number shape γ (λ j. all_of (kb j)) tys
       → DrawnAll u number shape (γ ++ xs) 0 0 (defs_lowered (map each ds)) (λ j. defined (kd j)) → TypedAll u number shape (γ ++ xs) (λ j. defined (kd j)) ((γ ++ xs) ++ δ)
-      → Each ((γ ++ xs) ++ δ) gs ks → TypedAll u number shape ((γ ++ xs) ++ δ) (λ j. all_of (ks j)) row
+      → Each ((γ ++ xs) ++ δ) gs ks → TypedAll u number shape ((γ ++ xs) ++ δ) (λ j. all_of (ks j)) row → ((n : ℕ) → EachOf u number shape forms spellings hs p cover ((γ ++ xs) ++ δ) gs (ks n) arity)
       → (m : ℕ) → EachRead m γ bs kb → Read u number shape m (γ ++ xs) (defs_lowered (map each ds)) (λ j. defined (kd j)) → EachRead m ((γ ++ xs) ++ δ) gs ks
       → (call : ℕ → ℕ → Means) → Read u number shape m γ ((kind_lowered forms (TypedKind-F.Product q bs ds gs)).lowers ns) (λ j. kind_gives j (call j) (TypedKind-F.Product q (kb j) (kd j) (ks j)) (length ns))
 
   -- a loop of turns, whose parts are read at lesser depths too
-  abbrev pub InitialRead : Turns → Type 0
-  InitialRead t = (γ loop later row made : List Ty) (ns : List ℕ) (fs : List (List Phrase)) (ts : List Phrase) (ds : List (List Phrase)) (gs : List Phrase)
+  abbrev pub InitialRead : Turns → List ℕ → Type 0
+  InitialRead t arity = (γ loop later row made : List Ty) (ns : List ℕ) (fs : List (List Phrase)) (ts : List Phrase) (ds : List (List Phrase)) (gs : List Phrase)
       (kf : ℕ → List (List Means)) (kt : ℕ → List Means) (kd : ℕ → List (List Means)) (ks : ℕ → List Means)
       → Renews loop t.renewed later → AreMade t.clauses row made → AreNumbers forms spellings ns made
       → DrawnAll u number shape γ 0 0 (defs_lowered (map each fs)) (λ j. defined (kf j)) → TypedAll u number shape γ (λ j. defined (kf j)) (γ ++ loop)
       → Each (γ ++ loop) ts kt → TypedAll u number shape (γ ++ loop) (λ j. all_of (kt j)) (ty.Bool ∷ [])
       → DrawnAll u number shape (γ ++ loop) 0 0 (defs_lowered (map each ds)) (λ j. defined (kd j)) → TypedAll u number shape (γ ++ loop) (λ j. defined (kd j)) ((γ ++ loop) ++ later)
-      → Each (γ ++ loop) gs ks → TypedAll u number shape (γ ++ loop) (λ j. all_of (ks j)) row
+      → Each (γ ++ loop) gs ks → TypedAll u number shape (γ ++ loop) (λ j. all_of (ks j)) row → ((n : ℕ) → EachOf u number shape forms spellings hs p cover (γ ++ loop) gs (ks n) arity)
       → (m : ℕ) → ((l : ℕ) → l ≤ m → Read u number shape l γ (defs_lowered (map each fs)) (λ j. defined (kf j))) → ((l : ℕ) → l ≤ m → EachRead l (γ ++ loop) ts kt)
       → ((l : ℕ) → l ≤ m → Read u number shape l (γ ++ loop) (defs_lowered (map each ds)) (λ j. defined (kd j))) → ((l : ℕ) → l ≤ m → EachRead l (γ ++ loop) gs ks)
       → (call : ℕ → ℕ → Means) → Read u number shape m γ ((kind_lowered forms (TypedKind-F.Initial t fs ts ds gs)).lowers ns) (λ j. kind_gives j (call j) (TypedKind-F.Initial t (kf j) (kt j) (kd j) (ks j)) (length ns))
 
   pub record FormsRead : Type 0 where
-    pub product : (q : Product) → cover.product q ≡ true → ProductRead q
-    pub initial : (t : Turns) → cover.initial t ≡ true → InitialRead t
+    pub product : (q : Product) (arity : List ℕ) → cover.product q arity ≡ true → ProductRead q arity
+    pub initial : (t : Turns) (arity : List ℕ) → cover.initial t arity ≡ true → InitialRead t arity
 
   -- where the graph of a function fires at a depth, the source gives something
   abbrev pub CallRead : ℕ → Type 0
@@ -90,10 +90,10 @@ module _ (u : Network) (number : ℕ → ℕ) (shape : ℕ → ℕ → Simple �
       (sound-calls : (n f : ℕ) (h : Header) → slice_get hs f ≡ Some h → Typed h.params (calls n p f) h.results)
       (laws : FormsDrawn u number shape forms spellings hs p cover) (reads : FormsRead) (calls-drawn : (n : ℕ) → CallsDrawn u number shape forms spellings hs p cover n) where
     abbrev all_covered : List TypedExpr → Type 0
-    all_covered es = all_true (map (is_covered cover) es) ≡ true
+    all_covered es = all_ok (map (verdict cover) es) ≡ true
 
     abbrev each_covered : List (List TypedExpr) → Type 0
-    each_covered us = each_true (map (map (is_covered cover)) us) ≡ true
+    each_covered us = each_ok (map (map (verdict cover)) us) ≡ true
 
     abbrev AllFitIn : List Ty → List TypedExpr → List Ty → Type 0
     AllFitIn γ es tys = AllFitTo u number shape forms spellings hs p cover γ es tys
@@ -126,14 +126,14 @@ module _ (u : Network) (number : ℕ → ℕ) (shape : ℕ → ℕ → Simple �
         let k : ℕ → Means = λ j. kind_gives j (calls j p) (parts_meant j p x) (length ns) in
         read-as u number shape m γ g (lowers forms (with l ns y)) (λ j names. plus 1 (k j names)) (λ j. meaning j p (with l ns y)) (lowers-is forms l ns y x e) (λ j. meaning-is j p l ns y x e) (step-read u number shape m γ g k h)
 
-    covered : (l : ℕ) (ns : List ℕ) (y : TypedKind) (x : TypedKind-F TypedKind TypedExpr) → y ≡ roll-TypedKind x → is_covered cover (with l ns y) ≡ true → kind_covered cover (parts_covered cover x) ≡ true
+    covered : (l : ℕ) (ns : List ℕ) (y : TypedKind) (x : TypedKind-F TypedKind TypedExpr) → y ≡ roll-TypedKind x → (verdict cover (with l ns y)).ok ≡ true → kind_covered cover (parts_covered cover x) ≡ true
     covered l ns y x e v = sym (covered-is cover l ns y x e) ∙ v
 
     below : (m l : ℕ) → l ≤ m → CallsRead m → CallsRead l
     below m l le r k lt = r k (omega (arith, le, lt))
 
     mutual
-      pub expr-read : (γ : List Ty) (e : TypedExpr) (tys : List Ty) → FitsTo u number shape forms spellings hs p cover γ e tys → is_covered cover e ≡ true → (m : ℕ) → CallsRead m → Read u number shape m γ (lowers forms e) (λ j. meaning j p e)
+      pub expr-read : (γ : List Ty) (e : TypedExpr) (tys : List Ty) → FitsTo u number shape forms spellings hs p cover γ e tys → (verdict cover e).ok ≡ true → (m : ℕ) → CallsRead m → Read u number shape m γ (lowers forms e) (λ j. meaning j p e)
       expr-read γ _ _ (is.a_constant {l = l} {ns = ns} {c = c} lit num) v m r =
           seen m γ l ns (typed.Constant c) (TypedKind-F.Constant c) (sym (typed.rolls-Constant c)) (given-read u number shape m γ _ (λ names. constant_value c ∷ []))
       expr-read γ _ _ (is.a_value {l = l} {level = x} {ns = ns} {a = a} there num) v m r =
@@ -180,9 +180,9 @@ module _ (u : Network) (number : ℕ → ℕ) (shape : ℕ → ℕ → Simple �
           let c1 = and-true _ _ c.1 in
           let c2 = and-true _ _ c1.1 in
           seen m γ l ns (typed.Product q bounds us ts) (TypedKind-F.Product q bounds us ts) e
-          (reads.product q c.0 γ tys xs δ row made ns (map (phrase forms) bounds) (map (map (phrase forms)) us) (map (phrase forms) ts)
+          (reads.product q (counts (map (verdict cover) ts)) c.0 γ tys xs δ row made ns (map (phrase forms) bounds) (map (map (phrase forms)) us) (map (phrase forms) ts)
           (λ j. means u number shape forms spellings hs p cover j bounds) (λ j. means_lists u number shape forms spellings hs p cover j us) (λ j. means u number shape forms spellings hs p cover j ts) g x num
-          (each-d γ bounds tys b c1.0) (all-t γ bounds tys b) (defs-d (γ ++ xs) us δ d c2.0) (defs-t (γ ++ xs) us δ d) (each-d ((γ ++ xs) ++ δ) ts row h c2.1) (all-t ((γ ++ xs) ++ δ) ts row h)
+          (each-d γ bounds tys b c1.0) (all-t γ bounds tys b) (defs-d (γ ++ xs) us δ d c2.0) (defs-t (γ ++ xs) us δ d) (each-d ((γ ++ xs) ++ δ) ts row h c2.1) (all-t ((γ ++ xs) ++ δ) ts row h) (λ n. trees.each-of u number shape forms spellings hs p cover sound sound-calls n ((γ ++ xs) ++ δ) ts row h)
           m (each-read γ bounds tys b c1.0 m r) (defs-read (γ ++ xs) us δ d c2.0 m r) (each-read ((γ ++ xs) ++ δ) ts row h c2.1 m r) (λ j. calls j p))
       expr-read γ _ made (is.initial {loop = loop} {later = later} {row = row} {l = l} {ns = ns} {t = t} {us = us} {vs = vs} {tests = tests} {ts = ts} d c y x h z num) v m r =
           let e = sym (typed.rolls-Initial t us tests vs ts) in
@@ -191,10 +191,10 @@ module _ (u : Network) (number : ℕ → ℕ) (shape : ℕ → ℕ → Simple �
           let c2 = and-true _ _ c1.1 in
           let c3 = and-true _ _ c2.1 in
           seen m γ l ns (typed.Initial t us tests vs ts) (TypedKind-F.Initial t us tests vs ts) e
-          (reads.initial t c0.0 γ loop later row made ns (map (map (phrase forms)) us) (map (phrase forms) tests) (map (map (phrase forms)) vs) (map (phrase forms) ts)
+          (reads.initial t (counts (map (verdict cover) ts)) c0.0 γ loop later row made ns (map (map (phrase forms)) us) (map (phrase forms) tests) (map (map (phrase forms)) vs) (map (phrase forms) ts)
           (λ j. means_lists u number shape forms spellings hs p cover j us) (λ j. means u number shape forms spellings hs p cover j tests) (λ j. means_lists u number shape forms spellings hs p cover j vs) (λ j. means u number shape forms spellings hs p cover j ts) x z num
           (defs-d γ us loop d c1.0) (defs-t γ us loop d) (each-d (γ ++ loop) tests (ty.Bool ∷ []) c c2.0) (all-t (γ ++ loop) tests (ty.Bool ∷ []) c)
-          (defs-d (γ ++ loop) vs later y c3.0) (defs-t (γ ++ loop) vs later y) (each-d (γ ++ loop) ts row h c3.1) (all-t (γ ++ loop) ts row h)
+          (defs-d (γ ++ loop) vs later y c3.0) (defs-t (γ ++ loop) vs later y) (each-d (γ ++ loop) ts row h c3.1) (all-t (γ ++ loop) ts row h) (λ n. trees.each-of u number shape forms spellings hs p cover sound sound-calls n (γ ++ loop) ts row h)
           m (λ k le. defs-read γ us loop d c1.0 k (below m k le r)) (λ k le. each-read (γ ++ loop) tests (ty.Bool ∷ []) c c2.0 k (below m k le r))
           (λ k le. defs-read (γ ++ loop) vs later y c3.0 k (below m k le r)) (λ k le. each-read (γ ++ loop) ts row h c3.1 k (below m k le r)) (λ j. calls j p))
 

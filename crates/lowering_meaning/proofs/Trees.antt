@@ -39,12 +39,13 @@ use Rattle.lowering.specs.Operations.{Lowers, all_lowered, defs_lowered, body_lo
 use Rattle.lowering.specs.Choices.{applied, if_lowered}
 use Rattle.lowering.specs.Loops.{Phrase}
 use Rattle.lowering.specs.Phrases.{each, kind_lowered, phrase, lowers}
-use Rattle.lowering_meaning.specs.Coverage.{Coverage, all_true, each_true, kind_covered, is_covered}
-use Rattle.lowering_meaning.proofs.Layers.{parts_meant, meaning-is, parts_lowered, lowers-is, parts_covered, covered-is, and-true}
+use Rattle.lowering_meaning.specs.Coverage.{Coverage, all_ok, each_ok, counts, kind_covered, verdict}
+use Rattle.lowering_meaning.proofs.Layers.{parts_meant, meaning-is, parts_lowered, lowers-is, parts_covered, covered-is, count-is, and-true}
 use Rattle.lowering_meaning.proofs.Wires.{FromNames}
 use Rattle.lowering_meaning.proofs.Inside.{Gives}
 use Rattle.lowering_meaning.proofs.Forms.{Typed, nil-typed, cons-typed, nil-defs-typed, cons-defs-typed, FreeOn, Drawn, drawn-as, step-drawn, nil-drawn, cons-drawn, DrawnOn, then-drawn, nil-defs-drawn, cons-defs-drawn, body-drawn, less-drawn}
 use Rattle.lowering_meaning.proofs.Ifs.{node-from, if-drawn}
+use Rattle.lowering_meaning.proofs.Widths.{Wide, expr-wide, fit-count}
 use Rattle.lowering_meaning.proofs.Operations.{value-drawn, constant-drawn, call-on}
 
 -- the one type of an expression
@@ -93,6 +94,12 @@ module _ (u : Network) (number : ℕ → ℕ) (shape : ℕ → ℕ → Simple �
   each-all γ [] (k ∷ ks) h = absurd h
   each-all γ (g ∷ gs) [] h = absurd h
 
+  -- one phrase for one: it gives so many values, and its lowering has them
+  abbrev pub EachOf : List Ty → List Phrase → List Means → List ℕ → Type 0
+  EachOf γ [] [] [] = Unit {0}
+  EachOf γ (g ∷ gs) (k ∷ ks) (c ∷ cs) = (((tys : List Ty) × Typed γ k tys × (length tys ≡ c)) × Wide c g.lowers) × EachOf γ gs ks cs
+  EachOf γ _ _ _ = ⊥
+
   -- what calls give to a depth, the graphs of the functions give
   abbrev pub CallsDrawn : ℕ → Type 0
   CallsDrawn n = (f : ℕ) (h : Header) → slice_get hs f ≡ Some h → (vs rs : List Val) (j : ℕ) → AreOf h.params vs → calls n p f vs ≡ Some (rs, j) → Gives u number shape (number f) (map Value vs) (map Value rs) (8 * j)
@@ -102,22 +109,22 @@ module _ (u : Network) (number : ℕ → ℕ) (shape : ℕ → ℕ → Simple �
       → FreeOn (λ env ws. applied forms o ws (t ∷ [])) × DrawnOn u number shape γ tys 0 7 (λ env ws. applied forms o ws (t ∷ [])) (λ names vs. given (op_value o vs ∷ []))
 
   -- a loop over generators, where its bounds, definitions and clauses are drawn
-  abbrev pub ProductDrawn : Product → Type 0
-  ProductDrawn q = (γ tys xs δ row made : List Ty) (ns : List ℕ) (bs : List Phrase) (ds : List (List Phrase)) (gs : List Phrase) (kb : List Means) (kd : List (List Means)) (ks : List Means)
+  abbrev pub ProductDrawn : Product → List ℕ → Type 0
+  ProductDrawn q arity = (γ tys xs δ row made : List Ty) (ns : List ℕ) (bs : List Phrase) (ds : List (List Phrase)) (gs : List Phrase) (kb : List Means) (kd : List (List Means)) (ks : List Means)
       → Goes q.sources tys xs → AreMade q.clauses row made → AreNumbers forms spellings ns made
       → EachDrawn γ bs kb → Typed γ (all_of kb) tys
       → Drawn u number shape (γ ++ xs) 0 0 (defs_lowered (map each ds)) (defined kd) → Typed (γ ++ xs) (defined kd) ((γ ++ xs) ++ δ)
-      → EachDrawn ((γ ++ xs) ++ δ) gs ks → Typed ((γ ++ xs) ++ δ) (all_of ks) row
+      → EachDrawn ((γ ++ xs) ++ δ) gs ks → Typed ((γ ++ xs) ++ δ) (all_of ks) row → EachOf ((γ ++ xs) ++ δ) gs ks arity
       → (n : ℕ) (call : ℕ → Means) → Drawn u number shape γ 0 7 ((kind_lowered forms (TypedKind-F.Product q bs ds gs)).lowers ns) (kind_gives n call (TypedKind-F.Product q kb kd ks) (length ns))
 
   -- a loop of turns
-  abbrev pub InitialDrawn : Turns → Type 0
-  InitialDrawn t = (γ loop later row made : List Ty) (ns : List ℕ) (fs : List (List Phrase)) (ts : List Phrase) (ds : List (List Phrase)) (gs : List Phrase) (kf : List (List Means)) (kt : List Means) (kd : List (List Means)) (ks : List Means)
+  abbrev pub InitialDrawn : Turns → List ℕ → Type 0
+  InitialDrawn t arity = (γ loop later row made : List Ty) (ns : List ℕ) (fs : List (List Phrase)) (ts : List Phrase) (ds : List (List Phrase)) (gs : List Phrase) (kf : List (List Means)) (kt : List Means) (kd : List (List Means)) (ks : List Means)
       → Renews loop t.renewed later → AreMade t.clauses row made → AreNumbers forms spellings ns made
       → Drawn u number shape γ 0 0 (defs_lowered (map each fs)) (defined kf) → Typed γ (defined kf) (γ ++ loop)
       → EachDrawn (γ ++ loop) ts kt → Typed (γ ++ loop) (all_of kt) (ty.Bool ∷ [])
       → Drawn u number shape (γ ++ loop) 0 0 (defs_lowered (map each ds)) (defined kd) → Typed (γ ++ loop) (defined kd) ((γ ++ loop) ++ later)
-      → EachDrawn (γ ++ loop) gs ks → Typed (γ ++ loop) (all_of ks) row
+      → EachDrawn (γ ++ loop) gs ks → Typed (γ ++ loop) (all_of ks) row → EachOf (γ ++ loop) gs ks arity
       → (n : ℕ) (call : ℕ → Means) → Drawn u number shape γ 0 7 ((kind_lowered forms (TypedKind-F.Initial t fs ts ds gs)).lowers ns) (kind_gives n call (TypedKind-F.Initial t kf kt kd ks) (length ns))
 
   -- what is asked of the forms that are covered
@@ -125,8 +132,8 @@ module _ (u : Network) (number : ℕ → ℕ) (shape : ℕ → ℕ → Simple �
     pub arrays : (g l : ℕ) → shape g l simple.ABuild ≡ shapes.Plain
     pub operation : (o : Operation) → cover.operation o ≡ true → OperationDrawn o
     pub no_case : cover.tag_case ≡ false
-    pub product : (q : Product) → cover.product q ≡ true → ProductDrawn q
-    pub initial : (t : Turns) → cover.initial t ≡ true → InitialDrawn t
+    pub product : (q : Product) (arity : List ℕ) → cover.product q arity ≡ true → ProductDrawn q arity
+    pub initial : (t : Turns) (arity : List ℕ) → cover.initial t arity ≡ true → InitialDrawn t arity
 
   module _ (sound : (n : ℕ) (γ : List Ty) (e : TypedExpr) (tys : List Ty) → FitsTo γ e tys → Typed γ (meaning n p e) tys)
       (sound-calls : (n f : ℕ) (h : Header) → slice_get hs f ≡ Some h → Typed h.params (calls n p f) h.results) where
@@ -135,6 +142,12 @@ module _ (u : Network) (number : ℕ → ℕ) (shape : ℕ → ℕ → Simple �
     pub all-typed : (n : ℕ) (γ : List Ty) (es : List TypedExpr) (tys : List Ty) → AllFitTo γ es tys → Typed γ (all_of (means n es)) tys
     all-typed n γ _ _ is.no_more = nil-typed γ
     all-typed n γ _ _ (is.more {tys = tys} {others = others} {t = t} {ts = ts} h k) = cons-typed γ (meaning n p t) (means n ts) tys others (sound n γ t tys h) (all-typed n γ ts others k)
+
+    pub each-of : (n : ℕ) (γ : List Ty) (es : List TypedExpr) (tys : List Ty) → AllFitTo γ es tys → EachOf γ (map (phrase forms) es) (means n es) (counts (map (verdict cover) es))
+    each-of n γ _ _ is.no_more = tt
+    each-of n γ _ _ (is.more {tys = tys} {others = others} {t = t} {ts = ts} h k) =
+        let c = count-is cover t in
+        (((tys, sound n γ t tys h, sym (c ∙ fit-count forms spellings hs γ t tys h)), (λ env n q. expr-wide forms spellings hs γ t tys h env n q ∙ sym c)), each-of n γ ts others k)
 
     pub defs-typed : (n : ℕ) (γ : List Ty) (us : List (List TypedExpr)) (δ : List Ty) → DefsFitTo γ us δ → Typed γ (defined (means_lists n us)) (γ ++ δ)
     defs-typed n γ _ _ is.no_def = nil-defs-typed γ
@@ -151,17 +164,17 @@ module _ (u : Network) (number : ℕ → ℕ) (shape : ℕ → ℕ → Simple �
           drawn-as u number shape γ 1 0 g (lowers forms (with l ns y)) (λ names. plus 1 (k names)) (meaning n p (with l ns y)) (lowers-is forms l ns y x e) (meaning-is n p l ns y x e) (step-drawn u number shape γ g k h)
 
       -- what is covered, by the form
-      covered : (l : ℕ) (ns : List ℕ) (y : TypedKind) (x : TypedKind-F TypedKind TypedExpr) → y ≡ roll-TypedKind x → is_covered cover (with l ns y) ≡ true → kind_covered cover (parts_covered cover x) ≡ true
+      covered : (l : ℕ) (ns : List ℕ) (y : TypedKind) (x : TypedKind-F TypedKind TypedExpr) → y ≡ roll-TypedKind x → (verdict cover (with l ns y)).ok ≡ true → kind_covered cover (parts_covered cover x) ≡ true
       covered l ns y x e v = sym (covered-is cover l ns y x e) ∙ v
 
       abbrev all_covered : List TypedExpr → Type 0
-      all_covered es = all_true (map (is_covered cover) es) ≡ true
+      all_covered es = all_ok (map (verdict cover) es) ≡ true
 
       abbrev each_covered : List (List TypedExpr) → Type 0
-      each_covered us = each_true (map (map (is_covered cover)) us) ≡ true
+      each_covered us = each_ok (map (map (verdict cover)) us) ≡ true
 
       mutual
-        pub expr-drawn : (γ : List Ty) (e : TypedExpr) (tys : List Ty) → FitsTo γ e tys → is_covered cover e ≡ true → Drawn u number shape γ 1 0 (lowers forms e) (meaning n p e)
+        pub expr-drawn : (γ : List Ty) (e : TypedExpr) (tys : List Ty) → FitsTo γ e tys → (verdict cover e).ok ≡ true → Drawn u number shape γ 1 0 (lowers forms e) (meaning n p e)
         expr-drawn γ _ _ (is.a_constant {l = l} {ns = ns} {c = c} lit num) v =
             let t = one-number forms spellings ns (constant_type c) num in
             seen γ l ns (typed.Constant c) (TypedKind-F.Constant c) (sym (typed.rolls-Constant c))
@@ -212,8 +225,8 @@ module _ (u : Network) (number : ℕ → ℕ) (shape : ℕ → ℕ → Simple �
             let c1 = and-true _ _ c.1 in
             let c2 = and-true _ _ c1.1 in
             seen γ l ns (typed.Product q bounds us ts) (TypedKind-F.Product q bounds us ts) e
-            (laws.product q c.0 γ tys xs δ row made ns (map (phrase forms) bounds) (map (map (phrase forms)) us) (map (phrase forms) ts) (means n bounds) (means_lists n us) (means n ts) g m num
-            (each-drawn γ bounds tys b c1.0) (all-typed n γ bounds tys b) (defs-drawn (γ ++ xs) us δ d c2.0) (defs-typed n (γ ++ xs) us δ d) (each-drawn ((γ ++ xs) ++ δ) ts row h c2.1) (all-typed n ((γ ++ xs) ++ δ) ts row h) n (calls n p))
+            (laws.product q (counts (map (verdict cover) ts)) c.0 γ tys xs δ row made ns (map (phrase forms) bounds) (map (map (phrase forms)) us) (map (phrase forms) ts) (means n bounds) (means_lists n us) (means n ts) g m num
+            (each-drawn γ bounds tys b c1.0) (all-typed n γ bounds tys b) (defs-drawn (γ ++ xs) us δ d c2.0) (defs-typed n (γ ++ xs) us δ d) (each-drawn ((γ ++ xs) ++ δ) ts row h c2.1) (all-typed n ((γ ++ xs) ++ δ) ts row h) (each-of n ((γ ++ xs) ++ δ) ts row h) n (calls n p))
         expr-drawn γ _ made (is.initial {loop = loop} {later = later} {row = row} {l = l} {ns = ns} {t = t} {us = us} {vs = vs} {tests = tests} {ts = ts} d c y r h m num) v =
             let e = sym (typed.rolls-Initial t us tests vs ts) in
             let c0 = and-true _ _ (covered l ns (typed.Initial t us tests vs ts) (TypedKind-F.Initial t us tests vs ts) e v) in
@@ -221,9 +234,9 @@ module _ (u : Network) (number : ℕ → ℕ) (shape : ℕ → ℕ → Simple �
             let c2 = and-true _ _ c1.1 in
             let c3 = and-true _ _ c2.1 in
             seen γ l ns (typed.Initial t us tests vs ts) (TypedKind-F.Initial t us tests vs ts) e
-            (laws.initial t c0.0 γ loop later row made ns (map (map (phrase forms)) us) (map (phrase forms) tests) (map (map (phrase forms)) vs) (map (phrase forms) ts) (means_lists n us) (means n tests) (means_lists n vs) (means n ts) r m num
+            (laws.initial t (counts (map (verdict cover) ts)) c0.0 γ loop later row made ns (map (map (phrase forms)) us) (map (phrase forms) tests) (map (map (phrase forms)) vs) (map (phrase forms) ts) (means_lists n us) (means n tests) (means_lists n vs) (means n ts) r m num
             (defs-drawn γ us loop d c1.0) (defs-typed n γ us loop d) (each-drawn (γ ++ loop) tests (ty.Bool ∷ []) c c2.0) (all-typed n (γ ++ loop) tests (ty.Bool ∷ []) c)
-            (defs-drawn (γ ++ loop) vs later y c3.0) (defs-typed n (γ ++ loop) vs later y) (each-drawn (γ ++ loop) ts row h c3.1) (all-typed n (γ ++ loop) ts row h) n (calls n p))
+            (defs-drawn (γ ++ loop) vs later y c3.0) (defs-typed n (γ ++ loop) vs later y) (each-drawn (γ ++ loop) ts row h c3.1) (all-typed n (γ ++ loop) ts row h) (each-of n (γ ++ loop) ts row h) n (calls n p))
 
         pub each-drawn : (γ : List Ty) (es : List TypedExpr) (tys : List Ty) → AllFitTo γ es tys → all_covered es → EachDrawn γ (map (phrase forms) es) (means n es)
         each-drawn γ _ _ is.no_more v = tt

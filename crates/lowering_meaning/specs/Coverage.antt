@@ -1,5 +1,5 @@
 -- Which forms of phrases a law is of (SISAL Language Reference Manual 1.2, expressions).
-use Rattle.std.specs.Prelude.{◌≡◌, ℕ, Bool, true, false, ◌&&◌, List, [], ◌∷◌, map, Option, Some, slice_get}
+use Rattle.std.specs.Prelude.{◌≡◌, ℕ, Bool, true, false, ◌&&◌, List, [], ◌∷◌, map, length, Option, Some, slice_get}
 use Rattle.value_ops.specs.declared.operation.Operation.{Operation}
 use Rattle.value_ops.specs.declared.operation.Operation.TheVariants as op
 use Rattle.type_table.specs.declared.form.Form.{Form}
@@ -12,47 +12,54 @@ use Rattle.typed_tree.specs.declared.expr.Product.{Product}
 use Rattle.typed_tree.specs.declared.expr.Turns.{Turns}
 use Rattle.typed_tree.specs.declared.program.Function.{Function}
 
--- which operations, `tagcase`s and loops
+-- which operations, `tagcase`s and loops; of a loop by how many values each phrase of its clauses has
 pub record Coverage : Type 0 where
   pub operation : Operation → Bool
   pub tag_case : Bool
-  pub product : Product → Bool
-  pub initial : Turns → Bool
+  pub product : Product → List ℕ → Bool
+  pub initial : Turns → List ℕ → Bool
 
-abbrev pub all_true : List Bool → Bool
-all_true [] = true
-all_true (b ∷ bs) = b && all_true bs
+-- whether an expression and all its parts are covered, and how many values it has
+pub record Verdict : Type 0 where
+  pub ok : Bool
+  pub count : ℕ
 
-abbrev pub each_true : List (List Bool) → Bool
-each_true [] = true
-each_true (bs ∷ bss) = all_true bs && each_true bss
+abbrev pub all_ok : List Verdict → Bool
+all_ok [] = true
+all_ok (v ∷ vs) = v.ok && all_ok vs
+
+abbrev pub each_ok : List (List Verdict) → Bool
+each_ok [] = true
+each_ok (vs ∷ vss) = all_ok vs && each_ok vss
+
+abbrev pub counts : List Verdict → List ℕ
+counts vs = map (λ v. v.count) vs
 
 module _ (c : Coverage) where
-  abbrev pub kind_covered : TypedKind-F Bool Bool → Bool
+  abbrev pub kind_covered : TypedKind-F Bool Verdict → Bool
   kind_covered (TypedKind-F.Constant x) = true
   kind_covered (TypedKind-F.Value x) = true
-  kind_covered (TypedKind-F.Group gs) = all_true gs
-  kind_covered (TypedKind-F.Call f gs) = all_true gs
-  kind_covered (TypedKind-F.Apply o gs) = c.operation o && all_true gs
-  kind_covered (TypedKind-F.Let ds gs) = each_true ds && all_true gs
-  kind_covered (TypedKind-F.If test arm other) = all_true test && (all_true arm && all_true other)
-  kind_covered (TypedKind-F.Case k us arms) = c.tag_case && (all_true us && each_true arms)
-  kind_covered (TypedKind-F.Product p bs ds gs) = c.product p && (all_true bs && (each_true ds && all_true gs))
-  kind_covered (TypedKind-F.Initial t fs test ds gs) = c.initial t && (each_true fs && (all_true test && (each_true ds && all_true gs)))
+  kind_covered (TypedKind-F.Group gs) = all_ok gs
+  kind_covered (TypedKind-F.Call f gs) = all_ok gs
+  kind_covered (TypedKind-F.Apply o gs) = c.operation o && all_ok gs
+  kind_covered (TypedKind-F.Let ds gs) = each_ok ds && all_ok gs
+  kind_covered (TypedKind-F.If test arm other) = all_ok test && (all_ok arm && all_ok other)
+  kind_covered (TypedKind-F.Case k us arms) = c.tag_case && (all_ok us && each_ok arms)
+  kind_covered (TypedKind-F.Product p bs ds gs) = c.product p (counts gs) && (all_ok bs && (each_ok ds && all_ok gs))
+  kind_covered (TypedKind-F.Initial t fs test ds gs) = c.initial t (counts gs) && (each_ok fs && (all_ok test && (each_ok ds && all_ok gs)))
 
-  abbrev pub expr_covered : TypedExpr-F Bool Bool → Bool
-  expr_covered e = e.kind
+  abbrev pub expr_covered : TypedExpr-F Bool Verdict → Verdict
+  expr_covered e = record { ok = e.kind; count = length e.types }
 
-  -- whether an expression and all its parts are of these forms
-  abbrev pub is_covered : TypedExpr → Bool
-  is_covered = fold-TypedExpr Bool Bool kind_covered expr_covered
+  abbrev pub verdict : TypedExpr → Verdict
+  verdict = fold-TypedExpr Bool Verdict kind_covered expr_covered
 
   abbrev pub is_covered_kind : TypedKind → Bool
-  is_covered_kind = fold-TypedKind Bool Bool kind_covered expr_covered
+  is_covered_kind = fold-TypedKind Bool Verdict kind_covered expr_covered
 
-  -- the results of each function are
+  -- the results of each function are covered
   abbrev pub AreCovered : List Function → Type 0
-  AreCovered fs = (f : ℕ) (d : Function) (es : List TypedExpr) → slice_get fs f ≡ Some d → d.body ≡ Some es → all_true (map is_covered es) ≡ true
+  AreCovered fs = (f : ℕ) (d : Function) (es : List TypedExpr) → slice_get fs f ≡ Some d → d.body ≡ Some es → all_ok (map verdict es) ≡ true
 
 -- ---- the forms of programs without loops
 
@@ -67,7 +74,7 @@ is_plain_operation _ = true
 
 -- no loop and no `tagcase`
 abbrev pub plain_forms : Coverage
-plain_forms = record { operation = is_plain_operation; tag_case = false; product = λ p. false; initial = λ t. false }
+plain_forms = record { operation = is_plain_operation; tag_case = false; product = λ p ks. false; initial = λ t ks. false }
 
 -- ---- types
 
