@@ -16,6 +16,12 @@ pub mod Layers
 pub mod Widths
 pub mod Trees
 pub mod TreeReads
+pub mod Nots
+pub mod GenForms
+pub mod ReturnForms
+pub mod Products
+pub mod ProductReads
+pub mod Shapes
 pub mod Functions
 pub mod PlainTypes
 pub mod PlainTables

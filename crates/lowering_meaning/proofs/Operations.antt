@@ -88,7 +88,7 @@ module _ (u : Network) (number : ℕ → ℕ) (shape : ℕ → ℕ → Simple �
 
   -- ---- constants
 
-  held-literal : (s : Site) (c : Constant) (v : Val) → lowered_value c ≡ v → Held u number shape s (Fixed (Value (lowered_value c))) (Value v)
+  pub held-literal : (s : Site) (c : Constant) (v : Val) → lowered_value c ≡ v → Held u number shape s (Fixed (Value (lowered_value c))) (Value v)
   held-literal s c v is = always _ (λ d. subst (λ w. plain.Carries u d s.graph s.ins (Fixed (Value (lowered_value c))) (Value w)) is (fixed d s.graph s.ins (Value (lowered_value c))))
 
   literal-drawn : (γ : List Ty) (c : Constant) (t : ℕ) → lowered_value c ≡ constant_value c → Drawn u number shape γ 0 7 (λ env. only (wire (Literal c) (One t) ∷ [])) (λ names. given (constant_value c ∷ []))

@@ -38,7 +38,7 @@ get-before (x ∷ xs) ys d (suc i) h = get-before xs ys d i (omega (arith, h))
 get-left : {A : Type 0} (xs ys : List A) (d : A) (i : ℕ) → i < length xs → get_or (xs ++ ys) (0 + i) d ≡ get_or xs i d
 get-left xs ys d i h = let e : 0 + i ≡ i = omega arith in ap (λ k. get_or (xs ++ ys) k d) e ∙ get-before xs ys d i h
 
-get-right : {A : Type 0} (xs ys : List A) (d : A) (n i : ℕ) → n ≡ length xs → get_or (xs ++ ys) (n + 0 + i) d ≡ get_or ys i d
+pub get-right : {A : Type 0} (xs ys : List A) (d : A) (n i : ℕ) → n ≡ length xs → get_or (xs ++ ys) (n + 0 + i) d ≡ get_or ys i d
 get-right [] ys d n i e = let f : n + 0 + i ≡ i = omega (arith, e) in ap (λ k. get_or ys k d) f
 get-right (x ∷ xs) ys d zero i e = absurd (omega (arith, e))
 get-right (x ∷ xs) ys d (suc n) i e =

@@ -14,6 +14,7 @@ use Rattle.if1_graph.specs.declared.kind.TypeKind.{TypeKind}
 use Rattle.if1_graph.specs.declared.kind.TypeKind.TheVariants as kind
 use Rattle.if1_graph.specs.declared.kind.Basic.{Basic}
 use Rattle.if1_graph.specs.declared.kind.Basic.TheVariants as basic
+use Rattle.if1_graph.specs.declared.op.Grouping.{Grouping}
 use Rattle.if1_graph.specs.declared.op.Simple.TheVariants as simple
 use Rattle.if1_graph.specs.Kinds.{kind_at, basic_at}
 use Rattle.if1_graph.specs.Ports.{is_stream, tags_of, edges_from}
@@ -167,3 +168,7 @@ records-plain u h (Some p) l = ap union_shape (flat-first u (edges_from p.graph 
 pub gathers-plain : (u : Unit1) → ArePlain u.types → (o : Option Place) (l : ℕ) → shape_in u o l simple.AGather ≡ shape.Plain
 gathers-plain u h None l = refl
 gathers-plain u h (Some p) l = ap (λ b. if b then shape.Stream else shape.Plain) (flat-first u (edges_from p.graph l 1) h).stream
+
+pub reduces-plain : (u : Unit1) → ArePlain u.types → (o : Option Place) (l : ℕ) (g : Grouping) → shape_in u o l (simple.Reduce g) ≡ shape.Plain
+reduces-plain u h None l g = refl
+reduces-plain u h (Some p) l g = ap (λ b. if b then shape.Stream else shape.Plain) (flat-first u (edges_from p.graph l 1) h).stream

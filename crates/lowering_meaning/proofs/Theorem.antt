@@ -5,6 +5,7 @@ use Rattle.flow_value.specs.declared.value.Val.{Val}
 use Rattle.flow_value.specs.declared.ty.Ty.{Ty}
 use Rattle.if1_graph.specs.declared.graph.Unit1.{Unit1}
 use Rattle.if1_graph.specs.declared.graph.TypeEntry.{TypeEntry}
+use Rattle.if1_graph.specs.declared.op.Grouping.{Grouping}
 use Rattle.if1_graph.specs.declared.op.Simple.{Simple}
 use Rattle.if1_graph.specs.declared.op.Simple.TheVariants as simple
 use Rattle.if1_graph.specs.Units.{places, number_of as place_number}
@@ -43,7 +44,11 @@ use Rattle.lowering_meaning.proofs.Forms.{Typed}
 use Rattle.lowering_meaning.proofs.Trees.{FitsTo, FormsDrawn}
 use Rattle.lowering_meaning.proofs.TreeReads.{FormsRead}
 use Rattle.lowering_meaning.proofs.Functions.{FunctionAt, calls-drawn, calls-read}
-use Rattle.lowering_meaning.proofs.PlainTypes.{ArePlain, arrays-plain, records-plain}
+use Rattle.lowering_meaning.proofs.PlainTypes.{ArePlain, arrays-plain, records-plain, gathers-plain, reduces-plain}
+use Rattle.lowering_meaning.proofs.Layers.{and-true}
+use Rattle.lowering_meaning.proofs.Shapes.{clauses-shaped}
+use Rattle.lowering_meaning.proofs.Products.{product-drawn}
+use Rattle.lowering_meaning.proofs.ProductReads.{product-read}
 use Rattle.lowering_meaning.proofs.PlainTables.{AllPlain, table-plain}
 use Rattle.lowering_meaning.proofs.Applied.{operation-drawn}
 
@@ -120,12 +125,15 @@ module _ (p : Program) (u : Unit1) (fit : IsFitting p) (t : IsTranslated p u) wh
     laws : FormsDrawn N num S p.types p.names fit.headers p.functions plain_forms
     laws =
         let arrays : (g l : ℕ) → S g l simple.ABuild ≡ shape.Plain = λ g l. arrays-plain u types (find (λ p. place_number p == g) (places u)) l in
+        let gathers : (g l : ℕ) → S g l simple.AGather ≡ shape.Plain = λ g l. gathers-plain u types (find (λ p. place_number p == g) (places u)) l in
+        let reduces : (g l : ℕ) (r : Grouping) → S g l (simple.Reduce r) ≡ shape.Plain = λ g l r. reduces-plain u types (find (λ p. place_number p == g) (places u)) l r in
+        let clauses = clauses-shaped N num S p.types p.names plain.types gathers reduces in
         let records : (g l : ℕ) → S g l simple.RBuild ≡ shape.Plain = λ g l. records-plain u types (find (λ p. place_number p == g) (places u)) l in
         record {
           arrays = arrays;
           operation = λ o c γ tys a n r. operation-drawn N num S p.types arrays records o c γ tys a n r;
           no_case = refl;
-          product = λ q ks c. absurd (none c);
+          product = λ q ks c. let x = and-true _ _ c in product-drawn N num S p.types p.names fit.headers p.functions plain_forms clauses q ks x.0 x.1;
           initial = λ q ks c. absurd (none c);
         }
       where
@@ -133,7 +141,7 @@ module _ (p : Program) (u : Unit1) (fit : IsFitting p) (t : IsTranslated p u) wh
         none e = cc
 
     reads : FormsRead N num S p.types p.names fit.headers p.functions plain_forms
-    reads = record { product = λ q ks c. absurd (none c); initial = λ q ks c. absurd (none c) }
+    reads = record { product = λ q ks c. product-read N num S p.types p.names fit.headers p.functions plain_forms q ks (and-true _ _ c).0; initial = λ q ks c. absurd (none c) }
       where
         none : false ≡ true → ⊥
         none e = cc

@@ -34,7 +34,7 @@ use Rattle.lowering.specs.Operations.{Lowers, all_lowered, defs_lowered, body_lo
 use Rattle.lowering.specs.Choices.{applied}
 use Rattle.lowering.specs.Loops.{Phrase}
 use Rattle.lowering.specs.Phrases.{each, kind_lowered, phrase, lowers}
-use Rattle.lowering_meaning.specs.Coverage.{Coverage, all_ok, each_ok, counts, kind_covered, verdict}
+use Rattle.lowering_meaning.specs.Coverage.{Coverage, all_ok, each_ok, counts, total, kind_covered, verdict}
 use Rattle.lowering_meaning.proofs.Layers.{parts_meant, meaning-is, parts_lowered, lowers-is, parts_covered, covered-is, and-true}
 use Rattle.lowering_meaning.proofs.Timed.{Yield}
 use Rattle.lowering_meaning.proofs.Forms.{Typed}
@@ -58,7 +58,7 @@ module _ (u : Network) (number : ℕ → ℕ) (shape : ℕ → ℕ → Simple �
       → Goes q.sources tys xs → AreMade q.clauses row made → AreNumbers forms spellings ns made
       → Each γ bs kb → TypedAll u number shape γ (λ j. all_of (kb j)) tys
       → DrawnAll u number shape (γ ++ xs) 0 0 (defs_lowered (map each ds)) (λ j. defined (kd j)) → TypedAll u number shape (γ ++ xs) (λ j. defined (kd j)) ((γ ++ xs) ++ δ)
-      → Each ((γ ++ xs) ++ δ) gs ks → TypedAll u number shape ((γ ++ xs) ++ δ) (λ j. all_of (ks j)) row → ((n : ℕ) → EachOf u number shape forms spellings hs p cover ((γ ++ xs) ++ δ) gs (ks n) arity)
+      → Each ((γ ++ xs) ++ δ) gs ks → TypedAll u number shape ((γ ++ xs) ++ δ) (λ j. all_of (ks j)) row → ((n : ℕ) → EachOf u number shape forms spellings hs p cover ((γ ++ xs) ++ δ) gs (ks n) arity) → total arity ≡ length row
       → (m : ℕ) → EachRead m γ bs kb → Read u number shape m (γ ++ xs) (defs_lowered (map each ds)) (λ j. defined (kd j)) → EachRead m ((γ ++ xs) ++ δ) gs ks
       → (call : ℕ → ℕ → Means) → Read u number shape m γ ((kind_lowered forms (TypedKind-F.Product q bs ds gs)).lowers ns) (λ j. kind_gives j (call j) (TypedKind-F.Product q (kb j) (kd j) (ks j)) (length ns))
 
@@ -70,7 +70,7 @@ module _ (u : Network) (number : ℕ → ℕ) (shape : ℕ → ℕ → Simple �
       → DrawnAll u number shape γ 0 0 (defs_lowered (map each fs)) (λ j. defined (kf j)) → TypedAll u number shape γ (λ j. defined (kf j)) (γ ++ loop)
       → Each (γ ++ loop) ts kt → TypedAll u number shape (γ ++ loop) (λ j. all_of (kt j)) (ty.Bool ∷ [])
       → DrawnAll u number shape (γ ++ loop) 0 0 (defs_lowered (map each ds)) (λ j. defined (kd j)) → TypedAll u number shape (γ ++ loop) (λ j. defined (kd j)) ((γ ++ loop) ++ later)
-      → Each (γ ++ loop) gs ks → TypedAll u number shape (γ ++ loop) (λ j. all_of (ks j)) row → ((n : ℕ) → EachOf u number shape forms spellings hs p cover (γ ++ loop) gs (ks n) arity)
+      → Each (γ ++ loop) gs ks → TypedAll u number shape (γ ++ loop) (λ j. all_of (ks j)) row → ((n : ℕ) → EachOf u number shape forms spellings hs p cover (γ ++ loop) gs (ks n) arity) → total arity ≡ length row
       → (m : ℕ) → ((l : ℕ) → l ≤ m → Read u number shape l γ (defs_lowered (map each fs)) (λ j. defined (kf j))) → ((l : ℕ) → l ≤ m → EachRead l (γ ++ loop) ts kt)
       → ((l : ℕ) → l ≤ m → Read u number shape l (γ ++ loop) (defs_lowered (map each ds)) (λ j. defined (kd j))) → ((l : ℕ) → l ≤ m → EachRead l (γ ++ loop) gs ks)
       → (call : ℕ → ℕ → Means) → Read u number shape m γ ((kind_lowered forms (TypedKind-F.Initial t fs ts ds gs)).lowers ns) (λ j. kind_gives j (call j) (TypedKind-F.Initial t (kf j) (kt j) (kd j) (ks j)) (length ns))
@@ -182,7 +182,7 @@ module _ (u : Network) (number : ℕ → ℕ) (shape : ℕ → ℕ → Simple �
           seen m γ l ns (typed.Product q bounds us ts) (TypedKind-F.Product q bounds us ts) e
           (reads.product q (counts (map (verdict cover) ts)) c.0 γ tys xs δ row made ns (map (phrase forms) bounds) (map (map (phrase forms)) us) (map (phrase forms) ts)
           (λ j. means u number shape forms spellings hs p cover j bounds) (λ j. means_lists u number shape forms spellings hs p cover j us) (λ j. means u number shape forms spellings hs p cover j ts) g x num
-          (each-d γ bounds tys b c1.0) (all-t γ bounds tys b) (defs-d (γ ++ xs) us δ d c2.0) (defs-t (γ ++ xs) us δ d) (each-d ((γ ++ xs) ++ δ) ts row h c2.1) (all-t ((γ ++ xs) ++ δ) ts row h) (λ n. trees.each-of u number shape forms spellings hs p cover sound sound-calls n ((γ ++ xs) ++ δ) ts row h)
+          (each-d γ bounds tys b c1.0) (all-t γ bounds tys b) (defs-d (γ ++ xs) us δ d c2.0) (defs-t (γ ++ xs) us δ d) (each-d ((γ ++ xs) ++ δ) ts row h c2.1) (all-t ((γ ++ xs) ++ δ) ts row h) (λ n. trees.each-of u number shape forms spellings hs p cover sound sound-calls n ((γ ++ xs) ++ δ) ts row h) (trees.total-is u number shape forms spellings hs p cover sound sound-calls ((γ ++ xs) ++ δ) ts row h)
           m (each-read γ bounds tys b c1.0 m r) (defs-read (γ ++ xs) us δ d c2.0 m r) (each-read ((γ ++ xs) ++ δ) ts row h c2.1 m r) (λ j. calls j p))
       expr-read γ _ made (is.initial {loop = loop} {later = later} {row = row} {l = l} {ns = ns} {t = t} {us = us} {vs = vs} {tests = tests} {ts = ts} d c y x h z num) v m r =
           let e = sym (typed.rolls-Initial t us tests vs ts) in
@@ -194,7 +194,7 @@ module _ (u : Network) (number : ℕ → ℕ) (shape : ℕ → ℕ → Simple �
           (reads.initial t (counts (map (verdict cover) ts)) c0.0 γ loop later row made ns (map (map (phrase forms)) us) (map (phrase forms) tests) (map (map (phrase forms)) vs) (map (phrase forms) ts)
           (λ j. means_lists u number shape forms spellings hs p cover j us) (λ j. means u number shape forms spellings hs p cover j tests) (λ j. means_lists u number shape forms spellings hs p cover j vs) (λ j. means u number shape forms spellings hs p cover j ts) x z num
           (defs-d γ us loop d c1.0) (defs-t γ us loop d) (each-d (γ ++ loop) tests (ty.Bool ∷ []) c c2.0) (all-t (γ ++ loop) tests (ty.Bool ∷ []) c)
-          (defs-d (γ ++ loop) vs later y c3.0) (defs-t (γ ++ loop) vs later y) (each-d (γ ++ loop) ts row h c3.1) (all-t (γ ++ loop) ts row h) (λ n. trees.each-of u number shape forms spellings hs p cover sound sound-calls n (γ ++ loop) ts row h)
+          (defs-d (γ ++ loop) vs later y c3.0) (defs-t (γ ++ loop) vs later y) (each-d (γ ++ loop) ts row h c3.1) (all-t (γ ++ loop) ts row h) (λ n. trees.each-of u number shape forms spellings hs p cover sound sound-calls n (γ ++ loop) ts row h) (trees.total-is u number shape forms spellings hs p cover sound sound-calls (γ ++ loop) ts row h)
           m (λ k le. defs-read γ us loop d c1.0 k (below m k le r)) (λ k le. each-read (γ ++ loop) tests (ty.Bool ∷ []) c c2.0 k (below m k le r))
           (λ k le. defs-read (γ ++ loop) vs later y c3.0 k (below m k le r)) (λ k le. each-read (γ ++ loop) ts row h c3.1 k (below m k le r)) (λ j. calls j p))
 

@@ -1,5 +1,6 @@
 -- What fitting expressions give in the source, their graphs give: a case a form.
 use Rattle.std.proofs.Common.{◌≡◌, ℕ, zero, suc, ◌+◌, ◌*◌, ◌≤◌, Bool, true, false, ◌&&◌, List, [], ◌∷◌, ◌++◌, map, length, slice_get, Some, refl, sym, ap, ◌∙◌, subst, arith, append-nil, append_assoc}
+use Rattle.std.proofs.lemmas.List.{length-append}
 use Rattle.flow_value.specs.declared.value.Val.{Val}
 use Rattle.flow_value.specs.declared.ty.Ty.{Ty}
 use Rattle.flow_value.specs.declared.ty.Ty.TheVariants as ty
@@ -39,7 +40,7 @@ use Rattle.lowering.specs.Operations.{Lowers, all_lowered, defs_lowered, body_lo
 use Rattle.lowering.specs.Choices.{applied, if_lowered}
 use Rattle.lowering.specs.Loops.{Phrase}
 use Rattle.lowering.specs.Phrases.{each, kind_lowered, phrase, lowers}
-use Rattle.lowering_meaning.specs.Coverage.{Coverage, all_ok, each_ok, counts, kind_covered, verdict}
+use Rattle.lowering_meaning.specs.Coverage.{Coverage, all_ok, each_ok, counts, total, kind_covered, verdict}
 use Rattle.lowering_meaning.proofs.Layers.{parts_meant, meaning-is, parts_lowered, lowers-is, parts_covered, covered-is, count-is, and-true}
 use Rattle.lowering_meaning.proofs.Wires.{FromNames}
 use Rattle.lowering_meaning.proofs.Inside.{Gives}
@@ -114,7 +115,7 @@ module _ (u : Network) (number : ℕ → ℕ) (shape : ℕ → ℕ → Simple �
       → Goes q.sources tys xs → AreMade q.clauses row made → AreNumbers forms spellings ns made
       → EachDrawn γ bs kb → Typed γ (all_of kb) tys
       → Drawn u number shape (γ ++ xs) 0 0 (defs_lowered (map each ds)) (defined kd) → Typed (γ ++ xs) (defined kd) ((γ ++ xs) ++ δ)
-      → EachDrawn ((γ ++ xs) ++ δ) gs ks → Typed ((γ ++ xs) ++ δ) (all_of ks) row → EachOf ((γ ++ xs) ++ δ) gs ks arity
+      → EachDrawn ((γ ++ xs) ++ δ) gs ks → Typed ((γ ++ xs) ++ δ) (all_of ks) row → EachOf ((γ ++ xs) ++ δ) gs ks arity → total arity ≡ length row
       → (n : ℕ) (call : ℕ → Means) → Drawn u number shape γ 0 7 ((kind_lowered forms (TypedKind-F.Product q bs ds gs)).lowers ns) (kind_gives n call (TypedKind-F.Product q kb kd ks) (length ns))
 
   -- a loop of turns
@@ -124,7 +125,7 @@ module _ (u : Network) (number : ℕ → ℕ) (shape : ℕ → ℕ → Simple �
       → Drawn u number shape γ 0 0 (defs_lowered (map each fs)) (defined kf) → Typed γ (defined kf) (γ ++ loop)
       → EachDrawn (γ ++ loop) ts kt → Typed (γ ++ loop) (all_of kt) (ty.Bool ∷ [])
       → Drawn u number shape (γ ++ loop) 0 0 (defs_lowered (map each ds)) (defined kd) → Typed (γ ++ loop) (defined kd) ((γ ++ loop) ++ later)
-      → EachDrawn (γ ++ loop) gs ks → Typed (γ ++ loop) (all_of ks) row → EachOf (γ ++ loop) gs ks arity
+      → EachDrawn (γ ++ loop) gs ks → Typed (γ ++ loop) (all_of ks) row → EachOf (γ ++ loop) gs ks arity → total arity ≡ length row
       → (n : ℕ) (call : ℕ → Means) → Drawn u number shape γ 0 7 ((kind_lowered forms (TypedKind-F.Initial t fs ts ds gs)).lowers ns) (kind_gives n call (TypedKind-F.Initial t kf kt kd ks) (length ns))
 
   -- what is asked of the forms that are covered
@@ -148,6 +149,12 @@ module _ (u : Network) (number : ℕ → ℕ) (shape : ℕ → ℕ → Simple �
     each-of n γ _ _ (is.more {tys = tys} {others = others} {t = t} {ts = ts} h k) =
         let c = count-is cover t in
         (((tys, sound n γ t tys h, sym (c ∙ fit-count forms spellings hs γ t tys h)), (λ env n q. expr-wide forms spellings hs γ t tys h env n q ∙ sym c)), each-of n γ ts others k)
+
+    pub total-is : (γ : List Ty) (es : List TypedExpr) (tys : List Ty) → AllFitTo γ es tys → total (counts (map (verdict cover) es)) ≡ length tys
+    total-is γ _ _ is.no_more = refl
+    total-is γ _ _ (is.more {tys = tys} {others = others} {t = t} {ts = ts} h k) =
+        let n = total (counts (map (verdict cover) ts)) in
+        ap (λ i. i + n) (count-is cover t ∙ fit-count forms spellings hs γ t tys h) ∙ (ap (λ i. length tys + i) (total-is γ ts others k) ∙ sym (length-append tys others))
 
     pub defs-typed : (n : ℕ) (γ : List Ty) (us : List (List TypedExpr)) (δ : List Ty) → DefsFitTo γ us δ → Typed γ (defined (means_lists n us)) (γ ++ δ)
     defs-typed n γ _ _ is.no_def = nil-defs-typed γ
@@ -226,7 +233,7 @@ module _ (u : Network) (number : ℕ → ℕ) (shape : ℕ → ℕ → Simple �
             let c2 = and-true _ _ c1.1 in
             seen γ l ns (typed.Product q bounds us ts) (TypedKind-F.Product q bounds us ts) e
             (laws.product q (counts (map (verdict cover) ts)) c.0 γ tys xs δ row made ns (map (phrase forms) bounds) (map (map (phrase forms)) us) (map (phrase forms) ts) (means n bounds) (means_lists n us) (means n ts) g m num
-            (each-drawn γ bounds tys b c1.0) (all-typed n γ bounds tys b) (defs-drawn (γ ++ xs) us δ d c2.0) (defs-typed n (γ ++ xs) us δ d) (each-drawn ((γ ++ xs) ++ δ) ts row h c2.1) (all-typed n ((γ ++ xs) ++ δ) ts row h) (each-of n ((γ ++ xs) ++ δ) ts row h) n (calls n p))
+            (each-drawn γ bounds tys b c1.0) (all-typed n γ bounds tys b) (defs-drawn (γ ++ xs) us δ d c2.0) (defs-typed n (γ ++ xs) us δ d) (each-drawn ((γ ++ xs) ++ δ) ts row h c2.1) (all-typed n ((γ ++ xs) ++ δ) ts row h) (each-of n ((γ ++ xs) ++ δ) ts row h) (total-is ((γ ++ xs) ++ δ) ts row h) n (calls n p))
         expr-drawn γ _ made (is.initial {loop = loop} {later = later} {row = row} {l = l} {ns = ns} {t = t} {us = us} {vs = vs} {tests = tests} {ts = ts} d c y r h m num) v =
             let e = sym (typed.rolls-Initial t us tests vs ts) in
             let c0 = and-true _ _ (covered l ns (typed.Initial t us tests vs ts) (TypedKind-F.Initial t us tests vs ts) e v) in
@@ -236,7 +243,7 @@ module _ (u : Network) (number : ℕ → ℕ) (shape : ℕ → ℕ → Simple �
             seen γ l ns (typed.Initial t us tests vs ts) (TypedKind-F.Initial t us tests vs ts) e
             (laws.initial t (counts (map (verdict cover) ts)) c0.0 γ loop later row made ns (map (map (phrase forms)) us) (map (phrase forms) tests) (map (map (phrase forms)) vs) (map (phrase forms) ts) (means_lists n us) (means n tests) (means_lists n vs) (means n ts) r m num
             (defs-drawn γ us loop d c1.0) (defs-typed n γ us loop d) (each-drawn (γ ++ loop) tests (ty.Bool ∷ []) c c2.0) (all-typed n (γ ++ loop) tests (ty.Bool ∷ []) c)
-            (defs-drawn (γ ++ loop) vs later y c3.0) (defs-typed n (γ ++ loop) vs later y) (each-drawn (γ ++ loop) ts row h c3.1) (all-typed n (γ ++ loop) ts row h) (each-of n (γ ++ loop) ts row h) n (calls n p))
+            (defs-drawn (γ ++ loop) vs later y c3.0) (defs-typed n (γ ++ loop) vs later y) (each-drawn (γ ++ loop) ts row h c3.1) (all-typed n (γ ++ loop) ts row h) (each-of n (γ ++ loop) ts row h) (total-is (γ ++ loop) ts row h) n (calls n p))
 
         pub each-drawn : (γ : List Ty) (es : List TypedExpr) (tys : List Ty) → AllFitTo γ es tys → all_covered es → EachDrawn γ (map (phrase forms) es) (means n es)
         each-drawn γ _ _ is.no_more v = tt

@@ -1,5 +1,7 @@
 -- Which forms of phrases a law is of (SISAL Language Reference Manual 1.2, expressions).
-use Rattle.std.specs.Prelude.{◌≡◌, ℕ, Bool, true, false, ◌&&◌, List, [], ◌∷◌, map, length, Option, Some, slice_get}
+use Rattle.std.specs.Prelude.{◌≡◌, ℕ, ◌+◌, Bool, true, false, ◌&&◌, ◌||◌, nat_eq, if◌then◌else◌, List, [], ◌∷◌, map, length, Option, Some, slice_get}
+use Rattle.loop_folds.specs.declared.folding.Folding.{Folding}
+use Rattle.loop_folds.specs.declared.folding.Folding.TheVariants as folding
 use Rattle.value_ops.specs.declared.operation.Operation.{Operation}
 use Rattle.value_ops.specs.declared.operation.Operation.TheVariants as op
 use Rattle.type_table.specs.declared.form.Form.{Form}
@@ -8,9 +10,13 @@ use Rattle.typed_tree.specs.declared.expr.TypedExpr.{TypedExpr}
 use Rattle.typed_tree.specs.declared.expr.TypedKind.TheOpen.{TypedKind-F, TypedExpr-F}
 use Rattle.typed_tree.specs.declared.expr.TypedKind.TheFolds.{fold-TypedExpr, fold-TypedKind}
 use Rattle.typed_tree.specs.declared.expr.TypedKind.{TypedKind}
+use Rattle.typed_tree.specs.declared.expr.ClauseForm.{ClauseForm}
 use Rattle.typed_tree.specs.declared.expr.Product.{Product}
+use Rattle.typed_tree.specs.declared.expr.Source.{Source}
+use Rattle.typed_tree.specs.declared.expr.Source.TheVariants as source
 use Rattle.typed_tree.specs.declared.expr.Turns.{Turns}
 use Rattle.typed_tree.specs.declared.program.Function.{Function}
+use Rattle.lowering.specs.Loops.{unless_places}
 
 -- which operations, `tagcase`s and loops; of a loop by how many values each phrase of its clauses has
 pub record Coverage : Type 0 where
@@ -34,6 +40,10 @@ each_ok (vs ∷ vss) = all_ok vs && each_ok vss
 
 abbrev pub counts : List Verdict → List ℕ
 counts vs = map (λ v. v.count) vs
+
+abbrev pub total : List ℕ → ℕ
+total [] = 0
+total (n ∷ ns) = n + total ns
 
 module _ (c : Coverage) where
   abbrev pub kind_covered : TypedKind-F Bool Verdict → Bool
@@ -61,7 +71,38 @@ module _ (c : Coverage) where
   abbrev pub AreCovered : List Function → Type 0
   AreCovered fs = (f : ℕ) (d : Function) (es : List TypedExpr) → slice_get fs f ≡ Some d → d.body ≡ Some es → all_ok (map verdict es) ≡ true
 
--- ---- the forms of programs without loops
+-- ---- clauses
+
+abbrev pub no_true : List Bool → Bool
+no_true [] = true
+no_true (true ∷ bs) = false
+no_true (false ∷ bs) = no_true bs
+
+abbrev pub all_one : List ℕ → Bool
+all_one [] = true
+all_one (n ∷ ns) = nat_eq n 1 && all_one ns
+
+-- where a clause has a mask of `unless`, each phrase of the clauses has one value
+abbrev pub masks_alone : List ClauseForm → List ℕ → Bool
+masks_alone cs arity = no_true (unless_places cs) || all_one arity
+
+abbrev pub is_range_first : List Source → Bool
+is_range_first (source.Range ∷ ss) = true
+is_range_first _ = false
+
+abbrev pub is_array_of : Folding → Bool
+is_array_of folding.Array = true
+is_array_of _ = false
+
+abbrev pub no_array : List ClauseForm → Bool
+no_array [] = true
+no_array (c ∷ cs) = if is_array_of c.folding then false else no_array cs
+
+-- an `array of` stands in loops whose first generator is a range
+abbrev pub is_bounded : Product → Bool
+is_bounded p = is_range_first p.sources || no_array p.clauses
+
+-- ---- the forms of the laws
 
 -- every operation but those on unions, on fields of records, and a stream of its elements
 abbrev pub is_plain_operation : Operation → Bool
@@ -72,9 +113,9 @@ is_plain_operation (op.Field place) = false
 is_plain_operation (op.Change places) = false
 is_plain_operation _ = true
 
--- no loop and no `tagcase`
+-- no `for initial` and no `tagcase`
 abbrev pub plain_forms : Coverage
-plain_forms = record { operation = is_plain_operation; tag_case = false; product = λ p ks. false; initial = λ t ks. false }
+plain_forms = record { operation = is_plain_operation; tag_case = false; product = λ p ks. masks_alone p.clauses ks && is_bounded p; initial = λ t ks. false }
 
 -- ---- types
 
