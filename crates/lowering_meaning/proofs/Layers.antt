@@ -35,6 +35,11 @@ lowers-is forms l ns y x is env =
     ap (λ (p : Phrase). p.lowers env) (fold-roll-TypedExpr Kind Phrase (kind_lowered forms) expr_lowered (record { line = l; types = ns; kind = y }))
     ∙ (ap (λ z. (phrase_kind forms z).lowers ns env) is ∙ ap (λ (z : Kind). z.lowers ns env) (fold-roll-TypedKind Kind Phrase (kind_lowered forms) expr_lowered x))
 
+pub name-is : (forms : List Form) (l : ℕ) (ns : List ℕ) (y : TypedKind) (x : TypedKind-F TypedKind TypedExpr) → y ≡ roll-TypedKind x → (phrase forms (with l ns y)).name ≡ (kind_lowered forms (parts_lowered forms x)).name
+name-is forms l ns y x is =
+    ap (λ (p : Phrase). p.name) (fold-roll-TypedExpr Kind Phrase (kind_lowered forms) expr_lowered (record { line = l; types = ns; kind = y }))
+    ∙ (ap (λ z. (phrase_kind forms z).name) is ∙ ap (λ (z : Kind). z.name) (fold-roll-TypedKind Kind Phrase (kind_lowered forms) expr_lowered x))
+
 abbrev pub parts_covered : Coverage → TypedKind-F TypedKind TypedExpr → TypedKind-F Bool Verdict
 parts_covered c x = map-TypedKind TypedKind TypedExpr Bool Verdict (is_covered_kind c) (verdict c) x
 

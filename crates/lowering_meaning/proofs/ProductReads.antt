@@ -29,10 +29,10 @@ use Rattle.lowering_meaning.proofs.Timed.{Yield, yield-plus}
 use Rattle.lowering_meaning.proofs.Sites.{Site, AllCarry, Placed}
 use Rattle.lowering_meaning.proofs.Forms.{Typed, of-both, Free, Drawn}
 use Rattle.lowering_meaning.proofs.Parts.{at_part, part-fires, whole-fires}
-use Rattle.lowering_meaning.proofs.ReadForms.{FiresAt, Read, DrawnAll, TypedAll, then-read}
+use Rattle.lowering_meaning.proofs.ReadForms.{FiresAt, Read, DrawnAll, TypedAll, nil-read, cons-read, then-read}
 use Rattle.lowering_meaning.proofs.Widths.{Wide}
 use Rattle.lowering_meaning.proofs.Trees.{EachDrawn, each-all}
-use Rattle.lowering_meaning.proofs.TreeReads.{EachRead, ProductRead}
+use Rattle.lowering_meaning.proofs.TreeReads.{EachRead, no_read, a_read, ProductRead}
 use Rattle.lowering_meaning.proofs.Nots.{clauses-read, clauses-wide, noted-body-drawn}
 use Rattle.lowering_meaning.proofs.Products as loop
 use Rattle.lowering_meaning.proofs.Products.{from-mine, from-theirs, the_body, the_loop}
@@ -45,8 +45,9 @@ yield-theirs a y = record { value = y.value; steps = y.steps; from = from-theirs
 
 module _ (u : Network) (number : ℕ → ℕ) (shape : ℕ → ℕ → Simple → Shape) (forms : List Form) (spellings : List (List ℕ)) (hs : List Header) (p : List Function) (cover : Coverage) where
   -- list phrases, read one after another
-  each-read-all : (m : ℕ) (γ : List Ty) (gs : List Phrase) (ks : ℕ → List Means) → EachRead u number shape forms spellings hs p cover m γ gs ks → Read u number shape m γ (all_lowered (each gs)) (λ j. all_of (ks j))
-  each-read-all m γ gs ks r = clauses-read u number shape forms spellings hs p cover m γ [] gs ks r
+  pub each-read-all : (m : ℕ) (γ : List Ty) (gs : List Phrase) (ks : ℕ → List Means) → EachRead u number shape forms spellings hs p cover m γ gs ks → Read u number shape m γ (all_lowered (each gs)) (λ j. all_of (ks j))
+  each-read-all m γ _ _ no_read = nil-read u number shape m γ
+  each-read-all m γ _ _ (a_read g gs k ks r rs) = cons-read u number shape m γ g.lowers (each gs) k ks r (each-read-all m γ gs ks rs)
 
   pub product-read : (q : Product) (arity : List ℕ) → masks_alone q.clauses arity ≡ true → ProductRead u number shape forms spellings hs p cover q arity
   product-read q arity alone γ tys xs δ row made ns bs ds gs kb kd ks goes clauses num eb tb dd td eg tg og tot m rb rd rg call =

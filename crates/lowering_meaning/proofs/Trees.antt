@@ -1,5 +1,5 @@
 -- What fitting expressions give in the source, their graphs give: a case a form.
-use Rattle.std.proofs.Common.{◌≡◌, ℕ, zero, suc, ◌+◌, ◌*◌, ◌≤◌, Bool, true, false, ◌&&◌, List, [], ◌∷◌, ◌++◌, map, length, slice_get, Some, refl, sym, ap, ◌∙◌, subst, arith, append-nil, append_assoc}
+use Rattle.std.proofs.Common.{◌≡◌, ℕ, zero, suc, ◌+◌, ◌*◌, ◌≤◌, Bool, true, false, ◌&&◌, List, [], ◌∷◌, ◌++◌, map, length, slice_get, Some, None, refl, sym, ap, ◌∙◌, subst, arith, append-nil, append_assoc}
 use Rattle.std.proofs.lemmas.List.{length-append}
 use Rattle.flow_value.specs.declared.value.Val.{Val}
 use Rattle.flow_value.specs.declared.ty.Ty.{Ty}
@@ -41,7 +41,7 @@ use Rattle.lowering.specs.Choices.{applied, if_lowered}
 use Rattle.lowering.specs.Loops.{Phrase}
 use Rattle.lowering.specs.Phrases.{each, kind_lowered, phrase, lowers}
 use Rattle.lowering_meaning.specs.Coverage.{Coverage, all_ok, each_ok, counts, total, kind_covered, verdict}
-use Rattle.lowering_meaning.proofs.Layers.{parts_meant, meaning-is, parts_lowered, lowers-is, parts_covered, covered-is, count-is, and-true}
+use Rattle.lowering_meaning.proofs.Layers.{parts_meant, meaning-is, parts_lowered, lowers-is, name-is, parts_covered, covered-is, count-is, and-true}
 use Rattle.lowering_meaning.proofs.Wires.{FromNames}
 use Rattle.lowering_meaning.proofs.Inside.{Gives}
 use Rattle.lowering_meaning.proofs.Forms.{Typed, nil-typed, cons-typed, nil-defs-typed, cons-defs-typed, FreeOn, Drawn, drawn-as, step-drawn, nil-drawn, cons-drawn, DrawnOn, then-drawn, nil-defs-drawn, cons-defs-drawn, body-drawn, less-drawn}
@@ -95,10 +95,14 @@ module _ (u : Network) (number : ℕ → ℕ) (shape : ℕ → ℕ → Simple �
   each-all γ [] (k ∷ ks) h = absurd h
   each-all γ (g ∷ gs) [] h = absurd h
 
-  -- one phrase for one: it gives so many values, and its lowering has them
+  -- a phrase that is a name has its value
+  abbrev pub IsNamed : Phrase → Means → Type 0
+  IsNamed g k = (x : ℕ) → g.name ≡ Some x → (names : List Val) → k names ≡ Some (value_at names x ∷ [], 1)
+
+  -- one phrase for one: it gives so many values, its lowering has them, and where it is a name, it gives what the name has
   abbrev pub EachOf : List Ty → List Phrase → List Means → List ℕ → Type 0
   EachOf γ [] [] [] = Unit {0}
-  EachOf γ (g ∷ gs) (k ∷ ks) (c ∷ cs) = (((tys : List Ty) × Typed γ k tys × (length tys ≡ c)) × Wide c g.lowers) × EachOf γ gs ks cs
+  EachOf γ (g ∷ gs) (k ∷ ks) (c ∷ cs) = (((tys : List Ty) × Typed γ k tys × (length tys ≡ c)) × Wide c g.lowers × IsNamed g k) × EachOf γ gs ks cs
   EachOf γ _ _ _ = ⊥
 
   -- what calls give to a depth, the graphs of the functions give
@@ -144,11 +148,31 @@ module _ (u : Network) (number : ℕ → ℕ) (shape : ℕ → ℕ → Simple �
     all-typed n γ _ _ is.no_more = nil-typed γ
     all-typed n γ _ _ (is.more {tys = tys} {others = others} {t = t} {ts = ts} h k) = cons-typed γ (meaning n p t) (means n ts) tys others (sound n γ t tys h) (all-typed n γ ts others k)
 
+    nameless : (x : ℕ) → None ≡ Some x → ⊥
+    nameless x e = cc
+
+    named : (n : ℕ) (γ : List Ty) (e : TypedExpr) (tys : List Ty) → FitsTo γ e tys → IsNamed (phrase forms e) (meaning n p e)
+    named n γ _ _ (is.a_value {l = l} {level = y} {ns = ns} {a = a} there num) x e names =
+        meaning-is n p l ns (typed.Value y) (TypedKind-F.Value y) (sym (typed.rolls-Value y)) names
+        ∙ ap (λ z. Some (value_at names z ∷ [], 1)) (same (sym (name-is forms l ns (typed.Value y) (TypedKind-F.Value y) (sym (typed.rolls-Value y))) ∙ e))
+      where
+        same : Some y ≡ Some x → y ≡ x
+        same e = cc
+    named n γ _ _ (is.a_constant {l = l} {ns = ns} {c = c} lit num) x e names = absurd (nameless x (sym (name-is forms l ns (typed.Constant c) (TypedKind-F.Constant c) (sym (typed.rolls-Constant c))) ∙ e))
+    named n γ _ _ (is.group {l = l} {ns = ns} {ts = ts} h num) x e names = absurd (nameless x (sym (name-is forms l ns (typed.Group ts) (TypedKind-F.Group ts) (sym (typed.rolls-Group ts))) ∙ e))
+    named n γ _ _ (is.call {l = l} {f = f} {ns = ns} {ts = ts} there h num) x e names = absurd (nameless x (sym (name-is forms l ns (typed.Call f ts) (TypedKind-F.Call f ts) (sym (typed.rolls-Call f ts))) ∙ e))
+    named n γ _ _ (is.apply {l = l} {ns = ns} {o = o} {ts = ts} h r num) x e names = absurd (nameless x (sym (name-is forms l ns (typed.Apply o ts) (TypedKind-F.Apply o ts) (sym (typed.rolls-Apply o ts))) ∙ e))
+    named n γ _ _ (is.let_in {l = l} {ns = ns} {us = us} {ts = ts} d h num) x e names = absurd (nameless x (sym (name-is forms l ns (typed.Let us ts) (TypedKind-F.Let us ts) (sym (typed.rolls-Let us ts))) ∙ e))
+    named n γ _ _ (is.if_else {l = l} {ns = ns} {ts = ts} {us = us} {vs = vs} t h k num) x e names = absurd (nameless x (sym (name-is forms l ns (typed.If ts us vs) (TypedKind-F.If ts us vs) (sym (typed.rolls-If ts us vs))) ∙ e))
+    named n γ _ _ (is.tag_case ms contents {l = l} {ns = ns} {c = c} {ts = ts} {arms = arms} h a t r picked others one num) x e names = absurd (nameless x (sym (name-is forms l ns (typed.Case c ts arms) (TypedKind-F.Case c ts arms) (sym (typed.rolls-Case c ts arms))) ∙ e))
+    named n γ _ _ (is.product {l = l} {ns = ns} {p = q} {bounds = bounds} {us = us} {ts = ts} b g d h m num) x e names = absurd (nameless x (sym (name-is forms l ns (typed.Product q bounds us ts) (TypedKind-F.Product q bounds us ts) (sym (typed.rolls-Product q bounds us ts))) ∙ e))
+    named n γ _ _ (is.initial {l = l} {ns = ns} {t = t} {us = us} {vs = vs} {tests = tests} {ts = ts} d c y r h m num) x e names = absurd (nameless x (sym (name-is forms l ns (typed.Initial t us tests vs ts) (TypedKind-F.Initial t us tests vs ts) (sym (typed.rolls-Initial t us tests vs ts))) ∙ e))
+
     pub each-of : (n : ℕ) (γ : List Ty) (es : List TypedExpr) (tys : List Ty) → AllFitTo γ es tys → EachOf γ (map (phrase forms) es) (means n es) (counts (map (verdict cover) es))
     each-of n γ _ _ is.no_more = tt
     each-of n γ _ _ (is.more {tys = tys} {others = others} {t = t} {ts = ts} h k) =
         let c = count-is cover t in
-        (((tys, sound n γ t tys h, sym (c ∙ fit-count forms spellings hs γ t tys h)), (λ env n q. expr-wide forms spellings hs γ t tys h env n q ∙ sym c)), each-of n γ ts others k)
+        (((tys, sound n γ t tys h, sym (c ∙ fit-count forms spellings hs γ t tys h)), (λ env n q. expr-wide forms spellings hs γ t tys h env n q ∙ sym c), named n γ t tys h), each-of n γ ts others k)
 
     pub total-is : (γ : List Ty) (es : List TypedExpr) (tys : List Ty) → AllFitTo γ es tys → total (counts (map (verdict cover) es)) ≡ length tys
     total-is γ _ _ is.no_more = refl
