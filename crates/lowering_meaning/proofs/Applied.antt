@@ -33,40 +33,40 @@ row-free o f t h env ws k q w = node-from env (RowAction o) (f ws) 1 (One t ∷ 
 plain-free : (o : Simple) (t : ℕ) → FreeOn (λ env ws. row_lowered o ws (t ∷ []))
 plain-free o t = row-free o (λ ws. ws) t (λ env ws w. w)
 
-module _ (u : Network) (number : ℕ → ℕ) (shape : ℕ → ℕ → Simple → Shape) (forms : List Form) (arrays : (g l : ℕ) → shape g l simple.ABuild ≡ shapes.Plain) (records : (g l : ℕ) → shape g l simple.RBuild ≡ shapes.Plain) where
+module _ (u : Network) (number : ℕ → ℕ) (shape : ℕ → ℕ → Simple → Shape) (forms : List Form) (spellings : List (List ℕ)) (arrays : (g l : ℕ) → shape g l simple.ABuild ≡ shapes.Plain) (records : (g l : ℕ) → shape g l simple.RBuild ≡ shapes.Plain) where
   abbrev Does : Operation → List Ty → List Ty → ℕ → Type 0
-  Does o γ tys t = FreeOn (λ env ws. applied forms o ws (t ∷ [])) × DrawnOn u number shape γ tys 0 7 (λ env ws. applied forms o ws (t ∷ [])) (λ names vs. given (op_value o vs ∷ []))
+  Does o γ tys t = FreeOn (λ env ws. applied forms o ws (t ∷ [])) × DrawnOn u number shape forms spellings γ tys 0 7 (λ env ws. applied forms o ws (t ∷ [])) (λ names vs. given (op_value o vs ∷ []))
 
   gives : (o : Operation) (vs : List Val) → Value (op_value o (vals (map Value vs))) ∷ [] ≡ Value (op_value o vs) ∷ []
   gives o vs = ap (λ ws. Value (op_value o ws) ∷ []) (values-of vs)
 
   pub operation-drawn : (o : Operation) → is_plain_operation o ≡ true → (γ tys : List Ty) (a : Ty) (t : ℕ) → Row o tys a → Does o γ tys t
-  operation-drawn (operation.Unary f) c γ tys a t r = (plain-free (simple.One f) t, row-on u number shape γ tys (simple.One f) (operation.Unary f) t (λ s k vs. gives (operation.Unary f) vs))
-  operation-drawn (operation.Binary f) c γ tys a t r = (plain-free (simple.Two f) t, row-on u number shape γ tys (simple.Two f) (operation.Binary f) t (λ s k vs. gives (operation.Binary f) vs))
-  operation-drawn (operation.Swapped _) c γ _ _ t (is.swapped f a h i) = (row-free (simple.Two f) reversed t (λ env ws w. reversed-from (FromNames env) ws w), swapped-on u number shape γ a f t)
-  operation-drawn operation.Error c γ tys a t r = (plain-free simple.Error t, row-on u number shape γ tys simple.Error operation.Error t (λ s k vs. gives operation.Error vs))
+  operation-drawn (operation.Unary f) c γ tys a t r = (plain-free (simple.One f) t, row-on u number shape forms spellings γ tys (simple.One f) (operation.Unary f) t (λ s k vs. gives (operation.Unary f) vs))
+  operation-drawn (operation.Binary f) c γ tys a t r = (plain-free (simple.Two f) t, row-on u number shape forms spellings γ tys (simple.Two f) (operation.Binary f) t (λ s k vs. gives (operation.Binary f) vs))
+  operation-drawn (operation.Swapped _) c γ _ _ t (is.swapped f a h i) = (row-free (simple.Two f) reversed t (λ env ws w. reversed-from (FromNames env) ws w), swapped-on u number shape forms spellings γ a f t)
+  operation-drawn operation.Error c γ tys a t r = (plain-free simple.Error t, row-on u number shape forms spellings γ tys simple.Error operation.Error t (λ s k vs. gives operation.Error vs))
   operation-drawn operation.Array c γ tys a t r =
-      (plain-free simple.ABuild t, row-on u number shape γ tys simple.ABuild operation.Array t (λ s k vs. ap (λ x. op simple.ABuild x (map Value vs)) (arrays s.graph (suc k)) ∙ gives operation.Array vs))
-  operation-drawn operation.EmptyArray c γ _ _ t (is.empty_array a) = (row-free simple.ABuild (λ ws. one ∷ ws) t (λ env ws w. (tt, w)), empty-on u number shape γ t arrays)
+      (plain-free simple.ABuild t, row-on u number shape forms spellings γ tys simple.ABuild operation.Array t (λ s k vs. ap (λ x. op simple.ABuild x (map Value vs)) (arrays s.graph (suc k)) ∙ gives operation.Array vs))
+  operation-drawn operation.EmptyArray c γ _ _ t (is.empty_array a) = (row-free simple.ABuild (λ ws. one ∷ ws) t (λ env ws w. (tt, w)), empty-on u number shape forms spellings γ t arrays)
   operation-drawn operation.Stream c γ tys a t r = absurd cc
-  operation-drawn operation.Fill c γ tys a t r = (plain-free simple.AFill t, row-on u number shape γ tys simple.AFill operation.Fill t (λ s k vs. gives operation.Fill vs))
-  operation-drawn operation.Element c γ tys a t r = (plain-free simple.AElement t, row-on u number shape γ tys simple.AElement operation.Element t (λ s k vs. gives operation.Element vs))
-  operation-drawn operation.Update c γ tys a t r = (plain-free simple.AReplace t, row-on u number shape γ tys simple.AReplace operation.Update t (λ s k vs. gives operation.Update vs))
-  operation-drawn operation.AddHigh c γ tys a t r = (plain-free simple.AAddH t, row-on u number shape γ tys simple.AAddH operation.AddHigh t (λ s k vs. gives operation.AddHigh vs))
-  operation-drawn operation.AddLow c γ tys a t r = (plain-free simple.AAddL t, row-on u number shape γ tys simple.AAddL operation.AddLow t (λ s k vs. gives operation.AddLow vs))
-  operation-drawn operation.RemoveHigh c γ tys a t r = (plain-free simple.ARemH t, row-on u number shape γ tys simple.ARemH operation.RemoveHigh t (λ s k vs. gives operation.RemoveHigh vs))
-  operation-drawn operation.RemoveLow c γ tys a t r = (plain-free simple.ARemL t, row-on u number shape γ tys simple.ARemL operation.RemoveLow t (λ s k vs. gives operation.RemoveLow vs))
-  operation-drawn operation.SetLow c γ tys a t r = (plain-free simple.ASetL t, row-on u number shape γ tys simple.ASetL operation.SetLow t (λ s k vs. gives operation.SetLow vs))
-  operation-drawn operation.Adjust c γ tys a t r = (plain-free simple.AAdjust t, row-on u number shape γ tys simple.AAdjust operation.Adjust t (λ s k vs. gives operation.Adjust vs))
-  operation-drawn operation.LimitLow c γ tys a t r = (plain-free simple.ALimL t, row-on u number shape γ tys simple.ALimL operation.LimitLow t (λ s k vs. gives operation.LimitLow vs))
-  operation-drawn operation.LimitHigh c γ tys a t r = (plain-free simple.ALimH t, row-on u number shape γ tys simple.ALimH operation.LimitHigh t (λ s k vs. gives operation.LimitHigh vs))
-  operation-drawn operation.Size c γ tys a t r = (plain-free simple.ASize t, row-on u number shape γ tys simple.ASize operation.Size t (λ s k vs. gives operation.Size vs))
-  operation-drawn operation.IsEmpty c γ tys a t r = (plain-free simple.AIsEmpty t, row-on u number shape γ tys simple.AIsEmpty operation.IsEmpty t (λ s k vs. gives operation.IsEmpty vs))
-  operation-drawn operation.Catenate c γ tys a t r = (plain-free simple.ACatenate t, row-on u number shape γ tys simple.ACatenate operation.Catenate t (λ s k vs. gives operation.Catenate vs))
-  operation-drawn operation.First c γ tys a t r = (plain-free simple.FirstValue t, row-on u number shape γ tys simple.FirstValue operation.First t (λ s k vs. gives operation.First vs))
-  operation-drawn operation.Rest c γ tys a t r = (plain-free simple.RestValues t, row-on u number shape γ tys simple.RestValues operation.Rest t (λ s k vs. gives operation.Rest vs))
+  operation-drawn operation.Fill c γ tys a t r = (plain-free simple.AFill t, row-on u number shape forms spellings γ tys simple.AFill operation.Fill t (λ s k vs. gives operation.Fill vs))
+  operation-drawn operation.Element c γ tys a t r = (plain-free simple.AElement t, row-on u number shape forms spellings γ tys simple.AElement operation.Element t (λ s k vs. gives operation.Element vs))
+  operation-drawn operation.Update c γ tys a t r = (plain-free simple.AReplace t, row-on u number shape forms spellings γ tys simple.AReplace operation.Update t (λ s k vs. gives operation.Update vs))
+  operation-drawn operation.AddHigh c γ tys a t r = (plain-free simple.AAddH t, row-on u number shape forms spellings γ tys simple.AAddH operation.AddHigh t (λ s k vs. gives operation.AddHigh vs))
+  operation-drawn operation.AddLow c γ tys a t r = (plain-free simple.AAddL t, row-on u number shape forms spellings γ tys simple.AAddL operation.AddLow t (λ s k vs. gives operation.AddLow vs))
+  operation-drawn operation.RemoveHigh c γ tys a t r = (plain-free simple.ARemH t, row-on u number shape forms spellings γ tys simple.ARemH operation.RemoveHigh t (λ s k vs. gives operation.RemoveHigh vs))
+  operation-drawn operation.RemoveLow c γ tys a t r = (plain-free simple.ARemL t, row-on u number shape forms spellings γ tys simple.ARemL operation.RemoveLow t (λ s k vs. gives operation.RemoveLow vs))
+  operation-drawn operation.SetLow c γ tys a t r = (plain-free simple.ASetL t, row-on u number shape forms spellings γ tys simple.ASetL operation.SetLow t (λ s k vs. gives operation.SetLow vs))
+  operation-drawn operation.Adjust c γ tys a t r = (plain-free simple.AAdjust t, row-on u number shape forms spellings γ tys simple.AAdjust operation.Adjust t (λ s k vs. gives operation.Adjust vs))
+  operation-drawn operation.LimitLow c γ tys a t r = (plain-free simple.ALimL t, row-on u number shape forms spellings γ tys simple.ALimL operation.LimitLow t (λ s k vs. gives operation.LimitLow vs))
+  operation-drawn operation.LimitHigh c γ tys a t r = (plain-free simple.ALimH t, row-on u number shape forms spellings γ tys simple.ALimH operation.LimitHigh t (λ s k vs. gives operation.LimitHigh vs))
+  operation-drawn operation.Size c γ tys a t r = (plain-free simple.ASize t, row-on u number shape forms spellings γ tys simple.ASize operation.Size t (λ s k vs. gives operation.Size vs))
+  operation-drawn operation.IsEmpty c γ tys a t r = (plain-free simple.AIsEmpty t, row-on u number shape forms spellings γ tys simple.AIsEmpty operation.IsEmpty t (λ s k vs. gives operation.IsEmpty vs))
+  operation-drawn operation.Catenate c γ tys a t r = (plain-free simple.ACatenate t, row-on u number shape forms spellings γ tys simple.ACatenate operation.Catenate t (λ s k vs. gives operation.Catenate vs))
+  operation-drawn operation.First c γ tys a t r = (plain-free simple.FirstValue t, row-on u number shape forms spellings γ tys simple.FirstValue operation.First t (λ s k vs. gives operation.First vs))
+  operation-drawn operation.Rest c γ tys a t r = (plain-free simple.RestValues t, row-on u number shape forms spellings γ tys simple.RestValues operation.Rest t (λ s k vs. gives operation.Rest vs))
   operation-drawn operation.Record c γ tys a t r =
-      (plain-free simple.RBuild t, row-on u number shape γ tys simple.RBuild operation.Record t (λ s k vs. ap (λ x. op simple.RBuild x (map Value vs)) (records s.graph (suc k)) ∙ gives operation.Record vs))
+      (plain-free simple.RBuild t, row-on u number shape forms spellings γ tys simple.RBuild operation.Record t (λ s k vs. ap (λ x. op simple.RBuild x (map Value vs)) (records s.graph (suc k)) ∙ gives operation.Record vs))
   operation-drawn (operation.Union tag) c γ tys a t r = absurd cc
   operation-drawn (operation.Field f) c γ tys a t r = absurd cc
   operation-drawn (operation.Change places) c γ tys a t r = absurd cc

@@ -4,14 +4,19 @@ use Rattle.std.proofs.Common.{◌≡◌, ℕ, zero, suc, ◌+◌, ◌*◌, ◌�
 use Rattle.flow_value.specs.declared.value.Val.{Val}
 use Rattle.flow_value.specs.declared.ty.Ty.{Ty}
 use Rattle.if1_graph.specs.declared.op.Simple.{Simple}
+use Rattle.type_table.specs.declared.form.Form.{Form}
 use Rattle.typed_rows.specs.Rows.{Of, AreOf}
 use Rattle.meaning.specs.Timed.{Timed, given, plus, andthen}
 use Rattle.meaning.specs.Meaning.{Gives as Means, all_of, defined, body_of}
 use Rattle.graph_meaning.specs.NodeValues.{Shape}
 use Rattle.graph_meaning.specs.Demand.{Network}
+use Rattle.typed_tree.specs.Types.{IsNumber, AreNumbers}
+use Rattle.lowering.specs.declared.feed.Carried.{Carried}
+use Rattle.lowering.specs.declared.feed.Carried.TheVariants.{One}
 use Rattle.lowering.specs.declared.feed.Wire.{Wire}
+use Rattle.lowering.specs.Feeds.{into}
 use Rattle.lowering.specs.declared.graph.Lowered.{Lowered}
-use Rattle.lowering.specs.Graphs.{Lowering, only, joined, uses, used}
+use Rattle.lowering.specs.Graphs.{Lowering, only, joined, ports, uses, used}
 use Rattle.lowering.specs.Graphs as graphs
 use Rattle.lowering.specs.Operations.{Lowers, all_lowered, defs_lowered, body_lowered}
 use Rattle.lowering_meaning.proofs.Timed.{plus-some, then-some, given-is}
@@ -86,20 +91,54 @@ then-free g f a b env k q =
     let m = g env k q in
     from-both env m (f env m.values (k + length m.nodes) (q + length m.graphs)) (a env k q) (b env m.values (k + length m.nodes) (q + length m.graphs) (values-from env m (a env k q)))
 
-module _ (u : Network) (number : ℕ → ℕ) (shape : ℕ → ℕ → Simple → Shape) where
-  -- wherever a phrase stands, on these values of the names it gives these values, with at most so many firings
-  abbrev pub Draws : Lowers → List Val → List Val → ℕ → Type 0
-  Draws g names vs limit = (s : Site) (k q : ℕ) (env : List Wire) → AllCarry u number shape s env names → Placed u number shape s k q (g env k q) → Done u number shape s k (g env k q) vs limit
+-- ---- types of wires
 
-  pub record Runs (g : Lowers) (names vs : List Val) (slack most : ℕ) : Type 0 where
+-- what is carried is a value of this type, by its number
+abbrev pub HasType : List Form → List (List ℕ) → Carried → Ty → Type 0
+HasType forms spellings (One n) t = IsNumber forms spellings n t
+HasType forms spellings _ t = ⊥
+
+abbrev pub WiresOf : List Form → List (List ℕ) → List Ty → List Wire → Type 0
+WiresOf forms spellings [] [] = Unit {0}
+WiresOf forms spellings (t ∷ ts) (w ∷ ws) = HasType forms spellings w.ty t × WiresOf forms spellings ts ws
+WiresOf forms spellings _ _ = ⊥
+
+pub wires-both : (forms : List Form) (spellings : List (List ℕ)) (ts us : List Ty) (vs ws : List Wire) → WiresOf forms spellings ts vs → WiresOf forms spellings us ws → WiresOf forms spellings (ts ++ us) (vs ++ ws)
+wires-both forms spellings [] us [] ws a b = b
+wires-both forms spellings (t ∷ ts) us (v ∷ vs) ws a b = (a.0, wires-both forms spellings ts us vs ws a.1 b)
+wires-both forms spellings [] us (v ∷ vs) ws a b = absurd a
+wires-both forms spellings (t ∷ ts) us [] ws a b = absurd a
+
+pub wires-into : (forms : List Form) (spellings : List (List ℕ)) (ts : List Ty) (ws : List Wire) → WiresOf forms spellings ts ws → WiresOf forms spellings ts (map into ws)
+wires-into forms spellings [] [] a = tt
+wires-into forms spellings (t ∷ ts) (w ∷ ws) a = (a.0, wires-into forms spellings ts ws a.1)
+wires-into forms spellings [] (w ∷ ws) a = absurd a
+wires-into forms spellings (t ∷ ts) [] a = absurd a
+
+pub ports-wired : (forms : List Form) (spellings : List (List ℕ)) (n port : ℕ) (ns : List ℕ) (tys : List Ty) → AreNumbers forms spellings ns tys → WiresOf forms spellings tys (ports n port (map One ns))
+ports-wired forms spellings n port [] [] a = tt
+ports-wired forms spellings n port (k ∷ ns) (t ∷ tys) a = (a.0, ports-wired forms spellings n (suc port) ns tys a.1)
+ports-wired forms spellings n port [] (t ∷ tys) a = absurd a
+ports-wired forms spellings n port (k ∷ ns) [] a = absurd a
+
+-- where the names in force have wires of their types, so have the values
+abbrev pub Wired : List Form → List (List ℕ) → List Ty → Lowers → List Ty → Type 0
+Wired forms spellings γ g tys = (env : List Wire) (k q : ℕ) → WiresOf forms spellings γ env → WiresOf forms spellings tys (g env k q).values
+
+module _ (u : Network) (number : ℕ → ℕ) (shape : ℕ → ℕ → Simple → Shape) (forms : List Form) (spellings : List (List ℕ)) where
+  -- wherever a phrase stands, on these values of the names it gives these values, with at most so many firings
+  abbrev pub Draws : List Ty → Lowers → List Val → List Val → ℕ → Type 0
+  Draws γ g names vs limit = (s : Site) (k q : ℕ) (env : List Wire) → WiresOf forms spellings γ env → AllCarry u number shape s env names → Placed u number shape s k q (g env k q) → Done u number shape s k (g env k q) vs limit
+
+  pub record Runs (γ : List Ty) (g : Lowers) (names vs : List Val) (slack most : ℕ) : Type 0 where
     pub limit : ℕ
     pub bound : slack + limit ≤ most
-    pub draws : Draws g names vs limit
+    pub draws : Draws γ g names vs limit
 
   -- What the source gives on values of these types, the phrase gives. With so much it stays below eight a step and so much.
   pub record Drawn (γ : List Ty) (slack credit : ℕ) (g : Lowers) (h : Means) : Type 0 where
     pub free : Free g
-    pub runs : (names vs : List Val) (i : ℕ) → AreOf γ names → h names ≡ Some (vs, i) → Runs g names vs slack (credit + 8 * i)
+    pub runs : (names vs : List Val) (i : ℕ) → AreOf γ names → h names ≡ Some (vs, i) → Runs γ g names vs slack (credit + 8 * i)
 
   pub drawn-as : (γ : List Ty) (slack credit : ℕ) (g g' : Lowers) (h h' : Means) → ((env : List Wire) → g' env ≡ g env) → ((names : List Val) → h' names ≡ h names) → Drawn γ slack credit g h → Drawn γ slack credit g' h'
   drawn-as γ slack credit g g' h h' eg eh d = record {
@@ -109,7 +148,7 @@ module _ (u : Network) (number : ℕ → ℕ) (shape : ℕ → ℕ → Simple �
         record {
           limit = r.limit;
           bound = r.bound;
-          draws = λ s k q env a pl. subst (λ f. Done u number shape s k (f k q) vs r.limit) (sym (eg env)) (r.draws s k q env a (subst (λ f. Placed u number shape s k q (f k q)) (eg env) pl));
+          draws = λ s k q env e a pl. subst (λ f. Done u number shape s k (f k q) vs r.limit) (sym (eg env)) (r.draws s k q env e a (subst (λ f. Placed u number shape s k q (f k q)) (eg env) pl));
         };
   }
 
@@ -131,7 +170,7 @@ module _ (u : Network) (number : ℕ → ℕ) (shape : ℕ → ℕ → Simple �
     runs = λ names vs i o e. record {
       limit = 0;
       bound = omega arith;
-      draws = λ s k q env a pl. subst (λ ws. Done u number shape s k (all_lowered [] env k q) ws 0) (given-is [] vs i e).0 (done-only u number shape s k (all_lowered [] env k q) [] refl tt);
+      draws = λ s k q env w a pl. subst (λ ws. Done u number shape s k (all_lowered [] env k q) ws 0) (given-is [] vs i e).0 (done-only u number shape s k (all_lowered [] env k q) [] refl tt);
     };
   }
 
@@ -155,19 +194,19 @@ module _ (u : Network) (number : ℕ → ℕ) (shape : ℕ → ℕ → Simple �
         record {
           limit = r.limit + w.limit;
           bound = omega (arith, r.bound, w.bound, x.sum, y.sum, z.1);
-          draws = λ s k q env c pl. subst (λ ws. Done u number shape s k (all_lowered (g ∷ gs) env k q) ws (r.limit + w.limit)) z.0 (listed env k q s x.mid y.mid r.limit w.limit c pl r.draws w.draws);
+          draws = λ s k q env e c pl. subst (λ ws. Done u number shape s k (all_lowered (g ∷ gs) env k q) ws (r.limit + w.limit)) z.0 (listed env k q s x.mid y.mid r.limit w.limit e c pl r.draws w.draws);
         };
   }
     where
-      listed : (env : List Wire) (k q : ℕ) (s : Site) {names : List Val} (vs ws : List Val) (i j : ℕ) → AllCarry u number shape s env names → Placed u number shape s k q (all_lowered (g ∷ gs) env k q)
-          → Draws g names vs i → Draws (all_lowered gs) names ws j → Done u number shape s k (all_lowered (g ∷ gs) env k q) (vs ++ ws) (i + j)
-      listed env k q s vs ws i j c pl dg dgs =
+      listed : (env : List Wire) (k q : ℕ) (s : Site) {names : List Val} (vs ws : List Val) (i j : ℕ) → WiresOf forms spellings γ env → AllCarry u number shape s env names → Placed u number shape s k q (all_lowered (g ∷ gs) env k q)
+          → Draws γ g names vs i → Draws γ (all_lowered gs) names ws j → Done u number shape s k (all_lowered (g ∷ gs) env k q) (vs ++ ws) (i + j)
+      listed env k q s vs ws i j e c pl dg dgs =
           let m = g env k q in
           let n = all_lowered gs env (k + length m.nodes) (q + length m.graphs) in
           let l : Lowered = only (m.values ++ n.values) (k + length m.nodes + length n.nodes) (q + length m.graphs + length n.graphs) in
-          let z = dg s k q env c (placed-left u number shape s k q m (joined n l) pl) in
+          let z = dg s k q env e c (placed-left u number shape s k q m (joined n l) pl) in
           let pl' = placed-right u number shape s k q m (joined n l) pl in
-          let w = dgs s (k + length m.nodes) (q + length m.graphs) env c (placed-left u number shape s (k + length m.nodes) (q + length m.graphs) n l pl') in
+          let w = dgs s (k + length m.nodes) (q + length m.graphs) env e c (placed-left u number shape s (k + length m.nodes) (q + length m.graphs) n l pl') in
           let t = done-only u number shape s (k + length m.nodes + length n.nodes) l (vs ++ ws) refl (carry-both u number shape s m.values vs n.values ws z.held w.held) in
           done-more u number shape s k (joined m (joined n l)) (vs ++ ws) (i + (j + 0)) (i + j) (done-both u number shape s k m (joined n l) vs (vs ++ ws) i (j + 0) z (done-both u number shape s (k + length m.nodes) n l ws (vs ++ ws) j 0 w t)) (omega arith)
 
@@ -184,18 +223,18 @@ module _ (u : Network) (number : ℕ → ℕ) (shape : ℕ → ℕ → Simple �
   -- ---- one after the other
 
   -- what stands behind, which sees the names and what comes before it
-  pub record RunsOn (f : List Wire → List Wire → Lowering) (names vs rs : List Val) (slack most : ℕ) : Type 0 where
+  pub record RunsOn (γ mids : List Ty) (f : List Wire → List Wire → Lowering) (names vs rs : List Val) (slack most : ℕ) : Type 0 where
     pub limit : ℕ
     pub bound : slack + limit ≤ most
-    pub draws : (s : Site) (k q : ℕ) (env ws : List Wire) → AllCarry u number shape s env names → AllCarry u number shape s ws vs → Placed u number shape s k q (f env ws k q) → Done u number shape s k (f env ws k q) rs limit
+    pub draws : (s : Site) (k q : ℕ) (env ws : List Wire) → WiresOf forms spellings γ env → WiresOf forms spellings mids ws → AllCarry u number shape s env names → AllCarry u number shape s ws vs → Placed u number shape s k q (f env ws k q) → Done u number shape s k (f env ws k q) rs limit
 
   abbrev pub DrawnOn : List Ty → List Ty → ℕ → ℕ → (List Wire → List Wire → Lowering) → (List Val → Means) → Type 0
-  DrawnOn γ mids slack credit f h = (names vs rs : List Val) (j : ℕ) → AreOf γ names → AreOf mids vs → h names vs ≡ Some (rs, j) → RunsOn f names vs rs slack (credit + 8 * j)
+  DrawnOn γ mids slack credit f h = (names vs rs : List Val) (j : ℕ) → AreOf γ names → AreOf mids vs → h names vs ≡ Some (rs, j) → RunsOn γ mids f names vs rs slack (credit + 8 * j)
 
   pub then-drawn : (γ mids : List Ty) (some slack credit : ℕ) (g : Lowers) (h : Means) (f : List Wire → List Wire → Lowering) (k : List Val → Means)
-      → Drawn γ some 0 g h → Typed γ h mids → FreeOn f → DrawnOn γ mids slack credit f k
+      → Drawn γ some 0 g h → Typed γ h mids → Wired forms spellings γ g mids → FreeOn f → DrawnOn γ mids slack credit f k
       → Drawn γ slack credit (λ env. graphs.andthen (g env) (f env)) (λ names. andthen (h names) (k names))
-  then-drawn γ mids some slack credit g h f k a t fr b = record {
+  then-drawn γ mids some slack credit g h f k a t wr fr b = record {
     free = then-free g f a.free fr;
     runs = λ names vs i o e.
         let x = then-some (h names) (k names) vs i e in
@@ -204,11 +243,11 @@ module _ (u : Network) (number : ℕ → ℕ) (shape : ℕ → ℕ → Simple �
         record {
           limit = r.limit + w.limit;
           bound = omega (arith, r.bound, w.bound, x.sum);
-          draws = λ s n q env c pl.
+          draws = λ s n q env e c pl.
               let m = g env n q in
               let l = f env m.values (n + length m.nodes) (q + length m.graphs) in
-              let z = r.draws s n q env c (placed-left u number shape s n q m l pl) in
-              done-both u number shape s n m l x.mid vs r.limit w.limit z (w.draws s (n + length m.nodes) (q + length m.graphs) env m.values c z.held (placed-right u number shape s n q m l pl));
+              let z = r.draws s n q env e c (placed-left u number shape s n q m l pl) in
+              done-both u number shape s n m l x.mid vs r.limit w.limit z (w.draws s (n + length m.nodes) (q + length m.graphs) env m.values e (wr env n q e) c z.held (placed-right u number shape s n q m l pl));
         };
   }
 
@@ -216,7 +255,7 @@ module _ (u : Network) (number : ℕ → ℕ) (shape : ℕ → ℕ → Simple �
   pub on-drawn : (γ mids : List Ty) (some slack credit : ℕ) (g : Lowers) (h : Means) → Drawn mids (some + slack) credit g h → DrawnOn γ mids slack credit (λ env ws. g ws) (λ names. h)
   on-drawn γ mids some slack credit g h d names vs rs j o m e =
       let r = d.runs vs rs j m e in
-      record { limit = r.limit; bound = omega (arith, r.bound); draws = λ s k q env ws a b pl. r.draws s k q ws b pl }
+      record { limit = r.limit; bound = omega (arith, r.bound); draws = λ s k q env ws d e a b pl. r.draws s k q ws e b pl }
 
   -- ---- definitions
 
@@ -226,23 +265,23 @@ module _ (u : Network) (number : ℕ → ℕ) (shape : ℕ → ℕ → Simple �
     runs = λ names vs i o e. record {
       limit = 0;
       bound = omega arith;
-      draws = λ s k q env a pl. subst (λ ws. Done u number shape s k (defs_lowered [] env k q) ws 0) (given-is names vs i e).0 (done-only u number shape s k (defs_lowered [] env k q) names refl a);
+      draws = λ s k q env w a pl. subst (λ ws. Done u number shape s k (defs_lowered [] env k q) ws 0) (given-is names vs i e).0 (done-only u number shape s k (defs_lowered [] env k q) names refl a);
     };
   }
 
   pub cons-defs-drawn : (γ tys : List Ty) (some : ℕ) (g : List Lowers) (gs : List (List Lowers)) (h : List Means) (hs : List (List Means))
-      → Drawn γ some 0 (all_lowered g) (all_of h) → Typed γ (all_of h) tys → Drawn (γ ++ tys) 0 0 (defs_lowered gs) (defined hs) → Drawn γ 0 0 (defs_lowered (g ∷ gs)) (defined (h ∷ hs))
-  cons-defs-drawn γ tys some g gs h hs a t b =
-      then-drawn γ tys some 0 0 (all_lowered g) (all_of h) (λ env vs. defs_lowered gs (env ++ vs)) (λ names vs. defined hs (names ++ vs)) a t
+      → Drawn γ some 0 (all_lowered g) (all_of h) → Typed γ (all_of h) tys → Wired forms spellings γ (all_lowered g) tys → Drawn (γ ++ tys) 0 0 (defs_lowered gs) (defined hs) → Drawn γ 0 0 (defs_lowered (g ∷ gs)) (defined (h ∷ hs))
+  cons-defs-drawn γ tys some g gs h hs a t wr b =
+      then-drawn γ tys some 0 0 (all_lowered g) (all_of h) (λ env vs. defs_lowered gs (env ++ vs)) (λ names vs. defined hs (names ++ vs)) a t wr
       (λ env ws k q w. from-fewer env (env ++ ws) (defs_lowered gs (env ++ ws) k q) (both-wires (FromNames env) env ws (names-from env) w) (b.free (env ++ ws) k q))
       (λ names vs rs j o m e.
       let r = b.runs (names ++ vs) rs j (of-both γ tys names vs o m) e in
-      record { limit = r.limit; bound = r.bound; draws = λ s k q env ws c d pl. r.draws s k q (env ++ ws) (carry-both u number shape s env names ws vs c d) pl })
+      record { limit = r.limit; bound = r.bound; draws = λ s k q env ws e f c d pl. r.draws s k q (env ++ ws) (wires-both forms spellings γ tys env ws e f) (carry-both u number shape s env names ws vs c d) pl })
 
   pub body-drawn : (γ δ : List Ty) (some : ℕ) (ds : List (List Lowers)) (gs : List Lowers) (es : List (List Means)) (hs : List Means)
-      → Drawn γ 0 0 (defs_lowered ds) (defined es) → Typed γ (defined es) (γ ++ δ) → Drawn (γ ++ δ) some 0 (all_lowered gs) (all_of hs) → Drawn γ 0 0 (body_lowered ds gs) (body_of es hs)
-  body-drawn γ δ some ds gs es hs a t b =
-      then-drawn γ (γ ++ δ) 0 0 0 (defs_lowered ds) (defined es) (λ env ws. all_lowered gs ws) (λ names. all_of hs) a t
+      → Drawn γ 0 0 (defs_lowered ds) (defined es) → Typed γ (defined es) (γ ++ δ) → Wired forms spellings γ (defs_lowered ds) (γ ++ δ) → Drawn (γ ++ δ) some 0 (all_lowered gs) (all_of hs) → Drawn γ 0 0 (body_lowered ds gs) (body_of es hs)
+  body-drawn γ δ some ds gs es hs a t wr b =
+      then-drawn γ (γ ++ δ) 0 0 0 (defs_lowered ds) (defined es) (λ env ws. all_lowered gs ws) (λ names. all_of hs) a t wr
       (λ env ws k q w. from-fewer env ws (all_lowered gs ws k q) w (b.free ws k q))
       (on-drawn γ (γ ++ δ) some 0 0 (all_lowered gs) (all_of hs) (drawn-less γ δ some gs hs b))
     where

@@ -41,7 +41,7 @@ use Rattle.lowering_meaning.proofs.Timed.{Yield, yield-given, yield-plus, yield-
 use Rattle.lowering_meaning.proofs.Wires.{AllWires, left-wires, right-wires, weaker-wires, In, IsThere, FromNames, MadeFrom}
 use Rattle.lowering_meaning.proofs.Sites.{Site, AllCarry, AreAt, Done, as-values, vertices, done-made, done-more}
 use Rattle.lowering_meaning.proofs.Inside.{inner, nodes-are, placed-inside, Gives, graph-gives, own-carry}
-use Rattle.lowering_meaning.proofs.Forms.{Typed, of-length, Draws, Runs, Drawn, drawn-as, step-drawn, nil-drawn, cons-drawn}
+use Rattle.lowering_meaning.proofs.Forms.{ports-wired, Typed, of-length, Draws, Runs, Drawn, drawn-as, step-drawn, nil-drawn, cons-drawn}
 use Rattle.lowering_meaning.proofs.Ifs.{node-from}
 use Rattle.lowering_meaning.proofs.Nodes.{row-done}
 use Rattle.lowering_meaning.proofs.Timed.{given-is}
@@ -109,22 +109,22 @@ stubs-mean (n ∷ ns) names =
     counted : (k : ℕ) → 1 + 0 + (k + 0 + 0) ≡ suc k + 0
     counted k = omega arith
 
-module _ (u : Network) (number : ℕ → ℕ) (shape : ℕ → ℕ → Simple → Shape) where
-  stub-drawn : (γ : List Ty) (t : ℕ) → Drawn u number shape γ 1 0 (stub t) stub_means
+module _ (u : Network) (number : ℕ → ℕ) (shape : ℕ → ℕ → Simple → Shape) (forms : List Form) (spellings : List (List ℕ)) where
+  stub-drawn : (γ : List Ty) (t : ℕ) → Drawn u number shape forms spellings γ 1 0 (stub t) stub_means
   stub-drawn γ t =
-      step-drawn u number shape γ (stub t) (λ names. given (val.Err cause.Explicit ∷ []))
+      step-drawn u number shape forms spellings γ (stub t) (λ names. given (val.Err cause.Explicit ∷ []))
       (record {
         free = λ env k q. node-from env (Row simple.Error) [] 1 (One t ∷ []) k q tt;
         runs = λ names vs i o e. record {
           limit = 1;
           bound = omega arith;
-          draws = λ s k q env a pl. subst (λ ws. Done u number shape s k (stub t env k q) ws 1) (given-is (val.Err cause.Explicit ∷ []) vs i e).0 (row-done u number shape s k q simple.Error [] t [] (val.Err cause.Explicit) refl pl tt);
+          draws = λ s k q env w a pl. subst (λ ws. Done u number shape s k (stub t env k q) ws 1) (given-is (val.Err cause.Explicit ∷ []) vs i e).0 (row-done u number shape s k q simple.Error [] t [] (val.Err cause.Explicit) refl pl tt);
         };
       })
 
-  stubs-drawn : (γ : List Ty) (ns : List ℕ) → Drawn u number shape γ (length ns) 0 (all_lowered (map stub ns)) (all_of (map (λ n. stub_means) ns))
-  stubs-drawn γ [] = nil-drawn u number shape γ
-  stubs-drawn γ (n ∷ ns) = cons-drawn u number shape γ (length ns) (stub n) (map stub ns) stub_means (map (λ n. stub_means) ns) (stub-drawn γ n) (stubs-drawn γ ns)
+  stubs-drawn : (γ : List Ty) (ns : List ℕ) → Drawn u number shape forms spellings γ (length ns) 0 (all_lowered (map stub ns)) (all_of (map (λ n. stub_means) ns))
+  stubs-drawn γ [] = nil-drawn u number shape forms spellings γ
+  stubs-drawn γ (n ∷ ns) = cons-drawn u number shape forms spellings γ (length ns) (stub n) (map stub ns) stub_means (map (λ n. stub_means) ns) (stub-drawn γ n) (stubs-drawn γ ns)
 
 module _ (u : Network) (number : ℕ → ℕ) (shape : ℕ → ℕ → Simple → Shape) (forms : List Form) (spellings : List (List ℕ)) (hs : List Header) (p : List Function) (cover : Coverage) where
   abbrev pub made : ℕ → Function → Lowered
@@ -157,14 +157,14 @@ module _ (u : Network) (number : ℕ → ℕ) (shape : ℕ → ℕ → Simple �
 
     -- what the results of a function give on its arguments, its graph gives
     graph-drawn : (f : ℕ) (h : Header) (d : Function) (γ : List Ty) (slack : ℕ) (k : Means) (vs rs : List Val) (j : ℕ) → slice_get p f ≡ Some d → AreNumbers forms spellings d.params h.params → AreOf h.params vs
-        → Drawn u number shape h.params slack 0 (all_lowered (bodies forms d.body d.results)) k → k vs ≡ Some (rs, j) → Gives u number shape (number f) (map Value vs) (map Value rs) (8 * j)
+        → Drawn u number shape forms spellings h.params slack 0 (all_lowered (bodies forms d.body d.results)) k → k vs ≡ Some (rs, j) → Gives u number shape (number f) (map Value vs) (map Value rs) (8 * j)
     graph-drawn f h d γ slack k vs rs j there n o dr e =
         let s = at_function f vs in
         let m = made f d in
         let r = dr.runs vs rs j o e in
         let w = there-in f d (dr.free (env_of d) 0 (suc (number f))) in
         let at = stand f d there in
-        let done = r.draws s 0 (suc (number f)) (env_of d) (params-carry f h d vs n o) (placed-inside u number shape s m at.net at.graphs (left-wires (IsThere []) (used m.nodes) m.values w)) in
+        let done = r.draws s 0 (suc (number f)) (env_of d) (ports-wired forms spellings 0 1 d.params h.params n) (params-carry f h d vs n o) (placed-inside u number shape s m at.net at.graphs (left-wires (IsThere []) (used m.nodes) m.values w)) in
         graph-gives u number shape s m (map Value rs) (8 * j) at.net (right-wires (IsThere []) (used m.nodes) m.values w) (done-made u number shape s 0 m rs (8 * j) (done-more u number shape s 0 m rs r.limit (8 * j) done (omega (arith, r.bound))))
 
     pub calls-drawn : (n : ℕ) → CallsDrawn u number shape forms spellings hs p cover n
@@ -178,15 +178,15 @@ module _ (u : Network) (number : ℕ → ℕ) (shape : ℕ → ℕ → Simple �
             let given : all_of (map (λ n. stub_means) d.results) vs ≡ Some (rs, j) =
             stubs-mean d.results vs ∙ sym (ap (λ x. function_gives x (meaning n p) vs) at ∙ ap (λ b. results_of (length d.results) b (meaning n p) vs) eb) ∙ e in
             graph-drawn f h d h.params (length d.results) (all_of (map (λ n. stub_means) d.results)) vs rs j at fits.params o
-            (subst (λ b. Drawn u number shape h.params (length d.results) 0 (all_lowered (bodies forms b d.results)) (all_of (map (λ n. stub_means) d.results))) (sym eb) (stubs-drawn u number shape h.params d.results)) given
+            (subst (λ b. Drawn u number shape forms spellings h.params (length d.results) 0 (all_lowered (bodies forms b d.results)) (all_of (map (λ n. stub_means) d.results))) (sym eb) (stubs-drawn u number shape forms spellings h.params d.results)) given
         by c d at fits (Some es) eb =
             let given : all_of (map (meaning n p) es) vs ≡ Some (rs, j) =
             sym (ap (λ x. function_gives x (meaning n p) vs) at ∙ ap (λ b. results_of (length d.results) b (meaning n p) vs) eb) ∙ e in
             let body = subst (λ b. BodyFits (AreNumbers forms spellings) hs h b) eb fits.body in
             let dr = trees.all-drawn u number shape forms spellings hs p cover sound sound-calls laws n c h.params es h.results body (covers f d es at eb) in
             graph-drawn f h d h.params (length (map (phrase forms) es)) (all_of (map (meaning n p) es)) vs rs j at fits.params o
-            (subst (λ b. Drawn u number shape h.params (length (map (phrase forms) es)) 0 (all_lowered (bodies forms b d.results)) (all_of (map (meaning n p) es))) (sym eb)
-            (subst (λ gs. Drawn u number shape h.params (length (map (phrase forms) es)) 0 (all_lowered gs) (all_of (map (meaning n p) es))) (sym (bodies-are forms es)) dr)) given
+            (subst (λ b. Drawn u number shape forms spellings h.params (length (map (phrase forms) es)) 0 (all_lowered (bodies forms b d.results)) (all_of (map (meaning n p) es))) (sym eb)
+            (subst (λ gs. Drawn u number shape forms spellings h.params (length (map (phrase forms) es)) 0 (all_lowered gs) (all_of (map (meaning n p) es))) (sym (bodies-are forms es)) dr)) given
 
     module _ (reads : FormsRead u number shape forms spellings hs p cover) where
       abbrev Called : ℕ → Type 0
@@ -212,10 +212,10 @@ module _ (u : Network) (number : ℕ → ℕ) (shape : ℕ → ℕ → Simple �
               let free : MadeFrom (env_of d) m1 = subst (λ (g : Lowers). MadeFrom (env_of d) (g (env_of d) 0 (suc (number f)))) (sym same) (dr.free (env_of d) 0 (suc (number f))) in
               let pl = placed-inside u number shape s m1 here.net here.graphs (left-wires (IsThere []) (used m1.nodes) m1.values (there-in f d free)) in
               let fires = subst (λ ns. NodesFire u m (number f) (map Value args) ns c) (nodes-are u number shape s m1 here.net) fire in
-              let read = subst (λ (g : Lowers). Reads u number shape m g args (λ j. all_of (map (meaning j p) es) args)) (sym same)
+              let read = subst (λ (g : Lowers). Reads u number shape forms spellings m h.params g args (λ j. all_of (map (meaning j p) es) args)) (sym same)
               (reading.all-read u number shape forms spellings hs p cover sound sound-calls laws reads calls-drawn h.params es h.results body (covers f d es at eb) m r args o) in
               yield-deeper _ _ (λ j. ap (λ x. function_gives x (meaning j p) args) at ∙ ap (λ b. results_of (length d.results) b (meaning j p) args) eb)
-              (read s 0 (suc (number f)) (env_of d) c (params-carry f h d args fits.params o) pl fires)
+              (read s 0 (suc (number f)) (env_of d) c (ports-wired forms spellings 0 1 d.params h.params fits.params) (params-carry f h d args fits.params o) pl fires)
 
       below : (m : ℕ) → CallsRead u number shape forms spellings hs p cover m
       below zero l le = absurd (omega (arith, le))

@@ -14,6 +14,7 @@ use Rattle.if1_graph.specs.declared.op.Simple.{Simple}
 use Rattle.if1_graph.specs.declared.op.Simple.TheVariants as simple
 use Rattle.if1_graph.specs.declared.op.Compound.{Compound}
 use Rattle.if1_graph.specs.declared.op.Compound.TheVariants as compound
+use Rattle.type_table.specs.declared.form.Form.{Form}
 use Rattle.typed_rows.specs.Rows.{Of, AreOf}
 use Rattle.typed_rows.proofs.Scalars.{with_one}
 use Rattle.typed_rows.proofs.ValueKinds.{BoolKind, a_bool, no_bool, as_bool, out_bool, out_err}
@@ -41,7 +42,7 @@ use Rattle.lowering_meaning.proofs.Sites.{Site, AllCarry, Placed, Done, done-bot
 use Rattle.lowering_meaning.proofs.Inside.{Gives, PartAt, part-at}
 use Rattle.lowering_meaning.proofs.Nodes.{row-done, values-of}
 use Rattle.lowering_meaning.proofs.Choices.{Goes, goes-select, goes-failed}
-use Rattle.lowering_meaning.proofs.Forms.{Typed, of-length, from-both, values-from, Free, Draws, Runs, Drawn}
+use Rattle.lowering_meaning.proofs.Forms.{WiresOf, wires-into, Typed, of-length, from-both, values-from, Free, Draws, Runs, Drawn}
 use Rattle.lowering_meaning.proofs.Parts.{at_part, Part, part, part-gives, Around, around, used-there, the_form, whole-done}
 
 -- ---- what a node uses
@@ -119,13 +120,13 @@ module _ (ts us vs : List Lowers) (ns : List ℕ) where
   pub if-free : Free (all_lowered ts) → Free (all_lowered us) → Free (all_lowered vs) → Free the_if
   if-free ft fu fv env k q = whole-from env compound.Select (graphs q env) (arms q env) 0 ns k q (graphs-from q env ft fu fv)
 
-  module _ (u : Network) (number : ℕ → ℕ) (shape : ℕ → ℕ → Simple → Shape) where
+  module _ (u : Network) (number : ℕ → ℕ) (shape : ℕ → ℕ → Simple → Shape) (forms : List Form) (spellings : List (List ℕ)) where
     number-one : (b : Bool) → op_value (operation.Unary unary.Int) (val.Bool b ∷ []) ≡ val.Int (pos (if b then 1 else 0))
     number-one true = refl
     number-one false = refl
 
     -- where an `if` stands
-    module _ (s : Site) (k q : ℕ) (env : List Wire) (names : List Val) (a : AllCarry u number shape s env names) (pl : Placed u number shape s k q (the_if env k q))
+    module _ (γ : List Ty) (s : Site) (k q : ℕ) (env : List Wire) (names : List Val) (e : WiresOf forms spellings γ env) (a : AllCarry u number shape s env names) (pl : Placed u number shape s k q (the_if env k q))
         (ft : Free (all_lowered ts)) (fu : Free (all_lowered us)) (fv : Free (all_lowered vs)) where
       abbrev pub ks : List Wire
       ks = inputs (graphs q env)
@@ -163,45 +164,45 @@ module _ (ts us vs : List Lowers) (ns : List ℕ) where
       gives-as g rs limit h = subst (λ i. Gives u number shape g i rs limit) (append-nil ins) h
 
       -- the test of a choice: the node that makes a number of it
-      pub selects : (v : Val) (limit : ℕ) → Draws u number shape (all_lowered ts) names (v ∷ []) limit → Gives u number shape q ins (Value (op_value (operation.Unary unary.Int) (v ∷ [])) ∷ []) (limit + 1)
+      pub selects : (v : Val) (limit : ℕ) → Draws u number shape forms spellings γ (all_lowered ts) names (v ∷ []) limit → Gives u number shape q ins (Value (op_value (operation.Unary unary.Int) (v ∷ [])) ∷ []) (limit + 1)
       selects v limit d =
           let p = test-part-is in
           let t = at_part u number shape q ks here.values [] in
           let x = tested q env in
           let y = numbered q env in
-          let z = d t 0 (suc q) (map into env) p.carry (placed-left u number shape t 0 (suc q) x y p.placed) in
+          let z = d t 0 (suc q) (map into env) (wires-into forms spellings γ env e) p.carry (placed-left u number shape t 0 (suc q) x y p.placed) in
           let r = row-done u number shape t (0 + length x.nodes) (suc q + length x.graphs) (simple.One unary.Int) x.values integer (map Value (v ∷ [])) (op_value (operation.Unary unary.Int) (v ∷ [])) refl
           (placed-right u number shape t 0 (suc q) x y p.placed) (as-carried u number shape t x.values (v ∷ []) z.held) in
           gives-as q _ (limit + 1) (part-gives u number shape (m0 q env) _ (limit + 1) p (done-made u number shape t 0 (m0 q env) (op_value (operation.Unary unary.Int) (v ∷ []) ∷ []) (limit + 1) (done-both u number shape t 0 x y (v ∷ []) _ limit 1 z r)))
 
-      pub other-gives : (rs : List Val) (limit : ℕ) → Draws u number shape (all_lowered vs) names rs limit → Gives u number shape (q + size (m0 q env)) ins (map Value rs) limit
+      pub other-gives : (rs : List Val) (limit : ℕ) → Draws u number shape forms spellings γ (all_lowered vs) names rs limit → Gives u number shape (q + size (m0 q env)) ins (map Value rs) limit
       other-gives rs limit d =
           let p = other-part-is in
           let g = q + size (m0 q env) in
           let t = at_part u number shape g ks here.values [] in
-          gives-as g (map Value rs) limit (part-gives u number shape (m1 q env) _ limit p (done-made u number shape t 0 (m1 q env) rs limit (d t 0 (suc g) (map into env) p.carry p.placed)))
+          gives-as g (map Value rs) limit (part-gives u number shape (m1 q env) _ limit p (done-made u number shape t 0 (m1 q env) rs limit (d t 0 (suc g) (map into env) (wires-into forms spellings γ env e) p.carry p.placed)))
 
-      pub arm-gives : (rs : List Val) (limit : ℕ) → Draws u number shape (all_lowered us) names rs limit → Gives u number shape (q + size (m0 q env) + size (m1 q env)) ins (map Value rs) limit
+      pub arm-gives : (rs : List Val) (limit : ℕ) → Draws u number shape forms spellings γ (all_lowered us) names rs limit → Gives u number shape (q + size (m0 q env) + size (m1 q env)) ins (map Value rs) limit
       arm-gives rs limit d =
           let p = arm-part-is in
           let g = q + size (m0 q env) + size (m1 q env) in
           let t = at_part u number shape g ks here.values [] in
-          gives-as g (map Value rs) limit (part-gives u number shape (m2 q env) _ limit p (done-made u number shape t 0 (m2 q env) rs limit (d t 0 (suc g) (map into env) p.carry p.placed)))
+          gives-as g (map Value rs) limit (part-gives u number shape (m2 q env) _ limit p (done-made u number shape t 0 (m2 q env) rs limit (d t 0 (suc g) (map into env) (wires-into forms spellings γ env e) p.carry p.placed)))
 
       if-done : (rs : List Val) (limit : ℕ) → length ns ≡ length rs
           → Goes u number shape (the_form u number shape compound.Select q (graphs q env) (arms q env) 0 ns) ins (form.next_of (form.first (the_form u number shape compound.Select q (graphs q env) (arms q env) 0 ns) ins)) (map Value rs) limit
           → Done u number shape s k (the_if env k q) rs (1 + limit)
       if-done rs limit l g = whole-done u number shape s k q compound.Select (graphs q env) (arms q env) 0 ns here rs limit pl l g
 
-      pub if-true : (rs : List Val) (i j : ℕ) → length ns ≡ length rs → Draws u number shape (all_lowered ts) names (val.Bool true ∷ []) i → Draws u number shape (all_lowered us) names rs j → Done u number shape s k (the_if env k q) rs (1 + (i + 1 + (j + 0)))
+      pub if-true : (rs : List Val) (i j : ℕ) → length ns ≡ length rs → Draws u number shape forms spellings γ (all_lowered ts) names (val.Bool true ∷ []) i → Draws u number shape forms spellings γ (all_lowered us) names rs j → Done u number shape s k (the_if env k q) rs (1 + (i + 1 + (j + 0)))
       if-true rs i j l dt du =
           if-done rs _ l (goes-select u number shape q _ _ (length ns) ins _ _ 1 rs (i + 1) j (number-one true) refl (selects (val.Bool true) i dt) (arm-gives rs j du))
 
-      pub if-false : (rs : List Val) (i j : ℕ) → length ns ≡ length rs → Draws u number shape (all_lowered ts) names (val.Bool false ∷ []) i → Draws u number shape (all_lowered vs) names rs j → Done u number shape s k (the_if env k q) rs (1 + (i + 1 + (j + 0)))
+      pub if-false : (rs : List Val) (i j : ℕ) → length ns ≡ length rs → Draws u number shape forms spellings γ (all_lowered ts) names (val.Bool false ∷ []) i → Draws u number shape forms spellings γ (all_lowered vs) names rs j → Done u number shape s k (the_if env k q) rs (1 + (i + 1 + (j + 0)))
       if-false rs i j l dt dv =
           if-done rs _ l (goes-select u number shape q _ _ (length ns) ins _ _ 0 rs (i + 1) j (number-one false) refl (selects (val.Bool false) i dt) (other-gives rs j dv))
 
-      pub if-failed : (c : Cause) (i : ℕ) → length ns ≡ length (failed (length ns) c) → Draws u number shape (all_lowered ts) names (val.Err c ∷ []) i → Done u number shape s k (the_if env k q) (failed (length ns) c) (1 + (i + 1 + 0))
+      pub if-failed : (c : Cause) (i : ℕ) → length ns ≡ length (failed (length ns) c) → Draws u number shape forms spellings γ (all_lowered ts) names (val.Err c ∷ []) i → Done u number shape s k (the_if env k q) (failed (length ns) c) (1 + (i + 1 + 0))
       if-failed c i l dt = if-done (failed (length ns) c) _ l (goes-failed u number shape q _ _ (length ns) ins _ c (i + 1) refl (selects (val.Err c) i dt))
 
     failed-length : (n : ℕ) (c : Cause) → n ≡ length (failed n c)
@@ -209,28 +210,28 @@ module _ (ts us vs : List Lowers) (ns : List ℕ) where
     failed-length (suc n) c = ap suc (failed-length n c)
 
     -- an `if` whose parts are drawn
-    pub if-drawn : (γ tys : List Ty) (i j k : ℕ) (ht hu hv : Means) → Drawn u number shape γ i 0 (all_lowered ts) ht → Typed γ ht (ty.Bool ∷ [])
-        → Drawn u number shape γ j 0 (all_lowered us) hu → Typed γ hu tys → Drawn u number shape γ k 0 (all_lowered vs) hv → Typed γ hv tys → length ns ≡ length tys
-        → Drawn u number shape γ 0 7 the_if (λ names. andthen (ht names) (λ tv. chosen (length ns) (test_of tv) (hu names) (hv names)))
+    pub if-drawn : (γ tys : List Ty) (i j k : ℕ) (ht hu hv : Means) → Drawn u number shape forms spellings γ i 0 (all_lowered ts) ht → Typed γ ht (ty.Bool ∷ [])
+        → Drawn u number shape forms spellings γ j 0 (all_lowered us) hu → Typed γ hu tys → Drawn u number shape forms spellings γ k 0 (all_lowered vs) hv → Typed γ hv tys → length ns ≡ length tys
+        → Drawn u number shape forms spellings γ 0 7 the_if (λ names. andthen (ht names) (λ tv. chosen (length ns) (test_of tv) (hu names) (hv names)))
     if-drawn γ tys i j k ht hu hv dt tt' du tu dv tv l = record {
       free = if-free dt.free du.free dv.free;
       runs = λ names rs n o e.
           let x = then-some (ht names) (λ tv. chosen (length ns) (test_of tv) (hu names) (hv names)) rs n e in
           let t = one-test x.mid (tt' names x.mid x.j o x.first) in
           let r = dt.runs names x.mid x.j o x.first in
-          cases names rs n o x.j x.k x.sum t.value r.limit r.bound (subst (λ w. Draws u number shape (all_lowered ts) names w r.limit) t.is r.draws)
+          cases names rs n o x.j x.k x.sum t.value r.limit r.bound (subst (λ w. Draws u number shape forms spellings γ (all_lowered ts) names w r.limit) t.is r.draws)
           (subst (λ w. chosen (length ns) (test_of w) (hu names) (hv names) ≡ Some (rs, x.k)) t.is x.second) t.kind;
     }
       where
-        cases : (names rs : List Val) (n : ℕ) → AreOf γ names → (a b : ℕ) → a + b ≡ n → (v : Val) (lt : ℕ) → i + lt ≤ 0 + 8 * a → Draws u number shape (all_lowered ts) names (v ∷ []) lt
-            → chosen (length ns) (test_of (v ∷ [])) (hu names) (hv names) ≡ Some (rs, b) → BoolKind v → Runs u number shape the_if names rs 0 (7 + 8 * n)
+        cases : (names rs : List Val) (n : ℕ) → AreOf γ names → (a b : ℕ) → a + b ≡ n → (v : Val) (lt : ℕ) → i + lt ≤ 0 + 8 * a → Draws u number shape forms spellings γ (all_lowered ts) names (v ∷ []) lt
+            → chosen (length ns) (test_of (v ∷ [])) (hu names) (hv names) ≡ Some (rs, b) → BoolKind v → Runs u number shape forms spellings γ the_if names rs 0 (7 + 8 * n)
         cases names rs n o a b e _ lt le d f (a_bool true) =
             let h : hu names ≡ Some (rs, b) = subst (λ w. chosen (length ns) w (hu names) (hv names) ≡ Some (rs, b)) (bool-says true) f in
             let r = du.runs names rs b o h in
             record {
               limit = 1 + (lt + 1 + (r.limit + 0));
               bound = omega (arith, le, r.bound, e);
-              draws = λ s k q env c pl. if-true s k q env names c pl dt.free du.free dv.free rs lt r.limit (l ∙ of-length tys rs (tu names rs b o h)) d r.draws;
+              draws = λ s k q env w c pl. if-true γ s k q env names w c pl dt.free du.free dv.free rs lt r.limit (l ∙ of-length tys rs (tu names rs b o h)) d r.draws;
             }
         cases names rs n o a b e _ lt le d f (a_bool false) =
             let h : hv names ≡ Some (rs, b) = subst (λ w. chosen (length ns) w (hu names) (hv names) ≡ Some (rs, b)) (bool-says false) f in
@@ -238,7 +239,7 @@ module _ (ts us vs : List Lowers) (ns : List ℕ) where
             record {
               limit = 1 + (lt + 1 + (r.limit + 0));
               bound = omega (arith, le, r.bound, e);
-              draws = λ s k q env c pl. if-false s k q env names c pl dt.free du.free dv.free rs lt r.limit (l ∙ of-length tys rs (tv names rs b o h)) d r.draws;
+              draws = λ s k q env w c pl. if-false γ s k q env names w c pl dt.free du.free dv.free rs lt r.limit (l ∙ of-length tys rs (tv names rs b o h)) d r.draws;
             }
         cases names rs n o a b e _ lt le d f (no_bool c) =
             let h : given (failed (length ns) c) ≡ Some (rs, b) = subst (λ w. chosen (length ns) w (hu names) (hv names) ≡ Some (rs, b)) (error-says c) f in
@@ -246,5 +247,5 @@ module _ (ts us vs : List Lowers) (ns : List ℕ) where
             record {
               limit = 1 + (lt + 1 + 0);
               bound = omega (arith, le, e);
-              draws = λ s k q env x pl. subst (λ w. Done u number shape s k (the_if env k q) w (1 + (lt + 1 + 0))) z.0 (if-failed s k q env names x pl dt.free du.free dv.free c lt (failed-length (length ns) c) d);
+              draws = λ s k q env y x pl. subst (λ w. Done u number shape s k (the_if env k q) w (1 + (lt + 1 + 0))) z.0 (if-failed γ s k q env names y x pl dt.free du.free dv.free c lt (failed-length (length ns) c) d);
             }

@@ -14,11 +14,13 @@ pub mod ReadForms
 pub mod IfReads
 pub mod Layers
 pub mod Widths
+pub mod WireTypes
 pub mod Trees
 pub mod TreeReads
 pub mod Nots
 pub mod GenForms
 pub mod ReturnForms
+pub mod GenTypes
 pub mod Products
 pub mod ProductReads
 pub mod Shapes

@@ -32,7 +32,7 @@ use Rattle.lowering_meaning.proofs.Timed.{then-some, given-is, Yield}
 use Rattle.lowering_meaning.proofs.Wires.{AllWires, FromNames}
 use Rattle.lowering_meaning.proofs.Sites.{Site, AllCarry, Placed, Done, done-both, placed-left, placed-right, firings-first, as-carried}
 use Rattle.lowering_meaning.proofs.Nodes.{row-done}
-use Rattle.lowering_meaning.proofs.Forms.{Typed, of-length, Drawn, RunsOn, DrawnOn, then-drawn, on-drawn, nil-drawn, join-drawn, drawn-when, less-drawn, from-fewer, from-both, values-from}
+use Rattle.lowering_meaning.proofs.Forms.{Wired, Typed, of-length, Drawn, RunsOn, DrawnOn, then-drawn, on-drawn, nil-drawn, join-drawn, drawn-when, less-drawn, from-fewer, from-both, values-from}
 use Rattle.lowering_meaning.proofs.Ifs.{node-from}
 use Rattle.lowering_meaning.proofs.Widths.{Wide, length-ones}
 use Rattle.lowering_meaning.proofs.ReadForms.{FiresAt, Read, nil-read, cons-read}
@@ -101,7 +101,7 @@ single (t ∷ s ∷ tys) vs l o = absurd (omega (arith, l))
 rebuilt : (h t : Timed (List Val)) (v w : List Val) (a b : ℕ) → h ≡ Some (v, a) → t ≡ Some (w, b) → andthen h (λ vs. andthen t (λ ws. given (vs ++ ws))) ≡ Some (v ++ w, a + (b + 0))
 rebuilt h t v w a b e f = ap (λ o. andthen o (λ vs. andthen t (λ ws. given (vs ++ ws)))) e ∙ ap (λ o. plus a (andthen o (λ ws. given (v ++ ws)))) f
 
-module _ (u : Network) (number : ℕ → ℕ) (shape : ℕ → ℕ → Simple → Shape) where
+module _ (u : Network) (number : ℕ → ℕ) (shape : ℕ → ℕ → Simple → Shape) (forms : List Form) (spellings : List (List ℕ)) where
   -- ---- a Not
 
   abbrev the_not : List Wire → Lowering
@@ -113,7 +113,7 @@ module _ (u : Network) (number : ℕ → ℕ) (shape : ℕ → ℕ → Simple �
       subst (λ vs. Done u number shape s k (the_not ws k q) (nots vs) 1) (sym x.1)
       (row-done u number shape s k q (simple.One unary.Not) ws boolean (Value x.0 ∷ []) (op_value (operation.Unary unary.Not) (x.0 ∷ [])) refl pl (as-carried u number shape s ws (x.0 ∷ []) (subst (λ vs. AllCarry u number shape s ws vs) x.1 a)))
 
-  pub not-drawn : (γ tys : List Ty) (g : Lowers) (k : Means) → Drawn u number shape γ 1 0 g k → Typed γ k tys → length tys ≡ 1 → Drawn u number shape γ 0 0 (with_not g) (not_means k)
+  pub not-drawn : (γ tys : List Ty) (g : Lowers) (k : Means) → Drawn u number shape forms spellings γ 1 0 g k → Typed γ k tys → length tys ≡ 1 → Drawn u number shape forms spellings γ 0 0 (with_not g) (not_means k)
   not-drawn γ tys g k d t l = record {
     free = λ env n q.
         let m = g env n q in
@@ -126,10 +126,10 @@ module _ (u : Network) (number : ℕ → ℕ) (shape : ℕ → ℕ → Simple �
         record {
           limit = r.limit + 1;
           bound = omega (arith, r.bound, x.sum);
-          draws = λ s n q env c pl.
+          draws = λ s n q env e0 c pl.
               let m = g env n q in
               let w = the_not m.values (n + length m.nodes) (q + length m.graphs) in
-              let a = r.draws s n q env c (placed-left u number shape s n q m w pl) in
+              let a = r.draws s n q env e0 c (placed-left u number shape s n q m w pl) in
               subst (λ vs. Done u number shape s n (with_not g env n q) vs (r.limit + 1)) z.0
               (done-both u number shape s n m w x.mid (nots x.mid) r.limit 1 a (not-done s (n + length m.nodes) (q + length m.graphs) m.values x.mid tys l (t names x.mid x.j o x.first) a.held (placed-right u number shape s n q m w pl)));
         };
@@ -147,11 +147,11 @@ module _ (u : Network) (number : ℕ → ℕ) (shape : ℕ → ℕ → Simple �
 
   -- ---- clauses, forward
 
-  none-drawn : (γ : List Ty) (bs : List Bool) (gs : List Phrase) (ks : List Means) → EachD γ gs ks → no_true bs ≡ true → Drawn u number shape γ 0 0 (all_lowered (clauses_lowered bs (each gs))) (noted_means bs ks)
+  none-drawn : (γ : List Ty) (bs : List Bool) (gs : List Phrase) (ks : List Means) → EachD γ gs ks → no_true bs ≡ true → Drawn u number shape forms spellings γ 0 0 (all_lowered (clauses_lowered bs (each gs))) (noted_means bs ks)
   none-drawn γ bs gs ks d n =
-      subst (λ fs. Drawn u number shape γ 0 0 (all_lowered fs) (noted_means bs ks)) (sym (none-lowered bs (each gs) n))
-      (drawn-when u number shape γ 0 0 (all_lowered (each gs)) (all_of ks) (noted_means bs ks)
-      (less-drawn u number shape γ (length gs) 0 0 0 (all_lowered (each gs)) (all_of ks) (omega arith) (omega arith) (each-all u number shape forms spellings hs p cover γ gs ks d))
+      subst (λ fs. Drawn u number shape forms spellings γ 0 0 (all_lowered fs) (noted_means bs ks)) (sym (none-lowered bs (each gs) n))
+      (drawn-when u number shape forms spellings γ 0 0 (all_lowered (each gs)) (all_of ks) (noted_means bs ks)
+      (less-drawn u number shape forms spellings γ (length gs) 0 0 0 (all_lowered (each gs)) (all_of ks) (omega arith) (omega arith) (each-all u number shape forms spellings hs p cover γ gs ks d))
       (λ names vs i o e.
       let x = then-some (all_of ks names) (λ row. given (noted bs row)) vs i e in
       let z = given-is (noted bs x.mid) vs x.k x.second in
@@ -184,24 +184,24 @@ module _ (u : Network) (number : ℕ → ℕ) (shape : ℕ → ℕ → Simple �
       count : (a b c d e i f : ℕ) → e + d ≡ i → a + f ≡ e → b + c ≡ f → 0 ≡ c → 0 ≡ d → a + 0 + (b + 0 + 0) ≡ i
       count a b c d e i f x y z m g = omega (arith, x, y, z, m, g)
 
-  ones-drawn : (γ : List Ty) (bs : List Bool) (gs : List Phrase) (ks : List Means) (cs : List ℕ) → EachD γ gs ks → EachO γ gs ks cs → all_one cs ≡ true → Drawn u number shape γ 0 0 (all_lowered (clauses_lowered bs (each gs))) (noted_means bs ks)
+  ones-drawn : (γ : List Ty) (bs : List Bool) (gs : List Phrase) (ks : List Means) (cs : List ℕ) → EachD γ gs ks → EachO γ gs ks cs → all_one cs ≡ true → Drawn u number shape forms spellings γ 0 0 (all_lowered (clauses_lowered bs (each gs))) (noted_means bs ks)
   ones-drawn γ [] gs ks cs d o h = none-drawn γ [] gs ks d refl
   ones-drawn γ (b ∷ bs) [] [] cs d o h =
-      drawn-when u number shape γ 0 0 (all_lowered []) (all_of []) (noted_means (b ∷ bs) []) (nil-drawn u number shape γ) (λ names vs i o e. e)
+      drawn-when u number shape forms spellings γ 0 0 (all_lowered []) (all_of []) (noted_means (b ∷ bs) []) (nil-drawn u number shape forms spellings γ) (λ names vs i o e. e)
   ones-drawn γ (b ∷ bs) (g ∷ gs) (k ∷ ks) (c ∷ cs) d o h =
       let one = and-both (nat_eq c 1) (all_one cs) h in
       let t = o.0.0 in
       let l : length t.0 ≡ 1 = t.2 ∙ is-one c one.0 in
       by b t.0 t.1 l (ones-drawn γ bs gs ks cs d.1 o.1 one.1)
     where
-      by : (b : Bool) (tys : List Ty) → Typed γ k tys → length tys ≡ 1 → Drawn u number shape γ 0 0 (all_lowered (clauses_lowered bs (each gs))) (noted_means bs ks) → Drawn u number shape γ 0 0 (all_lowered (clauses_lowered (b ∷ bs) (each (g ∷ gs)))) (noted_means (b ∷ bs) (k ∷ ks))
+      by : (b : Bool) (tys : List Ty) → Typed γ k tys → length tys ≡ 1 → Drawn u number shape forms spellings γ 0 0 (all_lowered (clauses_lowered bs (each gs))) (noted_means bs ks) → Drawn u number shape forms spellings γ 0 0 (all_lowered (clauses_lowered (b ∷ bs) (each (g ∷ gs)))) (noted_means (b ∷ bs) (k ∷ ks))
       by true tys t l rest =
-          drawn-when u number shape γ 0 0 (all_lowered (with_not g.lowers ∷ clauses_lowered bs (each gs))) (λ names. andthen (not_means k names) (λ vs. andthen (noted_means bs ks names) (λ ws. given (vs ++ ws)))) (noted_means (true ∷ bs) (k ∷ ks))
-          (join-drawn u number shape γ 0 0 (with_not g.lowers) (clauses_lowered bs (each gs)) (not_means k) (noted_means bs ks) (not-drawn u number shape γ tys g.lowers k d.0 t l) rest)
+          drawn-when u number shape forms spellings γ 0 0 (all_lowered (with_not g.lowers ∷ clauses_lowered bs (each gs))) (λ names. andthen (not_means k names) (λ vs. andthen (noted_means bs ks names) (λ ws. given (vs ++ ws)))) (noted_means (true ∷ bs) (k ∷ ks))
+          (join-drawn u number shape forms spellings γ 0 0 (with_not g.lowers) (clauses_lowered bs (each gs)) (not_means k) (noted_means bs ks) (not-drawn u number shape forms spellings γ tys g.lowers k d.0 t l) rest)
           (first-noted γ tys true bs k ks (not_means k) t l (λ names v a e. ap (λ r. andthen r (λ vs. given (nots vs))) e))
       by false tys t l rest =
-          drawn-when u number shape γ 0 0 (all_lowered (g.lowers ∷ clauses_lowered bs (each gs))) (λ names. andthen (k names) (λ vs. andthen (noted_means bs ks names) (λ ws. given (vs ++ ws)))) (noted_means (false ∷ bs) (k ∷ ks))
-          (join-drawn u number shape γ 0 0 g.lowers (clauses_lowered bs (each gs)) k (noted_means bs ks) (less-drawn u number shape γ 1 0 0 0 g.lowers k (omega arith) (omega arith) d.0) rest)
+          drawn-when u number shape forms spellings γ 0 0 (all_lowered (g.lowers ∷ clauses_lowered bs (each gs))) (λ names. andthen (k names) (λ vs. andthen (noted_means bs ks names) (λ ws. given (vs ++ ws)))) (noted_means (false ∷ bs) (k ∷ ks))
+          (join-drawn u number shape forms spellings γ 0 0 g.lowers (clauses_lowered bs (each gs)) k (noted_means bs ks) (less-drawn u number shape forms spellings γ 1 0 0 0 g.lowers k (omega arith) (omega arith) d.0) rest)
           (first-noted γ tys false bs k ks k t l (λ names v a e. e ∙ ap (λ n. Some (v ∷ [], n)) (plus-none a)))
         where
           plus-none : (a : ℕ) → a ≡ a + 0
@@ -211,44 +211,44 @@ module _ (u : Network) (number : ℕ → ℕ) (shape : ℕ → ℕ → Simple �
   ones-drawn γ (b ∷ bs) (g ∷ gs) (k ∷ ks) [] d o h = absurd o
 
   pub clauses-drawn : (γ : List Ty) (bs : List Bool) (gs : List Phrase) (ks : List Means) (cs : List ℕ) → EachD γ gs ks → EachO γ gs ks cs → (no_true bs || all_one cs) ≡ true
-      → Drawn u number shape γ 0 0 (all_lowered (clauses_lowered bs (each gs))) (noted_means bs ks)
+      → Drawn u number shape forms spellings γ 0 0 (all_lowered (clauses_lowered bs (each gs))) (noted_means bs ks)
   clauses-drawn γ bs gs ks cs d o h = by (or-one (no_true bs) (all_one cs) h)
     where
-      by : (no_true bs ≡ true) ⊎ (all_one cs ≡ true) → Drawn u number shape γ 0 0 (all_lowered (clauses_lowered bs (each gs))) (noted_means bs ks)
+      by : (no_true bs ≡ true) ⊎ (all_one cs ≡ true) → Drawn u number shape forms spellings γ 0 0 (all_lowered (clauses_lowered bs (each gs))) (noted_means bs ks)
       by (inl n) = none-drawn γ bs gs ks d n
       by (inr n) = ones-drawn γ bs gs ks cs d o n
 
   -- ---- clauses behind definitions
 
   pub noted-body-drawn : (γ δ : List Ty) (bs : List Bool) (ds : List (List Lowers)) (kd : List (List Means)) (gs : List Phrase) (ks : List Means) (cs : List ℕ)
-      → Drawn u number shape γ 0 0 (defs_lowered ds) (defined kd) → Typed γ (defined kd) (γ ++ δ) → EachD (γ ++ δ) gs ks → EachO (γ ++ δ) gs ks cs → (no_true bs || all_one cs) ≡ true
-      → Drawn u number shape γ 0 0 (body_lowered ds (clauses_lowered bs (each gs))) (noted_body bs kd ks)
-  noted-body-drawn γ δ bs ds kd gs ks cs d t e o h =
+      → Drawn u number shape forms spellings γ 0 0 (defs_lowered ds) (defined kd) → Typed γ (defined kd) (γ ++ δ) → Wired forms spellings γ (defs_lowered ds) (γ ++ δ) → EachD (γ ++ δ) gs ks → EachO (γ ++ δ) gs ks cs → (no_true bs || all_one cs) ≡ true
+      → Drawn u number shape forms spellings γ 0 0 (body_lowered ds (clauses_lowered bs (each gs))) (noted_body bs kd ks)
+  noted-body-drawn γ δ bs ds kd gs ks cs d t wr e o h =
       let c = clauses-drawn (γ ++ δ) bs gs ks cs e o h in
-      then-drawn u number shape γ (γ ++ δ) 0 0 0 (defs_lowered ds) (defined kd) (λ env ws. all_lowered (clauses_lowered bs (each gs)) ws) (λ names. noted_means bs ks) d t
+      then-drawn u number shape forms spellings γ (γ ++ δ) 0 0 0 (defs_lowered ds) (defined kd) (λ env ws. all_lowered (clauses_lowered bs (each gs)) ws) (λ names. noted_means bs ks) d t wr
       (λ env ws k q w. from-fewer env ws (all_lowered (clauses_lowered bs (each gs)) ws k q) w (c.free ws k q))
-      (on-drawn u number shape γ (γ ++ δ) 0 0 0 (all_lowered (clauses_lowered bs (each gs))) (noted_means bs ks) (less-drawn u number shape (γ ++ δ) 0 (0 + 0) 0 0 (all_lowered (clauses_lowered bs (each gs))) (noted_means bs ks) (omega arith) (omega arith) c))
+      (on-drawn u number shape forms spellings γ (γ ++ δ) 0 0 0 (all_lowered (clauses_lowered bs (each gs))) (noted_means bs ks) (less-drawn u number shape forms spellings (γ ++ δ) 0 (0 + 0) 0 0 (all_lowered (clauses_lowered bs (each gs))) (noted_means bs ks) (omega arith) (omega arith) c))
 
   -- ---- clauses, backward
 
-  not-read : (m : ℕ) (γ : List Ty) (g : Lowers) (k : ℕ → Means) → Read u number shape m γ g k → Read u number shape m γ (with_not g) k
-  not-read m γ g k r names o s n q env c a pl f =
+  not-read : (m : ℕ) (γ : List Ty) (g : Lowers) (k : ℕ → Means) → Read u number shape forms spellings m γ g k → Read u number shape forms spellings m γ (with_not g) k
+  not-read m γ g k r names o s n q env c w a pl f =
       let x = g env n q in
-      let y = the_not u number shape x.values (n + length x.nodes) (q + length x.graphs) in
+      let y = the_not u number shape forms spellings x.values (n + length x.nodes) (q + length x.graphs) in
       let h = firings-first u number shape m s n x y c f in
-      r names o s n q env h.0 a (placed-left u number shape s n q x y pl) h.1
+      r names o s n q env h.0 w a (placed-left u number shape s n q x y pl) h.1
 
   pub clauses-read : (m : ℕ) (γ : List Ty) (bs : List Bool) (gs : List Phrase) (ks : ℕ → List Means) → EachRead u number shape forms spellings hs p cover m γ gs ks
-      → Read u number shape m γ (all_lowered (clauses_lowered bs (each gs))) (λ j. all_of (ks j))
-  clauses-read m γ bs _ _ no_read = nil-read u number shape m γ
+      → Read u number shape forms spellings m γ (all_lowered (clauses_lowered bs (each gs))) (λ j. all_of (ks j))
+  clauses-read m γ bs _ _ no_read = nil-read u number shape forms spellings m γ
   clauses-read m γ [] _ _ (a_read g gs k ks r rs) =
-      cons-read u number shape m γ g.lowers (each gs) k ks r (clauses-read-none m γ gs ks rs)
+      cons-read u number shape forms spellings m γ g.lowers (each gs) k ks r (clauses-read-none m γ gs ks rs)
     where
-      clauses-read-none : (m : ℕ) (γ : List Ty) (gs : List Phrase) (ks : ℕ → List Means) → EachRead u number shape forms spellings hs p cover m γ gs ks → Read u number shape m γ (all_lowered (each gs)) (λ j. all_of (ks j))
-      clauses-read-none m γ _ _ no_read = nil-read u number shape m γ
-      clauses-read-none m γ _ _ (a_read g gs k ks r rs) = cons-read u number shape m γ g.lowers (each gs) k ks r (clauses-read-none m γ gs ks rs)
-  clauses-read m γ (true ∷ bs) _ _ (a_read g gs k ks r rs) = cons-read u number shape m γ (with_not g.lowers) (clauses_lowered bs (each gs)) k ks (not-read m γ g.lowers k r) (clauses-read m γ bs gs ks rs)
-  clauses-read m γ (false ∷ bs) _ _ (a_read g gs k ks r rs) = cons-read u number shape m γ g.lowers (clauses_lowered bs (each gs)) k ks r (clauses-read m γ bs gs ks rs)
+      clauses-read-none : (m : ℕ) (γ : List Ty) (gs : List Phrase) (ks : ℕ → List Means) → EachRead u number shape forms spellings hs p cover m γ gs ks → Read u number shape forms spellings m γ (all_lowered (each gs)) (λ j. all_of (ks j))
+      clauses-read-none m γ _ _ no_read = nil-read u number shape forms spellings m γ
+      clauses-read-none m γ _ _ (a_read g gs k ks r rs) = cons-read u number shape forms spellings m γ g.lowers (each gs) k ks r (clauses-read-none m γ gs ks rs)
+  clauses-read m γ (true ∷ bs) _ _ (a_read g gs k ks r rs) = cons-read u number shape forms spellings m γ (with_not g.lowers) (clauses_lowered bs (each gs)) k ks (not-read m γ g.lowers k r) (clauses-read m γ bs gs ks rs)
+  clauses-read m γ (false ∷ bs) _ _ (a_read g gs k ks r rs) = cons-read u number shape forms spellings m γ g.lowers (clauses_lowered bs (each gs)) k ks r (clauses-read m γ bs gs ks rs)
 
   -- ---- how wide they are
 

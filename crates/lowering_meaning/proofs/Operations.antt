@@ -13,6 +13,7 @@ use Rattle.value_ops.specs.declared.operation.Operation.{Operation}
 use Rattle.value_ops.specs.declared.operation.Operation.TheVariants as operation
 use Rattle.if1_graph.specs.declared.op.Simple.{Simple}
 use Rattle.if1_graph.specs.declared.op.Simple.TheVariants as simple
+use Rattle.type_table.specs.declared.form.Form.{Form}
 use Rattle.typed_rows.specs.Rows.{Of, AreOf}
 use Rattle.typed_rows.proofs.Scalars.{with_none, with_two}
 use Rattle.meaning.specs.Timed.{Timed, given}
@@ -70,7 +71,15 @@ letters-from env [] = tt
 letters-from env (c ∷ s) = (tt, letters-from env s)
 
 module _ (u : Network) (number : ℕ → ℕ) (shape : ℕ → ℕ → Simple → Shape) where
-  pub value-drawn : (γ : List Ty) (x : ℕ) (a : Ty) → slice_get γ x ≡ Some a → Drawn u number shape γ 0 7 (λ env. only (wire_at env x ∷ [])) (λ names. given (value_at names x ∷ []))
+  pub held-literal : (s : Site) (c : Constant) (v : Val) → lowered_value c ≡ v → Held u number shape s (Fixed (Value (lowered_value c))) (Value v)
+  held-literal s c v is = always _ (λ d. subst (λ w. plain.Carries u d s.graph s.ins (Fixed (Value (lowered_value c))) (Value w)) is (fixed d s.graph s.ins (Value (lowered_value c))))
+
+  letters-carried : (s : Site) (cs : List ℕ) → AllCarried u number shape s (map (λ c. wire (Literal (constant.Letter c)) (One character)) cs) (map Value (map val.Char cs))
+  letters-carried s [] = tt
+  letters-carried s (c ∷ cs) = ((λ _. held-literal s (constant.Letter c) (val.Char c) refl), letters-carried s cs)
+
+module _ (u : Network) (number : ℕ → ℕ) (shape : ℕ → ℕ → Simple → Shape) (forms : List Form) (spellings : List (List ℕ)) where
+  pub value-drawn : (γ : List Ty) (x : ℕ) (a : Ty) → slice_get γ x ≡ Some a → Drawn u number shape forms spellings γ 0 7 (λ env. only (wire_at env x ∷ [])) (λ names. given (value_at names x ∷ []))
   value-drawn γ x a e = record {
     free = λ env k q. (at-from env x, tt);
     runs = λ names vs i o h.
@@ -80,7 +89,7 @@ module _ (u : Network) (number : ℕ → ℕ) (shape : ℕ → ℕ → Simple �
         record {
           limit = 0;
           bound = omega arith;
-          draws = λ s k q env c pl.
+          draws = λ s k q env e c pl.
               let m : Lowered = only (wire_at env x ∷ []) k q in
               subst (λ ws. Done u number shape s k m ws 0) (ap (λ v. v ∷ []) (sym w) ∙ z.0) (done-only u number shape s k m (v.0 ∷ []) refl (carry-at u number shape s env names x v.0 c v.1, tt));
         };
@@ -88,35 +97,28 @@ module _ (u : Network) (number : ℕ → ℕ) (shape : ℕ → ℕ → Simple �
 
   -- ---- constants
 
-  pub held-literal : (s : Site) (c : Constant) (v : Val) → lowered_value c ≡ v → Held u number shape s (Fixed (Value (lowered_value c))) (Value v)
-  held-literal s c v is = always _ (λ d. subst (λ w. plain.Carries u d s.graph s.ins (Fixed (Value (lowered_value c))) (Value w)) is (fixed d s.graph s.ins (Value (lowered_value c))))
-
-  literal-drawn : (γ : List Ty) (c : Constant) (t : ℕ) → lowered_value c ≡ constant_value c → Drawn u number shape γ 0 7 (λ env. only (wire (Literal c) (One t) ∷ [])) (λ names. given (constant_value c ∷ []))
+  literal-drawn : (γ : List Ty) (c : Constant) (t : ℕ) → lowered_value c ≡ constant_value c → Drawn u number shape forms spellings γ 0 7 (λ env. only (wire (Literal c) (One t) ∷ [])) (λ names. given (constant_value c ∷ []))
   literal-drawn γ c t is = record {
     free = λ env k q. (tt, tt);
     runs = λ names vs i o h. record {
       limit = 0;
       bound = omega arith;
-      draws = λ s k q env a pl.
+      draws = λ s k q env w a pl.
           let m : Lowered = only (wire (Literal c) (One t) ∷ []) k q in
           subst (λ ws. Done u number shape s k m ws 0) (given-is (constant_value c ∷ []) vs i h).0
-          (done-only u number shape s k m (constant_value c ∷ []) refl ((λ _. held-literal s c (constant_value c) is), tt));
+          (done-only u number shape s k m (constant_value c ∷ []) refl ((λ _. held-literal u number shape s c (constant_value c) is), tt));
     };
   }
-
-  letters-carried : (s : Site) (cs : List ℕ) → AllCarried u number shape s (map (λ c. wire (Literal (constant.Letter c)) (One character)) cs) (map Value (map val.Char cs))
-  letters-carried s [] = tt
-  letters-carried s (c ∷ cs) = ((λ _. held-literal s (constant.Letter c) (val.Char c) refl), letters-carried s cs)
 
   -- ---- operations
 
   -- a row of one output that gives what the operation gives
   pub row-on : (γ tys : List Ty) (o : Simple) (f : Operation) (t : ℕ) → ((s : Site) (k : ℕ) (vs : List Val) → op o (shape s.graph (suc k) o) (map Value vs) ≡ Value (op_value f vs) ∷ [])
-      → DrawnOn u number shape γ tys 0 7 (λ env ws. row_lowered o ws (t ∷ [])) (λ names vs. given (op_value f vs ∷ []))
+      → DrawnOn u number shape forms spellings γ tys 0 7 (λ env ws. row_lowered o ws (t ∷ [])) (λ names vs. given (op_value f vs ∷ []))
   row-on γ tys o f t is names vs rs j a b h = record {
     limit = 1;
     bound = omega arith;
-    draws = λ s k q env ws c d pl.
+    draws = λ s k q env ws w1 w2 c d pl.
         subst (λ xs. Done u number shape s k (row_lowered o ws (t ∷ []) k q) xs 1) (given-is (op_value f vs ∷ []) rs j h).0
         (row-done u number shape s k q o ws t (map Value vs) (op_value f vs) (is s k vs) pl (as-carried u number shape s ws vs d));
   }
@@ -126,8 +128,8 @@ module _ (u : Network) (number : ℕ → ℕ) (shape : ℕ → ℕ → Simple �
   gives-is f vs = ap (λ ws. Value (op_value f ws) ∷ []) (values-of vs)
 
   -- the operands in the other order
-  pub swapped-on : (γ : List Ty) (a : Ty) (f : Scalar2) (t : ℕ) → DrawnOn u number shape γ (a ∷ a ∷ []) 0 7 (λ env ws. row_lowered (simple.Two f) (reversed ws) (t ∷ [])) (λ names vs. given (op_value (operation.Swapped f) vs ∷ []))
-  swapped-on γ a f t names vs rs j o b h = record { limit = 1; bound = omega arith; draws = λ s k q env ws c d pl. subst (λ xs. Done u number shape s k (row_lowered (simple.Two f) (reversed ws) (t ∷ []) k q) xs 1) (given-is (op_value (operation.Swapped f) vs ∷ []) rs j h).0 (two s k q ws vs b d pl) }
+  pub swapped-on : (γ : List Ty) (a : Ty) (f : Scalar2) (t : ℕ) → DrawnOn u number shape forms spellings γ (a ∷ a ∷ []) 0 7 (λ env ws. row_lowered (simple.Two f) (reversed ws) (t ∷ [])) (λ names vs. given (op_value (operation.Swapped f) vs ∷ []))
+  swapped-on γ a f t names vs rs j o b h = record { limit = 1; bound = omega arith; draws = λ s k q env ws w1 w2 c d pl. subst (λ xs. Done u number shape s k (row_lowered (simple.Two f) (reversed ws) (t ∷ []) k q) xs 1) (given-is (op_value (operation.Swapped f) vs ∷ []) rs j h).0 (two s k q ws vs b d pl) }
     where
       two : (s : Site) (k q : ℕ) (ws : List Wire) (vs : List Val) → AreOf (a ∷ a ∷ []) vs → AllCarry u number shape s ws vs → Placed u number shape s k q (row_lowered (simple.Two f) (reversed ws) (t ∷ []) k q)
           → Done u number shape s k (row_lowered (simple.Two f) (reversed ws) (t ∷ []) k q) (op_value (operation.Swapped f) vs ∷ []) 1
@@ -140,32 +142,32 @@ module _ (u : Network) (number : ℕ → ℕ) (shape : ℕ → ℕ → Simple �
       two s k q (x ∷ y ∷ z ∷ ws) (v ∷ w ∷ []) b d pl = absurd d.1.1
 
   -- an array without elements
-  pub empty-on : (γ : List Ty) (t : ℕ) → ((g l : ℕ) → shape g l simple.ABuild ≡ shapes.Plain) → DrawnOn u number shape γ [] 0 7 (λ env ws. row_lowered simple.ABuild (one ∷ ws) (t ∷ [])) (λ names vs. given (op_value operation.EmptyArray vs ∷ []))
-  empty-on γ t flat names vs rs j o b h = record { limit = 1; bound = omega arith; draws = λ s k q env ws c d pl. subst (λ xs. Done u number shape s k (row_lowered simple.ABuild (one ∷ ws) (t ∷ []) k q) xs 1) (given-is (op_value operation.EmptyArray vs ∷ []) rs j h).0 (none s k q ws vs b d pl) }
+  pub empty-on : (γ : List Ty) (t : ℕ) → ((g l : ℕ) → shape g l simple.ABuild ≡ shapes.Plain) → DrawnOn u number shape forms spellings γ [] 0 7 (λ env ws. row_lowered simple.ABuild (one ∷ ws) (t ∷ [])) (λ names vs. given (op_value operation.EmptyArray vs ∷ []))
+  empty-on γ t flat names vs rs j o b h = record { limit = 1; bound = omega arith; draws = λ s k q env ws w1 w2 c d pl. subst (λ xs. Done u number shape s k (row_lowered simple.ABuild (one ∷ ws) (t ∷ []) k q) xs 1) (given-is (op_value operation.EmptyArray vs ∷ []) rs j h).0 (none s k q ws vs b d pl) }
     where
       none : (s : Site) (k q : ℕ) (ws : List Wire) (vs : List Val) → AreOf [] vs → AllCarry u number shape s ws vs → Placed u number shape s k q (row_lowered simple.ABuild (one ∷ ws) (t ∷ []) k q)
           → Done u number shape s k (row_lowered simple.ABuild (one ∷ ws) (t ∷ []) k q) (op_value operation.EmptyArray vs ∷ []) 1
       none s k q [] [] b d pl =
-          row-done u number shape s k q simple.ABuild (one ∷ []) t (Value (val.Int (pos 1)) ∷ []) (op_value operation.EmptyArray []) (ap (λ x. op simple.ABuild x (Value (val.Int (pos 1)) ∷ [])) (flat s.graph (suc k))) pl ((λ _. held-literal s (constant.Integer (pos 1)) (val.Int (pos 1)) refl), tt)
+          row-done u number shape s k q simple.ABuild (one ∷ []) t (Value (val.Int (pos 1)) ∷ []) (op_value operation.EmptyArray []) (ap (λ x. op simple.ABuild x (Value (val.Int (pos 1)) ∷ [])) (flat s.graph (suc k))) pl ((λ _. held-literal u number shape s (constant.Integer (pos 1)) (val.Int (pos 1)) refl), tt)
       none s k q (w ∷ ws) [] b d pl = absurd d
       none s k q ws (v ∷ vs) b d pl = absurd b
 
-  text-drawn : (γ : List Ty) (cs : List ℕ) (t : ℕ) → ((g l : ℕ) → shape g l simple.ABuild ≡ shapes.Plain) → Drawn u number shape γ 0 7 (λ env. constant_lowered (constant.Quoted cs) (t ∷ [])) (λ names. given (constant_value (constant.Quoted cs) ∷ []))
+  text-drawn : (γ : List Ty) (cs : List ℕ) (t : ℕ) → ((g l : ℕ) → shape g l simple.ABuild ≡ shapes.Plain) → Drawn u number shape forms spellings γ 0 7 (λ env. constant_lowered (constant.Quoted cs) (t ∷ [])) (λ names. given (constant_value (constant.Quoted cs) ∷ []))
   text-drawn γ cs t flat = record {
     free = λ env k q. node-from env (Row simple.ABuild) (one ∷ map (λ c. wire (Literal (constant.Letter c)) (One character)) cs) 1 (One t ∷ []) k q (tt, letters-from env cs);
     runs = λ names vs i o h. record {
       limit = 1;
       bound = omega arith;
-      draws = λ s k q env a pl.
+      draws = λ s k q env w a pl.
           let ws = one ∷ map (λ c. wire (Literal (constant.Letter c)) (One character)) cs in
           subst (λ xs. Done u number shape s k (row_lowered simple.ABuild ws (t ∷ []) k q) xs 1) (given-is (constant_value (constant.Quoted cs) ∷ []) vs i h).0
           (row-done u number shape s k q simple.ABuild ws t (Value (val.Int (pos 1)) ∷ map Value (map val.Char cs)) (constant_value (constant.Quoted cs))
           (ap (λ x. op simple.ABuild x (Value (val.Int (pos 1)) ∷ map Value (map val.Char cs))) (flat s.graph (suc k)) ∙ ap (λ xs. Value (op_value operation.Array (val.Int (pos 1) ∷ xs)) ∷ []) (values-of (map val.Char cs)))
-          pl ((λ _. held-literal s (constant.Integer (pos 1)) (val.Int (pos 1)) refl), letters-carried s cs));
+          pl ((λ _. held-literal u number shape s (constant.Integer (pos 1)) (val.Int (pos 1)) refl), letters-carried u number shape s cs));
     };
   }
 
-  pub constant-drawn : (γ : List Ty) (c : Constant) (t : ℕ) → ((g l : ℕ) → shape g l simple.ABuild ≡ shapes.Plain) → Drawn u number shape γ 0 7 (λ env. constant_lowered c (t ∷ [])) (λ names. given (constant_value c ∷ []))
+  pub constant-drawn : (γ : List Ty) (c : Constant) (t : ℕ) → ((g l : ℕ) → shape g l simple.ABuild ≡ shapes.Plain) → Drawn u number shape forms spellings γ 0 7 (λ env. constant_lowered c (t ∷ [])) (λ names. given (constant_value c ∷ []))
   constant-drawn γ (constant.Integer n) t flat = literal-drawn γ (constant.Integer n) t refl
   constant-drawn γ (constant.Letter n) t flat = literal-drawn γ (constant.Letter n) t refl
   constant-drawn γ (constant.Quoted cs) t flat = text-drawn γ cs t flat
@@ -177,9 +179,9 @@ module _ (u : Network) (number : ℕ → ℕ) (shape : ℕ → ℕ → Simple �
 
   pub call-on : (γ tys : List Ty) (f : ℕ) (ns : List ℕ) (results : List Ty) (h : Means) → length ns ≡ length results → Typed tys h results
       → ((vs rs : List Val) (j : ℕ) → AreOf tys vs → h vs ≡ Some (rs, j) → Gives u number shape (number f) (map Value vs) (map Value rs) (8 * j))
-      → DrawnOn u number shape γ tys 0 7 (λ env ws. a_node (Call f) ws 1 (map One ns)) (λ names. h)
+      → DrawnOn u number shape forms spellings γ tys 0 7 (λ env ws. a_node (Call f) ws 1 (map One ns)) (λ names. h)
   call-on γ tys f ns results h l t g names vs rs j a b e = record {
     limit = 1 + 8 * j;
     bound = omega arith;
-    draws = λ s k q env ws c d pl. call-done u number shape s k q f ws ns vs rs (8 * j) pl d (g vs rs j b e) (length-map ns One ∙ l ∙ of-length results rs (t vs rs j b e) ∙ sym (length-map rs Value));
+    draws = λ s k q env ws w1 w2 c d pl. call-done u number shape s k q f ws ns vs rs (8 * j) pl d (g vs rs j b e) (length-map ns One ∙ l ∙ of-length results rs (t vs rs j b e) ∙ sym (length-map rs Value));
   }

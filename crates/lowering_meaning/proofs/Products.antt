@@ -6,6 +6,9 @@ use Rattle.flow_value.specs.declared.value.Val.{Val}
 use Rattle.flow_value.specs.declared.value.Val.TheVariants as val
 use Rattle.flow_value.specs.declared.ty.Ty.{Ty}
 use Rattle.flow_value.specs.declared.ty.Ty.TheVariants as ty
+use Rattle.value_ops.specs.Operations.{op_value}
+use Rattle.value_ops.specs.declared.operation.Operation.TheVariants as operation
+use Rattle.sisal_tree.specs.declared.expr.Constant.TheVariants as constant
 use Rattle.if1_graph.specs.declared.op.Simple.{Simple}
 use Rattle.if1_graph.specs.declared.op.Compound.TheVariants as compound
 use Rattle.type_table.specs.declared.form.Form.{Form}
@@ -19,16 +22,18 @@ use Rattle.typed_tree.specs.declared.expr.Source.{Source}
 use Rattle.typed_tree.specs.declared.expr.Source.TheVariants as source
 use Rattle.typed_tree.specs.declared.expr.TypedKind.TheOpen.{TypedKind-F}
 use Rattle.typed_tree.specs.declared.program.Function.{Function}
-use Rattle.typed_tree.specs.Types.{AreNumbers}
+use Rattle.typed_tree.specs.Types.{IsNumber, AreNumbers}
 use Rattle.fitting_trees.specs.Fitting.{Header, Goes, AreMade}
 use Rattle.fitting_trees.specs.Fitting as is
 use Rattle.typed_rows.specs.Rows.{Of, AreOf}
 use Rattle.typed_values.proofs.Clauses.{names_well}
+use Rattle.typed_rows.proofs.ValueKinds.{out_err}
+use Rattle.flow_value.specs.declared.cause.Cause.TheVariants as cause
 use Rattle.meaning.specs.declared.sources.Places.{Places}
 use Rattle.meaning.specs.declared.sources.Places.TheVariants as places
 use Rattle.meaning.specs.Timed.{Timed, given, plus, andthen}
 use Rattle.meaning.specs.Words.{value_at, failed}
-use Rattle.meaning.specs.Sources.{places_of, names_at, lower_of}
+use Rattle.meaning.specs.Sources.{places_of, names_at, lower_of, first_index}
 use Rattle.meaning.specs.Rows.{no_rows, with_cells, with_row, with_rows, cells_in, made}
 use Rattle.meaning.specs.Rows as rows
 use Rattle.meaning.specs.Meaning.{Gives as Means, all_of, defined, body_of, over, environments, at_place, each as at_each, folded, kind_gives}
@@ -43,7 +48,7 @@ use Rattle.lowering.specs.declared.feed.Wire.{Wire}
 use Rattle.lowering.specs.Feeds.{into}
 use Rattle.lowering.specs.declared.graph.Lowered.{Lowered}
 use Rattle.lowering.specs.Graphs.{Lowering, uses, inputs, new_graph, size, whole}
-use Rattle.lowering.specs.Operations.{Lowers, one, all_lowered, defs_lowered, body_lowered, wire_at}
+use Rattle.lowering.specs.Operations.{Lowers, one, integer, all_lowered, defs_lowered, body_lowered, wire_at}
 use Rattle.lowering.specs.Choices.{is_array, type_of}
 use Rattle.lowering.specs.Loops.{Phrase, own_inputs, many, single, types, clauses_lowered, unless_places, Bound, Wired, Limit, generators_lowered, bound_of, returns_lowered, forall_lowered, product_lowered}
 use Rattle.lowering.specs.Phrases.{each, kind_lowered}
@@ -54,7 +59,7 @@ use Rattle.loop_columns.specs.Loops.{Gave, clauses_made, AreForAllParts}
 use Rattle.loop_columns.proofs.Bounds.{lower-bounds}
 use Rattle.loop_columns.proofs.Clauses.{folded-by-columns}
 use Rattle.loop_columns.proofs.ForAlls.{for-alls-given}
-use Rattle.lowering_meaning.specs.Coverage.{Coverage, no_true, all_one, total, masks_alone, is_bounded, is_range_first, is_array_of, no_array}
+use Rattle.lowering_meaning.specs.Coverage.{Coverage, no_true, all_one, total, masks_alone}
 use Rattle.lowering_meaning.proofs.From.{From}
 use Rattle.lowering_meaning.proofs.Timed.{plus-some, then-some, given-is}
 use Rattle.lowering_meaning.proofs.Wires.{AllWires, both-wires, left-wires, right-wires, weaker-wires, In, in-all, in-left, in-right, IsThere, FromNames, from-in, from-more, names-from, AreOwn, MadeFrom, AllFrom}
@@ -62,12 +67,13 @@ use Rattle.lowering_meaning.proofs.Sites.{Site, Carries, AllCarry, AllCarried, P
 use Rattle.lowering_meaning.proofs.Inside.{Gives, PartAt, part-at, own-carry}
 use Rattle.lowering_meaning.proofs.Nodes.{carry-at}
 use Rattle.lowering_meaning.proofs.Choices.{Goes as GoesOn}
-use Rattle.lowering_meaning.proofs.Forms.{Typed, then-typed, of-both, of-length, from-both, from-fewer, Free, FreeOn, Drawn, RunsOn, DrawnOn, then-drawn}
+use Rattle.lowering_meaning.proofs.Forms.{WiresOf, wires-both, wires-into, Typed, then-typed, of-both, of-length, from-both, from-fewer, Free, FreeOn, Drawn, RunsOn, DrawnOn, then-drawn}
 use Rattle.lowering_meaning.proofs.Parts.{at_part, Part, part, part-gives, Around, around, used-there, the_form, whole-done, get-right}
 use Rattle.lowering_meaning.proofs.Ifs.{ports-from, whole-from}
-use Rattle.lowering_meaning.proofs.Operations.{at-from}
+use Rattle.lowering_meaning.proofs.Operations.{at-from, held-literal}
 use Rattle.lowering_meaning.proofs.Widths.{Wide, length-ports}
 use Rattle.lowering_meaning.proofs.GenForms.{generators-from, generators-wide, generators-made}
+use Rattle.lowering_meaning.proofs.GenTypes.{array-number, stream-number, names-wired}
 use Rattle.lowering_meaning.proofs.ReturnForms.{bound_wire, returns-from, IsBound, AnyArray, AreShaped, returns-done}
 use Rattle.lowering_meaning.proofs.Trees.{EachDrawn, EachOf, each-all, ProductDrawn, numbers-length}
 use Rattle.lowering_meaning.proofs.Nots.{noted_body, noted-given, noted-body-drawn, clauses-drawn, clauses-wide}
@@ -169,7 +175,7 @@ over-length q n body vs (places.Count m) names rs i e h =
 
 -- ---- what stands inside of the node
 
-module _ (forms : List Form) (q : Product) (ds : List (List Lowers)) (gs : List Phrase) (ns : List ℕ) where
+module _ (forms : List Form) (spellings : List (List ℕ)) (q : Product) (ds : List (List Lowers)) (gs : List Phrase) (ns : List ℕ) where
   abbrev pub bs : List Bool
   bs = unless_places q.clauses
 
@@ -244,8 +250,8 @@ module _ (forms : List Form) (q : Product) (ds : List (List Lowers)) (gs : List 
 
   -- ---- where a loop stands
 
-  module _ (u : Network) (number : ℕ → ℕ) (shape : ℕ → ℕ → Simple → Shape) (tys xs : List Ty) (goes : Goes q.sources tys xs) (fb : Free the_body) (wide : ℕ) (wb : Wide wide the_body) where
-    module _ (s : Site) (k j : ℕ) (env ws : List Wire) (names vs : List Val) (a : AllCarry u number shape s env names) (b : AllCarry u number shape s ws vs) (ov : AreOf tys vs) (pl : Placed u number shape s k j (the_loop env ws k j)) where
+  module _ (u : Network) (number : ℕ → ℕ) (shape : ℕ → ℕ → Simple → Shape) (tys xs : List Ty) (goes : Goes q.sources tys xs) (int : IsNumber forms spellings integer ty.Int) (fb : Free the_body) (wide : ℕ) (wb : Wide wide the_body) where
+    module _ (s : Site) (k j : ℕ) (env ws : List Wire) (names vs : List Val) (γ : List Ty) (ew : WiresOf forms spellings γ env) (fw : WiresOf forms spellings tys ws) (a : AllCarry u number shape s env names) (b : AllCarry u number shape s ws vs) (ov : AreOf tys vs) (pl : Placed u number shape s k j (the_loop env ws k j)) where
       abbrev pub ks : List Wire
       ks = inputs (graphs j env ws)
 
@@ -304,10 +310,15 @@ module _ (forms : List Form) (q : Product) (ds : List (List Lowers)) (gs : List 
           let t = at_part u number shape (g1 j env ws) ks here.values (map Value (names_at q.sources vs i)) in
           carry-both u number shape t (map into env) names (own1 j env ws) (names_at q.sources vs i) (body-part i).carry (as-values u number shape t (own1 j env ws) (names_at q.sources vs i) (body-part i).own)
 
+      pub body-wires : WiresOf forms spellings (γ ++ xs) (map into env ++ own1 j env ws)
+      body-wires =
+          wires-both forms spellings γ xs (map into env) (own1 j env ws) (wires-into forms spellings γ env ew)
+          (names-wired forms spellings int q.sources tys xs goes (map into ws) 0 (suc j) 1 (wires-into forms spellings tys ws fw))
+
       -- ---- what the node gives
 
-      module _ (γ δ row made : List Ty) (kd : List (List Means)) (kc : List Means) (oγ : AreOf γ names) (clauses : AreMade q.clauses row made) (wide-is : wide ≡ length row)
-          (drawn : Drawn u number shape (γ ++ xs) 0 0 the_body (noted_body bs kd kc)) (typed : Typed (γ ++ xs) (body_of kd kc) row) (ns-are : length ns ≡ length made) (shaped : AreShaped u number shape q.clauses) (bounded : (is_bounded q) ≡ true) where
+      module _ (δ row made : List Ty) (kd : List (List Means)) (kc : List Means) (oγ : AreOf γ names) (clauses : AreMade q.clauses row made) (wide-is : wide ≡ length row)
+          (drawn : Drawn u number shape forms spellings (γ ++ xs) 0 0 the_body (noted_body bs kd kc)) (typed : Typed (γ ++ xs) (body_of kd kc) row) (ns-are : length ns ≡ length made) (shaped : AreShaped u number shape q.clauses) where
         abbrev pub body : Means
         body = body_of kd kc
 
@@ -316,7 +327,7 @@ module _ (forms : List Form) (q : Product) (ds : List (List Lowers)) (gs : List 
             let p = body-part i in
             let t = at_part u number shape (g1 j env ws) ks here.values (map Value (names_at q.sources vs i)) in
             let d = drawn.runs (names ++ names_at q.sources vs i) (noted bs r) n (of-both γ xs names (names_at q.sources vs i) oγ (names-typed i)) (noted-given bs kd kc (names ++ names_at q.sources vs i) r n e) in
-            let x = d.draws t 0 (suc (g1 j env ws)) (map into env ++ own1 j env ws) (body-names i) p.placed in
+            let x = d.draws t 0 (suc (g1 j env ws)) (map into env ++ own1 j env ws) body-wires (body-names i) p.placed in
             let g = part-gives u number shape n1 (map Value (noted bs r)) d.limit p (done-made u number shape t 0 n1 (noted bs r) d.limit x) in
             record { cost = g.cost; fires = g.fires; bound = omega (arith, g.bound, d.bound); means = g.means }
 
@@ -328,45 +339,46 @@ module _ (forms : List Form) (q : Product) (ds : List (List Lowers)) (gs : List 
         gave-wide m (suc n) (r ∷ rs) g =
             (sym (of-length row r (typed (names ++ names_at q.sources vs (m - suc n)) r g.0.0 (of-both γ xs names (names_at q.sources vs (m - suc n)) oγ (names-typed (m - suc n))) g.0.1)) ∙ (clauses-count q.clauses row made clauses).0, gave-wide m n rs g.1)
 
-        -- where an array is made, its lower bound is the first number of a range
+        -- the lower bound of an array is the first number of a range, or that of the array
         bound-is : (n : ℕ) → places_of q.sources vs ≡ places.Count n → (cs : List Carried) → AnyArray u number shape q.clauses → IsBound u number shape (at_part u number shape (g2 j env ws) ks here.values cs) (bound_of forms q.sources (map into ws)) (lower_of vs)
-        bound-is n e cs x = by q.sources tys xs goes ov e (or-first (is_range_first q.sources) (no_array q.clauses) bounded)
+        bound-is n e cs x = by q.sources tys xs goes vs ov (map into ws) around (wires-into forms spellings tys ws fw) e
           where
             t : Site
             t = at_part u number shape (g2 j env ws) ks here.values cs
 
-            or-first : (a b : Bool) → (a || b) ≡ true → (a ≡ true) ⊎ (b ≡ true)
-            or-first true b e = inl refl
-            or-first false b e = inr e
-
-            none : (cs : List ClauseForm) → no_array cs ≡ true → AnyArray u number shape cs → ⊥
-            none [] h a = a
-            none (c ∷ cs) h (inl e) = is-true (sym (ap (λ f. if is_array_of f then false else no_array cs) e) ∙ h)
-              where
-                is-true : false ≡ true → ⊥
-                is-true e = cc
-            none (c ∷ cs) h (inr a) = none cs (later (is_array_of c.folding) (no_array cs) h) a
-              where
-                later : (a b : Bool) → (if a then false else b) ≡ true → b ≡ true
-                later true b e = absurd cc
-                later false b e = e
-
             around : AllCarry u number shape t (map into ws) vs
             around = (part u number shape s (g2 j env ws) ks here.values ws vs (map (λ c. One 0) cs) cs n2 [] b here.carry here.seen (length-map cs _) P2 (left-wires _ (uses n2) _ (right-wires _ (uses n1) _ (right-wires _ (uses n0) _ there)))).carry
 
-            by : (ss : List Source) (tys xs : List Ty) → Goes ss tys xs → AreOf tys vs → places_of ss vs ≡ places.Count n → (is_range_first ss ≡ true) ⊎ (no_array q.clauses ≡ true) → IsBound u number shape t (bound_of forms ss (map into ws)) (lower_of vs)
-            by ss tys xs g o e (inr h) = absurd (none q.clauses h x)
-            by _ _ _ is.no_source o e (inl h) = absurd cc
-            by _ _ _ (is.over_range {ss = ss} {bounds = bounds} {names = ys} g) o e (inl h) = first vs o (map into ws) around (lower-bounds.of_range ss bounds vs o (n, e))
-              where
-                first : (vs : List Val) → AreOf (ty.Int ∷ ty.Int ∷ bounds) vs → (xs : List Wire) → AllCarry u number shape t xs vs → value_at vs 0 ≡ val.Int (lower_of vs) → IsBound u number shape t (Wired (wire_at xs 0)) (lower_of vs)
-                first [] o xs a e = absurd o
-                first (v ∷ vs) o [] a e = absurd a
-                first (v ∷ vs) o (y ∷ xs) a e = subst (λ w. Carries u number shape t y (Value w)) e a.0
-            by _ _ _ (is.over_array a g) o e (inl h) = absurd cc
-            by _ _ _ (is.over_stream a g) o e (inl h) = absurd cc
-            by _ _ _ (is.over_array_at a g) o e (inl h) = absurd cc
-            by _ _ _ (is.over_stream_at a g) o e (inl h) = absurd cc
+            an-array : (is : Bool) (y : Wire) (v : Val) (l : ℤ) → is ≡ true → Carries u number shape t y (Value v) → op_value operation.LimitLow (v ∷ []) ≡ val.Int l → IsBound u number shape t (if is then Limit y else Wired one) l
+            an-array true y v l e a h = (v, a, h)
+            an-array false y v l e a h = absurd cc
+
+            a-stream : (is : Bool) (y : Wire) (l : ℤ) → is ≡ false → l ≡ pos 1 → IsBound u number shape t (if is then Limit y else Wired one) l
+            a-stream true y l e h = absurd cc
+            a-stream false y l e h = λ _. held-literal u number shape t (constant.Integer (pos 1)) (val.Int l) (ap val.Int (sym h))
+
+            by : (ss : List Source) (tys xs : List Ty) → Goes ss tys xs → (vs : List Val) → AreOf tys vs → (zs : List Wire) → AllCarry u number shape t zs vs → WiresOf forms spellings tys zs → places_of ss vs ≡ places.Count n → IsBound u number shape t (bound_of forms ss zs) (lower_of vs)
+            by _ _ _ is.no_source [] o zs a w e = λ _. held-literal u number shape t (constant.Integer (pos 1)) (val.Int (lower_of [])) (ap val.Int (sym (ap first_index (out_err cause.Explicit))))
+            by _ _ _ is.no_source (v ∷ vs) o zs a w e = absurd o
+            by _ _ _ (is.over_range {ss = ss} {bounds = bounds} g) (v ∷ vs) o (y ∷ zs) a w e = subst (λ w. Carries u number shape t y (Value w)) (lower-bounds.of_range ss bounds (v ∷ vs) o (n, e)) a.0
+            by _ _ _ (is.over_array {ss = ss} {bounds = bounds} c g) (v ∷ vs) o (y ∷ zs) a w e =
+                an-array (is_array forms (type_of y.ty)) y v (lower_of (v ∷ vs)) (array-number forms spellings y.ty c w.0).array a.0 (lower-bounds.of_array source.Elements ss c bounds (v ∷ vs) o (n, e))
+            by _ _ _ (is.over_array_at {ss = ss} {bounds = bounds} c g) (v ∷ vs) o (y ∷ zs) a w e =
+                an-array (is_array forms (type_of y.ty)) y v (lower_of (v ∷ vs)) (array-number forms spellings y.ty c w.0).array a.0 (lower-bounds.of_array source.Indexed ss c bounds (v ∷ vs) o (n, e))
+            by _ _ _ (is.over_stream {ss = ss} {bounds = bounds} c g) (v ∷ vs) o (y ∷ zs) a w e =
+                a-stream (is_array forms (type_of y.ty)) y (lower_of (v ∷ vs)) (stream-number forms spellings y.ty c w.0).stream (lower-bounds.of_stream c bounds (v ∷ vs) o)
+            by _ _ _ (is.over_stream_at {ss = ss} {bounds = bounds} c g) (v ∷ vs) o (y ∷ zs) a w e =
+                a-stream (is_array forms (type_of y.ty)) y (lower_of (v ∷ vs)) (stream-number forms spellings y.ty c w.0).stream (lower-bounds.of_stream c bounds (v ∷ vs) o)
+            by _ _ _ (is.over_range g) [] o zs a w e = absurd o
+            by _ _ _ (is.over_range g) (v ∷ vs) o [] a w e = absurd a
+            by _ _ _ (is.over_array c g) [] o zs a w e = absurd o
+            by _ _ _ (is.over_array c g) (v ∷ vs) o [] a w e = absurd a
+            by _ _ _ (is.over_array_at c g) [] o zs a w e = absurd o
+            by _ _ _ (is.over_array_at c g) (v ∷ vs) o [] a w e = absurd a
+            by _ _ _ (is.over_stream c g) [] o zs a w e = absurd o
+            by _ _ _ (is.over_stream c g) (v ∷ vs) o [] a w e = absurd a
+            by _ _ _ (is.over_stream_at c g) [] o zs a w e = absurd o
+            by _ _ _ (is.over_stream_at c g) (v ∷ vs) o [] a w e = absurd a
 
         -- the graph of the returns
         returns-give : (n : ℕ) (rs : List (List Val)) → places_of q.sources vs ≡ places.Count n → Gave body (environments q.sources vs names n n) rs
@@ -421,18 +433,18 @@ module _ (u : Network) (number : ℕ → ℕ) (shape : ℕ → ℕ → Simple �
   abbrev pub ShapesAre : Type 0
   ShapesAre = (cs : List ClauseForm) (row made : List Ty) (ns : List ℕ) → AreMade cs row made → AreNumbers forms spellings ns made → AreShaped u number shape cs
 
-  pub product-drawn : ShapesAre → (q : Product) (arity : List ℕ) → masks_alone q.clauses arity ≡ true → is_bounded q ≡ true → ProductDrawn u number shape forms spellings hs p cover q arity
-  product-drawn shapes q arity alone bounded γ tys xs δ row made ns bs ds gs kb kd ks goes clauses num eb tb dd td eg tg og tot n call =
-      let N = noted-body-drawn u number shape forms spellings hs p cover (γ ++ xs) δ (unless_places q.clauses) (map each ds) kd gs ks arity dd td eg og alone in
-      let wb : Wide (total arity) (the_body forms q (map each ds) gs ns) = λ env n i. clauses-wide u number shape forms spellings hs p cover ((γ ++ xs) ++ δ) (unless_places q.clauses) gs ks arity og alone _ _ _ in
-      then-drawn u number shape γ tys (length bs) 0 7 (all_lowered (each bs)) (all_of kb) (the_loop forms q (map each ds) gs ns) (λ names vs. plus (length q.sources) (over q (length ns) (body_of kd ks) vs (places_of q.sources vs) names))
-      (each-all u number shape forms spellings hs p cover γ bs kb eb) tb (loop-free forms q (map each ds) gs ns N.free)
+  pub product-drawn : ShapesAre → IsNumber forms spellings integer ty.Int → (q : Product) (arity : List ℕ) → masks_alone q.clauses arity ≡ true → ProductDrawn u number shape forms spellings hs p cover q arity
+  product-drawn shapes int q arity alone γ tys xs δ row made ns bs ds gs kb kd ks goes clauses num eb tb wb dd td wd eg tg og tot n call =
+      let N = noted-body-drawn u number shape forms spellings hs p cover (γ ++ xs) δ (unless_places q.clauses) (map each ds) kd gs ks arity dd td wd eg og alone in
+      let width : Wide (total arity) (the_body forms spellings q (map each ds) gs ns) = λ env n i. clauses-wide u number shape forms spellings hs p cover ((γ ++ xs) ++ δ) (unless_places q.clauses) gs ks arity og alone _ _ _ in
+      then-drawn u number shape forms spellings γ tys (length bs) 0 7 (all_lowered (each bs)) (all_of kb) (the_loop forms spellings q (map each ds) gs ns) (λ names vs. plus (length q.sources) (over q (length ns) (body_of kd ks) vs (places_of q.sources vs) names))
+      (each-all u number shape forms spellings hs p cover γ bs kb eb) tb wb (loop-free forms spellings q (map each ds) gs ns N.free)
       (λ names vs rs j o m e.
       let x = plus-some (length q.sources) (over q (length ns) (body_of kd ks) vs (places_of q.sources vs) names) rs j e in
       record {
         limit = 1 + (8 * x.0 + length q.sources);
         bound = omega (arith, x.2);
-        draws = λ s k i env ws a b pl.
-            loop-done forms q (map each ds) gs ns u number shape tys xs goes N.free (total arity) wb s k i env ws names vs a b m pl γ δ row made kd ks o clauses tot N
-            (then-typed (γ ++ xs) ((γ ++ xs) ++ δ) row (defined kd) (λ names. all_of ks) td (λ names o. tg)) (numbers-length forms spellings ns made num) (shapes q.clauses row made ns clauses num) bounded rs x.0 x.1;
+        draws = λ s k i env ws ew fw a b pl.
+            loop-done forms spellings q (map each ds) gs ns u number shape tys xs goes int N.free (total arity) width s k i env ws names vs γ ew fw a b m pl δ row made kd ks o clauses tot N
+            (then-typed (γ ++ xs) ((γ ++ xs) ++ δ) row (defined kd) (λ names. all_of ks) td (λ names o. tg)) (numbers-length forms spellings ns made num) (shapes q.clauses row made ns clauses num) rs x.0 x.1;
       })

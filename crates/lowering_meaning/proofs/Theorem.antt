@@ -12,7 +12,10 @@ use Rattle.if1_graph.specs.Units.{places, number_of as place_number}
 use Rattle.typed_tree.specs.declared.expr.TypedExpr.{TypedExpr}
 use Rattle.typed_tree.specs.declared.program.Function.{Function}
 use Rattle.typed_tree.specs.declared.program.Program.{Program}
-use Rattle.typed_tree.specs.Types.{AreNumbers}
+use Rattle.typed_tree.specs.Types.{IsNumber, AreNumbers}
+use Rattle.typed_tree.specs.Types as number
+use Rattle.flow_value.specs.declared.ty.Ty.TheVariants as ty
+use Rattle.lowering.specs.Operations.{integer}
 use Rattle.fitting_trees.specs.Fitting.{Header, Fits}
 use Rattle.typed_rows.specs.Rows.{AreOf}
 use Rattle.typed_values.proofs.Values.{expressions_typed, calls_typed}
@@ -34,6 +37,7 @@ use Rattle.lowering.specs.Types.{Table, table}
 use Rattle.lowered_units.specs.Fitting.{IsFitting}
 use Rattle.lowered_units.specs.Networks.{net_of, shapes}
 use Rattle.lowered_units.specs.Units.{IsTranslated, entries_from}
+use Rattle.lowered_units.proofs.Programs.{basics as basic_types}
 use Rattle.lowered_units.proofs.NestedTrees.{is-nested}
 use Rattle.lowered_units.proofs.Running.{runs-as-lowered}
 use Rattle.lowering_meaning.specs.Coverage.{Coverage, plain_forms, AreCovered, HasPlainTypes}
@@ -45,7 +49,6 @@ use Rattle.lowering_meaning.proofs.Trees.{FitsTo, FormsDrawn}
 use Rattle.lowering_meaning.proofs.TreeReads.{FormsRead}
 use Rattle.lowering_meaning.proofs.Functions.{FunctionAt, calls-drawn, calls-read}
 use Rattle.lowering_meaning.proofs.PlainTypes.{ArePlain, arrays-plain, records-plain, gathers-plain, reduces-plain}
-use Rattle.lowering_meaning.proofs.Layers.{and-true}
 use Rattle.lowering_meaning.proofs.Shapes.{clauses-shaped}
 use Rattle.lowering_meaning.proofs.Products.{product-drawn}
 use Rattle.lowering_meaning.proofs.ProductReads.{product-read}
@@ -122,6 +125,10 @@ module _ (p : Program) (u : Unit1) (fit : IsFitting p) (t : IsTranslated p u) wh
     types : ArePlain u.types
     types = subst ArePlain (sym t.types) (entries-plain p 1 (table p) (table-plain p plain.types))
 
+    -- integers have their number in every table
+    int : IsNumber p.types p.names integer ty.Int
+    int = number.integer (basic_types p fit).integers
+
     laws : FormsDrawn N num S p.types p.names fit.headers p.functions plain_forms
     laws =
         let arrays : (g l : ℕ) → S g l simple.ABuild ≡ shape.Plain = λ g l. arrays-plain u types (find (λ p. place_number p == g) (places u)) l in
@@ -131,9 +138,9 @@ module _ (p : Program) (u : Unit1) (fit : IsFitting p) (t : IsTranslated p u) wh
         let records : (g l : ℕ) → S g l simple.RBuild ≡ shape.Plain = λ g l. records-plain u types (find (λ p. place_number p == g) (places u)) l in
         record {
           arrays = arrays;
-          operation = λ o c γ tys a n r. operation-drawn N num S p.types arrays records o c γ tys a n r;
+          operation = λ o c γ tys a n r. operation-drawn N num S p.types p.names arrays records o c γ tys a n r;
           no_case = refl;
-          product = λ q ks c. let x = and-true _ _ c in product-drawn N num S p.types p.names fit.headers p.functions plain_forms clauses q ks x.0 x.1;
+          product = λ q ks c. product-drawn N num S p.types p.names fit.headers p.functions plain_forms clauses int q ks c;
           initial = λ q ks c. absurd (none c);
         }
       where
@@ -141,7 +148,7 @@ module _ (p : Program) (u : Unit1) (fit : IsFitting p) (t : IsTranslated p u) wh
         none e = cc
 
     reads : FormsRead N num S p.types p.names fit.headers p.functions plain_forms
-    reads = record { product = λ q ks c. product-read N num S p.types p.names fit.headers p.functions plain_forms q ks (and-true _ _ c).0; initial = λ q ks c. absurd (none c) }
+    reads = record { product = λ q ks c. product-read N num S p.types p.names fit.headers p.functions plain_forms int q ks c; initial = λ q ks c. absurd (none c) }
       where
         none : false ≡ true → ⊥
         none e = cc

@@ -1,7 +1,5 @@
 -- Which forms of phrases a law is of (SISAL Language Reference Manual 1.2, expressions).
-use Rattle.std.specs.Prelude.{◌≡◌, ℕ, ◌+◌, Bool, true, false, ◌&&◌, ◌||◌, nat_eq, if◌then◌else◌, List, [], ◌∷◌, map, length, Option, Some, slice_get}
-use Rattle.loop_folds.specs.declared.folding.Folding.{Folding}
-use Rattle.loop_folds.specs.declared.folding.Folding.TheVariants as folding
+use Rattle.std.specs.Prelude.{◌≡◌, ℕ, ◌+◌, Bool, true, false, ◌&&◌, ◌||◌, nat_eq, List, [], ◌∷◌, map, length, Option, Some, slice_get}
 use Rattle.value_ops.specs.declared.operation.Operation.{Operation}
 use Rattle.value_ops.specs.declared.operation.Operation.TheVariants as op
 use Rattle.type_table.specs.declared.form.Form.{Form}
@@ -12,8 +10,6 @@ use Rattle.typed_tree.specs.declared.expr.TypedKind.TheFolds.{fold-TypedExpr, fo
 use Rattle.typed_tree.specs.declared.expr.TypedKind.{TypedKind}
 use Rattle.typed_tree.specs.declared.expr.ClauseForm.{ClauseForm}
 use Rattle.typed_tree.specs.declared.expr.Product.{Product}
-use Rattle.typed_tree.specs.declared.expr.Source.{Source}
-use Rattle.typed_tree.specs.declared.expr.Source.TheVariants as source
 use Rattle.typed_tree.specs.declared.expr.Turns.{Turns}
 use Rattle.typed_tree.specs.declared.program.Function.{Function}
 use Rattle.lowering.specs.Loops.{unless_places}
@@ -86,22 +82,6 @@ all_one (n ∷ ns) = nat_eq n 1 && all_one ns
 abbrev pub masks_alone : List ClauseForm → List ℕ → Bool
 masks_alone cs arity = no_true (unless_places cs) || all_one arity
 
-abbrev pub is_range_first : List Source → Bool
-is_range_first (source.Range ∷ ss) = true
-is_range_first _ = false
-
-abbrev pub is_array_of : Folding → Bool
-is_array_of folding.Array = true
-is_array_of _ = false
-
-abbrev pub no_array : List ClauseForm → Bool
-no_array [] = true
-no_array (c ∷ cs) = if is_array_of c.folding then false else no_array cs
-
--- an `array of` stands in loops whose first generator is a range
-abbrev pub is_bounded : Product → Bool
-is_bounded p = is_range_first p.sources || no_array p.clauses
-
 -- ---- the forms of the laws
 
 -- every operation but those on unions, on fields of records, and a stream of its elements
@@ -115,7 +95,7 @@ is_plain_operation _ = true
 
 -- no `for initial` and no `tagcase`
 abbrev pub plain_forms : Coverage
-plain_forms = record { operation = is_plain_operation; tag_case = false; product = λ p ks. masks_alone p.clauses ks && is_bounded p; initial = λ t ks. false }
+plain_forms = record { operation = is_plain_operation; tag_case = false; product = λ p ks. masks_alone p.clauses ks; initial = λ t ks. false }
 
 -- ---- types
 
