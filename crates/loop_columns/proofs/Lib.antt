@@ -1,0 +1,13 @@
+pub mod From
+pub mod Steps
+pub mod Yields
+pub mod Later
+pub mod Nodes
+pub mod Numbers
+pub mod Columns
+pub mod Generators
+pub mod Forms
+pub mod Bounds
+pub mod FoldNodes
+pub mod Clauses
+pub mod ForAlls

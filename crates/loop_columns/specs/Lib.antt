@@ -1,0 +1,4 @@
+pub mod Parts
+pub mod Generators
+pub mod Clauses
+pub mod Loops
