@@ -1,9 +1,7 @@
 -- The lower bound of an `array of`.
-use Rattle.std.proofs.Common.{◌≡◌, ℕ, ℤ, pos, List, [], ◌∷◌, refl, sym, ap, ◌∙◌, subst, drop}
-use Rattle.flow_value.specs.Bounds.{Bounded}
+use Rattle.std.proofs.Common.{◌≡◌, pos, List, [], ◌∷◌, sym, ap, ◌∙◌, drop}
 use Rattle.flow_value.specs.declared.cause.Cause.{Cause}
 use Rattle.flow_value.specs.declared.value.Val.{Val}
-use Rattle.flow_value.specs.declared.value.Val.TheOpen.{Val-F}
 use Rattle.flow_value.specs.declared.value.Val.TheVariants as val
 use Rattle.flow_value.specs.declared.value.Val.TheViews.{out-Val}
 use Rattle.flow_value.specs.declared.ty.Ty.{Ty}
@@ -16,7 +14,7 @@ use Rattle.typed_tree.specs.declared.expr.Source.TheVariants as source
 use Rattle.meaning.specs.declared.sources.Places.{Places}
 use Rattle.meaning.specs.declared.sources.Places.TheVariants as places
 use Rattle.meaning.specs.Words.{value_at}
-use Rattle.meaning.specs.Sources.{width, range_size, list_size, size_of, sizes_of, first_failure, common, unless_failed, places_of, first_index, lower_of}
+use Rattle.meaning.specs.Sources.{width, range_size, list_size, size_of, sizes_of, first_failure, common, unless_failed, first_index, lower_of}
 use Rattle.typed_rows.specs.Rows.{AreOf}
 use Rattle.typed_rows.proofs.ValueKinds.{IntKind, an_int, no_int, ArrKind, an_arr, no_arr, StreamKind, a_stream, no_stream, as_int, as_arr, as_stream, out_err, out_int, out_arr, out_stream}
 use Rattle.loop_columns.specs.Generators.{IsCounted, AreLowerBounds}

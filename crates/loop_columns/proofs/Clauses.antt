@@ -1,5 +1,5 @@
 -- What clauses make of the rows of all places is what their nodes make of the columns of these rows.
-use Rattle.std.proofs.Common.{◌≡◌, ℕ, zero, suc, ◌+◌, ℤ, Bool, true, false, List, [], ◌∷◌, ◌++◌, map, length, take, drop, fold, replicate, refl, sym, ap, ◌∙◌, arith, append_assoc, append-nil}
+use Rattle.std.proofs.Common.{◌≡◌, ℕ, zero, suc, ◌+◌, ℤ, Bool, List, [], ◌∷◌, ◌++◌, map, length, take, drop, fold, refl, sym, ap, ◌∙◌, arith, append_assoc, append-nil}
 use Rattle.flow_value.specs.declared.operation.Scalar1.TheVariants as unary
 use Rattle.flow_value.specs.declared.value.Val.{Val}
 use Rattle.value_ops.specs.Operations.{op_value}
@@ -12,7 +12,7 @@ use Rattle.loop_folds.specs.Clauses.{Cell, ClauseCells, no_cells, fold_value}
 use Rattle.loop_folds.specs.Masks.{keep_of}
 use Rattle.typed_tree.specs.declared.expr.ClauseForm.{ClauseForm}
 use Rattle.meaning.specs.Words.{value_at}
-use Rattle.meaning.specs.Rows.{span, cells_in, with_cell, with_cells, no_rows, with_row, with_rows, made}
+use Rattle.meaning.specs.Rows.{span, with_cell, no_rows, with_row, with_rows, made}
 use Rattle.graph_meaning.specs.Carried.{Carried, Value, Many}
 use Rattle.graph_meaning.specs.NodeValues.{masked, fold_of}
 use Rattle.graph_meaning.specs.Forms.{columns, add_row}
@@ -47,7 +47,7 @@ no-clause (r ∷ rows) = no-clause rows
 -- ---- in the graph
 
 -- the first column, and the others
-column : (n : ℕ) (f : List Val → Val) (g : List Val → List Carried) (rows : List (List Val)) → columns (suc n) (map (λ r. Value (f r) ∷ g r) rows) ≡ Many (map f rows) ∷ columns n (map g rows)
+pub column : (n : ℕ) (f : List Val → Val) (g : List Val → List Carried) (rows : List (List Val)) → columns (suc n) (map (λ r. Value (f r) ∷ g r) rows) ≡ Many (map f rows) ∷ columns n (map g rows)
 column n f g [] = refl
 column n f g (r ∷ rows) = ap (λ ms. add_row (Value (f r) ∷ g r) ms) (column n f g rows)
 
@@ -56,7 +56,7 @@ same-rows : (n : ℕ) (f g : List Val → List Carried) → ((r : List Val) → 
 same-rows n f g h [] w = refl
 same-rows n f g h (r ∷ rows) w = ap (λ x. x ∷ map f rows) (h r w.0) ∙ ap (λ xs. g r ∷ xs) (same-rows n f g h rows w.1)
 
-left-wide : (k n : ℕ) (rows : List (List Val)) → AreWide (k + n) rows → AreWide n (left k rows)
+pub left-wide : (k n : ℕ) (rows : List (List Val)) → AreWide (k + n) rows → AreWide n (left k rows)
 left-wide k n [] w = tt
 left-wide k n (r ∷ rows) w = (dropped k r w.0, left-wide k n rows w.1)
   where

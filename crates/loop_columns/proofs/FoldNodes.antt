@@ -5,7 +5,7 @@ use Rattle.loop_folds.specs.declared.folding.Folding.{Folding}
 use Rattle.loop_folds.specs.declared.folding.Folding.TheVariants as folding
 use Rattle.loop_folds.specs.Clauses.{Cell, first_failure, kept_values, unless_failed, gathered, fold_value}
 use Rattle.graph_meaning.specs.Carried.{Carried, Value, Many, Spoiled, Name, Unfilled}
-use Rattle.graph_meaning.specs.NodeValues.{Shape, cells_of, folded, fold_of}
+use Rattle.graph_meaning.specs.NodeValues.{cells_of, folded, fold_of}
 use Rattle.loop_columns.specs.Clauses.{AreFoldNodes}
 
 -- what is no array has no lower bound

@@ -1,16 +1,13 @@
 -- What a ForAll gives and fires, by the graphs inside.
-use Rattle.std.proofs.Common.{◌≡◌, ◌⊎◌, inl, inr, ℕ, zero, suc, ◌+◌, ◌-◌, ◌*◌, ◌≤◌, true, false, List, [], ◌∷◌, ◌++◌, map, length, Option, Some, None, refl, sym, ap, ◌∙◌, subst, arith, if◌then◌else◌}
+use Rattle.std.proofs.Common.{◌≡◌, inl, inr, ℕ, zero, suc, ◌+◌, ◌-◌, ◌*◌, ◌≤◌, false, List, [], ◌∷◌, ◌++◌, map, length, Some, refl, sym, ap, ◌∙◌, subst, arith, if◌then◌else◌}
 use Rattle.flow_value.specs.declared.cause.Cause.{Cause}
 use Rattle.flow_value.specs.declared.cause.Cause.TheVariants as cause
 use Rattle.flow_value.specs.declared.value.Val.{Val}
-use Rattle.flow_value.specs.declared.value.Val.TheVariants as val
-use Rattle.flow_value.specs.declared.ty.Ty.{Ty}
 use Rattle.typed_tree.specs.declared.expr.Product.{Product}
 use Rattle.typed_tree.specs.declared.expr.Source.{Source}
-use Rattle.typed_tree.specs.declared.expr.ClauseForm.{ClauseForm}
 use Rattle.meaning.specs.declared.sources.Places.{Places}
 use Rattle.meaning.specs.declared.sources.Places.TheVariants as places
-use Rattle.meaning.specs.Timed.{Timed, given, plus, andthen}
+use Rattle.meaning.specs.Timed.{given, andthen}
 use Rattle.meaning.specs.Words.{failed}
 use Rattle.meaning.specs.Sources.{places_of, names_at, lower_of}
 use Rattle.meaning.specs.Meaning.{Gives, each, environments, at_place, folded, over}
@@ -18,10 +15,8 @@ use Rattle.graph_meaning.specs.Carried.{Carried, Value}
 use Rattle.graph_meaning.specs.Forms.{Form, ForAll, Enter, Leave, Generating, Returning, first, next_of, follow, fails, errors, iterate, spread, first_spoiled, are_as_long, rows_of, items, columns}
 use Rattle.graph_meaning.specs.Forms as forms
 use Rattle.graph_meaning.specs.Demand.{Network}
-use Rattle.graph_meaning.specs.Plain.{CarryAll, iterates, MeanAll, no_row, a_row, NodesFire, LaterFires, of_iterations, RowsFire, of_no_row, of_row}
+use Rattle.graph_meaning.specs.Plain.{iterates, MeanAll, no_row, a_row, NodesFire, LaterFires, of_iterations, RowsFire, of_no_row, of_row}
 use Rattle.graph_meaning.proofs.PlainValues.{carried-once}
-use Rattle.fitting_trees.specs.Fitting as fitting
-use Rattle.typed_rows.specs.Rows.{AreOf}
 use Rattle.loop_columns.specs.Parts.{From, GraphGives, Goes, NodeGives, Yields}
 use Rattle.loop_columns.specs.Generators.{generated, names_from, AreRows, FailWith, GoThrough}
 use Rattle.loop_columns.specs.Clauses.{shown}
@@ -29,7 +24,7 @@ use Rattle.loop_columns.specs.Loops.{Gave, clauses_made, AreForAllParts, AreForA
 use Rattle.loop_columns.proofs.From.{always, after, both}
 use Rattle.loop_columns.proofs.Steps.{plus-some, given-is, then-some}
 use Rattle.loop_columns.proofs.Yields.{yield-given, yield-plus, yield-then, yield-same}
-use Rattle.loop_columns.proofs.Later.{later-is, first-row, same-depth}
+use Rattle.loop_columns.proofs.Later.{later-is, first-row, is-same}
 use Rattle.loop_columns.proofs.Nodes.{errors-are, goes-more, goes-leave, goes-enter}
 use Rattle.loop_columns.proofs.Generators.{do-go-through}
 
@@ -144,7 +139,7 @@ module _ (u : Network) where
         (record {
           gave = ((y.0, y.1), rest.gave);
           give = rows-within b _ _ (1 + ((8 * y.0 + 7) + 8 * z.j)) (8 * steps) (omega (arith, x.sum, y.2, z.sum, w.1))
-                 (rows-more b _ _ _ _ (8 * y.0 + 7) (8 * z.j) (h.at_each_place i x.mid y.0 y.1) rest.give);
+              (rows-more b _ _ _ _ (8 * y.0 + 7) (8 * z.j) (h.at_each_place i x.mid y.0 y.1) rest.give);
         })
 
     generates : (rs : List Carried) (k : ℕ) → Goes u the_form ks (follow the_form ks Generating ms) rs k → NodeGives u the_form ks rs (limit + k)
@@ -190,10 +185,10 @@ module _ (u : Network) where
         yield-then (λ d. at_place (body d) (env ++ names_at p.sources bounds i)) (λ d row. andthen (each (at_place (body d)) (map (λ ns. env ++ ns) (names_from p.sources bounds (suc i) k))) (λ rows. given (row ∷ rows))) y
         (yield-then (λ d. each (at_place (body d)) (map (λ ns. env ++ ns) (names_from p.sources bounds (suc i) k))) (λ d rows. given (y.value ∷ rows)) z (yield-given (y.value ∷ z.value)))
 
-    spread-read : (k c : ℕ) (ms : List Carried) → LaterFires u n (ForAll g b r wide o) ks (spread b r wide ks ms (map (map Value) (names_from p.sources bounds 0 k))) c
+    spread-read : (k c : ℕ) (os : List Carried) → LaterFires u n (ForAll g b r wide o) ks (spread b r wide ks os (map (map Value) (names_from p.sources bounds 0 k))) c
         → Yields (λ d. each (at_place (body d)) (map (λ ns. env ++ ns) (names_from p.sources bounds 0 k)))
-    spread-read zero c ms f = yield-given []
-    spread-read (suc k) c ms f = let x = later-is u n (ForAll g b r wide o) ks _ c f in each-read 0 (suc k) x.cost x.fires
+    spread-read zero c _ f = yield-given []
+    spread-read (suc k) c _ f = let x = later-is u n (ForAll g b r wide o) ks _ c f in each-read 0 (suc k) x.cost x.fires
 
     all-read : (q : Places) → GoThrough p.sources bounds q → (c : ℕ) → LaterFires u n (ForAll g b r wide o) ks (iterate (ForAll g b r wide o) b r wide ks (generated p.sources bounds) (first_spoiled (generated p.sources bounds))) c
         → Yields (λ d. over p o (body d) bounds q env)
@@ -212,7 +207,7 @@ pub for-alls-read : AreForAllsRead
 for-alls-read u g b r wide o n cost ks p tys names bounds env body goes of means reads f =
     let form = ForAll g b r wide o in
     let z = later-is u n form ks (Enter false g ks Generating) cost f in
-    let d = same-depth u z.depth n z.is_less in
+    let d = is-same u form z.depth n refl z.is_less in
     let w = carried-once u g ks (u g).results z.results (generated p.sources bounds) z.depth means.least z.means (means.holds means.least (omega arith)) in
     let h = subst (λ k. LaterFires u k form ks (follow form ks Generating (generated p.sources bounds)) z.rest) d (subst (λ rs. LaterFires u z.depth form ks (follow form ks Generating rs) z.rest) w z.follows) in
     all-read u g b r wide o n ks p bounds env body reads (places_of p.sources bounds) (do-go-through p.sources tys names bounds goes of) z.rest h

@@ -1,5 +1,5 @@
 -- Values by their outermost form.
-use Rattle.std.proofs.Common.{◌≡◌, List, [], ◌∷◌, true, false, refl, sym, ap, ◌∙◌, subst, rules}
+use Rattle.std.proofs.Common.{◌≡◌, [], ◌∷◌, true, false, refl, sym, ap, ◌∙◌, subst, rules}
 use Rattle.flow_value.specs.Bounds.{Bounded}
 use Rattle.flow_value.specs.Scalar.{unless_error}
 use Rattle.flow_value.specs.declared.value.Val.{Val}

@@ -1,8 +1,8 @@
 -- Generators go through the places of the source.
-use Rattle.std.proofs.Common.{◌≡◌, ◌⊎◌, inl, inr, ℕ, zero, suc, ◌+◌, ◌<◌, ℤ, pos, negsuc, Bool, true, false, ◌&&◌, List, [], ◌∷◌, ◌++◌, map, length, take, drop, Option, Some, None, refl, sym, ap, ◌∙◌, subst, arith, if◌then◌else◌}
+use Rattle.std.proofs.Common.{◌≡◌, inl, inr, ℕ, zero, suc, ◌+◌, ◌<◌, ℤ, pos, negsuc, Bool, true, false, ◌&&◌, List, [], ◌∷◌, ◌++◌, map, length, take, drop, Option, Some, None, refl, sym, ap, ◌∙◌, subst, arith, if◌then◌else◌}
 use Rattle.std.specs.Prelude.{◌+ℤ◌, ◌-ℤ◌, nat_eq, nat_lt}
 use Rattle.std.specs.List.{list_all}
-use Rattle.flow_value.specs.Bounds.{Bounded, is_few}
+use Rattle.flow_value.specs.Bounds.{is_few}
 use Rattle.flow_value.specs.Scalar.{fits_64}
 use Rattle.flow_value.specs.declared.cause.Cause.{Cause}
 use Rattle.flow_value.specs.declared.cause.Cause.TheVariants as cause
@@ -12,9 +12,7 @@ use Rattle.flow_value.specs.declared.value.Val.TheOpen.{Val-F}
 use Rattle.flow_value.specs.declared.value.Val.TheViews.{out-Val}
 use Rattle.flow_value.specs.declared.ty.Ty.{Ty}
 use Rattle.flow_value.specs.Well.{is_well}
-use Rattle.flow_reduce.specs.Elements.{or_else}
 use Rattle.flow_reduce.specs.Folds.{elements_in}
-use Rattle.value_ops.specs.Aggregates.{places as places_between}
 use Rattle.typed_tree.specs.declared.expr.Source.{Source}
 use Rattle.typed_tree.specs.declared.expr.Source.TheVariants as source
 use Rattle.meaning.specs.declared.sources.Places.{Places}
@@ -22,16 +20,16 @@ use Rattle.meaning.specs.declared.sources.Places.TheVariants as places
 use Rattle.meaning.specs.Words.{value_at}
 use Rattle.meaning.specs.Sources.{width, up_to, range_size, list_size, size_of, sizes_of, first_failure, is_size, are_size, common, unless_failed, places_of, names_of, names_at, number_in, index_in}
 use Rattle.graph_meaning.specs.Carried.{Carried, Value, Many, Spoiled}
-use Rattle.graph_meaning.specs.NodeValues.{rising, range, range_of, scatter_in, scatter_of}
+use Rattle.graph_meaning.specs.NodeValues.{rising, scatter_in}
 use Rattle.graph_meaning.specs.Forms.{first_spoiled, are_as_long, items}
 use Rattle.graph_meaning.specs.Forms as forms
 use Rattle.fitting_trees.specs.Fitting.{Goes, no_source, over_range, over_array, over_stream, over_array_at, over_stream_at}
 use Rattle.typed_rows.specs.Rows.{AreOf}
 use Rattle.typed_rows.proofs.ValueKinds.{IntKind, an_int, no_int, ArrKind, an_arr, no_arr, StreamKind, a_stream, no_stream, as_int, as_arr, as_stream, out_err, out_int, out_arr, out_stream}
 use Rattle.typed_rows.proofs.Rows.{and_two, parts_of}
-use Rattle.loop_columns.specs.Generators.{generated_by, generated, names_from, AreRows, FailWith, GoThrough, DoGoThrough}
+use Rattle.loop_columns.specs.Generators.{generated_by, generated, names_from, GoThrough, DoGoThrough}
 use Rattle.loop_columns.proofs.Numbers.{Fit, places-fit, few-fit, range-fits, some-places, no-places, few-same, rising-long, rising-at, fitted-is}
-use Rattle.loop_columns.proofs.Columns.{AreLong, AreColumns, at_place, from, rows-are, columns-both, many-both, items-many, sound-many, is_long, all-both, many-long, all-long}
+use Rattle.loop_columns.proofs.Columns.{AreLong, AreColumns, from, rows-are, columns-both, many-both, items-many, sound-many, is_long, all-both, many-long}
 
 -- ---- one generator
 

@@ -1,5 +1,5 @@
 -- What a cost consists of.
-use Rattle.std.proofs.Common.{◌≡◌, ◌⊎◌, inl, inr, ℕ, suc, Bool, true, false, List, ◌∷◌, refl}
+use Rattle.std.proofs.Common.{◌≡◌, ◌⊎◌, inl, inr, ℕ, suc, Bool, true, false, List, ◌∷◌, refl, arith}
 use Rattle.graph_meaning.specs.Carried.{Carried}
 use Rattle.graph_meaning.specs.Forms.{Form, Next, Stage, Enter, Iterate, Leave, follow, gather}
 use Rattle.graph_meaning.specs.Demand.{Network}
@@ -47,10 +47,10 @@ module _ (u : Network) where
   pub first-row : (m g : ℕ) (ins : List Carried) (rows : List (List Carried)) (c : ℕ) → RowsFire u m g (ins ∷ rows) c → FirstRow m g ins rows
   first-row m g ins rows _ (of_row _ _ _ _ c d a b) = record { cost = c; rest = d; fires = a; others = b }
 
-  pub same-depth : (l m : ℕ) → ((false ≡ true) × (suc l ≡ m)) ⊎ ((false ≡ false) × (l ≡ m)) → l ≡ m
-  same-depth l m (inl x) = absurd cc
-  same-depth l m (inr x) = x.1
+  pub is-same : (form : Form) (l m : ℕ) → is_deeper form false ≡ false → ((is_deeper form false ≡ true) × (suc l ≡ m)) ⊎ ((is_deeper form false ≡ false) × (l ≡ m)) → l ≡ m
+  is-same form l m e (inl x) = absurd (grind (arith, e, x))
+  is-same form l m e (inr x) = x.1
 
-  pub less-depth : (l m : ℕ) → ((true ≡ true) × (suc l ≡ m)) ⊎ ((true ≡ false) × (l ≡ m)) → suc l ≡ m
-  less-depth l m (inl x) = x.1
-  less-depth l m (inr x) = absurd cc
+  pub is-less : (form : Form) (l m : ℕ) → is_deeper form true ≡ true → ((is_deeper form true ≡ true) × (suc l ≡ m)) ⊎ ((is_deeper form true ≡ false) × (l ≡ m)) → suc l ≡ m
+  is-less form l m e (inl x) = x.1
+  is-less form l m e (inr x) = absurd (grind (arith, e, x))

@@ -11,3 +11,6 @@ pub mod Bounds
 pub mod FoldNodes
 pub mod Clauses
 pub mod ForAlls
+pub mod Turns
+pub mod TurnsRead
+pub mod Collected

@@ -1,6 +1,5 @@
 -- What a compound node gives and fires, by the graphs that it enters.
-use Rattle.std.proofs.Common.{◌≡◌, ℕ, zero, suc, ◌+◌, ◌≤◌, true, false, List, [], ◌∷◌, map, replicate, refl, ap, arith}
-use Rattle.flow_value.specs.declared.value.Val.{Val}
+use Rattle.std.proofs.Common.{◌≡◌, ℕ, zero, suc, ◌+◌, ◌≤◌, true, false, List, ◌∷◌, map, replicate, refl, ap, arith}
 use Rattle.flow_value.specs.declared.value.Val.TheVariants as val
 use Rattle.flow_value.specs.declared.cause.Cause.{Cause}
 use Rattle.graph_meaning.specs.Carried.{Carried, Value}

@@ -1,5 +1,5 @@
 -- What the source gives from some depth on, put together.
-use Rattle.std.proofs.Common.{◌≡◌, ℕ, suc, ◌+◌, Some, refl, ap, ◌∙◌}
+use Rattle.std.proofs.Common.{◌≡◌, ℕ, suc, ◌+◌, refl, ap, ◌∙◌}
 use Rattle.meaning.specs.Timed.{Timed, given, plus, andthen}
 use Rattle.loop_columns.specs.Parts.{Yields}
 use Rattle.loop_columns.proofs.From.{always, after, both, deeper}

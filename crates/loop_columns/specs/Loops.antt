@@ -1,23 +1,15 @@
 -- What loops mean in graphs, by what their parts mean: both ways, with at most eight firings for each step of the source (SISAL
 -- Language Reference Manual 1.2, loops; IF1 manual M-170, ForAll, LoopA, LoopB).
-use Rattle.std.specs.Prelude.{◌≡◌, ℕ, ◌+◌, ◌*◌, ◌≤◌, Bool, true, false, List, [], ◌∷◌, ◌++◌, map, length, Some}
+use Rattle.std.specs.Prelude.{◌≡◌, ℕ, ◌+◌, ◌*◌, List, [], ◌∷◌, ◌++◌, map, length, Some}
 use Rattle.flow_value.specs.declared.value.Val.{Val}
-use Rattle.flow_value.specs.declared.value.Val.TheVariants as val
 use Rattle.flow_value.specs.declared.ty.Ty.{Ty}
 use Rattle.typed_tree.specs.declared.expr.Product.{Product}
-use Rattle.typed_tree.specs.declared.expr.Source.{Source}
-use Rattle.typed_tree.specs.declared.expr.Turns.{Turns}
-use Rattle.typed_tree.specs.declared.expr.ClauseForm.{ClauseForm}
-use Rattle.meaning.specs.declared.words.Test.{Test}
-use Rattle.meaning.specs.declared.words.Test.TheVariants as test
 use Rattle.meaning.specs.declared.sources.Places.TheVariants as places
-use Rattle.meaning.specs.Timed.{Timed, andthen}
-use Rattle.meaning.specs.Words.{test_of, goes_on}
 use Rattle.meaning.specs.Sources.{places_of, names_at, lower_of}
 use Rattle.meaning.specs.Rows.{no_rows, with_rows, made}
-use Rattle.meaning.specs.Meaning.{Gives, environments, over, looped}
+use Rattle.meaning.specs.Meaning.{Gives, environments, over}
 use Rattle.graph_meaning.specs.Carried.{Carried, Value}
-use Rattle.graph_meaning.specs.Forms.{ForAll, LoopA, LoopB, Form, columns, first, next_of}
+use Rattle.graph_meaning.specs.Forms.{ForAll, columns, first, next_of}
 use Rattle.graph_meaning.specs.Demand.{Network}
 use Rattle.graph_meaning.specs.Plain.{CarryAll, NodesFire, LaterFires}
 use Rattle.fitting_trees.specs.Fitting.{Goes}

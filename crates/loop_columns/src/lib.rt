@@ -7,6 +7,9 @@
 mod laws;
 
 pub use laws::{
-    arrays_begin_at_their_lower_bounds, clauses_fold_columns, for_alls_give_what_the_source_gives,
-    for_alls_fire_where_the_source_gives, generators_go_through_places, nodes_fold_multiples,
+    arrays_begin_at_their_lower_bounds, clauses_are_collected_at_their_places,
+    clauses_fold_columns, for_alls_fire_where_the_source_gives,
+    for_alls_give_what_the_source_gives, generators_go_through_places,
+    loops_fire_where_the_source_gives, loops_give_what_the_source_gives, nodes_fold_multiples,
+    tests_say_what_the_source_goes_by,
 };
