@@ -1,5 +1,5 @@
 -- The operations that are covered without loops, unions and streams.
-use Rattle.std.proofs.Common.{◌≡◌, ℕ, suc, true, false, List, [], ◌∷◌, map, refl, sym, ap, ◌∙◌}
+use Rattle.std.proofs.Common.{◌≡◌, ℕ, suc, true, List, [], ◌∷◌, map, ap, ◌∙◌}
 use Rattle.flow_value.specs.declared.value.Val.{Val}
 use Rattle.flow_value.specs.declared.ty.Ty.{Ty}
 use Rattle.if1_graph.specs.declared.op.Simple.{Simple}
@@ -11,7 +11,7 @@ use Rattle.value_ops.specs.declared.operation.Operation.TheVariants as operation
 use Rattle.fitting_trees.specs.Fitting.{Row}
 use Rattle.fitting_trees.specs.Fitting as is
 use Rattle.meaning.specs.Timed.{given}
-use Rattle.graph_meaning.specs.Carried.{Carried, Value, vals}
+use Rattle.graph_meaning.specs.Carried.{Value, vals}
 use Rattle.graph_meaning.specs.NodeValues.{Shape, op}
 use Rattle.graph_meaning.specs.NodeValues as shapes
 use Rattle.graph_meaning.specs.Demand.{Network}

@@ -1,12 +1,12 @@
 -- What the source gives, what a phrase becomes gives, and fires at most eight times as often as the source takes steps: how phrases
 -- are put together.
-use Rattle.std.proofs.Common.{◌≡◌, ℕ, zero, suc, ◌+◌, ◌*◌, ◌≤◌, List, [], ◌∷◌, ◌++◌, map, length, Some, refl, sym, ap, ◌∙◌, subst, arith, append_assoc, append-nil}
+use Rattle.std.proofs.Common.{◌≡◌, ℕ, suc, ◌+◌, ◌*◌, ◌≤◌, List, [], ◌∷◌, ◌++◌, map, length, Some, refl, sym, ap, ◌∙◌, subst, arith, append_assoc, append-nil}
 use Rattle.flow_value.specs.declared.value.Val.{Val}
 use Rattle.flow_value.specs.declared.ty.Ty.{Ty}
 use Rattle.if1_graph.specs.declared.op.Simple.{Simple}
 use Rattle.type_table.specs.declared.form.Form.{Form}
-use Rattle.typed_rows.specs.Rows.{Of, AreOf}
-use Rattle.meaning.specs.Timed.{Timed, given, plus, andthen}
+use Rattle.typed_rows.specs.Rows.{AreOf}
+use Rattle.meaning.specs.Timed.{given, plus, andthen}
 use Rattle.meaning.specs.Meaning.{Gives as Means, all_of, defined, body_of}
 use Rattle.graph_meaning.specs.NodeValues.{Shape}
 use Rattle.graph_meaning.specs.Demand.{Network}

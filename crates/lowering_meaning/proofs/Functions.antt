@@ -1,12 +1,11 @@
 -- Each function: its graph has a cost exactly where the source gives values, then it gives these, and the cost is at most eight times
 -- the steps.
-use Rattle.std.proofs.Common.{◌≡◌, ℕ, zero, suc, ◌+◌, ◌*◌, ◌<◌, ◌≤◌, true, List, [], ◌∷◌, ◌++◌, map, length, slice_get, get_or, Option, Some, None, inl, inr, refl, sym, ap, ◌∙◌, subst, arith}
+use Rattle.std.proofs.Common.{◌≡◌, ℕ, zero, suc, ◌+◌, ◌*◌, List, [], ◌∷◌, ◌++◌, map, length, slice_get, get_or, Option, Some, None, inl, inr, refl, sym, ap, ◌∙◌, subst, arith}
 use Rattle.std.proofs.lemmas.List.{length-map}
 use Rattle.flow_value.specs.declared.value.Val.{Val}
 use Rattle.flow_value.specs.declared.value.Val.TheVariants as val
 use Rattle.flow_value.specs.declared.cause.Cause.TheVariants as cause
 use Rattle.flow_value.specs.declared.ty.Ty.{Ty}
-use Rattle.value_ops.specs.declared.operation.Operation.TheVariants as operation
 use Rattle.if1_graph.specs.declared.op.Simple.{Simple}
 use Rattle.if1_graph.specs.declared.op.Simple.TheVariants as simple
 use Rattle.type_table.specs.declared.form.Form.{Form}
@@ -14,8 +13,8 @@ use Rattle.typed_tree.specs.declared.expr.TypedExpr.{TypedExpr}
 use Rattle.typed_tree.specs.declared.program.Function.{Function}
 use Rattle.typed_tree.specs.Types.{AreNumbers}
 use Rattle.fitting_trees.specs.Fitting.{Header, FunctionFits, FunctionsFit, BodyFits}
-use Rattle.typed_rows.specs.Rows.{Of, AreOf}
-use Rattle.meaning.specs.Timed.{Timed, given, plus, andthen}
+use Rattle.typed_rows.specs.Rows.{AreOf}
+use Rattle.meaning.specs.Timed.{given, plus, andthen}
 use Rattle.meaning.specs.Words.{failed}
 use Rattle.meaning.specs.Meaning.{Gives as Means, all_of, results_of, function_gives, calls, meaning}
 use Rattle.graph_meaning.specs.Carried.{Value, Unfilled}
@@ -31,17 +30,17 @@ use Rattle.lowering.specs.Feeds.{wire}
 use Rattle.lowering.specs.declared.graph.Action.TheVariants.{Row}
 use Rattle.lowering.specs.declared.graph.Lowered.{Lowered}
 use Rattle.lowering.specs.Graphs.{ports, closed, used, uses}
-use Rattle.lowering.specs.Operations.{Lowers, all_lowered, row_lowered}
+use Rattle.lowering.specs.Operations.{Lowers, all_lowered}
 use Rattle.lowering.specs.Loops.{own_inputs}
 use Rattle.lowering.specs.Phrases.{each, phrase, lowers}
 use Rattle.lowering.specs.Programs.{stub, bodies, function_lowered}
 use Rattle.lowered_units.specs.Networks.{net_of}
 use Rattle.lowering_meaning.specs.Coverage.{Coverage, AreCovered}
-use Rattle.lowering_meaning.proofs.Timed.{Yield, yield-given, yield-plus, yield-same, yield-deeper}
+use Rattle.lowering_meaning.proofs.Timed.{Yield, yield-given, yield-plus, yield-deeper}
 use Rattle.lowering_meaning.proofs.Wires.{AllWires, left-wires, right-wires, weaker-wires, In, IsThere, FromNames, MadeFrom}
-use Rattle.lowering_meaning.proofs.Sites.{Site, AllCarry, AreAt, Done, as-values, vertices, done-made, done-more}
+use Rattle.lowering_meaning.proofs.Sites.{Site, AllCarry, AreAt, Done, as-values, done-made, done-more}
 use Rattle.lowering_meaning.proofs.Inside.{inner, nodes-are, placed-inside, Gives, graph-gives, own-carry}
-use Rattle.lowering_meaning.proofs.Forms.{ports-wired, Typed, of-length, Draws, Runs, Drawn, drawn-as, step-drawn, nil-drawn, cons-drawn}
+use Rattle.lowering_meaning.proofs.Forms.{ports-wired, Typed, of-length, Drawn, step-drawn, nil-drawn, cons-drawn}
 use Rattle.lowering_meaning.proofs.Ifs.{node-from}
 use Rattle.lowering_meaning.proofs.Nodes.{row-done}
 use Rattle.lowering_meaning.proofs.Timed.{given-is}

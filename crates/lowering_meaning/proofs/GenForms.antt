@@ -1,26 +1,25 @@
 -- The graph of generators gives what they make of their bounds.
-use Rattle.std.proofs.Common.{◌≡◌, ℕ, zero, suc, ◌+◌, ◌<◌, ◌≤◌, List, [], ◌∷◌, ◌++◌, map, length, take, drop, get_or, refl, sym, ap, ◌∙◌, subst, arith}
+use Rattle.std.proofs.Common.{◌≡◌, ℕ, zero, suc, ◌+◌, List, [], ◌∷◌, ◌++◌, length, take, drop, get_or, refl, sym, ap, ◌∙◌, arith}
 use Rattle.std.proofs.lemmas.List.{length-append}
 use Rattle.flow_value.specs.declared.value.Val.{Val}
 use Rattle.flow_value.specs.declared.value.Val.TheOpen.{Val-F}
 use Rattle.flow_value.specs.declared.value.Val.TheViews.{out-Val}
 use Rattle.flow_value.specs.declared.ty.Ty.{Ty}
-use Rattle.flow_value.specs.declared.ty.Ty.TheVariants as ty
 use Rattle.if1_graph.specs.declared.op.Simple.{Simple}
 use Rattle.if1_graph.specs.declared.op.Simple.TheVariants as simple
 use Rattle.type_table.specs.declared.form.Form.{Form}
 use Rattle.typed_tree.specs.declared.expr.Source.{Source}
 use Rattle.typed_tree.specs.declared.expr.Source.TheVariants as source
 use Rattle.fitting_trees.specs.Fitting.{Goes, no_source, over_range, over_array, over_stream, over_array_at, over_stream_at}
-use Rattle.typed_rows.specs.Rows.{Of, AreOf}
+use Rattle.typed_rows.specs.Rows.{AreOf}
 use Rattle.graph_meaning.specs.Carried.{Carried, Value, Unfilled}
-use Rattle.graph_meaning.specs.NodeValues.{Shape, op, scatter_in, scatter_of}
+use Rattle.graph_meaning.specs.NodeValues.{Shape, scatter_in, scatter_of}
 use Rattle.graph_meaning.specs.Demand.{Network}
 use Rattle.lowering.specs.declared.feed.Carried.TheVariants.{Many}
 use Rattle.lowering.specs.declared.feed.Wire.{Wire}
 use Rattle.lowering.specs.declared.graph.Action.TheVariants.{Row}
 use Rattle.lowering.specs.declared.graph.Lowered.{Lowered}
-use Rattle.lowering.specs.Graphs.{Lowering, only, joined, a_node}
+use Rattle.lowering.specs.Graphs.{only, joined, a_node}
 use Rattle.lowering.specs.Operations.{integer}
 use Rattle.lowering.specs.Loops.{take_up, width, elements_in, generator_lowered, generators_lowered}
 use Rattle.loop_columns.specs.Generators.{generated_by, generated}
@@ -29,7 +28,6 @@ use Rattle.lowering_meaning.proofs.Sites.{Site, AllCarry, AllCarried, Placed, Ma
 use Rattle.lowering_meaning.proofs.Nodes.{row-made}
 use Rattle.lowering_meaning.proofs.Forms.{from-both, values-from}
 use Rattle.lowering_meaning.proofs.Ifs.{node-from}
-use Rattle.lowering_meaning.proofs.Widths.{length-ports}
 
 -- ---- the first wires, and the others
 

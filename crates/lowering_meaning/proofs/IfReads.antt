@@ -1,7 +1,6 @@
 -- Where an `if` fires, the source gives something.
-use Rattle.std.proofs.Common.{◌≡◌, ℕ, zero, suc, ◌+◌, ◌*◌, ◌<◌, ◌≤◌, Bool, true, false, List, [], ◌∷◌, ◌++◌, map, length, Some, ◌⊎◌, inl, inr, refl, sym, ap, ◌∙◌, subst, arith, append-nil}
+use Rattle.std.proofs.Common.{◌≡◌, ℕ, suc, ◌+◌, true, false, List, [], ◌∷◌, ◌++◌, map, length, ◌⊎◌, inl, inr, sym, ap, ◌∙◌, subst, arith, append-nil}
 use Rattle.flow_value.specs.declared.value.Val.{Val}
-use Rattle.flow_value.specs.declared.value.Val.TheVariants as val
 use Rattle.flow_value.specs.declared.operation.Scalar1.TheVariants as unary
 use Rattle.flow_value.specs.declared.ty.Ty.{Ty}
 use Rattle.flow_value.specs.declared.ty.Ty.TheVariants as ty
@@ -10,9 +9,9 @@ use Rattle.value_ops.specs.declared.operation.Operation.TheVariants as operation
 use Rattle.if1_graph.specs.declared.op.Simple.{Simple}
 use Rattle.if1_graph.specs.declared.op.Compound.TheVariants as compound
 use Rattle.type_table.specs.declared.form.Form.{Form}
-use Rattle.typed_rows.specs.Rows.{Of, AreOf}
+use Rattle.typed_rows.specs.Rows.{AreOf}
 use Rattle.typed_rows.proofs.ValueKinds.{BoolKind, a_bool, no_bool}
-use Rattle.meaning.specs.Timed.{Timed, given, andthen}
+use Rattle.meaning.specs.Timed.{andthen}
 use Rattle.meaning.specs.Words.{failed, test_of}
 use Rattle.meaning.specs.Meaning.{Gives as Means, chosen}
 use Rattle.graph_meaning.specs.Carried.{Carried, Value}
@@ -23,15 +22,14 @@ use Rattle.graph_meaning.specs.Plain.{NodesFire, LaterFires}
 use Rattle.graph_meaning.proofs.PlainValues.{carried-once}
 use Rattle.lowering.specs.declared.feed.Wire.{Wire}
 use Rattle.lowering.specs.Feeds.{into}
-use Rattle.lowering.specs.declared.graph.Lowered.{Lowered}
 use Rattle.lowering.specs.Graphs.{size}
 use Rattle.lowering.specs.Operations.{Lowers, all_lowered}
 use Rattle.lowering_meaning.proofs.Timed.{Yield, yield-given, yield-then, yield-same}
-use Rattle.lowering_meaning.proofs.Sites.{Site, AllCarry, Placed, vertices, placed-left, firings-first}
+use Rattle.lowering_meaning.proofs.Sites.{Site, AllCarry, Placed, placed-left, firings-first}
 use Rattle.lowering_meaning.proofs.Inverse.{later-is}
-use Rattle.lowering_meaning.proofs.Forms.{WiresOf, wires-into, Typed, Free, Draws, Drawn}
-use Rattle.lowering_meaning.proofs.Parts.{at_part, Part, part-fires, the_form, whole-fires}
-use Rattle.lowering_meaning.proofs.ReadForms.{FiresAt, Reads, Read, DrawnAll, TypedAll}
+use Rattle.lowering_meaning.proofs.Forms.{WiresOf, wires-into, Free, Draws}
+use Rattle.lowering_meaning.proofs.Parts.{at_part, part-fires, the_form, whole-fires}
+use Rattle.lowering_meaning.proofs.ReadForms.{Read, DrawnAll, TypedAll}
 use Rattle.lowering_meaning.proofs.Ifs as ifs
 use Rattle.lowering_meaning.proofs.Ifs.{the_if, OneTest, one-test, bool-says, error-says}
 

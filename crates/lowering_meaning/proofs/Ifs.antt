@@ -1,6 +1,5 @@
 -- An `if` gives what the source gives.
 use Rattle.std.proofs.Common.{◌≡◌, ℕ, zero, suc, ◌+◌, ◌*◌, ◌≤◌, Bool, true, false, List, [], ◌∷◌, ◌++◌, map, length, Some, refl, sym, ap, ◌∙◌, subst, arith, pos, append-nil, if◌then◌else◌}
-use Rattle.std.specs.Prelude.{replicate}
 use Rattle.flow_value.specs.declared.value.Val.{Val}
 use Rattle.flow_value.specs.declared.value.Val.TheOpen.{Val-F}
 use Rattle.flow_value.specs.declared.value.Val.TheVariants as val
@@ -15,11 +14,11 @@ use Rattle.if1_graph.specs.declared.op.Simple.TheVariants as simple
 use Rattle.if1_graph.specs.declared.op.Compound.{Compound}
 use Rattle.if1_graph.specs.declared.op.Compound.TheVariants as compound
 use Rattle.type_table.specs.declared.form.Form.{Form}
-use Rattle.typed_rows.specs.Rows.{Of, AreOf}
+use Rattle.typed_rows.specs.Rows.{AreOf}
 use Rattle.typed_rows.proofs.Scalars.{with_one}
 use Rattle.typed_rows.proofs.ValueKinds.{BoolKind, a_bool, no_bool, as_bool, out_bool, out_err}
 use Rattle.meaning.specs.declared.words.Test.TheVariants as test
-use Rattle.meaning.specs.Timed.{Timed, given, plus, andthen}
+use Rattle.meaning.specs.Timed.{given, andthen}
 use Rattle.meaning.specs.Words.{failed, test_of, test_part}
 use Rattle.meaning.specs.Meaning.{Gives as Means, chosen}
 use Rattle.graph_meaning.specs.Carried.{Carried, Value}
@@ -33,14 +32,14 @@ use Rattle.lowering.specs.Feeds.{into}
 use Rattle.lowering.specs.declared.graph.Action.{Action}
 use Rattle.lowering.specs.declared.graph.Action.TheVariants.{Row, Whole}
 use Rattle.lowering.specs.declared.graph.Lowered.{Lowered}
-use Rattle.lowering.specs.Graphs.{Lowering, uses, used, all_uses, inputs, numbers, new_graph, size, ports, whole, a_node}
+use Rattle.lowering.specs.Graphs.{uses, used, inputs, numbers, new_graph, size, ports, whole, a_node}
 use Rattle.lowering.specs.Operations.{Lowers, all_lowered, integer, row_lowered}
 use Rattle.lowering.specs.Choices.{selector_lowered, if_lowered}
 use Rattle.lowering_meaning.proofs.Timed.{then-some, given-is}
-use Rattle.lowering_meaning.proofs.Wires.{AllWires, both-wires, left-wires, right-wires, weaker-wires, In, IsThere, FromNames, from-in, AreOwn, MadeFrom, AllFrom, inputs-in, used-ins}
-use Rattle.lowering_meaning.proofs.Sites.{Site, AllCarry, Placed, Done, done-both, done-made, done-more, placed-left, placed-right, as-carried}
+use Rattle.lowering_meaning.proofs.Wires.{AllWires, both-wires, left-wires, right-wires, weaker-wires, IsThere, FromNames, from-in, AreOwn, MadeFrom, AllFrom, inputs-in, used-ins}
+use Rattle.lowering_meaning.proofs.Sites.{Site, AllCarry, Placed, Done, done-both, done-made, placed-left, placed-right, as-carried}
 use Rattle.lowering_meaning.proofs.Inside.{Gives, PartAt, part-at}
-use Rattle.lowering_meaning.proofs.Nodes.{row-done, values-of}
+use Rattle.lowering_meaning.proofs.Nodes.{row-done}
 use Rattle.lowering_meaning.proofs.Choices.{Goes, goes-select, goes-failed}
 use Rattle.lowering_meaning.proofs.Forms.{WiresOf, wires-into, Typed, of-length, from-both, values-from, Free, Draws, Runs, Drawn}
 use Rattle.lowering_meaning.proofs.Parts.{at_part, Part, part, part-gives, Around, around, used-there, the_form, whole-done}

@@ -1,5 +1,5 @@
 -- Graphs inside of a node: what the names carry there, and that what is lowered is what the graph gives and fires.
-use Rattle.std.proofs.Common.{◌≡◌, ℕ, zero, suc, ◌+◌, ◌-◌, ◌<◌, ◌≤◌, Bool, true, false, List, [], ◌∷◌, ◌++◌, map, length, get_or, Some, ◌⊎◌, inl, inr, refl, sym, ap, ◌∙◌, subst, arith, if◌then◌else◌, eq-eqb, ne_eqb}
+use Rattle.std.proofs.Common.{◌≡◌, ℕ, suc, ◌+◌, ◌-◌, ◌<◌, ◌≤◌, Bool, true, false, List, [], ◌∷◌, map, length, get_or, Some, inl, inr, refl, sym, ap, ◌∙◌, subst, arith, if◌then◌else◌, eq-eqb, ne_eqb}
 use Rattle.flow_value.specs.declared.value.Val.{Val}
 use Rattle.if1_graph.specs.declared.op.Simple.{Simple}
 use Rattle.graph_meaning.specs.Carried.{Carried, Value, Unfilled}
@@ -16,12 +16,12 @@ use Rattle.lowering.specs.declared.feed.Wire.{Wire}
 use Rattle.lowering.specs.Feeds.{is_port, inside, into, has, place}
 use Rattle.lowering.specs.declared.graph.LoweredNode.{LoweredNode}
 use Rattle.lowering.specs.declared.graph.Lowered.{Lowered}
-use Rattle.lowering.specs.Graphs.{resolved, ports, closed, closed_wire, closed_wires, closed_nodes, closed_graphs, used, uses, size}
+use Rattle.lowering.specs.Graphs.{ports, closed, closed_wires, closed_nodes, closed_graphs, used, size}
 use Rattle.lowered_units.specs.Networks.{source_of, sources_of, kind_of, net_of}
 use Rattle.lowered_units.specs.Networks as lowered
 use Rattle.lowering_meaning.proofs.From.{From, always}
-use Rattle.lowering_meaning.proofs.Wires.{AllWires, left-wires, right-wires, In, wire-in, is_there, IsThere, is-port-same}
-use Rattle.lowering_meaning.proofs.Sites.{Site, at_site, sources, Seen, Held, Carries, AllCarry, AllCarried, Placed, StandIn, AreAt, vertex, vertices, all-held, values-held, Made, Done, done-made, are-left, are-right}
+use Rattle.lowering_meaning.proofs.Wires.{AllWires, In, is_there, IsThere, is-port-same}
+use Rattle.lowering_meaning.proofs.Sites.{Site, at_site, sources, Seen, Held, Carries, AllCarry, AllCarried, Placed, StandIn, AreAt, vertex, vertices, all-held, Made, are-left, are-right}
 
 -- a graph inside of a node
 abbrev pub inner : ℕ → List Wire → ℕ → ℕ → List Carried → Site

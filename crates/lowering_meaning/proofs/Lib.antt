@@ -24,6 +24,11 @@ pub mod GenTypes
 pub mod Products
 pub mod ProductReads
 pub mod Shapes
+pub mod TurnWires
+pub mod TurnForms
+pub mod TurnLoops
+pub mod TurnReads
+pub mod TurnLaws
 pub mod Functions
 pub mod PlainTypes
 pub mod PlainTables

@@ -1,5 +1,5 @@
 -- One node: what its outputs carry, and what it fires.
-use Rattle.std.proofs.Common.{◌≡◌, ℕ, zero, suc, false, ◌+◌, ◌-◌, ◌<◌, ◌≤◌, List, [], ◌∷◌, ◌++◌, map, length, get_or, Some, slice_get, refl, sym, ap, ◌∙◌, subst, arith}
+use Rattle.std.proofs.Common.{◌≡◌, ℕ, zero, suc, false, ◌+◌, ◌-◌, ◌<◌, ◌≤◌, List, [], ◌∷◌, map, length, get_or, Some, slice_get, refl, sym, ap, ◌∙◌, subst, arith}
 use Rattle.flow_value.specs.declared.value.Val.{Val}
 use Rattle.if1_graph.specs.declared.op.Simple.{Simple}
 use Rattle.graph_meaning.specs.Carried.{Carried, Value, Unfilled, vals}
@@ -20,7 +20,7 @@ use Rattle.lowering.specs.Operations.{wire_at, row_lowered}
 use Rattle.lowered_units.specs.Networks.{kind_of}
 use Rattle.lowering_meaning.proofs.From.{From, always, after, both, deeper}
 use Rattle.lowering_meaning.proofs.Wires.{AllWires, left-wires, ins-used}
-use Rattle.lowering_meaning.proofs.Sites.{Site, at_site, sources, Seen, Held, HeldAll, Carries, AllCarry, AllCarried, Placed, StandsAt, vertex, vertices, all-held, values-held, Made, Done, made-done, as-carried}
+use Rattle.lowering_meaning.proofs.Sites.{Site, sources, Seen, Held, HeldAll, Carries, AllCarry, AllCarried, Placed, vertex, all-held, values-held, Made, Done, made-done}
 use Rattle.lowering_meaning.proofs.Inside.{Gives}
 
 pub values-of : (vs : List Val) → vals (map Value vs) ≡ vs

@@ -1,5 +1,5 @@
 -- The values of clauses, where a mask of `unless` is the Not of its expression.
-use Rattle.std.proofs.Common.{◌≡◌, ℕ, zero, suc, ◌+◌, ◌*◌, ◌≤◌, Bool, true, false, ◌&&◌, ◌||◌, List, [], ◌∷◌, ◌++◌, map, length, Some, None, ◌⊎◌, inl, inr, refl, sym, ap, ◌∙◌, subst, arith, nat_eq, T, if◌then◌else◌}
+use Rattle.std.proofs.Common.{◌≡◌, ℕ, ◌+◌, Bool, true, false, ◌&&◌, ◌||◌, List, [], ◌∷◌, ◌++◌, length, Some, ◌⊎◌, inl, inr, refl, sym, ap, ◌∙◌, subst, arith, nat_eq, T, if◌then◌else◌}
 use Rattle.std.proofs.Math.Facts.{eqb_yes}
 use Rattle.std.proofs.lemmas.List.{length-append}
 use Rattle.flow_value.specs.declared.value.Val.{Val}
@@ -12,30 +12,28 @@ use Rattle.if1_graph.specs.declared.op.Simple.TheVariants as simple
 use Rattle.type_table.specs.declared.form.Form.{Form}
 use Rattle.typed_tree.specs.declared.program.Function.{Function}
 use Rattle.fitting_trees.specs.Fitting.{Header}
-use Rattle.typed_rows.specs.Rows.{Of, AreOf}
+use Rattle.typed_rows.specs.Rows.{AreOf}
 use Rattle.meaning.specs.Timed.{Timed, given, plus, andthen}
 use Rattle.meaning.specs.Meaning.{Gives as Means, all_of, defined, body_of}
-use Rattle.graph_meaning.specs.Carried.{Carried, Value}
+use Rattle.graph_meaning.specs.Carried.{Value}
 use Rattle.graph_meaning.specs.NodeValues.{Shape}
 use Rattle.graph_meaning.specs.Demand.{Network}
 use Rattle.lowering.specs.declared.feed.Carried.TheVariants.{One}
 use Rattle.lowering.specs.declared.feed.Wire.{Wire}
 use Rattle.lowering.specs.declared.graph.Action.TheVariants.{Row}
 use Rattle.lowering.specs.Graphs.{Lowering}
-use Rattle.lowering.specs.Graphs as graphs
 use Rattle.lowering.specs.Operations.{Lowers, boolean, all_lowered, defs_lowered, body_lowered, row_lowered}
 use Rattle.lowering.specs.Loops.{Phrase, with_not, clauses_lowered}
 use Rattle.lowering.specs.Phrases.{each}
 use Rattle.loop_columns.specs.Clauses.{noted}
 use Rattle.lowering_meaning.specs.Coverage.{Coverage, no_true, all_one, total}
-use Rattle.lowering_meaning.proofs.Timed.{then-some, given-is, Yield}
-use Rattle.lowering_meaning.proofs.Wires.{AllWires, FromNames}
+use Rattle.lowering_meaning.proofs.Timed.{then-some, given-is}
 use Rattle.lowering_meaning.proofs.Sites.{Site, AllCarry, Placed, Done, done-both, placed-left, placed-right, firings-first, as-carried}
 use Rattle.lowering_meaning.proofs.Nodes.{row-done}
-use Rattle.lowering_meaning.proofs.Forms.{Wired, Typed, of-length, Drawn, RunsOn, DrawnOn, then-drawn, on-drawn, nil-drawn, join-drawn, drawn-when, less-drawn, from-fewer, from-both, values-from}
+use Rattle.lowering_meaning.proofs.Forms.{Wired, Typed, Drawn, then-drawn, on-drawn, nil-drawn, join-drawn, drawn-when, less-drawn, from-fewer, from-both, values-from}
 use Rattle.lowering_meaning.proofs.Ifs.{node-from}
-use Rattle.lowering_meaning.proofs.Widths.{Wide, length-ones}
-use Rattle.lowering_meaning.proofs.ReadForms.{FiresAt, Read, nil-read, cons-read}
+use Rattle.lowering_meaning.proofs.Widths.{Wide}
+use Rattle.lowering_meaning.proofs.ReadForms.{Read, nil-read, cons-read}
 use Rattle.lowering_meaning.proofs.Trees.{EachDrawn, EachOf, each-all}
 use Rattle.lowering_meaning.proofs.TreeReads.{EachRead, no_read, a_read}
 

@@ -1,5 +1,5 @@
 -- Constants, names, operations and calls give what the source gives.
-use Rattle.std.proofs.Common.{◌≡◌, ℕ, zero, suc, ◌+◌, ◌*◌, ◌≤◌, true, false, List, [], ◌∷◌, ◌++◌, map, length, slice_get, Some, inl, inr, refl, sym, ap, ◌∙◌, subst, arith, pos, unwrap_or}
+use Rattle.std.proofs.Common.{◌≡◌, ℕ, zero, suc, ◌+◌, ◌*◌, List, [], ◌∷◌, map, length, slice_get, Some, inl, inr, refl, sym, ap, ◌∙◌, subst, arith, pos, unwrap_or}
 use Rattle.std.proofs.lemmas.List.{length-map}
 use Rattle.flow_value.specs.declared.value.Val.{Val}
 use Rattle.flow_value.specs.declared.value.Val.TheVariants as val
@@ -14,12 +14,11 @@ use Rattle.value_ops.specs.declared.operation.Operation.TheVariants as operation
 use Rattle.if1_graph.specs.declared.op.Simple.{Simple}
 use Rattle.if1_graph.specs.declared.op.Simple.TheVariants as simple
 use Rattle.type_table.specs.declared.form.Form.{Form}
-use Rattle.typed_rows.specs.Rows.{Of, AreOf}
-use Rattle.typed_rows.proofs.Scalars.{with_none, with_two}
-use Rattle.meaning.specs.Timed.{Timed, given}
+use Rattle.typed_rows.specs.Rows.{AreOf}
+use Rattle.meaning.specs.Timed.{given}
 use Rattle.meaning.specs.Words.{value_at, constant_value}
 use Rattle.meaning.specs.Meaning.{Gives as Means}
-use Rattle.graph_meaning.specs.Carried.{Carried, Value, vals}
+use Rattle.graph_meaning.specs.Carried.{Value, vals}
 use Rattle.graph_meaning.specs.NodeValues.{Shape, op, row_of_elements, built}
 use Rattle.graph_meaning.specs.NodeValues as shapes
 use Rattle.graph_meaning.specs.Demand.{Network}
@@ -32,16 +31,16 @@ use Rattle.lowering.specs.declared.feed.Wire.{Wire}
 use Rattle.lowering.specs.Feeds.{wire}
 use Rattle.lowering.specs.declared.graph.Action.TheVariants.{Row, Call}
 use Rattle.lowering.specs.declared.graph.Lowered.{Lowered}
-use Rattle.lowering.specs.Graphs.{Lowering, only, a_node}
-use Rattle.lowering.specs.Operations.{Lowers, wire_at, one, character, row_lowered, constant_lowered, reversed}
+use Rattle.lowering.specs.Graphs.{only, a_node}
+use Rattle.lowering.specs.Operations.{wire_at, one, character, row_lowered, constant_lowered, reversed}
 use Rattle.lowered_units.specs.Networks.{constant_value as lowered_value}
 use Rattle.lowering_meaning.proofs.From.{always}
 use Rattle.lowering_meaning.proofs.Timed.{given-is}
-use Rattle.lowering_meaning.proofs.Wires.{AllWires, both-wires, left-wires, right-wires, In, FromNames, from-in, MadeFrom}
+use Rattle.lowering_meaning.proofs.Wires.{AllWires, both-wires, In, FromNames, from-in}
 use Rattle.lowering_meaning.proofs.Sites.{Site, Held, AllCarry, AllCarried, Placed, Done, done-only, as-carried}
 use Rattle.lowering_meaning.proofs.Inside.{Gives}
 use Rattle.lowering_meaning.proofs.Nodes.{row-done, call-done, carry-at, values-of}
-use Rattle.lowering_meaning.proofs.Forms.{Typed, of-length, Free, FreeOn, Draws, Runs, Drawn, RunsOn, DrawnOn}
+use Rattle.lowering_meaning.proofs.Forms.{Typed, of-length, Drawn, DrawnOn}
 use Rattle.lowering_meaning.proofs.Ifs.{node-from}
 
 -- ---- names

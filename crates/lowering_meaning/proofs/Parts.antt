@@ -1,5 +1,5 @@
 -- A compound node and the graphs inside of it.
-use Rattle.std.proofs.Common.{◌≡◌, ℕ, zero, suc, ◌+◌, ◌<◌, ◌≤◌, List, [], ◌∷◌, ◌++◌, map, length, get_or, Some, refl, sym, ap, ◌∙◌, subst, arith, append-nil}
+use Rattle.std.proofs.Common.{◌≡◌, ℕ, zero, suc, ◌+◌, ◌<◌, List, [], ◌∷◌, ◌++◌, map, length, get_or, refl, sym, ap, ◌∙◌, subst, arith}
 use Rattle.std.proofs.lemmas.List.{length-map}
 use Rattle.flow_value.specs.declared.value.Val.{Val}
 use Rattle.if1_graph.specs.declared.op.Simple.{Simple}
@@ -14,16 +14,15 @@ use Rattle.lowering.specs.declared.feed.Carried as wired
 use Rattle.lowering.specs.declared.feed.Carried.TheVariants.{One}
 use Rattle.lowering.specs.declared.feed.Wire.{Wire}
 use Rattle.lowering.specs.Feeds.{into}
-use Rattle.lowering.specs.declared.graph.Action.{Action}
 use Rattle.lowering.specs.declared.graph.Action.TheVariants.{Whole}
 use Rattle.lowering.specs.declared.graph.Lowered.{Lowered}
-use Rattle.lowering.specs.Graphs.{Lowering, uses, used, all_uses, inputs, numbers, new_graph, size, closed, closed_graphs, whole}
+use Rattle.lowering.specs.Graphs.{uses, used, all_uses, inputs, numbers, whole}
 use Rattle.lowering.specs.Loops.{own_inputs}
-use Rattle.lowered_units.specs.Networks.{net_of, form_of}
-use Rattle.lowering_meaning.proofs.From.{From, after, both}
-use Rattle.lowering_meaning.proofs.Wires.{AllWires, left-wires, right-wires, In, IsThere, ins-used, uses-there, AllFrom, inputs-in}
-use Rattle.lowering_meaning.proofs.Sites.{Site, Seen, AllCarry, AllCarried, Placed, AreAt, vertices, values-held, Made, Done, made-done, carry-length, sources}
-use Rattle.lowering_meaning.proofs.Inside.{inner, keys-carry, AreGiven, entered, Net, nodes-are, placed-inside, Gives, graph-gives, PartAt, part-at, own-carry}
+use Rattle.lowered_units.specs.Networks.{form_of}
+use Rattle.lowering_meaning.proofs.From.{after, both}
+use Rattle.lowering_meaning.proofs.Wires.{AllWires, left-wires, right-wires, IsThere, ins-used, uses-there, AllFrom, inputs-in}
+use Rattle.lowering_meaning.proofs.Sites.{Site, Seen, AllCarry, AllCarried, Placed, vertices, values-held, Made, Done, made-done, carry-length, sources}
+use Rattle.lowering_meaning.proofs.Inside.{inner, keys-carry, entered, Net, nodes-are, placed-inside, Gives, graph-gives, PartAt, own-carry}
 use Rattle.lowering_meaning.proofs.Nodes.{node-made}
 use Rattle.lowering_meaning.proofs.Choices.{Goes}
 use Rattle.lowering_meaning.proofs.Inverse.{node-inside}

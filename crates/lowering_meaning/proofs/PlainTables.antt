@@ -1,5 +1,5 @@
 -- Where no type of a program is a stream or a union, none of its unit is.
-use Rattle.std.proofs.Common.{◌≡◌, ℕ, zero, suc, List, [], ◌∷◌, ◌++◌, map, length, Option, Some, None, slice_get, refl, subst}
+use Rattle.std.proofs.Common.{ℕ, zero, suc, List, [], ◌∷◌, ◌++◌, map, Option, Some, None, slice_get}
 use Rattle.type_table.specs.declared.form.Form.{Form}
 use Rattle.type_table.specs.declared.form.Form.TheVariants.{Boolean, Character, Integer, Null, Array, Stream, Record, Union}
 use Rattle.typed_tree.specs.declared.program.Function.{Function}
@@ -10,7 +10,7 @@ use Rattle.lowering.specs.declared.feed.Carried.TheVariants.{One, Many, Callee}
 use Rattle.lowering.specs.declared.graph.Lowered.{Lowered}
 use Rattle.lowering.specs.Graphs.{graph_lines}
 use Rattle.lowering.specs.Programs.{functions_lowered}
-use Rattle.lowering.specs.Types.{Entry, entry, Table, Labelled, labelled, label_from, or_new, enter, basics, Part, members, deepest, named, over, form_label, label_within, type_label, tuple_label, function_label, callee_label, carried_label, with_types, Need, header_need, body_needs, needs, with_needs, table}
+use Rattle.lowering.specs.Types.{Entry, entry, Table, Labelled, label_from, or_new, enter, basics, Part, members, deepest, named, form_label, label_within, type_label, tuple_label, function_label, callee_label, carried_label, with_types, Need, header_need, body_needs, needs, with_needs, table}
 use Rattle.lowering_meaning.specs.Coverage.{IsPlainForm, HasPlainTypes}
 use Rattle.lowering_meaning.proofs.PlainTypes.{IsPlainKind}
 

@@ -1,13 +1,12 @@
 -- Where no type is a stream or a union, the edges show none.
-use Rattle.std.proofs.Common.{◌≡◌, ℕ, zero, suc, Bool, true, false, List, [], ◌∷◌, map, length, Option, Some, None, refl, sym, ap, ◌∙◌, subst, rules, if◌then◌else◌}
-use Rattle.std.specs.Prelude.{find, ◌==◌}
+use Rattle.std.proofs.Common.{◌≡◌, ℕ, zero, suc, Bool, true, false, List, [], ◌∷◌, length, Option, Some, None, refl, ap, rules, if◌then◌else◌}
+use Rattle.std.specs.Prelude.{◌==◌}
 use Rattle.flow_value.specs.declared.ty.Ty.{Ty}
 use Rattle.flow_value.specs.declared.ty.Ty.TheOpen.{Ty-F}
 use Rattle.flow_value.specs.declared.ty.Ty.TheVariants as ty
 use Rattle.flow_value.specs.declared.ty.Ty.TheViews as types
 use Rattle.flow_value.specs.declared.ty.Ty.TheViews.{out-Ty}
 use Rattle.if1_graph.specs.declared.graph.Edge.{Edge}
-use Rattle.if1_graph.specs.declared.graph.Graph.{Graph}
 use Rattle.if1_graph.specs.declared.graph.TypeEntry.{TypeEntry}
 use Rattle.if1_graph.specs.declared.graph.Unit1.{Unit1}
 use Rattle.if1_graph.specs.declared.kind.TypeKind.{TypeKind}
@@ -22,7 +21,7 @@ use Rattle.if1_graph.specs.Tables.{◌>>=◌}
 use Rattle.if1_graph.specs.Types.{Member, Naming, Sort, Plain, Many, Function, entry_at, members, scalar, ty_of, ty_within, without_names, most_deep, bare_at, tuple_at, sort_of, sort_at, is_field}
 use Rattle.if1_graph.specs.Units.{Place}
 use Rattle.graph_meaning.specs.NodeValues as shape
-use Rattle.graph_meaning.specs.Networks.{first_type, output_type, stream_shape, union_shape, shape_of}
+use Rattle.graph_meaning.specs.Networks.{first_type, union_shape}
 use Rattle.lowered_units.specs.Networks.{shape_in}
 
 -- ---- kinds

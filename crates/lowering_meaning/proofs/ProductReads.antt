@@ -1,6 +1,5 @@
 -- Where a loop over generators fires, the source gives something.
-use Rattle.std.proofs.Common.{◌≡◌, ℕ, zero, suc, ◌+◌, ◌*◌, ◌<◌, ◌≤◌, Bool, true, false, ◌||◌, List, [], ◌∷◌, ◌++◌, map, length, Some, refl, sym, ap, ◌∙◌, subst, arith}
-use Rattle.flow_value.specs.declared.value.Val.{Val}
+use Rattle.std.proofs.Common.{◌≡◌, ℕ, suc, true, List, ◌++◌, map, length}
 use Rattle.flow_value.specs.declared.ty.Ty.{Ty}
 use Rattle.flow_value.specs.declared.ty.Ty.TheVariants as ty
 use Rattle.if1_graph.specs.declared.op.Simple.{Simple}
@@ -9,31 +8,26 @@ use Rattle.type_table.specs.declared.form.Form.{Form}
 use Rattle.typed_tree.specs.declared.expr.Product.{Product}
 use Rattle.typed_tree.specs.declared.program.Function.{Function}
 use Rattle.typed_tree.specs.Types.{IsNumber}
-use Rattle.fitting_trees.specs.Fitting.{Header, Goes, AreMade}
-use Rattle.typed_rows.specs.Rows.{Of, AreOf}
-use Rattle.meaning.specs.Timed.{Timed, given, plus, andthen}
+use Rattle.fitting_trees.specs.Fitting.{Header}
+use Rattle.meaning.specs.Timed.{Timed, plus}
 use Rattle.meaning.specs.Sources.{places_of, names_at}
 use Rattle.meaning.specs.Meaning.{Gives as Means, all_of, defined, body_of, over}
-use Rattle.graph_meaning.specs.Carried.{Carried, Value}
+use Rattle.graph_meaning.specs.Carried.{Value}
 use Rattle.graph_meaning.specs.NodeValues.{Shape}
 use Rattle.graph_meaning.specs.Demand.{Network}
-use Rattle.graph_meaning.specs.Plain.{NodesFire}
-use Rattle.lowering.specs.declared.feed.Wire.{Wire}
 use Rattle.lowering.specs.Feeds.{into}
-use Rattle.lowering.specs.Operations.{Lowers, integer, all_lowered, defs_lowered}
+use Rattle.lowering.specs.Operations.{integer, all_lowered, defs_lowered}
 use Rattle.lowering.specs.Loops.{Phrase, clauses_lowered, unless_places}
 use Rattle.lowering.specs.Phrases.{each}
 use Rattle.loop_columns.specs.Parts.{Yields}
 use Rattle.loop_columns.proofs.ForAlls.{for-alls-read}
-use Rattle.lowering_meaning.specs.Coverage.{Coverage, no_true, all_one, total, masks_alone}
-use Rattle.lowering_meaning.proofs.From.{From, after, both}
+use Rattle.lowering_meaning.specs.Coverage.{Coverage, total, masks_alone}
 use Rattle.lowering_meaning.proofs.Timed.{Yield, yield-plus}
-use Rattle.lowering_meaning.proofs.Sites.{Site, AllCarry, Placed}
-use Rattle.lowering_meaning.proofs.Forms.{Typed, of-both, Free, Drawn}
+use Rattle.lowering_meaning.proofs.Forms.{of-both, Free}
 use Rattle.lowering_meaning.proofs.Parts.{at_part, part-fires, whole-fires}
-use Rattle.lowering_meaning.proofs.ReadForms.{FiresAt, Read, DrawnAll, TypedAll, nil-read, cons-read, then-read}
+use Rattle.lowering_meaning.proofs.ReadForms.{Read, nil-read, cons-read, then-read}
 use Rattle.lowering_meaning.proofs.Widths.{Wide}
-use Rattle.lowering_meaning.proofs.Trees.{EachDrawn, each-all}
+use Rattle.lowering_meaning.proofs.Trees.{each-all}
 use Rattle.lowering_meaning.proofs.TreeReads.{EachRead, no_read, a_read, ProductRead}
 use Rattle.lowering_meaning.proofs.Nots.{clauses-read, clauses-wide, noted-body-drawn}
 use Rattle.lowering_meaning.proofs.Products as loop

@@ -1,7 +1,6 @@
 -- A loop over generators: what stands inside of its node, and what it gives.
-use Rattle.std.proofs.Common.{◌≡◌, ℕ, zero, suc, ◌+◌, ◌-◌, ◌*◌, ◌<◌, ◌≤◌, Bool, true, false, ◌&&◌, ◌||◌, ℤ, pos, List, [], ◌∷◌, ◌++◌, map, length, drop, get_or, slice_get, Some, None, ◌⊎◌, inl, inr, refl, sym, ap, ◌∙◌, subst, arith, append_assoc, append-nil, if◌then◌else◌}
-use Rattle.std.specs.Prelude.{fold, replicate}
-use Rattle.std.proofs.lemmas.List.{length-map, length-append, length-replicate}
+use Rattle.std.proofs.Common.{◌≡◌, ℕ, zero, suc, ◌+◌, ◌-◌, ◌*◌, ◌≤◌, Bool, true, false, ℤ, pos, List, [], ◌∷◌, ◌++◌, map, length, get_or, Some, ◌⊎◌, inl, inr, refl, sym, ap, ◌∙◌, subst, arith, append_assoc, append-nil, if◌then◌else◌}
+use Rattle.std.proofs.lemmas.List.{length-map, length-replicate}
 use Rattle.flow_value.specs.declared.value.Val.{Val}
 use Rattle.flow_value.specs.declared.value.Val.TheVariants as val
 use Rattle.flow_value.specs.declared.ty.Ty.{Ty}
@@ -12,71 +11,65 @@ use Rattle.sisal_tree.specs.declared.expr.Constant.TheVariants as constant
 use Rattle.if1_graph.specs.declared.op.Simple.{Simple}
 use Rattle.if1_graph.specs.declared.op.Compound.TheVariants as compound
 use Rattle.type_table.specs.declared.form.Form.{Form}
-use Rattle.loop_folds.specs.declared.folding.Folding.TheVariants as folding
-use Rattle.loop_folds.specs.declared.masking.Masking.{Masking}
 use Rattle.loop_folds.specs.declared.masking.Masking.TheVariants as masking
 use Rattle.loop_folds.specs.Clauses.{Cell, ClauseCells}
 use Rattle.typed_tree.specs.declared.expr.ClauseForm.{ClauseForm}
 use Rattle.typed_tree.specs.declared.expr.Product.{Product}
 use Rattle.typed_tree.specs.declared.expr.Source.{Source}
 use Rattle.typed_tree.specs.declared.expr.Source.TheVariants as source
-use Rattle.typed_tree.specs.declared.expr.TypedKind.TheOpen.{TypedKind-F}
 use Rattle.typed_tree.specs.declared.program.Function.{Function}
 use Rattle.typed_tree.specs.Types.{IsNumber, AreNumbers}
 use Rattle.fitting_trees.specs.Fitting.{Header, Goes, AreMade}
 use Rattle.fitting_trees.specs.Fitting as is
-use Rattle.typed_rows.specs.Rows.{Of, AreOf}
+use Rattle.typed_rows.specs.Rows.{AreOf}
 use Rattle.typed_values.proofs.Clauses.{names_well}
 use Rattle.typed_rows.proofs.ValueKinds.{out_err}
 use Rattle.flow_value.specs.declared.cause.Cause.TheVariants as cause
 use Rattle.meaning.specs.declared.sources.Places.{Places}
 use Rattle.meaning.specs.declared.sources.Places.TheVariants as places
-use Rattle.meaning.specs.Timed.{Timed, given, plus, andthen}
-use Rattle.meaning.specs.Words.{value_at, failed}
+use Rattle.meaning.specs.Timed.{given, plus}
+use Rattle.meaning.specs.Words.{failed}
 use Rattle.meaning.specs.Sources.{places_of, names_at, lower_of, first_index}
 use Rattle.meaning.specs.Rows.{no_rows, with_cells, with_row, with_rows, cells_in, made}
 use Rattle.meaning.specs.Rows as rows
-use Rattle.meaning.specs.Meaning.{Gives as Means, all_of, defined, body_of, over, environments, at_place, each as at_each, folded, kind_gives}
+use Rattle.meaning.specs.Meaning.{Gives as Means, all_of, defined, body_of, over, environments, at_place, each as at_each, folded}
 use Rattle.graph_meaning.specs.Carried.{Carried, Value, Many, Unfilled}
 use Rattle.graph_meaning.specs.NodeValues.{Shape}
-use Rattle.graph_meaning.specs.Forms.{ForAll, columns, add_row}
-use Rattle.graph_meaning.specs.Forms as form
+use Rattle.graph_meaning.specs.Forms.{columns, add_row}
 use Rattle.graph_meaning.specs.Demand.{Network}
 use Rattle.lowering.specs.declared.feed.Carried as wired
 use Rattle.lowering.specs.declared.feed.Carried.TheVariants.{One}
 use Rattle.lowering.specs.declared.feed.Wire.{Wire}
 use Rattle.lowering.specs.Feeds.{into}
 use Rattle.lowering.specs.declared.graph.Lowered.{Lowered}
-use Rattle.lowering.specs.Graphs.{Lowering, uses, inputs, new_graph, size, whole}
-use Rattle.lowering.specs.Operations.{Lowers, one, integer, all_lowered, defs_lowered, body_lowered, wire_at}
+use Rattle.lowering.specs.Graphs.{Lowering, uses, inputs, new_graph, size}
+use Rattle.lowering.specs.Operations.{Lowers, one, integer, all_lowered, body_lowered, wire_at}
 use Rattle.lowering.specs.Choices.{is_array, type_of}
-use Rattle.lowering.specs.Loops.{Phrase, own_inputs, many, single, types, clauses_lowered, unless_places, Bound, Wired, Limit, generators_lowered, bound_of, returns_lowered, forall_lowered, product_lowered}
-use Rattle.lowering.specs.Phrases.{each, kind_lowered}
-use Rattle.loop_columns.specs.Parts.{From as TheirFrom, GraphGives, Goes as Went}
-use Rattle.loop_columns.specs.Generators.{generated, IsCounted}
+use Rattle.lowering.specs.Loops.{Phrase, own_inputs, many, single, types, clauses_lowered, unless_places, Wired, Limit, generators_lowered, bound_of, returns_lowered, product_lowered}
+use Rattle.lowering.specs.Phrases.{each}
+use Rattle.loop_columns.specs.Parts.{From as TheirFrom, GraphGives}
+use Rattle.loop_columns.specs.Generators.{generated}
 use Rattle.loop_columns.specs.Clauses.{spans, noted, shown, folds_of, AreWide}
 use Rattle.loop_columns.specs.Loops.{Gave, clauses_made, AreForAllParts}
 use Rattle.loop_columns.proofs.Bounds.{lower-bounds}
 use Rattle.loop_columns.proofs.Clauses.{folded-by-columns}
 use Rattle.loop_columns.proofs.ForAlls.{for-alls-given}
-use Rattle.lowering_meaning.specs.Coverage.{Coverage, no_true, all_one, total, masks_alone}
+use Rattle.lowering_meaning.specs.Coverage.{Coverage, total, masks_alone}
 use Rattle.lowering_meaning.proofs.From.{From}
 use Rattle.lowering_meaning.proofs.Timed.{plus-some, then-some, given-is}
-use Rattle.lowering_meaning.proofs.Wires.{AllWires, both-wires, left-wires, right-wires, weaker-wires, In, in-all, in-left, in-right, IsThere, FromNames, from-in, from-more, names-from, AreOwn, MadeFrom, AllFrom}
-use Rattle.lowering_meaning.proofs.Sites.{Site, Carries, AllCarry, AllCarried, Placed, Done, Made, done-made, carry-both, carried-both, carry-length, as-carried, as-values}
+use Rattle.lowering_meaning.proofs.Wires.{AllWires, both-wires, left-wires, right-wires, In, in-all, in-left, in-right, IsThere, FromNames, from-in, from-more, names-from, AreOwn, MadeFrom, AllFrom}
+use Rattle.lowering_meaning.proofs.Sites.{Site, Carries, AllCarry, AllCarried, Placed, Done, Made, done-made, carry-both, carry-length, as-values}
 use Rattle.lowering_meaning.proofs.Inside.{Gives, PartAt, part-at, own-carry}
-use Rattle.lowering_meaning.proofs.Nodes.{carry-at}
-use Rattle.lowering_meaning.proofs.Choices.{Goes as GoesOn}
-use Rattle.lowering_meaning.proofs.Forms.{WiresOf, wires-both, wires-into, Typed, then-typed, of-both, of-length, from-both, from-fewer, Free, FreeOn, Drawn, RunsOn, DrawnOn, then-drawn}
-use Rattle.lowering_meaning.proofs.Parts.{at_part, Part, part, part-gives, Around, around, used-there, the_form, whole-done, get-right}
+use Rattle.lowering_meaning.proofs.Forms.{WiresOf, wires-both, wires-into, Typed, then-typed, of-both, of-length, from-fewer, Free, FreeOn, Drawn, then-drawn}
+use Rattle.lowering_meaning.proofs.Parts.{at_part, Part, part, part-gives, Around, around, used-there, whole-done, get-right}
 use Rattle.lowering_meaning.proofs.Ifs.{ports-from, whole-from}
 use Rattle.lowering_meaning.proofs.Operations.{at-from, held-literal}
-use Rattle.lowering_meaning.proofs.Widths.{Wide, length-ports}
+use Rattle.lowering_meaning.proofs.Widths.{Wide}
 use Rattle.lowering_meaning.proofs.GenForms.{generators-from, generators-wide, generators-made}
 use Rattle.lowering_meaning.proofs.GenTypes.{array-number, stream-number, names-wired}
 use Rattle.lowering_meaning.proofs.ReturnForms.{bound_wire, returns-from, IsBound, AnyArray, AreShaped, returns-done}
-use Rattle.lowering_meaning.proofs.Trees.{EachDrawn, EachOf, each-all, ProductDrawn, numbers-length}
-use Rattle.lowering_meaning.proofs.Nots.{noted_body, noted-given, noted-body-drawn, clauses-drawn, clauses-wide}
+use Rattle.lowering_meaning.proofs.Trees.{each-all, ProductDrawn, numbers-length}
+use Rattle.lowering_meaning.proofs.Nots.{noted_body, noted-given, noted-body-drawn, clauses-wide}
 
 -- ---- the records of both crates
 

@@ -1,5 +1,5 @@
 -- The graph of the returns gives what the clauses make of their multiples.
-use Rattle.std.proofs.Common.{◌≡◌, ℕ, zero, suc, ◌+◌, ◌*◌, ◌≤◌, ℤ, pos, List, [], ◌∷◌, ◌++◌, map, length, take, drop, ◌⊎◌, inl, inr, refl, sym, ap, ◌∙◌, subst, arith}
+use Rattle.std.proofs.Common.{◌≡◌, ℕ, zero, suc, ◌+◌, ◌*◌, ℤ, pos, List, [], ◌∷◌, ◌++◌, length, take, drop, ◌⊎◌, inl, inr, refl, ap, arith}
 use Rattle.flow_value.specs.declared.value.Val.{Val}
 use Rattle.flow_value.specs.declared.value.Val.TheVariants as val
 use Rattle.value_ops.specs.Operations.{op_value}
@@ -21,14 +21,14 @@ use Rattle.lowering.specs.declared.feed.Wire.{Wire}
 use Rattle.lowering.specs.Feeds.{wire}
 use Rattle.lowering.specs.declared.graph.Action.TheVariants.{Row}
 use Rattle.lowering.specs.declared.graph.Lowered.{Lowered}
-use Rattle.lowering.specs.Graphs.{Lowering, only, joined, a_node}
+use Rattle.lowering.specs.Graphs.{only, joined}
 use Rattle.lowering.specs.Operations.{integer, one, row_lowered, wire_at}
-use Rattle.lowering.specs.Loops.{take_up, span, Bound, Wired, Limit, with_bound, reducer_name, grouping_of, fold_lowered, returns_lowered}
+use Rattle.lowering.specs.Loops.{take_up, span, Bound, Wired, Limit, reducer_name, grouping_of, fold_lowered, returns_lowered}
 use Rattle.loop_columns.specs.Clauses.{folds_of, fold_row, IsShaped}
 use Rattle.loop_columns.proofs.FoldNodes.{fold-nodes}
 use Rattle.lowering_meaning.proofs.From.{always}
 use Rattle.lowering_meaning.proofs.Wires.{AllWires, both-wires, FromNames, MadeFrom}
-use Rattle.lowering_meaning.proofs.Sites.{Site, Held, Carries, AllCarry, AllCarried, Placed, Done, done-only, done-both, done-more, carry-both, as-carried, placed-left, placed-right}
+use Rattle.lowering_meaning.proofs.Sites.{Site, Held, Carries, AllCarried, Placed, Done, done-only, done-both, done-more, carry-both, placed-left, placed-right}
 use Rattle.lowering_meaning.proofs.Nodes.{row-done}
 use Rattle.lowering_meaning.proofs.Forms.{from-both, values-from}
 use Rattle.lowering_meaning.proofs.Ifs.{node-from}

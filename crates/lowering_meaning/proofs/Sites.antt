@@ -1,5 +1,5 @@
 -- Where a phrase stands in a network: what its wires carry and its nodes fire, from some depth on.
-use Rattle.std.proofs.Common.{◌≡◌, ℕ, zero, suc, ◌+◌, ◌≤◌, true, List, [], ◌∷◌, ◌++◌, map, length, refl, sym, ap, ◌∙◌, subst, arith, Some}
+use Rattle.std.proofs.Common.{◌≡◌, ℕ, suc, ◌+◌, ◌≤◌, List, [], ◌∷◌, ◌++◌, map, length, refl, sym, ap, ◌∙◌, subst, arith, Some}
 use Rattle.flow_value.specs.declared.value.Val.{Val}
 use Rattle.if1_graph.specs.declared.op.Simple.{Simple}
 use Rattle.graph_meaning.specs.Carried.{Carried, Value}
@@ -9,14 +9,13 @@ use Rattle.graph_meaning.specs.Plain.{CarryAll, no_port, port, NodesFire, no_nod
 use Rattle.graph_meaning.specs.Plain as plain
 use Rattle.lowering.specs.declared.feed.Feed.{Feed}
 use Rattle.lowering.specs.declared.feed.Wire.{Wire}
-use Rattle.lowering.specs.declared.graph.Action.{Action}
 use Rattle.lowering.specs.declared.graph.LoweredNode.{LoweredNode}
 use Rattle.lowering.specs.declared.graph.LoweredGraph.{LoweredGraph}
 use Rattle.lowering.specs.declared.graph.Lowered.{Lowered}
 use Rattle.lowering.specs.Graphs.{joined, resolved, used}
 use Rattle.lowered_units.specs.Networks.{source_of, kind_of, net_of}
 use Rattle.lowering_meaning.proofs.From.{From, always, after, both}
-use Rattle.lowering_meaning.proofs.Wires.{AllWires, both-wires, left-wires, right-wires, IsThere, used-apart}
+use Rattle.lowering_meaning.proofs.Wires.{AllWires, left-wires, right-wires, IsThere, used-apart}
 
 -- A graph of the network with its inputs: the node around has these inputs, so many inputs stand before them, and so many before
 -- the graph's own.

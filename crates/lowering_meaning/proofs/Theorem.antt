@@ -1,10 +1,9 @@
 -- The functions of a translated program.
-use Rattle.std.proofs.Common.{◌≡◌, ℕ, zero, suc, ◌+◌, ◌*◌, ◌≤◌, true, false, List, [], ◌∷◌, ◌++◌, map, length, slice_get, get_or, Option, Some, None, refl, sym, ap, ◌∙◌, subst, arith}
+use Rattle.std.proofs.Common.{◌≡◌, ℕ, zero, suc, ◌+◌, List, [], ◌∷◌, map, slice_get, get_or, Some, refl, sym, ap, ◌∙◌, subst, arith}
 use Rattle.std.specs.Prelude.{find, ◌==◌}
 use Rattle.flow_value.specs.declared.value.Val.{Val}
 use Rattle.flow_value.specs.declared.ty.Ty.{Ty}
 use Rattle.if1_graph.specs.declared.graph.Unit1.{Unit1}
-use Rattle.if1_graph.specs.declared.graph.TypeEntry.{TypeEntry}
 use Rattle.if1_graph.specs.declared.op.Grouping.{Grouping}
 use Rattle.if1_graph.specs.declared.op.Simple.{Simple}
 use Rattle.if1_graph.specs.declared.op.Simple.TheVariants as simple
@@ -30,9 +29,8 @@ use Rattle.graph_meaning.specs.Demand.{Network}
 use Rattle.graph_meaning.specs.Networks.{network}
 use Rattle.graph_meaning.specs.Plain.{Costs}
 use Rattle.lowering.specs.declared.graph.LoweredGraph.{LoweredGraph}
-use Rattle.lowering.specs.declared.graph.Lowered.{Lowered}
 use Rattle.lowering.specs.Graphs.{Lowering, closed, closed_graphs, new_graph, new_graphs, numbers, size}
-use Rattle.lowering.specs.Programs.{function_lowered, functions_lowered, graphs, graph_at, number_of}
+use Rattle.lowering.specs.Programs.{function_lowered, graphs, graph_at, number_of}
 use Rattle.lowering.specs.Types.{Table, table}
 use Rattle.lowered_units.specs.Fitting.{IsFitting}
 use Rattle.lowered_units.specs.Networks.{net_of, shapes}
@@ -40,18 +38,19 @@ use Rattle.lowered_units.specs.Units.{IsTranslated, entries_from}
 use Rattle.lowered_units.proofs.Programs.{basics as basic_types}
 use Rattle.lowered_units.proofs.NestedTrees.{is-nested}
 use Rattle.lowered_units.proofs.Running.{runs-as-lowered}
-use Rattle.lowering_meaning.specs.Coverage.{Coverage, plain_forms, AreCovered, HasPlainTypes}
-use Rattle.lowering_meaning.specs.Laws.{IsCalled, IsPlain, IsMeant, AreValuesKept, AreCostsThere}
+use Rattle.lowering_meaning.specs.Coverage.{Coverage, plain_forms}
+use Rattle.lowering_meaning.specs.Laws.{IsPlain, IsMeant, AreValuesKept, AreCostsThere}
 use Rattle.lowering_meaning.proofs.Sites.{AreAt}
-use Rattle.lowering_meaning.proofs.Inside.{PartAt, part-at}
+use Rattle.lowering_meaning.proofs.Inside.{part-at}
 use Rattle.lowering_meaning.proofs.Forms.{Typed}
-use Rattle.lowering_meaning.proofs.Trees.{FitsTo, FormsDrawn}
+use Rattle.lowering_meaning.proofs.Trees.{FormsDrawn}
 use Rattle.lowering_meaning.proofs.TreeReads.{FormsRead}
 use Rattle.lowering_meaning.proofs.Functions.{FunctionAt, calls-drawn, calls-read}
 use Rattle.lowering_meaning.proofs.PlainTypes.{ArePlain, arrays-plain, records-plain, gathers-plain, reduces-plain}
 use Rattle.lowering_meaning.proofs.Shapes.{clauses-shaped}
-use Rattle.lowering_meaning.proofs.Products.{product-drawn}
+use Rattle.lowering_meaning.proofs.Products.{ShapesAre, product-drawn}
 use Rattle.lowering_meaning.proofs.ProductReads.{product-read}
+use Rattle.lowering_meaning.proofs.TurnLaws.{turns-drawn, turns-read}
 use Rattle.lowering_meaning.proofs.PlainTables.{AllPlain, table-plain}
 use Rattle.lowering_meaning.proofs.Applied.{operation-drawn}
 
@@ -129,29 +128,32 @@ module _ (p : Program) (u : Unit1) (fit : IsFitting p) (t : IsTranslated p u) wh
     int : IsNumber p.types p.names integer ty.Int
     int = number.integer (basic_types p fit).integers
 
+    gathers : (g l : ℕ) → S g l simple.AGather ≡ shape.Plain
+    gathers g l = gathers-plain u types (find (λ p. place_number p == g) (places u)) l
+
+    reduces : (g l : ℕ) (r : Grouping) → S g l (simple.Reduce r) ≡ shape.Plain
+    reduces g l r = reduces-plain u types (find (λ p. place_number p == g) (places u)) l r
+
+    clauses : ShapesAre N num S p.types p.names fit.headers p.functions plain_forms
+    clauses = clauses-shaped N num S p.types p.names plain.types gathers reduces
+
     laws : FormsDrawn N num S p.types p.names fit.headers p.functions plain_forms
     laws =
         let arrays : (g l : ℕ) → S g l simple.ABuild ≡ shape.Plain = λ g l. arrays-plain u types (find (λ p. place_number p == g) (places u)) l in
-        let gathers : (g l : ℕ) → S g l simple.AGather ≡ shape.Plain = λ g l. gathers-plain u types (find (λ p. place_number p == g) (places u)) l in
-        let reduces : (g l : ℕ) (r : Grouping) → S g l (simple.Reduce r) ≡ shape.Plain = λ g l r. reduces-plain u types (find (λ p. place_number p == g) (places u)) l r in
-        let clauses = clauses-shaped N num S p.types p.names plain.types gathers reduces in
         let records : (g l : ℕ) → S g l simple.RBuild ≡ shape.Plain = λ g l. records-plain u types (find (λ p. place_number p == g) (places u)) l in
         record {
           arrays = arrays;
           operation = λ o c γ tys a n r. operation-drawn N num S p.types p.names arrays records o c γ tys a n r;
           no_case = refl;
           product = λ q ks c. product-drawn N num S p.types p.names fit.headers p.functions plain_forms clauses int q ks c;
-          initial = λ q ks c. absurd (none c);
+          initial = λ t ks c. turns-drawn N num S p.types p.names fit.headers p.functions plain_forms clauses t ks c;
         }
-      where
-        none : false ≡ true → ⊥
-        none e = cc
 
     reads : FormsRead N num S p.types p.names fit.headers p.functions plain_forms
-    reads = record { product = λ q ks c. product-read N num S p.types p.names fit.headers p.functions plain_forms int q ks c; initial = λ q ks c. absurd (none c) }
-      where
-        none : false ≡ true → ⊥
-        none e = cc
+    reads = record {
+      product = λ q ks c. product-read N num S p.types p.names fit.headers p.functions plain_forms int q ks c;
+      initial = λ t ks c. turns-read N num S p.types p.names fit.headers p.functions plain_forms clauses t ks c;
+    }
 
     pub given-is-meant : (f : ℕ) (h : Header) → slice_get fit.headers f ≡ Some h → (args values : List Val) (steps : ℕ) → AreOf h.params args → IsGiven (λ n. plain_calls n p.functions f args) values steps → IsMeant p u f args values steps
     given-is-meant f h there args values steps o g =

@@ -1,5 +1,5 @@
 -- Where the graphs of fitting expressions fire, the source gives something: a case a form.
-use Rattle.std.proofs.Common.{◌≡◌, ℕ, zero, suc, ◌+◌, ◌*◌, ◌<◌, ◌≤◌, Bool, true, false, ◌&&◌, List, [], ◌∷◌, ◌++◌, map, length, slice_get, Some, refl, sym, ap, ◌∙◌, subst, arith}
+use Rattle.std.proofs.Common.{◌≡◌, ℕ, ◌<◌, ◌≤◌, Bool, true, false, List, [], ◌∷◌, ◌++◌, map, length, slice_get, Some, sym, ◌∙◌, arith}
 use Rattle.flow_value.specs.declared.value.Val.{Val}
 use Rattle.flow_value.specs.declared.ty.Ty.{Ty}
 use Rattle.flow_value.specs.declared.ty.Ty.TheVariants as ty
@@ -15,13 +15,13 @@ use Rattle.typed_tree.specs.declared.expr.Product.{Product}
 use Rattle.typed_tree.specs.declared.expr.Turns.{Turns}
 use Rattle.typed_tree.specs.declared.program.Function.{Function}
 use Rattle.typed_tree.specs.Typing.{with}
-use Rattle.typed_tree.specs.Types.{AreNumbers, constant_type}
+use Rattle.typed_tree.specs.Types.{AreNumbers}
 use Rattle.fitting_trees.specs.Fitting.{Goes, AreMade, Renews, Header, Fits}
 use Rattle.fitting_trees.specs.Fitting as is
-use Rattle.typed_rows.specs.Rows.{Of, AreOf}
-use Rattle.meaning.specs.Timed.{Timed, given, plus, andthen}
+use Rattle.typed_rows.specs.Rows.{AreOf}
+use Rattle.meaning.specs.Timed.{given, plus}
 use Rattle.meaning.specs.Words.{constant_value, value_at}
-use Rattle.meaning.specs.Meaning.{Gives as Means, all_of, defined, body_of, kind_gives, calls, meaning}
+use Rattle.meaning.specs.Meaning.{Gives as Means, all_of, defined, kind_gives, calls, meaning}
 use Rattle.graph_meaning.specs.Carried.{Value}
 use Rattle.graph_meaning.specs.NodeValues.{Shape}
 use Rattle.graph_meaning.specs.Demand.{Network}
@@ -29,8 +29,7 @@ use Rattle.graph_meaning.specs.Plain.{NodesFire}
 use Rattle.lowering.specs.declared.feed.Carried.TheVariants.{One}
 use Rattle.lowering.specs.declared.graph.Action.TheVariants.{Call}
 use Rattle.lowering.specs.Graphs.{a_node}
-use Rattle.lowering.specs.Graphs as graphs
-use Rattle.lowering.specs.Operations.{Lowers, all_lowered, defs_lowered, body_lowered}
+use Rattle.lowering.specs.Operations.{Lowers, all_lowered, defs_lowered}
 use Rattle.lowering.specs.Choices.{applied}
 use Rattle.lowering.specs.Loops.{Phrase}
 use Rattle.lowering.specs.Phrases.{each, kind_lowered, phrase, lowers}

@@ -1,12 +1,11 @@
 -- What fitting expressions give in the source, their graphs give: a case a form.
-use Rattle.std.proofs.Common.{◌≡◌, ℕ, zero, suc, ◌+◌, ◌*◌, ◌≤◌, Bool, true, false, ◌&&◌, List, [], ◌∷◌, ◌++◌, map, length, slice_get, Some, None, refl, sym, ap, ◌∙◌, subst, arith, append-nil, append_assoc}
+use Rattle.std.proofs.Common.{◌≡◌, ℕ, suc, ◌+◌, ◌*◌, Bool, true, false, List, [], ◌∷◌, ◌++◌, map, length, slice_get, Some, None, refl, sym, ap, ◌∙◌, subst, arith}
 use Rattle.std.proofs.lemmas.List.{length-append}
 use Rattle.flow_value.specs.declared.value.Val.{Val}
 use Rattle.flow_value.specs.declared.ty.Ty.{Ty}
 use Rattle.flow_value.specs.declared.ty.Ty.TheVariants as ty
 use Rattle.if1_graph.specs.declared.op.Simple.{Simple}
 use Rattle.if1_graph.specs.declared.op.Simple.TheVariants as simple
-use Rattle.sisal_tree.specs.declared.expr.Constant.{Constant}
 use Rattle.value_ops.specs.Operations.{op_value}
 use Rattle.value_ops.specs.declared.operation.Operation.{Operation}
 use Rattle.type_table.specs.declared.form.Form.{Form}
@@ -15,7 +14,6 @@ use Rattle.typed_tree.specs.declared.expr.TypedKind.{TypedKind}
 use Rattle.typed_tree.specs.declared.expr.TypedKind.TheVariants as typed
 use Rattle.typed_tree.specs.declared.expr.TypedKind.TheViews.{roll-TypedKind}
 use Rattle.typed_tree.specs.declared.expr.TypedKind.TheOpen.{TypedKind-F}
-use Rattle.typed_tree.specs.declared.expr.Case.{Case}
 use Rattle.typed_tree.specs.declared.expr.Product.{Product}
 use Rattle.typed_tree.specs.declared.expr.Turns.{Turns}
 use Rattle.typed_tree.specs.declared.program.Function.{Function}
@@ -23,26 +21,24 @@ use Rattle.typed_tree.specs.Typing.{with}
 use Rattle.typed_tree.specs.Types.{AreNumbers, constant_type}
 use Rattle.fitting_trees.specs.Fitting.{Row, Goes, AreMade, Renews, TagsFit, Header, Fits, AllFit, DefsFit, ArmsFit}
 use Rattle.fitting_trees.specs.Fitting as is
-use Rattle.typed_rows.specs.Rows.{Of, AreOf}
-use Rattle.meaning.specs.Timed.{Timed, given, plus, andthen}
-use Rattle.meaning.specs.Words.{constant_value, value_at, test_of}
-use Rattle.meaning.specs.Meaning.{Gives as Means, all_of, defined, body_of, chosen, kind_gives, calls, meaning}
+use Rattle.typed_rows.specs.Rows.{AreOf}
+use Rattle.meaning.specs.Timed.{given, plus, andthen}
+use Rattle.meaning.specs.Words.{constant_value, value_at}
+use Rattle.meaning.specs.Meaning.{Gives as Means, all_of, defined, body_of, kind_gives, calls, meaning}
 use Rattle.graph_meaning.specs.Carried.{Value}
 use Rattle.graph_meaning.specs.NodeValues.{Shape}
 use Rattle.graph_meaning.specs.NodeValues as shapes
 use Rattle.graph_meaning.specs.Demand.{Network}
 use Rattle.lowering.specs.declared.feed.Carried.TheVariants.{One}
-use Rattle.lowering.specs.declared.feed.Wire.{Wire}
 use Rattle.lowering.specs.declared.graph.Action.TheVariants.{Call}
 use Rattle.lowering.specs.Graphs.{only, a_node}
 use Rattle.lowering.specs.Graphs as graphs
-use Rattle.lowering.specs.Operations.{Lowers, all_lowered, defs_lowered, body_lowered, wire_at, constant_lowered}
-use Rattle.lowering.specs.Choices.{applied, if_lowered}
+use Rattle.lowering.specs.Operations.{Lowers, all_lowered, defs_lowered, body_lowered, constant_lowered}
+use Rattle.lowering.specs.Choices.{applied}
 use Rattle.lowering.specs.Loops.{Phrase}
 use Rattle.lowering.specs.Phrases.{each, kind_lowered, phrase, lowers}
 use Rattle.lowering_meaning.specs.Coverage.{Coverage, all_ok, each_ok, counts, total, kind_covered, verdict}
 use Rattle.lowering_meaning.proofs.Layers.{parts_meant, meaning-is, parts_lowered, lowers-is, name-is, parts_covered, covered-is, count-is, and-true}
-use Rattle.lowering_meaning.proofs.Wires.{FromNames}
 use Rattle.lowering_meaning.proofs.Inside.{Gives}
 use Rattle.lowering_meaning.proofs.Forms.{Wired, Typed, nil-typed, cons-typed, nil-defs-typed, cons-defs-typed, FreeOn, Drawn, drawn-as, step-drawn, nil-drawn, cons-drawn, DrawnOn, then-drawn, nil-defs-drawn, cons-defs-drawn, body-drawn, less-drawn}
 use Rattle.lowering_meaning.proofs.Ifs.{node-from, if-drawn}

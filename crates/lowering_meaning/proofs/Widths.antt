@@ -1,5 +1,5 @@
 -- How many values a phrase has.
-use Rattle.std.proofs.Common.{◌≡◌, ℕ, suc, ◌+◌, List, [], ◌∷◌, ◌++◌, map, length, refl, sym, ap, ◌∙◌, subst}
+use Rattle.std.proofs.Common.{◌≡◌, ℕ, suc, ◌+◌, List, [], ◌∷◌, ◌++◌, map, length, refl, sym, ap, ◌∙◌}
 use Rattle.std.proofs.lemmas.List.{length-map, length-append}
 use Rattle.flow_value.specs.declared.ty.Ty.{Ty}
 use Rattle.sisal_tree.specs.declared.expr.Constant.{Constant}
@@ -21,7 +21,7 @@ use Rattle.lowering.specs.declared.feed.Carried as wired
 use Rattle.lowering.specs.declared.feed.Carried.TheVariants.{One}
 use Rattle.lowering.specs.declared.feed.Wire.{Wire}
 use Rattle.lowering.specs.Feeds.{wire}
-use Rattle.lowering.specs.Graphs.{Lowering, ports, only}
+use Rattle.lowering.specs.Graphs.{Lowering, ports}
 use Rattle.lowering.specs.Operations.{Lowers, all_lowered, constant_lowered}
 use Rattle.lowering.specs.Choices.{applied}
 use Rattle.lowering.specs.Phrases.{each, kind_lowered, phrase, lowers}

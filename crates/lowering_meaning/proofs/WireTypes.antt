@@ -1,5 +1,5 @@
 -- The values of a phrase have wires of their types.
-use Rattle.std.proofs.Common.{◌≡◌, ℕ, zero, suc, ◌+◌, List, [], ◌∷◌, ◌++◌, map, length, slice_get, Some, refl, sym, ap, ◌∙◌, subst, append-nil, append_assoc}
+use Rattle.std.proofs.Common.{◌≡◌, ℕ, zero, suc, ◌+◌, List, [], ◌∷◌, ◌++◌, map, length, slice_get, Some, sym, subst, append-nil, append_assoc}
 use Rattle.flow_value.specs.declared.ty.Ty.{Ty}
 use Rattle.sisal_tree.specs.declared.expr.Constant.{Constant}
 use Rattle.sisal_tree.specs.declared.expr.Constant.TheVariants as constant
@@ -12,7 +12,7 @@ use Rattle.typed_tree.specs.declared.expr.TypedKind.TheVariants as typed
 use Rattle.typed_tree.specs.declared.expr.TypedKind.TheViews.{roll-TypedKind}
 use Rattle.typed_tree.specs.declared.expr.TypedKind.TheOpen.{TypedKind-F}
 use Rattle.typed_tree.specs.Typing.{with}
-use Rattle.typed_tree.specs.Types.{IsNumber, AreNumbers, constant_type}
+use Rattle.typed_tree.specs.Types.{AreNumbers, constant_type}
 use Rattle.fitting_trees.specs.Fitting.{Header, Fits, AllFit, DefsFit}
 use Rattle.fitting_trees.specs.Fitting as is
 use Rattle.lowering.specs.declared.feed.Feed.{Feed}
@@ -21,7 +21,7 @@ use Rattle.lowering.specs.declared.feed.Carried.TheVariants.{One}
 use Rattle.lowering.specs.declared.feed.Wire.{Wire}
 use Rattle.lowering.specs.Feeds.{wire}
 use Rattle.lowering.specs.Graphs.{Lowering}
-use Rattle.lowering.specs.Operations.{Lowers, all_lowered, defs_lowered, constant_lowered, wire_at}
+use Rattle.lowering.specs.Operations.{all_lowered, defs_lowered, constant_lowered, wire_at}
 use Rattle.lowering.specs.Choices.{applied}
 use Rattle.lowering.specs.Phrases.{each, kind_lowered, phrase, lowers}
 use Rattle.lowering_meaning.proofs.Layers.{parts_lowered, lowers-is}

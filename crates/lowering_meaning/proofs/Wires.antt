@@ -8,12 +8,12 @@ use Rattle.lowering.specs.declared.feed.Feed.{Feed}
 use Rattle.lowering.specs.declared.feed.Feed.TheVariants.{Literal, Named, Absent, Port}
 use Rattle.lowering.specs.declared.feed.Carried.{Carried}
 use Rattle.lowering.specs.declared.feed.Wire.{Wire}
-use Rattle.lowering.specs.Feeds.{wire, is_port, inside, into, outside, outsides, has, with_new, distinct, place}
+use Rattle.lowering.specs.Feeds.{wire, is_port, inside, into, outside, outsides, has, with_new, distinct}
 use Rattle.lowering.specs.declared.graph.Action.{Action}
 use Rattle.lowering.specs.declared.graph.Action.TheVariants.{Row, Call, Whole}
 use Rattle.lowering.specs.declared.graph.LoweredNode.{LoweredNode}
 use Rattle.lowering.specs.declared.graph.Lowered.{Lowered}
-use Rattle.lowering.specs.Graphs.{joined, used_by, used, uses, all_uses, inputs}
+use Rattle.lowering.specs.Graphs.{used_by, used, uses, all_uses, inputs}
 
 -- ---- all of some wires
 

@@ -93,9 +93,9 @@ is_plain_operation (op.Field place) = false
 is_plain_operation (op.Change places) = false
 is_plain_operation _ = true
 
--- no `for initial` and no `tagcase`
+-- no `tagcase`; each phrase of the clauses of a `for initial` has one value
 abbrev pub plain_forms : Coverage
-plain_forms = record { operation = is_plain_operation; tag_case = false; product = λ p ks. masks_alone p.clauses ks; initial = λ t ks. false }
+plain_forms = record { operation = is_plain_operation; tag_case = false; product = λ p ks. masks_alone p.clauses ks; initial = λ t ks. all_one ks }
 
 -- ---- types
 

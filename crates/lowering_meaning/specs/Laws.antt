@@ -23,8 +23,7 @@ pub record IsCalled (p : Program) (u : Unit1) (f : ℕ) (args : List Val) : Type
   pub there : slice_get fits.headers f ≡ Some header
   pub typed : AreOf header.params args
 
--- The laws are of programs without loops, `tagcase`, and operations on unions and on fields of records, and without types that are
--- streams or unions.
+-- The laws are of programs of the forms that `specs/Coverage` names, without types that are streams or unions.
 pub record IsPlain (p : Program) : Type 0 where
   pub forms : AreCovered plain_forms p.functions
   pub types : HasPlainTypes p.types
