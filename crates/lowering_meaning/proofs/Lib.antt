@@ -32,5 +32,6 @@ pub mod TurnLaws
 pub mod Functions
 pub mod PlainTypes
 pub mod PlainTables
+pub mod Changes
 pub mod Applied
 pub mod Theorem

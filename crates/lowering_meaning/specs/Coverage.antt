@@ -1,5 +1,5 @@
 -- Which forms of phrases a law is of (SISAL Language Reference Manual 1.2, expressions).
-use Rattle.std.specs.Prelude.{◌≡◌, ℕ, ◌+◌, Bool, true, false, ◌&&◌, ◌||◌, nat_eq, List, [], ◌∷◌, map, length, Option, Some, slice_get}
+use Rattle.std.specs.Prelude.{◌≡◌, ℕ, ◌+◌, Bool, true, false, ◌&&◌, ◌||◌, nat_eq, if◌then◌else◌, List, [], ◌∷◌, map, length, Option, Some, slice_get}
 use Rattle.value_ops.specs.declared.operation.Operation.{Operation}
 use Rattle.value_ops.specs.declared.operation.Operation.TheVariants as op
 use Rattle.type_table.specs.declared.form.Form.{Form}
@@ -82,15 +82,26 @@ all_one (n ∷ ns) = nat_eq n 1 && all_one ns
 abbrev pub masks_alone : List ClauseForm → List ℕ → Bool
 masks_alone cs arity = no_true (unless_places cs) || all_one arity
 
+-- ---- places
+
+abbrev pub is_in : ℕ → List ℕ → Bool
+is_in x [] = false
+is_in x (y ∷ ys) = if nat_eq y x then true else is_in x ys
+
+-- no place stands twice
+abbrev pub all_apart : List ℕ → Bool
+all_apart [] = true
+all_apart (x ∷ xs) = if is_in x xs then false else all_apart xs
+
 -- ---- the forms of the laws
 
--- every operation but those on unions, on fields of records, and a stream of its elements
+-- every operation but those on unions, a field of a record, and a stream of its elements; a record changes a field at most once
 abbrev pub is_plain_operation : Operation → Bool
 is_plain_operation op.Stream = false
 is_plain_operation (op.Union tag) = false
 is_plain_operation (op.IsTag tag) = false
 is_plain_operation (op.Field place) = false
-is_plain_operation (op.Change places) = false
+is_plain_operation (op.Change places) = all_apart places
 is_plain_operation _ = true
 
 -- no `tagcase`; each phrase of the clauses of a `for initial` has one value
