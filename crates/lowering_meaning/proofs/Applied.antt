@@ -1,5 +1,5 @@
 -- What each operation gives that is covered.
-use Rattle.std.proofs.Common.{◌≡◌, ℕ, zero, suc, ◌+◌, ◌*◌, ◌≤◌, Bool, true, false, List, [], ◌∷◌, map, Some, sym, ap, ◌∙◌, subst, arith, nat_eq, if◌then◌else◌}
+use Rattle.std.proofs.Common.{◌≡◌, ℕ, zero, suc, Bool, true, false, List, [], ◌∷◌, map, Some, ap, ◌∙◌, subst, arith, nat_eq, if◌then◌else◌}
 use Rattle.std.specs.Prelude.{drop}
 use Rattle.flow_value.specs.declared.value.Val.{Val}
 use Rattle.flow_value.specs.declared.ty.Ty.{Ty}
@@ -23,9 +23,7 @@ use Rattle.graph_meaning.specs.Demand.{Network}
 use Rattle.lowering.specs.declared.feed.Carried.TheVariants.{One}
 use Rattle.lowering.specs.declared.feed.Wire.{Wire}
 use Rattle.lowering.specs.declared.graph.Action.TheVariants.{Row as RowAction}
-use Rattle.lowering.specs.Feeds.{wire}
-use Rattle.lowering.specs.declared.feed.Feed.TheVariants.{Absent}
-use Rattle.lowering.specs.Operations.{one, integer, absent, wire_at, at_place, changed, row_lowered, reversed}
+use Rattle.lowering.specs.Operations.{one, absent, wire_at, at_place, changed, row_lowered, reversed}
 use Rattle.lowering.specs.Choices.{applied}
 use Rattle.lowering_meaning.specs.Coverage.{is_plain_operation, all_apart}
 use Rattle.lowering_meaning.proofs.From.{always}

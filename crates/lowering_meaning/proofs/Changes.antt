@@ -1,6 +1,6 @@
 -- A record with fields changed: the graph has a port for each field up to the last one that changes, and those that do not are unfilled.
-use Rattle.std.proofs.Common.{◌≡◌, ℕ, zero, suc, ◌+◌, ◌<◌, ◌≤◌, Bool, true, false, ◌&&◌, List, [], ◌∷◌, map, length, slice_get, Option, Some, None, refl, sym, ap, ◌∙◌, subst, arith, eq-eqb, ne_eqb, option_map, unwrap_or, nat_eq, if◌then◌else◌}
-use Rattle.std.specs.Prelude.{slice_set, nat_lt, max, drop}
+use Rattle.std.proofs.Common.{◌≡◌, ℕ, zero, suc, ◌+◌, ◌<◌, ◌≤◌, Bool, true, false, ◌&&◌, List, [], ◌∷◌, length, slice_get, Option, Some, None, refl, sym, ap, ◌∙◌, subst, arith, eq-eqb, ne_eqb, option_map, unwrap_or, nat_eq, if◌then◌else◌}
+use Rattle.std.specs.Prelude.{slice_set, nat_lt}
 use Rattle.std.specs.List.{list_all}
 use Rattle.std.proofs.lemmas.Bool.{eqb-true, eqb-false, ltb-true, ltb-false, lt-ltb}
 use Rattle.std.proofs.lemmas.Option.{slice_get_within}
@@ -251,9 +251,9 @@ changed-alike ms places tys r vs d h a = by r (as_rec ms r a.0)
         let fine : list_all (λ p. nat_lt p (length fields)) places ≡ true = subst (λ n. list_all (λ p. nat_lt p n) places ≡ true) (sym l) (fine-fields ms places tys h) in
         changed-is (filled_from 0 cs) (vals cs) fields (as-many places vs (suc (greatest places)) 0) (all-fine places vs (λ p. nat_lt p (length fields)) (suc (greatest places)) 0 (value-fine (λ p. nat_lt p (length fields)) places vs fine))
         ∙ (ap val.Rec (same-list (replaced (filled_from 0 cs) (vals cs) fields) (replaced places vs fields) (λ i.
-            replaced-at (filled_from 0 cs) (vals cs) fields i
-            ∙ (ap (λ o. option_map (λ w. unwrap_or o w) (slice_get fields i)) (at-port places vs (suc (greatest places)) 0 i (omega arith) (λ j k. past-last places vs j (omega (arith, k))) ∙ sym (last-is-first i places vs d))
-            ∙ sym (replaced-at places vs fields i))))
+        replaced-at (filled_from 0 cs) (vals cs) fields i
+        ∙ (ap (λ o. option_map (λ w. unwrap_or o w) (slice_get fields i)) (at-port places vs (suc (greatest places)) 0 i (omega arith) (λ j k. past-last places vs j (omega (arith, k))) ∙ sym (last-is-first i places vs d))
+        ∙ sym (replaced-at places vs fields i))))
         ∙ sym (changed-is places vs fields (as-many-values ms places tys vs h a.1) fine))
 
     by : (r : Val) → RecKind ms r → op_value (operation.Change (filled_from 0 cs)) (r ∷ vals cs) ≡ op_value (operation.Change places) (r ∷ vs)
