@@ -34,4 +34,5 @@ pub mod PlainTypes
 pub mod PlainTables
 pub mod Changes
 pub mod Applied
+pub mod Alone
 pub mod Theorem

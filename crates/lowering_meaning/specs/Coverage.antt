@@ -93,6 +93,10 @@ abbrev pub all_apart : List ℕ → Bool
 all_apart [] = true
 all_apart (x ∷ xs) = if is_in x xs then false else all_apart xs
 
+-- loops of any phrases
+abbrev pub any_loops : Coverage → Coverage
+any_loops c = record { operation = c.operation; tag_case = c.tag_case; product = λ p ks. true; initial = λ t ks. true }
+
 -- ---- the forms of the laws
 
 -- every operation but those on unions, a field of a record, and a stream of its elements; a record changes a field at most once

@@ -13,7 +13,9 @@ use Rattle.graph_meaning.specs.Plain.{Means, Costs}
 use Rattle.lowering.specs.Programs.{number_of}
 use Rattle.lowered_units.specs.Fitting.{IsFitting}
 use Rattle.lowered_units.specs.Units.{IsTranslated}
-use Rattle.lowering_meaning.specs.Coverage.{plain_forms, AreCovered, HasPlainTypes}
+use Rattle.sisal_tree.specs.declared.unit.Unit as tree
+use Rattle.typed_tree.specs.Units.{IsTyped}
+use Rattle.lowering_meaning.specs.Coverage.{plain_forms, any_loops, AreCovered, HasPlainTypes}
 
 -- a function of a translated program, on one argument for each parameter, each of its type
 pub record IsCalled (p : Program) (u : Unit1) (f : ℕ) (args : List Val) : Type 0 where
@@ -45,3 +47,8 @@ AreValuesKept = (p : Program) (u : Unit1) (f : ℕ) (args values : List Val) (st
 abbrev pub AreCostsThere : Type 0
 AreCostsThere = (p : Program) (u : Unit1) (f : ℕ) (args : List Val) (depth cost : ℕ) → IsPlain p → IsCalled p u f args
     → Costs (network u) depth (number_of p f) (map Value args) cost → (values : List Val) × (steps : ℕ) × IsGiven (λ n. plain_calls n p.functions f args) values steps
+
+-- in the program of a typed unit loops of any phrases are those of the laws: each clause has one value, but that of a loop over the
+-- results of another has as many as these, and no mask
+abbrev pub AreLoopsCovered : Type 0
+AreLoopsCovered = (u : tree.Unit) (p : Program) → IsTyped u p → AreCovered (any_loops plain_forms) p.functions → AreCovered plain_forms p.functions

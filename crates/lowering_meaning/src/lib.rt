@@ -6,4 +6,6 @@
 
 mod laws;
 
-pub use laws::{costs_come_where_values_do, values_are_those_of_the_source};
+pub use laws::{
+    costs_come_where_values_do, typed_loops_are_covered, values_are_those_of_the_source,
+};
