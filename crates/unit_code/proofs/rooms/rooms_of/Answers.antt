@@ -1,5 +1,4 @@
-use Rattle.std.proofs.Common.{◌∙◌, sym, subst, ap, arith}
-use Rattle.unit_code.proofs.RoomTables.{all-rooms, no-rooms, room-more}
+use Rattle.unit_code.proofs.RoomTables.{no-rooms, room-more}
 use Rattle.unit_code.proofs.rooms.rooms_of.Goals as goal
 
 pub loop-graph-init : goal.loop-graph-init
