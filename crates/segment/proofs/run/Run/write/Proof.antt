@@ -1,21 +1,21 @@
--- `replace` reads a place, and writes it.
-use Rattle.segment.proofs.Words.{◌≡◌, ℕ, ◌+◌, ◌*◌, ◌^◌, ◌<◌, List, [], ◌∷◌, ◌++◌, length, take, drop_list, sym, refl, ap, ◌∙◌, subst, arith, slice_get, slice_set, Some, add_comm, a_type, w64, Val, vint, vptr, inst_fn, full_share, SProp, ent, emp, id⊢, never, Lft, Fml, ftrue, fsep, fat, flft, Item, ‵, raw, ◌⊛◌, some, given, at_ret, ◌$◌, ◌∵◌, !, qed, by, move, keep, drop, split, join, fsplit, fsplit3, fjoin, fjoin3, fpick, fpack, pick, learn, use0, use1, use2, rewrite, feq_i, flt_i, flt_l, suffices, stop, fld, load, look, size_word, of_opd, bin, store, assigns, first, blocks, exec, returns, enter, alloc_all, pass_all, free_all, look_at, get, through, sets, sets_last, is, env, sub, whole, look_in, tables, fact, fact_i, yes, no, RattleType, owns, types_at, plain, Ptr, block_ptr, in_block, in_a_block, nothing, peeks, heard, opens, closes, Is, shows, cell_at, part_at, row, layout, layouts, usize, Stays, stay_dropped, stay_ref, walk_of, Goes-dropped, Goes-ref, proved_at, leaves, after, El, R}
+-- `write` fills room.
+use Rattle.segment.proofs.Words.{◌≡◌, ℕ, ◌+◌, ◌*◌, ◌^◌, ◌<◌, List, [], ◌∷◌, ◌++◌, length, take, drop_list, sym, refl, ap, ◌∙◌, subst, arith, slice_get, slice_set, Some, add_comm, a_type, w64, Val, vunit, vint, vptr, inst_fn, full_share, SProp, ent, emp, id⊢, never, Lft, Fml, ftrue, fsep, flft, Item, ‵, raw, ◌⊛◌, at_ret, ◌$◌, ◌∵◌, !, qed, by, move, keep, drop, split, join, fsplit, fsplit3, fjoin, fjoin3, fpick, fpack, use0, use1, use2, rewrite, feq_i, flt_i, flt_l, suffices, stop, fld, load, size_word, of_opd, unit_lit, bin, init, assigns_last, first, blocks, exec, returns, enter, alloc_all, pass_all, free_all, look_at, get, through, sets, is, env, sub, whole, look_in, tables, fact, fact_i, yes, no, RattleType, owns, types_at, plain, Ptr, block_ptr, in_block, in_a_block, nothing, peeks, heard, opens, closes, Is, shows, cell_at, part_at, layout, layouts, usize, Stays, stay_dropped, stay_ref, walk_of, Goes-dropped, Goes-ref, proved_at, leaves, after, El, R}
 use Rattle.std.proofs.Common.{length-set}
-use Rattle.std.proofs.ptr.Rows.{times_below, el_out, el_in}
+use Rattle.std.proofs.ptr.Rows.{times_below, el_in}
+use Rattle.std.proofs.RawLayout.{as_written}
 use Rattle.segment.specs.Places.{Place, unwritten, written}
 use Rattle.segment.specs.Runs.{bytes_of, part, place_at, places_own}
 use Rattle.segment.proofs.Lists.{found, single, set-spliced}
 use Rattle.segment.proofs.Rows.{uncapped, Around, comes_out, goes_back}
-use Rattle.segment.proofs.Fields.{stored, stored_as, Pointer, Good, tells}
-use Rattle.segment.proofs.Shells.{in_arrays}
+use Rattle.segment.proofs.Fields.{in_arrays, stored, stored_as, Pointer, tells}
 use Rattle.segment.specs.contracts.run.Run as run
-use Rattle.segment.specs.contracts.run.Run.replace.{ended, clauses}
-use Rattle.segment.specs.contracts.run.Run.replace.Key.{name as #self}
-use Rattle.segment.proofs.run.Run.replace.Statement.{statement}
-use Rattle.segment.proofs.run.Run.replace.Code as code
+use Rattle.segment.specs.contracts.run.Run.write.{ended, clauses}
+use Rattle.segment.specs.contracts.run.Run.write.Key.{name as #self}
+use Rattle.segment.proofs.run.Run.write.Statement.{statement}
+use Rattle.segment.proofs.run.Run.write.Code as code
 
-pub replace_spec : {M : Type 1} → statement M
-replace_spec 𝓤 𝓛 𝓜 𝓡 wired X L =
+pub write_spec : {M : Type 1} → statement M
+write_spec 𝓤 𝓛 𝓜 𝓡 wired X L =
     let 𝓣 = tables 𝓤 𝓛.H 𝓜 𝓡 𝓡.env in
     let E : El = record { row = X; laws = L } in
     let Row : RattleType = run.the_row (R E) in
@@ -64,27 +64,24 @@ replace_spec 𝓤 𝓛 𝓜 𝓡 wired X L =
     let fits_word : i * s < 2 ^ 64 = omega arith in
     let size_is = uncapped i s fits_word in
     use1 𝓛 (‵ (places_own (R E) (block_ptr b' off) (part r.places i 1)) ⊛ ‵ (Around E 𝓛 b' r.places i 1 fits o')) (comes_out E 𝓛 b' r.places i 1 fits o') $ split ! $
-    rewrite ! 0 (λ (ps : List (Place X.Denot)). ‵ (places_own (R E) (block_ptr b' off) ps)) (single r.places i unwritten asked) refl $ fsplit ! $ fpick ! (λ held.
-    use1 𝓛 (some (λ (w : Val). given (Good X w) (‵ (fat full_share (layout X) b' off w) ⊛ ‵ (X.own_val held (w ∷ []))))) (el_out (in_arrays E) 𝓛 full_share held b' off) $
-    pick ! (λ w. learn ! (λ was_good. split ! $
-    -- [the place; what it held; nothing; the places around it; the pointer; the cell; the open borrow, in three entries; the new value; the other tokens]
-    rewrite ! 5 Cell cell_is refl $ first ! $ blocks ! $
-    sets ! (of_opd ! (load ! (through ! refl (fld ! refl (stop !))) (look_in ! 5 (sub ! 0 refl (whole !))))) refl (tt, tt) $
+    rewrite ! 0 (λ (ps : List (Place X.Denot)). ‵ (places_own (R E) (block_ptr b' off) ps)) (single r.places i unwritten asked) refl $ fsplit ! $
+    -- [the place; nothing; the places around it; the pointer; the cell; the open borrow, in three entries; the new value; the other tokens]
+    as_written ! (layout X) b' off $ rewrite ! 4 Cell cell_is refl $ first ! $ blocks ! $
+    sets ! (of_opd ! (load ! (through ! refl (fld ! refl (stop !))) (look_in ! 4 (sub ! 0 refl (whole !))))) refl (tt, tt) $
     sets ! (is ! (bin ! (get ! refl) (size_word !) (record { fits = subst (λ (k : ℕ). k < 2 ^ 64) (sym size_is) fits_word })) (ap (vint w64) size_is)) refl (tt, record { fits = fits_word }) $
-    sets ! (is ! (bin ! (get ! refl) (get ! refl) tt) (ap (vptr b') (add_comm (i * s) o'))) refl (tt, tt) $
-    sets ! (of_opd ! (load ! (through ! refl (stop !)) (look ! 0 refl))) refl was_good $ sets ! (of_opd ! (get ! refl)) refl good $
-    assigns ! (of_opd ! (get ! refl)) (through ! refl (stop !)) (store ! 0 refl good) $ sets_last ! (of_opd ! (get ! refl)) refl was_good $
-    exec ! 𝓣.C 𝓣.Λ (env fn.locals l) (after 1 fn.body) (at_ret (env fn.locals l) Post) $ sets ! (of_opd ! (get ! refl)) refl was_good $
-    rewrite ! 5 Cell (sym cell_is) refl $ move ! (0 ∷ 9 ∷ []) $ use2 𝓛 (‵ (part_at (R E) full_share x b' off)) (el_in (in_arrays E) 𝓛 full_share x b' off v) $
-    -- [the place; what it held; nothing; the places around it; ..]
-    move ! (0 ∷ 2 ∷ []) $ fjoin ! $ move ! (0 ∷ 2 ∷ []) $
+    sets ! (is ! (bin ! (get ! refl) (get ! refl) tt) (ap (vptr b') (add_comm (i * s) o'))) refl (tt, tt) $ sets ! (of_opd ! (get ! refl)) refl good $
+    assigns_last ! (of_opd ! (get ! refl)) (through ! refl (stop !)) (init ! 0 refl good) $
+    exec ! 𝓣.C 𝓣.Λ (env fn.locals l) (after 1 fn.body) (at_ret (env fn.locals l) Post) $ sets ! (of_opd ! (unit_lit !)) refl (tt, tt) $
+    rewrite ! 4 Cell (sym cell_is) refl $ move ! (0 ∷ 8 ∷ []) $ use2 𝓛 (‵ (part_at (R E) full_share x b' off)) (el_in (in_arrays E) 𝓛 full_share x b' off v) $
+    -- [the place; nothing; the places around it; ..]
+    fjoin ! $
     use2 𝓛 (‵ (places_own (R E) (block_ptr b' o') (take i r.places ++ (written x ∷ drop_list (i + 1) r.places)))) (goes_back E 𝓛 b' r.places i 1 fits o' (written x ∷ []) refl) $
     rewrite ! 0 (λ (ps : List (Place X.Denot)). ‵ (places_own (R E) (block_ptr b' o') ps)) (set-spliced r.places i (written x) fits) refl $
     rewrite ! 0 (λ (q : Ptr). ‵ (in_block q (places_own (R E) q new.places))) (sym at) refl $
     flt_i ! (length new.places * s) (2 ^ 63) (subst (λ (k : ℕ). k * s < 2 ^ 63) (sym (length-set r.places i (written x))) small) $ fjoin ! $
     nothing ! $ fpack ! (p ≡ place_at (R E) r.start r.offset) (λ _. ftrue) lies $ fjoin ! $
-    move ! (2 ∷ 0 ∷ []) $ fjoin ! $ move ! (2 ∷ 0 ∷ 3 ∷ 4 ∷ 5 ∷ []) $ closes ! tt Row new vs b o $
+    move ! (1 ∷ 0 ∷ []) $ fjoin ! $ move ! (1 ∷ 0 ∷ []) $ closes ! tt Row new vs b o $
     feq_i ! (List Val) z.0.4.0 (vptr b o ∷ []) are.0.0 $ fjoin3 ! $ nothing ! $ nothing ! $ fjoin ! $ nothing ! $ fjoin ! $ move ! (1 ∷ 0 ∷ []) $ fjoin ! $
-    move ! (1 ∷ 3 ∷ []) $ join ! $ use0 𝓛 (raw (fact 𝓤 Told)) (fact_i 𝓤 Told (emp 𝓤) refl) $
-    returns ! (look_at ! 0 refl) $ free_all ! refl $ keep ! (1 ∷ 2 ∷ 3 ∷ 0 ∷ []) $
-    by ! (leaves 𝓛 En hs c z w held (new, (tt, (tt, tt))) (tt, (tt, (tt, tt))))))))))))))))
+    move ! (1 ∷ 2 ∷ []) $ join ! $ use0 𝓛 (raw (fact 𝓤 Told)) (fact_i 𝓤 Told (emp 𝓤) refl) $ feq_i ! (List Val) (vunit ∷ []) (vunit ∷ []) refl $
+    returns ! (look_at ! 0 refl) $ free_all ! refl $ keep ! (2 ∷ 3 ∷ 0 ∷ 1 ∷ []) $
+    by ! (leaves 𝓛 En hs c z vunit tt (new, (tt, (tt, tt))) (tt, (tt, (tt, tt)))))))))))))
