@@ -9,6 +9,8 @@ pub mod Forms
 pub mod Inverse
 pub mod Parts
 pub mod Ifs
+pub mod Cases
+pub mod CaseForms
 pub mod Operations
 pub mod ReadForms
 pub mod IfReads
