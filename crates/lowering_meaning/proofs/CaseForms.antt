@@ -48,7 +48,7 @@ use Rattle.lowering_meaning.proofs.Cases.{Sees, content, nothing, arm-for, graph
 
 -- ---- the tags of a union
 
-tag-below : (ms : List Member) (tag : ℕ) (v : Val) → is_well_tag ms tag v ≡ true → tag < length ms
+pub tag-below : (ms : List Member) (tag : ℕ) (v : Val) → is_well_tag ms tag v ≡ true → tag < length ms
 tag-below [] tag v e = absurd cc
 tag-below (m ∷ ms) zero v e = omega arith
 tag-below (m ∷ ms) (suc tag) v e = let l = tag-below ms tag v e in omega (arith, l)

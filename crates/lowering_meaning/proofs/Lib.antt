@@ -14,6 +14,7 @@ pub mod CaseForms
 pub mod Operations
 pub mod ReadForms
 pub mod IfReads
+pub mod CaseReads
 pub mod Layers
 pub mod Widths
 pub mod WireTypes
