@@ -9,6 +9,7 @@ pub mod Forms
 pub mod Inverse
 pub mod Parts
 pub mod Ifs
+pub mod Contents
 pub mod Cases
 pub mod CaseForms
 pub mod Operations
