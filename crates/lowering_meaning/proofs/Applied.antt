@@ -32,6 +32,7 @@ use Rattle.lowering_meaning.proofs.Sites.{Site, Carries, AllCarry, AllCarried, P
 use Rattle.lowering_meaning.proofs.Changes.{value_for, cell, cells, changed-alike}
 use Rattle.lowering_meaning.proofs.Wires.{AllWires, FromNames}
 use Rattle.lowering_meaning.proofs.Nodes.{row-done, values-of}
+use Rattle.lowering_meaning.proofs.IsTags.{is-tag-drawn}
 use Rattle.lowering_meaning.proofs.Forms.{FreeOn, DrawnOn}
 use Rattle.lowering_meaning.proofs.Ifs.{node-from}
 use Rattle.lowering_meaning.proofs.Operations.{reversed-from, row-on, swapped-on, empty-on}
@@ -137,4 +138,4 @@ module _ (u : Network) (number : ℕ → ℕ) (shape : ℕ → ℕ → Simple �
   operation-drawn (operation.Field f) c γ tys a t r = absurd cc
   operation-drawn (operation.Change _) c γ _ _ t (is.change ms place places tys h) =
       (row-free simple.RReplace (replacing (place ∷ places)) t (replacing-from (place ∷ places)), change-on u number shape forms spellings γ ms (place ∷ places) tys t c h)
-  operation-drawn (operation.IsTag tag) c γ tys a t r = absurd cc
+  operation-drawn (operation.IsTag tag) c γ _ _ t (is.is_tag ms _ m e) = is-tag-drawn u number shape forms spellings tag t γ ms

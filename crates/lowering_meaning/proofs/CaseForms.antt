@@ -92,7 +92,7 @@ module _ (forms : List Form) (spellings : List (List ℕ)) where
       by (Many n) h = absurd h
       by (Callee f) h = absurd h
 
-wire-from : (env ws : List Wire) → AllWires (FromNames env) ws → FromNames env (wire_at ws 0)
+pub wire-from : (env ws : List Wire) → AllWires (FromNames env) ws → FromNames env (wire_at ws 0)
 wire-from env [] h = tt
 wire-from env (w ∷ ws) h = h.0
 

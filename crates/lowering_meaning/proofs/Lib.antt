@@ -37,6 +37,7 @@ pub mod Functions
 pub mod PlainTypes
 pub mod PlainTables
 pub mod Changes
+pub mod IsTags
 pub mod Applied
 pub mod Alone
 pub mod Theorem
