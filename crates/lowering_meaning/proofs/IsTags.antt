@@ -1,9 +1,8 @@
 -- `is t(u)` gives what the source gives.
-use Rattle.std.proofs.Common.{◌≡◌, ℕ, zero, suc, ◌+◌, ◌*◌, ◌<◌, Bool, true, false, List, [], ◌∷◌, ◌++◌, map, length, slice_get, Some, refl, sym, ap, ◌∙◌, subst, arith, nat_eq, eq-eqb, ne_eqb, if◌then◌else◌}
+use Rattle.std.proofs.Common.{◌≡◌, ℕ, zero, suc, ◌+◌, ◌*◌, ◌<◌, Bool, true, false, List, [], ◌∷◌, map, slice_get, Some, refl, sym, ap, ◌∙◌, subst, arith, nat_eq, eq-eqb, ne_eqb, if◌then◌else◌}
 use Rattle.std.proofs.lemmas.Bool.{eqb-true}
 use Rattle.flow_value.specs.declared.value.Val.{Val}
 use Rattle.flow_value.specs.declared.value.Val.TheVariants as val
-use Rattle.flow_value.specs.declared.value.Val.TheOpen.{Val-F}
 use Rattle.flow_value.specs.declared.value.Val.TheViews.{out-Val}
 use Rattle.flow_value.specs.declared.cause.Cause.{Cause}
 use Rattle.flow_value.specs.declared.ty.Ty.{Ty}
@@ -16,7 +15,6 @@ use Rattle.sisal_tree.specs.declared.expr.Constant.{Constant}
 use Rattle.sisal_tree.specs.declared.expr.Constant.TheVariants as constant
 use Rattle.type_table.specs.declared.form.Form.{Form}
 use Rattle.typed_tree.specs.Types.{Member}
-use Rattle.typed_rows.specs.Rows.{AreOf}
 use Rattle.typed_rows.proofs.Scalars.{with_one}
 use Rattle.typed_rows.proofs.ValueKinds.{UniKind, a_uni, no_uni, as_uni, out_uni, out_err}
 use Rattle.meaning.specs.Timed.{given}
@@ -26,7 +24,6 @@ use Rattle.graph_meaning.specs.Forms as form
 use Rattle.graph_meaning.specs.Demand.{Network}
 use Rattle.graph_meaning.specs.Plain.{fixed}
 use Rattle.lowering.specs.declared.feed.Wire.{Wire}
-use Rattle.lowering.specs.Feeds.{into}
 use Rattle.lowering.specs.declared.graph.Lowered.{Lowered}
 use Rattle.lowering.specs.Graphs.{Lowering, inputs, numbers, new_graph, new_graphs, size}
 use Rattle.lowering.specs.Operations.{wire_at}
