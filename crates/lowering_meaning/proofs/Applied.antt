@@ -17,6 +17,7 @@ use Rattle.fitting_trees.specs.Fitting as is
 use Rattle.meaning.specs.Timed.{given}
 use Rattle.graph_meaning.specs.Carried.{Value, Unfilled, vals}
 use Rattle.graph_meaning.specs.Plain.{fixed}
+use Rattle.lowering_meaning.proofs.Told.{Telling}
 use Rattle.graph_meaning.specs.NodeValues.{Shape, op}
 use Rattle.graph_meaning.specs.NodeValues as shapes
 use Rattle.graph_meaning.specs.Demand.{Network}
@@ -60,7 +61,7 @@ replacing-from : (places : List ℕ) (env ws : List Wire) → AllWires (FromName
 replacing-from places env [] h = (tt, changed-from env 0 (suc (greatest places)) places [] tt)
 replacing-from places env (w ∷ ws) h = (h.0, changed-from env 0 (suc (greatest places)) places ws h.1)
 
-module _ (u : Network) (number : ℕ → ℕ) (shape : ℕ → ℕ → Simple → Shape) where
+module _ (u : Network) (number : ℕ → ℕ) (shape : Telling) where
   unfilled : (s : Site) → Carries u number shape s absent Unfilled
   unfilled s h = always _ (λ d. fixed d s.graph s.ins Unfilled)
 
@@ -99,7 +100,7 @@ module _ (u : Network) (number : ℕ → ℕ) (shape : ℕ → ℕ → Simple �
 plain-free : (o : Simple) (t : ℕ) → FreeOn (λ env ws. row_lowered o ws (t ∷ []))
 plain-free o t = row-free o (λ ws. ws) t (λ env ws w. w)
 
-module _ (u : Network) (number : ℕ → ℕ) (shape : ℕ → ℕ → Simple → Shape) (forms : List Form) (spellings : List (List ℕ)) (arrays : (g l : ℕ) → shape g l simple.ABuild ≡ shapes.Plain) (records : (g l : ℕ) → shape g l simple.RBuild ≡ shapes.Plain) where
+module _ (u : Network) (number : ℕ → ℕ) (shape : Telling) (forms : List Form) (spellings : List (List ℕ)) (arrays : (g l : ℕ) → shape.row g l simple.ABuild ≡ shapes.Plain) (records : (g l : ℕ) → shape.row g l simple.RBuild ≡ shapes.Plain) where
   abbrev Does : Operation → List Ty → List Ty → ℕ → Type 0
   Does o γ tys t = FreeOn (λ env ws. applied forms o ws (t ∷ [])) × DrawnOn u number shape forms spellings γ tys 0 7 (λ env ws. applied forms o ws (t ∷ [])) (λ names vs. given (op_value o vs ∷ []))
 

@@ -8,6 +8,7 @@ use Rattle.type_table.specs.declared.form.Form.{Form}
 use Rattle.typed_rows.specs.Rows.{AreOf}
 use Rattle.meaning.specs.Timed.{given, plus, andthen}
 use Rattle.meaning.specs.Meaning.{Gives as Means, all_of, defined, body_of}
+use Rattle.lowering_meaning.proofs.Told.{Telling}
 use Rattle.graph_meaning.specs.NodeValues.{Shape}
 use Rattle.graph_meaning.specs.Demand.{Network}
 use Rattle.typed_tree.specs.Types.{IsNumber, AreNumbers}
@@ -125,7 +126,7 @@ ports-wired forms spellings n port (k ∷ ns) [] a = absurd a
 abbrev pub Wired : List Form → List (List ℕ) → List Ty → Lowers → List Ty → Type 0
 Wired forms spellings γ g tys = (env : List Wire) (k q : ℕ) → WiresOf forms spellings γ env → WiresOf forms spellings tys (g env k q).values
 
-module _ (u : Network) (number : ℕ → ℕ) (shape : ℕ → ℕ → Simple → Shape) (forms : List Form) (spellings : List (List ℕ)) where
+module _ (u : Network) (number : ℕ → ℕ) (shape : Telling) (forms : List Form) (spellings : List (List ℕ)) where
   -- wherever a phrase stands, on these values of the names it gives these values, with at most so many firings
   abbrev pub Draws : List Ty → Lowers → List Val → List Val → ℕ → Type 0
   Draws γ g names vs limit = (s : Site) (k q : ℕ) (env : List Wire) → WiresOf forms spellings γ env → AllCarry u number shape s env names → Placed u number shape s k q (g env k q) → Done u number shape s k (g env k q) vs limit

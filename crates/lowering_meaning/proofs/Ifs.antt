@@ -22,6 +22,7 @@ use Rattle.meaning.specs.Timed.{given, andthen}
 use Rattle.meaning.specs.Words.{failed, test_of, test_part}
 use Rattle.meaning.specs.Meaning.{Gives as Means, chosen}
 use Rattle.graph_meaning.specs.Carried.{Carried, Value}
+use Rattle.lowering_meaning.proofs.Told.{Telling}
 use Rattle.graph_meaning.specs.NodeValues.{Shape}
 use Rattle.graph_meaning.specs.Forms as form
 use Rattle.graph_meaning.specs.Demand.{Network}
@@ -119,7 +120,7 @@ module _ (ts us vs : List Lowers) (ns : List ℕ) where
   pub if-free : Free (all_lowered ts) → Free (all_lowered us) → Free (all_lowered vs) → Free the_if
   if-free ft fu fv env k q = whole-from env compound.Select (graphs q env) (arms q env) 0 ns k q (graphs-from q env ft fu fv)
 
-  module _ (u : Network) (number : ℕ → ℕ) (shape : ℕ → ℕ → Simple → Shape) (forms : List Form) (spellings : List (List ℕ)) where
+  module _ (u : Network) (number : ℕ → ℕ) (shape : Telling) (forms : List Form) (spellings : List (List ℕ)) where
     number-one : (b : Bool) → op_value (operation.Unary unary.Int) (val.Bool b ∷ []) ≡ val.Int (pos (if b then 1 else 0))
     number-one true = refl
     number-one false = refl

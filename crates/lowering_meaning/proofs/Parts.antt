@@ -5,6 +5,7 @@ use Rattle.flow_value.specs.declared.value.Val.{Val}
 use Rattle.if1_graph.specs.declared.op.Simple.{Simple}
 use Rattle.if1_graph.specs.declared.op.Compound.{Compound}
 use Rattle.graph_meaning.specs.Carried.{Carried, Value, Unfilled}
+use Rattle.lowering_meaning.proofs.Told.{Telling}
 use Rattle.graph_meaning.specs.NodeValues.{Shape}
 use Rattle.graph_meaning.specs.Forms.{Form, next_of, first}
 use Rattle.graph_meaning.specs.Demand.{Network}
@@ -44,7 +45,7 @@ get-right (x ∷ xs) ys d (suc n) i e =
     let f : suc n + 0 + i ≡ suc (n + 0 + i) = omega arith in
     ap (λ k. get_or (x ∷ xs ++ ys) k d) f ∙ get-right xs ys d n i (omega (arith, e))
 
-module _ (u : Network) (number : ℕ → ℕ) (shape : ℕ → ℕ → Simple → Shape) where
+module _ (u : Network) (number : ℕ → ℕ) (shape : Telling) where
   -- ---- one of the graphs
 
   -- a graph inside of a node whose inputs have these values, with these own inputs

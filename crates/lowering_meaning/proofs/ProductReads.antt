@@ -13,6 +13,7 @@ use Rattle.meaning.specs.Timed.{Timed, plus}
 use Rattle.meaning.specs.Sources.{places_of, names_at}
 use Rattle.meaning.specs.Meaning.{Gives as Means, all_of, defined, body_of, over}
 use Rattle.graph_meaning.specs.Carried.{Value}
+use Rattle.lowering_meaning.proofs.Told.{Telling}
 use Rattle.graph_meaning.specs.NodeValues.{Shape}
 use Rattle.graph_meaning.specs.Demand.{Network}
 use Rattle.lowering.specs.Feeds.{into}
@@ -39,7 +40,7 @@ yields-mine a y = record { value = y.value; steps = y.steps; from = from-mine _ 
 pub yield-theirs : {A : Type 0} (a : ℕ → Timed A) → Yields a → Yield a
 yield-theirs a y = record { value = y.value; steps = y.steps; from = from-theirs _ y.from }
 
-module _ (u : Network) (number : ℕ → ℕ) (shape : ℕ → ℕ → Simple → Shape) (forms : List Form) (spellings : List (List ℕ)) (hs : List Header) (p : List Function) (cover : Coverage) where
+module _ (u : Network) (number : ℕ → ℕ) (shape : Telling) (forms : List Form) (spellings : List (List ℕ)) (hs : List Header) (p : List Function) (cover : Coverage) where
   -- list phrases, read one after another
   pub each-read-all : (m : ℕ) (γ : List Ty) (gs : List Phrase) (ks : ℕ → List Means) → EachRead u number shape forms spellings hs p cover m γ gs ks → Read u number shape forms spellings m γ (all_lowered (each gs)) (λ j. all_of (ks j))
   each-read-all m γ _ _ no_read = nil-read u number shape forms spellings m γ

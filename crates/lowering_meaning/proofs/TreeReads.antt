@@ -23,6 +23,7 @@ use Rattle.meaning.specs.Timed.{given, plus}
 use Rattle.meaning.specs.Words.{constant_value, value_at}
 use Rattle.meaning.specs.Meaning.{Gives as Means, all_of, defined, kind_gives, calls, meaning}
 use Rattle.graph_meaning.specs.Carried.{Value}
+use Rattle.lowering_meaning.proofs.Told.{Telling}
 use Rattle.graph_meaning.specs.NodeValues.{Shape}
 use Rattle.graph_meaning.specs.Demand.{Network}
 use Rattle.graph_meaning.specs.Plain.{NodesFire}
@@ -43,7 +44,7 @@ use Rattle.lowering_meaning.proofs.IfReads.{if-read}
 use Rattle.lowering_meaning.proofs.Trees as trees
 use Rattle.lowering_meaning.proofs.Trees.{FitsTo, AllFitTo, DefsFitTo, several, several_lists, means, means_lists, EachDrawn, EachOf, CallsDrawn, FormsDrawn}
 
-module _ (u : Network) (number : ℕ → ℕ) (shape : ℕ → ℕ → Simple → Shape) (forms : List Form) (spellings : List (List ℕ)) (hs : List Header) (p : List Function) (cover : Coverage) where
+module _ (u : Network) (number : ℕ → ℕ) (shape : Telling) (forms : List Form) (spellings : List (List ℕ)) (hs : List Header) (p : List Function) (cover : Coverage) where
   -- phrases one for one, at a depth
   pub data EachRead (m : ℕ) (γ : List Ty) : List Phrase → (ℕ → List Means) → Type 0 where
     no_read : EachRead m γ [] (λ j. [])

@@ -12,6 +12,7 @@ use Rattle.loop_folds.specs.declared.masking.Masking.TheVariants as masking
 use Rattle.fitting_trees.specs.Fitting.{Header}
 use Rattle.meaning.specs.Rows.{span}
 use Rattle.meaning.specs.Meaning.{Gives as Means}
+use Rattle.lowering_meaning.proofs.Told.{Telling}
 use Rattle.graph_meaning.specs.NodeValues.{Shape}
 use Rattle.graph_meaning.specs.Demand.{Network}
 use Rattle.lowering.specs.Operations.{all_lowered}
@@ -43,7 +44,7 @@ flags-are (c ∷ cs) = go c.masking (flags-are cs)
     go masking.When e = omega (arith, e)
     go masking.Unless e = omega (arith, e)
 
-module _ (u : Network) (number : ℕ → ℕ) (shape : ℕ → ℕ → Simple → Shape) (forms : List Form) (spellings : List (List ℕ)) (hs : List Header) (p : List Function) (cover : Coverage) where
+module _ (u : Network) (number : ℕ → ℕ) (shape : Telling) (forms : List Form) (spellings : List (List ℕ)) (hs : List Header) (p : List Function) (cover : Coverage) where
   named-phrases : (γ : List Ty) (gs : List Phrase) (ks : List Means) (cs : List ℕ) → EachOf u number shape forms spellings hs p cover γ gs ks cs → AreNamedPhrases gs ks
   named-phrases γ [] [] [] o = tt
   named-phrases γ (g ∷ gs) (k ∷ ks) (c ∷ cs) o = (o.0.2, named-phrases γ gs ks cs o.1)

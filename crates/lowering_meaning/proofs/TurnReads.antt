@@ -17,6 +17,7 @@ use Rattle.meaning.specs.Words.{value_at}
 use Rattle.meaning.specs.Meaning.{Gives as Means, all_of, defined, turned, looped}
 use Rattle.meaning.specs.Meaning as source
 use Rattle.graph_meaning.specs.Carried.{Carried, Value}
+use Rattle.lowering_meaning.proofs.Told.{Telling}
 use Rattle.graph_meaning.specs.NodeValues.{Shape}
 use Rattle.graph_meaning.specs.Forms.{Form as NodeForm, Starting, Enter, first, next_of}
 use Rattle.graph_meaning.specs.Demand.{Network}
@@ -66,7 +67,7 @@ begins : (b : Bool) (i t c r o : ℕ) (ks : List Carried) → next_of (first (lo
 begins true i t c r o ks = refl
 begins false i t c r o ks = refl
 
-module _ (u : Network) (number : ℕ → ℕ) (shape : ℕ → ℕ → Simple → Shape) (forms : List Form) (spellings : List (List ℕ)) (hs : List Header) (pr : List Function) (cover : Coverage) where
+module _ (u : Network) (number : ℕ → ℕ) (shape : Telling) (forms : List Form) (spellings : List (List ℕ)) (hs : List Header) (pr : List Function) (cover : Coverage) where
   abbrev EachR : ℕ → List Ty → List Phrase → (ℕ → List Means) → Type 0
   EachR m γ gs ks = EachRead u number shape forms spellings hs pr cover m γ gs ks
 
