@@ -94,7 +94,8 @@ module _ (p : Program) (u : Unit1) (fit : IsFitting p) (t : IsTranslated p u) (n
         → ((i : ℕ) (v : LoweredNode) → slice_get vs i ≡ Some v → filter (to_node (suc (n + i))) (out-Graph x.graph).edges ≡ node_edges p (suc (n + i)) v.action v.ins) → AreTold (telling p u) q n vs
     nodes-told n [] r k h = tt
     nodes-told n (v ∷ vs) r k h =
-        let here = subst (λ k. filter (to_node (suc k)) (out-Graph x.graph).edges ≡ node_edges p (suc k) v.action v.ins) (omega arith) (h 0 v refl) in (
+        let z : n + 0 ≡ n = omega arith in
+        let here = subst (λ k. filter (to_node (suc k)) (out-Graph x.graph).edges ≡ node_edges p (suc k) v.action v.ins) z (h 0 v refl) in (
           node-told (suc n) v.action v.ins r.0 k.0.1 here,
           nodes-told (suc n) vs r.1 k.1 (λ i y e. subst (λ k. filter (to_node (suc k)) (out-Graph x.graph).edges ≡ node_edges p (suc k) y.action y.ins) (omega arith) (h (suc i) y e)),
         )

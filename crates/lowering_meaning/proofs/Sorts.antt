@@ -1,8 +1,9 @@
 -- What the label of a record's type stands for in the table of a translated unit.
 use Rattle.std.proofs.Common.{◌≡◌, ℕ, zero, suc, ◌+◌, ◌≤◌, Bool, true, false, ◌&&◌, List, [], ◌∷◌, ◌++◌, map, length, get_or, Option, Some, None, slice_get, inl, inr, refl, sym, ap, subst, ◌∙◌, arith, option_map, nat_eq}
-use Rattle.std.specs.Prelude.{bytes_eq, if◌then◌else◌}
+use Rattle.std.specs.Prelude.{All, bytes_eq, if◌then◌else◌}
 use Rattle.std.proofs.lemmas.Bool.{eqb-true}
 use Rattle.std.proofs.lemmas.List.{length-map}
+use Rattle.std.proofs.lemmas.List.Elements.{All-head, All-tail}
 use Rattle.std.proofs.lemmas.Option.{slice_get_within}
 use Rattle.flow_value.specs.declared.ty.Ty.{Ty}
 use Rattle.flow_value.specs.declared.ty.Ty.TheVariants as ty
@@ -12,7 +13,7 @@ use Rattle.if1_graph.specs.declared.graph.TypeEntry.{TypeEntry}
 use Rattle.if1_graph.specs.declared.graph.Unit1.{Unit1}
 use Rattle.if1_graph.specs.declared.kind.TypeKind.{TypeKind}
 use Rattle.if1_graph.specs.Kinds.{kind_at}
-use Rattle.if1_graph.specs.Ports.{fields_of}
+use Rattle.if1_graph.specs.Ports.{fields_of, record_fields}
 use Rattle.if1_graph.specs.Tables.{◌>>=◌}
 use Rattle.if1_graph.specs.Types.{Member, entry_at, is_field, is_tag, ty_of, ty_within, without_names, most_deep, sort_of, sort_at, Plain}
 use Rattle.if1_graph.specs.Types as sorts
@@ -161,8 +162,8 @@ module _ (p : Program) where
   members-shown : (d code : ℕ) (is : Option TypeKind → Bool) → is (kind_at code) ≡ true → (ms : List NumberedMember) → EachShown d ms → (ts later : Table) → IsLow later → Grows basics later
       → Grows (members (within d) code (named p.types p.names ms) ts).table later → (far : ℕ) → (members (within d) code (named p.types p.names ms) ts).label ≤ far
       → Listed d is later far (members (within d) code (named p.types p.names ms) ts).label (length ms)
-  members-shown d code is yes [] s ts later low b g far le = ([], no-members d is later far, refl)
-  members-shown d code is yes (m ∷ ms) s ts later low b g far le = by far le
+  members-shown d code is kept [] s ts later low b g far le = ([], no-members d is later far, refl)
+  members-shown d code is kept (m ∷ ms) s ts later low b g far le = by (λ k far le. members-shown d code is kept ms s.1 ts later low b k far le) far le
     where
       rest : Labelled
       rest = members (within d) code (named p.types p.names ms) ts
@@ -185,17 +186,17 @@ module _ (p : Program) where
       x : (x : Ty) × (bare d later t.label ≡ Some x)
       x = s.0 rest.table later low b gt
 
-      by : (far : ℕ) → (enter e t.table).label ≤ far → Listed d is later far (enter e t.table).label (suc (length ms))
-      by zero le = absurd (omega (arith, le, h.is))
-      by (suc far) le =
+      by : (Grows rest.table later → (far : ℕ) → rest.label ≤ far → Listed d is later far rest.label (length ms)) → (far : ℕ) → (enter e t.table).label ≤ far → Listed d is later far (enter e t.table).label (suc (length ms))
+      by later-ones zero le = absurd (omega (arith, le, h.is))
+      by later-ones (suc far) le =
           let below : h.entry.second ≤ 0 + h.place = low-at 0 later low.low h.place h.entry h.there in
-          let r = members-shown d code is yes ms s.1 ts later low b gr far (omega (arith, le, h.is, below, h.second)) in
+          let r = later-ones gr far (omega (arith, le, h.is, below, h.second)) in
           let K : Option Ty → ℕ → Option (List Member) = λ o l. o >>= λ t. members_in d is later far l >>= λ others. Some (([], t) ∷ others) in (
             ([], x.0) ∷ r.0,
             ap (members_in d is later (suc far)) h.is
                 ∙ (ap (λ o. o >>= λ (y : TypeEntry). K (if is (kind_at y.code) then bare d later y.first else None) y.second) (sym (ap (entry_at (E later)) h.is) ∙ at-entry later (enter e t.table).label e h)
                 ∙ (ap (λ c. K (if is (kind_at c) then bare d later h.entry.first else None) h.entry.second) h.code
-                ∙ (ap (λ c. K (if c then bare d later h.entry.first else None) h.entry.second) yes
+                ∙ (ap (λ c. K (if c then bare d later h.entry.first else None) h.entry.second) kept
                 ∙ (ap (λ l. K (bare d later l) h.entry.second) h.first ∙ (ap (λ o. K o h.entry.second) x.1 ∙ (ap (K (Some x.0)) h.second ∙ ap (λ o. o >>= λ others. Some (([], x.0) ∷ others)) r.1)))))),
             ap suc r.2,
           )
@@ -257,6 +258,34 @@ module _ (p : Program) where
     abbrev depth : ℕ → ℕ
     depth t = get_or (depths p.types) t 0
 
+    members-length : (ms : List NumberedMember) (fs : List Member) → AreMembers p.types p.names ms fs → length ms ≡ length fs
+    members-length _ _ no_member = refl
+    members-length _ _ (a_member {ms = ms} {fs = fs} s k r) = ap suc (members-length ms fs r)
+
+    -- the number of a record's type has a record's form
+    abbrev IsRec : Ty-F Ty → Type 0
+    IsRec (Ty-F.Rec fs) = Unit {0}
+    IsRec _ = ⊥
+
+    record-number : (n : ℕ) (t : Ty) → IsNumber p.types p.names n t → (fs : List Member) → out-Ty t ≡ Ty-F.Rec fs → (ms : List NumberedMember) × (slice_get p.types n ≡ Some (form.Record ms)) × AreMembers p.types p.names ms fs
+    record-number n _ (number.boolean e) fs h = absurd (subst IsRec (sym h ∙ out-bool) tt)
+    record-number n _ (number.character e) fs h = absurd (subst IsRec (sym h ∙ out-char) tt)
+    record-number n _ (number.integer e) fs h = absurd (subst IsRec (sym h ∙ out-int) tt)
+    record-number n _ (number.null e) fs h = absurd (subst IsRec (sym h ∙ out-null) tt)
+    record-number n _ (number.array {t = t} e k) fs h = absurd (subst IsRec (sym h ∙ out-array t) tt)
+    record-number n _ (number.stream {t = t} e k) fs h = absurd (subst IsRec (sym h ∙ out-stream t) tt)
+    record-number n _ (number.a_union {fs = gs} e k) fs h = absurd (subst IsRec (sym h ∙ out-union gs) tt)
+    record-number n _ (number.a_record {ms = ms} {fs = gs} e k) fs h = (ms, e, subst (AreMembers p.types p.names ms) (same (sym (out-record gs) ∙ h)) k)
+      where
+        same : Ty-F.Rec gs ≡ Ty-F.Rec fs → gs ≡ fs
+        same e = cc
+
+    shallow : (ds : List ℕ) → All (λ d. d ≤ 64) ds → (t : ℕ) → get_or ds t 0 ≤ 64
+    shallow [] h zero = omega arith
+    shallow [] h (suc t) = omega arith
+    shallow (d ∷ ds) h zero = All-head (λ d. d ≤ 64) d ds h
+    shallow (d ∷ ds) h (suc t) = shallow ds (All-tail (λ d. d ≤ 64) d ds h) t
+
     abbrev Below : ℕ → Type 0
     Below d = (n : ℕ) (t : Ty) → depth n ≤ d → IsNumber p.types p.names n t → Shown d n
 
@@ -285,3 +314,71 @@ module _ (p : Program) where
     shown (suc d) n _ h (number.a_record {ms = ms} {fs = fs} e k) =
         subst (FormShown d) (sym e) (λ ts later low b g. let r = record-shown d ms (each-shown d (shown d) ms fs k (omega (arith, h, depth_at p.types well n (form.Record ms) e))) ts later low b g in (ty.Rec r.0, r.1))
     shown (suc d) n _ h (number.a_union {ms = ms} {fs = fs} e k) = subst (FormShown d) (sym e) (union-shown d ms (each-shown d (shown d) ms fs k (omega (arith, h, depth_at p.types well n (form.Union ms) e))))
+
+    -- the fields of a record's type, where a table has entered it
+    pub fields-at : (n : ℕ) (fs : List Member) → IsNumber p.types p.names n (ty.Rec fs) → (ts later : Table) → IsLow later → Grows basics later → Grows (type_label p.types p.names n ts).table later
+        → fields_shape (fields_of (sort_at (E later) (type_label p.types p.names n ts).label)) ≡ shapes.Fields (length fs)
+    fields-at n fs k ts later low b g =
+        let r = record-number n (ty.Rec fs) k fs (out-record fs) in
+        let deep : depth n ≤ 64 = shallow (depths p.types) well.well.shallow n in
+        let each = each-shown 63 (shown 63) r.0 fs r.2 (omega (arith, deep, depth_at p.types well n (form.Record r.0) r.1)) in
+        subst (λ o. Grows (form_label p.types p.names (within 63) o ts).table later → fields_shape (fields_of (sort_at (E later) (form_label p.types p.names (within 63) o ts).label)) ≡ shapes.Fields (length fs)) (sym r.1)
+        (λ g.
+        let m = members (within 63) 2 (named p.types p.names r.0) ts in
+        let e = entry 5 m.label 0 [] in
+        let h = entered e m.table later g in
+        let l = (enter e m.table).label in
+        let x = record-shown 63 r.0 each ts later low b g in
+        ap (λ o. fields_shape (fields_of (o >>= λ (y : TypeEntry). sort_of (E later) l y (kind_at y.code)))) (at-entry later l e h)
+        ∙ (ap (λ c. fields_shape (fields_of (sort_of (E later) l (as_type p (suc h.place) h.entry) (kind_at c)))) h.code
+        ∙ (ap (λ o. fields_shape (fields_of (o >>= λ t. Some (Plain t)))) x.1
+        ∙ (ap (λ t. fields_shape (record_fields t)) (out-record x.0) ∙ ap shapes.Fields (x.2 ∙ members-length r.0 fs r.2)))))
+        g
+
+-- ---- lines
+
+in-parts : (xs ys : List Carried) (c : Carried) → In c (xs ++ ys) → {A : Type 0} → (In c xs → A) → (In c ys → A) → A
+in-parts [] ys c i f g = g i
+in-parts (x ∷ xs) ys c (inl e) f g = f (inl e)
+in-parts (x ∷ xs) ys c (inr i) f g = in-parts xs ys c i (λ k. f (inr k)) g
+
+module _ (p : Program) where
+  abbrev line_label : Carried → Table → Labelled
+  line_label c ts = carried_label p.types p.names p.functions c ts
+
+  line-stays : (cs : List Carried) (ts later : Table) → Grows (with_types p.types p.names p.functions cs ts) later → (c : Carried) → In c cs → (line_label c later).table ≡ later
+  line-stays [] ts later g c i = absurd i
+  line-stays (x ∷ cs) ts later g c (inl e) =
+      let r = line_label x ts in
+      let grown = grows-then r.table (with_types p.types p.names p.functions cs r.table) later (types-grow p.types p.names p.functions cs r.table) g in
+      ap (λ (y : Carried). (line_label y later).table) e ∙ ap (λ (y : Labelled). y.table) (carried-stays p.types p.names p.functions x ts later grown)
+  line-stays (x ∷ cs) ts later g c (inr i) = line-stays cs (line_label x ts).table later g c i
+
+  body-stays : (fs : List Function) (ms : List Lowered) → length fs ≡ length ms → (ts later : Table) → Grows (with_needs (body_needs p fs ms) ts) later → (c : Carried) → In c (graph_lines ms) → (line_label c later).table ≡ later
+  body-stays [] [] l ts later g c i = absurd i
+  body-stays [] (m ∷ ms) l ts later g c i = absurd (omega (arith, l))
+  body-stays (f ∷ fs) [] l ts later g c i = absurd i
+  body-stays (f ∷ fs) (m ∷ ms) l ts later g c i =
+      let next = with_types p.types p.names p.functions (graph_lines (m ∷ [])) ts in
+      let front = m.lines ++ carried m.values in
+      in-parts front (graph_lines ms) c i
+      (λ k. line-stays (graph_lines (m ∷ [])) ts later (grows-then next (with_needs (body_needs p fs ms) next) later (bodies-grow p fs ms next) g) c (in-left c front [] k))
+      (λ k. body-stays fs ms (omega (arith, l)) next later g c k)
+
+  after-headers : (fs : List Function) (ns : List Need) (ts : Table) → with_needs (map (header_need p) fs ++ ns) ts ≡ with_needs ns (with_needs (map (header_need p) fs) ts)
+  after-headers [] ns ts = refl
+  after-headers (f ∷ fs) ns ts = after-headers fs ns (function_label p.types p.names f ts).table
+
+  -- what a line of the program carries stands in its table
+  program-stays : (c : Carried) → In c (graph_lines (functions_lowered p)) → (line_label c (table p)).table ≡ table p
+  program-stays c i =
+      let headers = with_needs (map (header_need p) p.functions) basics in
+      let bodies = body_needs p p.functions (functions_lowered p) in
+      body-stays p.functions (functions_lowered p) (sym (length-new p 1 (map (function_lowered p.types) p.functions) ∙ length-map p.functions (function_lowered p.types))) headers (table p)
+      (subst (Grows (with_needs bodies headers)) (sym (after-headers p.functions bodies basics)) (grows-none (with_needs bodies headers))) c i
+
+  -- a record that a line carries tells its fields
+  pub elements-are : (u : Unit1) → IsFitting p → IsTranslated p u → (n : ℕ) (fs : List Member) → In (One n) (telling p u).lines → IsNumber p.types p.names n (ty.Rec fs) → (telling p u).elements (One n) ≡ shapes.Fields (length fs)
+  elements-are u fit t n fs i k =
+      ap (λ es. fields_shape (fields_of (sort_at es (label_of p (One n))))) t.types
+      ∙ fields-at p fit.types n fs k (table p) (table p) (table-low p) (table-begins p) (subst (λ es. Grows es (table p)) (sym (program-stays (One n) i)) (grows-none (table p)))

@@ -55,6 +55,7 @@ use Rattle.lowering_meaning.proofs.TurnLaws.{turns-drawn, turns-read}
 use Rattle.lowering_meaning.proofs.PlainTables.{AllPlain, table-plain}
 use Rattle.lowering_meaning.proofs.Applied.{operation-drawn}
 use Rattle.lowering_meaning.proofs.Shaped.{telling, are-told}
+use Rattle.lowering_meaning.proofs.Sorts.{elements-are}
 
 -- ---- where the graphs of functions stand
 
@@ -147,7 +148,7 @@ module _ (p : Program) (u : Unit1) (fit : IsFitting p) (t : IsTranslated p u) wh
         let records : (g l : ℕ) → S.row g l simple.RBuild ≡ shape.Plain = λ g l. records-plain u types (find (λ p. place_number p == g) (places u)) l in
         record {
           arrays = arrays;
-          operation = λ o c γ tys a n r. operation-drawn N num S p.types p.names arrays records o c γ tys a n r;
+          operation = λ o c γ tys a n r. operation-drawn N num S p.types p.names arrays records (λ n ms i k. elements-are p u fit t n ms i k) o c γ tys a n r;
           no_case = refl;
           product = λ q ks c. product-drawn N num S p.types p.names fit.headers p.functions plain_forms clauses int q ks c;
           initial = λ t ks c. turns-drawn N num S p.types p.names fit.headers p.functions plain_forms clauses t ks c;

@@ -99,12 +99,11 @@ any_loops c = record { operation = c.operation; tag_case = c.tag_case; product =
 
 -- ---- the forms of the laws
 
--- every operation but those on unions, a field of a record, and a stream of its elements; a record changes a field at most once
+-- every operation but those on unions, and a stream of its elements; a record changes a field at most once
 abbrev pub is_plain_operation : Operation → Bool
 is_plain_operation op.Stream = false
 is_plain_operation (op.Union tag) = false
 is_plain_operation (op.IsTag tag) = false
-is_plain_operation (op.Field place) = false
 is_plain_operation (op.Change places) = all_apart places
 is_plain_operation _ = true
 
