@@ -3,10 +3,8 @@ use Rattle.std.proofs.Common.{◌≡◌, ℕ, zero, suc, ◌+◌, ◌≤◌, fal
 use Rattle.flow_value.specs.declared.value.Val.{Val}
 use Rattle.flow_value.specs.declared.value.Val.TheVariants as val
 use Rattle.flow_value.specs.declared.cause.Cause.{Cause}
-use Rattle.if1_graph.specs.declared.op.Simple.{Simple}
 use Rattle.graph_meaning.specs.Carried.{Carried, Value}
 use Rattle.lowering_meaning.proofs.Told.{Telling}
-use Rattle.graph_meaning.specs.NodeValues.{Shape}
 use Rattle.graph_meaning.specs.Forms.{Form, Select, Next, Stage, Enter, Leave, Chosen, Selecting, first, next_of, follow, enter_chosen}
 use Rattle.graph_meaning.specs.Demand.{Network}
 use Rattle.graph_meaning.specs.Plain.{is_deeper, Leads, leaves, enters, LaterFires, of_leaving, of_graph}

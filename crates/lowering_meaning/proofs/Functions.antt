@@ -6,7 +6,6 @@ use Rattle.flow_value.specs.declared.value.Val.{Val}
 use Rattle.flow_value.specs.declared.value.Val.TheVariants as val
 use Rattle.flow_value.specs.declared.cause.Cause.TheVariants as cause
 use Rattle.flow_value.specs.declared.ty.Ty.{Ty}
-use Rattle.if1_graph.specs.declared.op.Simple.{Simple}
 use Rattle.if1_graph.specs.declared.op.Simple.TheVariants as simple
 use Rattle.type_table.specs.declared.form.Form.{Form}
 use Rattle.typed_tree.specs.declared.expr.TypedExpr.{TypedExpr}
@@ -19,7 +18,6 @@ use Rattle.meaning.specs.Words.{failed}
 use Rattle.meaning.specs.Meaning.{Gives as Means, all_of, results_of, function_gives, calls, meaning}
 use Rattle.graph_meaning.specs.Carried.{Value, Unfilled}
 use Rattle.lowering_meaning.proofs.Told.{Telling}
-use Rattle.graph_meaning.specs.NodeValues.{Shape}
 use Rattle.graph_meaning.specs.Demand.{Network}
 use Rattle.graph_meaning.specs.Plain.{NodesFire}
 use Rattle.lowering.specs.declared.feed.Feed.{Feed}
@@ -35,7 +33,6 @@ use Rattle.lowering.specs.Operations.{Lowers, all_lowered}
 use Rattle.lowering.specs.Loops.{own_inputs}
 use Rattle.lowering.specs.Phrases.{each, phrase, lowers}
 use Rattle.lowering.specs.Programs.{stub, bodies, function_lowered}
-use Rattle.lowered_units.specs.Networks.{net_of}
 use Rattle.lowering_meaning.specs.Coverage.{Coverage, AreCovered}
 use Rattle.lowering_meaning.proofs.Timed.{Yield, yield-given, yield-plus, yield-deeper}
 use Rattle.lowering_meaning.proofs.Wires.{AllWires, left-wires, right-wires, weaker-wires, In, IsThere, FromNames, MadeFrom}

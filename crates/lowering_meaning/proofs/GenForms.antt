@@ -5,7 +5,6 @@ use Rattle.flow_value.specs.declared.value.Val.{Val}
 use Rattle.flow_value.specs.declared.value.Val.TheOpen.{Val-F}
 use Rattle.flow_value.specs.declared.value.Val.TheViews.{out-Val}
 use Rattle.flow_value.specs.declared.ty.Ty.{Ty}
-use Rattle.if1_graph.specs.declared.op.Simple.{Simple}
 use Rattle.if1_graph.specs.declared.op.Simple.TheVariants as simple
 use Rattle.type_table.specs.declared.form.Form.{Form}
 use Rattle.typed_tree.specs.declared.expr.Source.{Source}
@@ -14,7 +13,7 @@ use Rattle.fitting_trees.specs.Fitting.{Goes, no_source, over_range, over_array,
 use Rattle.typed_rows.specs.Rows.{AreOf}
 use Rattle.graph_meaning.specs.Carried.{Carried, Value, Unfilled}
 use Rattle.lowering_meaning.proofs.Told.{Telling}
-use Rattle.graph_meaning.specs.NodeValues.{Shape, scatter_in, scatter_of}
+use Rattle.graph_meaning.specs.NodeValues.{scatter_in, scatter_of}
 use Rattle.graph_meaning.specs.Demand.{Network}
 use Rattle.lowering.specs.declared.feed.Carried.TheVariants.{Many}
 use Rattle.lowering.specs.declared.feed.Wire.{Wire}

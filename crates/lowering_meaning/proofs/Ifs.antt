@@ -9,7 +9,6 @@ use Rattle.flow_value.specs.declared.ty.Ty.{Ty}
 use Rattle.flow_value.specs.declared.ty.Ty.TheVariants as ty
 use Rattle.value_ops.specs.Operations.{op_value}
 use Rattle.value_ops.specs.declared.operation.Operation.TheVariants as operation
-use Rattle.if1_graph.specs.declared.op.Simple.{Simple}
 use Rattle.if1_graph.specs.declared.op.Simple.TheVariants as simple
 use Rattle.if1_graph.specs.declared.op.Compound.{Compound}
 use Rattle.if1_graph.specs.declared.op.Compound.TheVariants as compound
@@ -23,7 +22,6 @@ use Rattle.meaning.specs.Words.{failed, test_of, test_part}
 use Rattle.meaning.specs.Meaning.{Gives as Means, chosen}
 use Rattle.graph_meaning.specs.Carried.{Carried, Value}
 use Rattle.lowering_meaning.proofs.Told.{Telling}
-use Rattle.graph_meaning.specs.NodeValues.{Shape}
 use Rattle.graph_meaning.specs.Forms as form
 use Rattle.graph_meaning.specs.Demand.{Network}
 use Rattle.lowering.specs.declared.feed.Carried as wired

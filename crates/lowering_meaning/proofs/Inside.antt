@@ -1,10 +1,8 @@
 -- Graphs inside of a node: what the names carry there, and that what is lowered is what the graph gives and fires.
 use Rattle.std.proofs.Common.{◌≡◌, ℕ, suc, ◌+◌, ◌-◌, ◌<◌, ◌≤◌, Bool, true, false, List, [], ◌∷◌, map, length, get_or, Some, inl, inr, refl, sym, ap, ◌∙◌, subst, arith, if◌then◌else◌, eq-eqb, ne_eqb}
 use Rattle.flow_value.specs.declared.value.Val.{Val}
-use Rattle.if1_graph.specs.declared.op.Simple.{Simple}
 use Rattle.graph_meaning.specs.Carried.{Carried, Value, Unfilled}
 use Rattle.lowering_meaning.proofs.Told.{Telling, opened}
-use Rattle.graph_meaning.specs.NodeValues.{Shape}
 use Rattle.graph_meaning.specs.Demand.{Source, Fixed, Vertex, Network, at_label}
 use Rattle.graph_meaning.specs.Demand as demand
 use Rattle.graph_meaning.specs.Plain.{CarryAll, no_port, port, fixed, input, NodesFire}

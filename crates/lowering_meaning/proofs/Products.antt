@@ -8,7 +8,6 @@ use Rattle.flow_value.specs.declared.ty.Ty.TheVariants as ty
 use Rattle.value_ops.specs.Operations.{op_value}
 use Rattle.value_ops.specs.declared.operation.Operation.TheVariants as operation
 use Rattle.sisal_tree.specs.declared.expr.Constant.TheVariants as constant
-use Rattle.if1_graph.specs.declared.op.Simple.{Simple}
 use Rattle.if1_graph.specs.declared.op.Compound.TheVariants as compound
 use Rattle.type_table.specs.declared.form.Form.{Form}
 use Rattle.loop_folds.specs.declared.masking.Masking.TheVariants as masking
@@ -35,7 +34,6 @@ use Rattle.meaning.specs.Rows as rows
 use Rattle.meaning.specs.Meaning.{Gives as Means, all_of, defined, body_of, over, environments, at_place, each as at_each, folded}
 use Rattle.graph_meaning.specs.Carried.{Carried, Value, Many, Unfilled}
 use Rattle.lowering_meaning.proofs.Told.{Telling}
-use Rattle.graph_meaning.specs.NodeValues.{Shape}
 use Rattle.graph_meaning.specs.Forms.{columns, add_row}
 use Rattle.graph_meaning.specs.Demand.{Network}
 use Rattle.lowering.specs.declared.feed.Carried as wired

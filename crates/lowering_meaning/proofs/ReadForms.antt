@@ -2,14 +2,12 @@
 use Rattle.std.proofs.Common.{◌≡◌, ℕ, suc, ◌+◌, ◌<◌, true, false, List, [], ◌∷◌, ◌++◌, map, length, ◌⊎◌, inl, inr, subst, arith}
 use Rattle.flow_value.specs.declared.value.Val.{Val}
 use Rattle.flow_value.specs.declared.ty.Ty.{Ty}
-use Rattle.if1_graph.specs.declared.op.Simple.{Simple}
 use Rattle.type_table.specs.declared.form.Form.{Form}
 use Rattle.typed_rows.specs.Rows.{AreOf}
 use Rattle.meaning.specs.Timed.{Timed, given, plus, andthen}
 use Rattle.meaning.specs.Meaning.{Gives as Means, all_of, defined, body_of}
 use Rattle.graph_meaning.specs.Carried.{Value}
 use Rattle.lowering_meaning.proofs.Told.{Telling}
-use Rattle.graph_meaning.specs.NodeValues.{Shape}
 use Rattle.graph_meaning.specs.Forms as form
 use Rattle.graph_meaning.specs.Demand.{Network}
 use Rattle.graph_meaning.specs.Plain.{NodesFire}

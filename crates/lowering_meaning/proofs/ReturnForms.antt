@@ -13,7 +13,7 @@ use Rattle.loop_folds.specs.declared.folding.Folding.TheVariants as folding
 use Rattle.typed_tree.specs.declared.expr.ClauseForm.{ClauseForm}
 use Rattle.graph_meaning.specs.Carried.{Carried, Value, Name}
 use Rattle.lowering_meaning.proofs.Told.{Telling}
-use Rattle.graph_meaning.specs.NodeValues.{Shape, op, fold_of}
+use Rattle.graph_meaning.specs.NodeValues.{op, fold_of}
 use Rattle.graph_meaning.specs.Demand.{Network, Fixed}
 use Rattle.graph_meaning.specs.Plain.{fixed}
 use Rattle.lowering.specs.declared.feed.Feed.TheVariants.{Named}

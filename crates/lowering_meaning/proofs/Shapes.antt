@@ -4,7 +4,6 @@ use Rattle.flow_value.specs.declared.ty.Ty.{Ty}
 use Rattle.flow_value.specs.declared.ty.Ty.TheVariants as ty
 use Rattle.flow_value.specs.declared.ty.Ty.TheOpen.{Ty-F}
 use Rattle.flow_value.specs.declared.ty.Ty.TheViews.{out-Ty}
-use Rattle.if1_graph.specs.declared.op.Simple.{Simple}
 use Rattle.if1_graph.specs.declared.op.Simple.TheVariants as simple
 use Rattle.if1_graph.specs.declared.op.Grouping.{Grouping}
 use Rattle.loop_folds.specs.declared.folding.Folding.{Folding}

@@ -1,10 +1,8 @@
 -- Where a phrase stands in a network: what its wires carry and its nodes fire, from some depth on.
 use Rattle.std.proofs.Common.{◌≡◌, ℕ, suc, ◌+◌, ◌≤◌, List, [], ◌∷◌, ◌++◌, map, length, refl, sym, ap, ◌∙◌, subst, arith, Some}
 use Rattle.flow_value.specs.declared.value.Val.{Val}
-use Rattle.if1_graph.specs.declared.op.Simple.{Simple}
 use Rattle.graph_meaning.specs.Carried.{Carried, Value}
 use Rattle.lowering_meaning.proofs.Told.{Telling, AreTold, told-left, told-right}
-use Rattle.graph_meaning.specs.NodeValues.{Shape}
 use Rattle.graph_meaning.specs.Demand.{Source, Vertex, Network, at_label}
 use Rattle.graph_meaning.specs.Plain.{CarryAll, no_port, port, NodesFire, no_node, a_node, InnerFires}
 use Rattle.graph_meaning.specs.Plain as plain

@@ -1,5 +1,5 @@
 -- What the label of a record's type stands for in the table of a translated unit.
-use Rattle.std.proofs.Common.{◌≡◌, ℕ, zero, suc, ◌+◌, ◌≤◌, Bool, true, false, ◌&&◌, List, [], ◌∷◌, ◌++◌, map, length, get_or, Option, Some, None, slice_get, inl, inr, refl, sym, ap, subst, ◌∙◌, arith, option_map, nat_eq}
+use Rattle.std.proofs.Common.{◌≡◌, ℕ, zero, suc, ◌+◌, ◌≤◌, Bool, true, false, List, [], ◌∷◌, ◌++◌, map, length, get_or, Option, Some, None, slice_get, inl, inr, refl, sym, ap, subst, ◌∙◌, arith, option_map, nat_eq}
 use Rattle.std.specs.Prelude.{All, bytes_eq, if◌then◌else◌}
 use Rattle.std.proofs.lemmas.Bool.{eqb-true}
 use Rattle.std.proofs.lemmas.List.{length-map}
@@ -35,7 +35,7 @@ use Rattle.lowering.specs.declared.graph.Lowered.{Lowered}
 use Rattle.lowering.specs.Feeds.{carried}
 use Rattle.lowering.specs.Graphs.{graph_lines}
 use Rattle.lowering.specs.Programs.{function_lowered, functions_lowered}
-use Rattle.lowering.specs.Types.{Entry, entry, is_entry, Table, Labelled, labelled, label_from, or_new, enter, basics, Part, members, named, form_label, label_within, type_label, function_label, carried_label, with_types, Need, header_need, body_needs, with_needs, table, label_of}
+use Rattle.lowering.specs.Types.{Entry, entry, is_entry, Table, Labelled, label_from, or_new, enter, basics, members, named, form_label, label_within, type_label, function_label, carried_label, with_types, Need, header_need, body_needs, with_needs, table, label_of}
 use Rattle.lowering.proofs.Stable.{carried-stays}
 use Rattle.lowering.proofs.Tables.{Grows, grows-none, grows-then, enter-grows, within-grows, types-grow, bodies-grow, table-begins}
 use Rattle.lowered_units.specs.Fitting.{IsFitting}

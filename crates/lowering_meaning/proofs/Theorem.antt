@@ -5,7 +5,6 @@ use Rattle.flow_value.specs.declared.value.Val.{Val}
 use Rattle.flow_value.specs.declared.ty.Ty.{Ty}
 use Rattle.if1_graph.specs.declared.graph.Unit1.{Unit1}
 use Rattle.if1_graph.specs.declared.op.Grouping.{Grouping}
-use Rattle.if1_graph.specs.declared.op.Simple.{Simple}
 use Rattle.if1_graph.specs.declared.op.Simple.TheVariants as simple
 use Rattle.if1_graph.specs.Units.{places, number_of as place_number}
 use Rattle.typed_tree.specs.declared.expr.TypedExpr.{TypedExpr}
@@ -34,7 +33,6 @@ use Rattle.lowering.specs.Graphs.{Lowering, closed, closed_graphs, new_graph, ne
 use Rattle.lowering.specs.Programs.{function_lowered, graphs, graph_at, number_of}
 use Rattle.lowering.specs.Types.{Table, table}
 use Rattle.lowered_units.specs.Fitting.{IsFitting}
-use Rattle.lowered_units.specs.Networks.{net_of, shapes}
 use Rattle.lowered_units.specs.Units.{IsTranslated, entries_from}
 use Rattle.lowered_units.proofs.Programs.{basics as basic_types}
 use Rattle.lowered_units.proofs.NestedTrees.{is-nested}

@@ -3,7 +3,6 @@ use Rattle.std.proofs.Common.{◌≡◌, ℕ, ◌<◌, ◌≤◌, Bool, true, fa
 use Rattle.flow_value.specs.declared.value.Val.{Val}
 use Rattle.flow_value.specs.declared.ty.Ty.{Ty}
 use Rattle.flow_value.specs.declared.ty.Ty.TheVariants as ty
-use Rattle.if1_graph.specs.declared.op.Simple.{Simple}
 use Rattle.value_ops.specs.Operations.{op_value}
 use Rattle.type_table.specs.declared.form.Form.{Form}
 use Rattle.typed_tree.specs.declared.expr.TypedExpr.{TypedExpr}
@@ -24,7 +23,6 @@ use Rattle.meaning.specs.Words.{constant_value, value_at}
 use Rattle.meaning.specs.Meaning.{Gives as Means, all_of, defined, kind_gives, calls, meaning}
 use Rattle.graph_meaning.specs.Carried.{Value}
 use Rattle.lowering_meaning.proofs.Told.{Telling}
-use Rattle.graph_meaning.specs.NodeValues.{Shape}
 use Rattle.graph_meaning.specs.Demand.{Network}
 use Rattle.graph_meaning.specs.Plain.{NodesFire}
 use Rattle.lowering.specs.declared.feed.Carried.TheVariants.{One}

@@ -4,7 +4,6 @@ use Rattle.std.proofs.lemmas.List.{length-append}
 use Rattle.flow_value.specs.declared.value.Val.{Val}
 use Rattle.flow_value.specs.declared.ty.Ty.{Ty}
 use Rattle.flow_value.specs.declared.ty.Ty.TheVariants as ty
-use Rattle.if1_graph.specs.declared.op.Simple.{Simple}
 use Rattle.if1_graph.specs.declared.op.Simple.TheVariants as simple
 use Rattle.value_ops.specs.Operations.{op_value}
 use Rattle.value_ops.specs.declared.operation.Operation.{Operation}

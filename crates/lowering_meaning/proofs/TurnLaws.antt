@@ -2,7 +2,6 @@
 -- gives something.
 use Rattle.std.proofs.Common.{◌≡◌, ℕ, suc, ◌+◌, true, List, [], ◌∷◌, ◌++◌, length, Option, refl, sym, ap, ◌∙◌, arith, nat_eq}
 use Rattle.flow_value.specs.declared.ty.Ty.{Ty}
-use Rattle.if1_graph.specs.declared.op.Simple.{Simple}
 use Rattle.type_table.specs.declared.form.Form.{Form}
 use Rattle.typed_tree.specs.declared.program.Function.{Function}
 use Rattle.typed_tree.specs.declared.expr.Turns.{Turns}
@@ -13,7 +12,6 @@ use Rattle.fitting_trees.specs.Fitting.{Header}
 use Rattle.meaning.specs.Rows.{span}
 use Rattle.meaning.specs.Meaning.{Gives as Means}
 use Rattle.lowering_meaning.proofs.Told.{Telling}
-use Rattle.graph_meaning.specs.NodeValues.{Shape}
 use Rattle.graph_meaning.specs.Demand.{Network}
 use Rattle.lowering.specs.Operations.{all_lowered}
 use Rattle.lowering.specs.Loops.{Phrase, mask_places, unless_places, extras}

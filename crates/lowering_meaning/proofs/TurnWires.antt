@@ -7,7 +7,6 @@ use Rattle.flow_value.specs.declared.operation.Scalar1.TheVariants as unary
 use Rattle.flow_value.specs.declared.ty.Ty.{Ty}
 use Rattle.value_ops.specs.Operations.{op_value}
 use Rattle.value_ops.specs.declared.operation.Operation.TheVariants as operation
-use Rattle.if1_graph.specs.declared.op.Simple.{Simple}
 use Rattle.type_table.specs.declared.form.Form.{Form}
 use Rattle.typed_tree.specs.declared.program.Function.{Function}
 use Rattle.fitting_trees.specs.Fitting.{Header, Renews}
@@ -17,7 +16,6 @@ use Rattle.meaning.specs.Meaning.{Gives as Means, all_of}
 use Rattle.meaning.specs.Meaning as source
 use Rattle.graph_meaning.specs.Carried.{Carried}
 use Rattle.lowering_meaning.proofs.Told.{Telling}
-use Rattle.graph_meaning.specs.NodeValues.{Shape}
 use Rattle.graph_meaning.specs.Demand.{Network}
 use Rattle.lowering.specs.declared.feed.Carried as wired
 use Rattle.lowering.specs.declared.feed.Wire.{Wire}
