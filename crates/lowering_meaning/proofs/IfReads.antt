@@ -32,7 +32,7 @@ use Rattle.lowering_meaning.proofs.ReadForms.{Read, DrawnAll, TypedAll}
 use Rattle.lowering_meaning.proofs.Ifs as ifs
 use Rattle.lowering_meaning.proofs.Ifs.{the_if, OneTest, one-test, bool-says, error-says}
 
-same-depth : (l n : ℕ) → ((false ≡ true) × (suc l ≡ n)) ⊎ ((false ≡ false) × (l ≡ n)) → l ≡ n
+pub same-depth : (l n : ℕ) → ((false ≡ true) × (suc l ≡ n)) ⊎ ((false ≡ false) × (l ≡ n)) → l ≡ n
 same-depth l n (inl x) = absurd cc
 same-depth l n (inr x) = x.1
 

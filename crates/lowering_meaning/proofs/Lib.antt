@@ -10,9 +10,13 @@ pub mod Forms
 pub mod Inverse
 pub mod Parts
 pub mod Ifs
+pub mod Contents
+pub mod Cases
+pub mod CaseForms
 pub mod Operations
 pub mod ReadForms
 pub mod IfReads
+pub mod CaseReads
 pub mod Layers
 pub mod Widths
 pub mod WireTypes

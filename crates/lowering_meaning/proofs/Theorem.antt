@@ -147,7 +147,6 @@ module _ (p : Program) (u : Unit1) (fit : IsFitting p) (t : IsTranslated p u) wh
         record {
           arrays = arrays;
           operation = λ o c γ tys a n r. operation-drawn N num S p.types p.names arrays records (λ n ms i k. elements-are p u fit t n ms i k) o c γ tys a n r;
-          no_case = refl;
           product = λ q ks c. product-drawn N num S p.types p.names fit.headers p.functions plain_forms clauses int q ks c;
           initial = λ t ks c. turns-drawn N num S p.types p.names fit.headers p.functions plain_forms clauses t ks c;
         }

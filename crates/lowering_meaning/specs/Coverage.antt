@@ -14,10 +14,9 @@ use Rattle.typed_tree.specs.declared.expr.Turns.{Turns}
 use Rattle.typed_tree.specs.declared.program.Function.{Function}
 use Rattle.lowering.specs.Loops.{unless_places}
 
--- which operations, `tagcase`s and loops; of a loop by how many values each phrase of its clauses has
+-- which operations and loops; of a loop by how many values each phrase of its clauses has
 pub record Coverage : Type 0 where
   pub operation : Operation → Bool
-  pub tag_case : Bool
   pub product : Product → List ℕ → Bool
   pub initial : Turns → List ℕ → Bool
 
@@ -50,7 +49,7 @@ module _ (c : Coverage) where
   kind_covered (TypedKind-F.Apply o gs) = c.operation o && all_ok gs
   kind_covered (TypedKind-F.Let ds gs) = each_ok ds && all_ok gs
   kind_covered (TypedKind-F.If test arm other) = all_ok test && (all_ok arm && all_ok other)
-  kind_covered (TypedKind-F.Case k us arms) = c.tag_case && (all_ok us && each_ok arms)
+  kind_covered (TypedKind-F.Case k us arms) = all_ok us && each_ok arms
   kind_covered (TypedKind-F.Product p bs ds gs) = c.product p (counts gs) && (all_ok bs && (each_ok ds && all_ok gs))
   kind_covered (TypedKind-F.Initial t fs test ds gs) = c.initial t (counts gs) && (each_ok fs && (all_ok test && (each_ok ds && all_ok gs)))
 
@@ -95,7 +94,7 @@ all_apart (x ∷ xs) = if is_in x xs then false else all_apart xs
 
 -- loops of any phrases
 abbrev pub any_loops : Coverage → Coverage
-any_loops c = record { operation = c.operation; tag_case = c.tag_case; product = λ p ks. true; initial = λ t ks. true }
+any_loops c = record { operation = c.operation; product = λ p ks. true; initial = λ t ks. true }
 
 -- ---- the forms of the laws
 
@@ -107,9 +106,9 @@ is_plain_operation (op.IsTag tag) = false
 is_plain_operation (op.Change places) = all_apart places
 is_plain_operation _ = true
 
--- no `tagcase`; each phrase of the clauses of a `for initial` has one value
+-- each phrase of the clauses of a `for initial` has one value
 abbrev pub plain_forms : Coverage
-plain_forms = record { operation = is_plain_operation; tag_case = false; product = λ p ks. masks_alone p.clauses ks; initial = λ t ks. all_one ks }
+plain_forms = record { operation = is_plain_operation; product = λ p ks. masks_alone p.clauses ks; initial = λ t ks. all_one ks }
 
 -- ---- types
 
