@@ -1,4 +1,4 @@
--- The shapes of the nodes of clauses, where no type is a stream or a union.
+-- The shapes of the nodes of clauses, where no type is a stream.
 use Rattle.std.proofs.Common.{◌≡◌, ℕ, List, [], ◌∷◌, sym, ap, subst}
 use Rattle.flow_value.specs.declared.ty.Ty.{Ty}
 use Rattle.flow_value.specs.declared.ty.Ty.TheVariants as ty
@@ -21,10 +21,10 @@ use Rattle.graph_meaning.specs.Demand.{Network}
 use Rattle.lowering.specs.Loops.{grouping_of}
 use Rattle.lowered_units.proofs.BuiltTrees.{out-bool, out-char, out-int, out-null, out-array, out-stream, out-record, out-union}
 use Rattle.loop_columns.specs.Clauses.{fold_row, IsShaped}
-use Rattle.lowering_meaning.specs.Coverage.{HasPlainTypes, IsPlainForm}
+use Rattle.lowering_meaning.specs.Coverage.{Streams, HasNo, IsNot}
 use Rattle.lowering_meaning.proofs.ReturnForms.{AreShaped}
 
-module _ (u : Network) (num : ℕ → ℕ) (shape : Telling) (forms : List Form) (spellings : List (List ℕ)) (plain : HasPlainTypes forms)
+module _ (u : Network) (num : ℕ → ℕ) (shape : Telling) (forms : List Form) (spellings : List (List ℕ)) (plain : HasNo Streams forms)
     (gathers : (g l : ℕ) → shape.row g l simple.AGather ≡ shapes.Plain) (reduces : (g l : ℕ) (r : Grouping) → shape.row g l (simple.Reduce r) ≡ shapes.Plain) where
   -- no type is a stream
   abbrev NotStream : Ty-F Ty → Type 0
@@ -37,7 +37,7 @@ module _ (u : Network) (num : ℕ → ℕ) (shape : Telling) (forms : List Form)
   no-stream n _ (number.integer e) = subst NotStream (sym out-int) tt
   no-stream n _ (number.null e) = subst NotStream (sym out-null) tt
   no-stream n _ (number.array {t = t} e h) = subst NotStream (sym (out-array t)) tt
-  no-stream n _ (number.stream e h) = absurd (subst IsPlainForm e (plain n))
+  no-stream n _ (number.stream e h) = absurd (subst (IsNot Streams) e (plain n))
   no-stream n _ (number.a_record {fs = fs} e h) = subst NotStream (sym (out-record fs)) tt
   no-stream n _ (number.a_union {fs = fs} e h) = subst NotStream (sym (out-union fs)) tt
 

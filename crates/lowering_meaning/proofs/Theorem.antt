@@ -1,5 +1,5 @@
 -- The functions of a translated program.
-use Rattle.std.proofs.Common.{◌≡◌, ℕ, zero, suc, ◌+◌, List, [], ◌∷◌, map, slice_get, get_or, Some, refl, sym, ap, ◌∙◌, subst, arith}
+use Rattle.std.proofs.Common.{◌≡◌, ℕ, zero, suc, ◌+◌, List, [], ◌∷◌, map, slice_get, get_or, Some, refl, sym, ap, ◌∙◌, subst, arith, ◌⊎◌, inl, inr}
 use Rattle.std.specs.Prelude.{find, ◌==◌}
 use Rattle.flow_value.specs.declared.value.Val.{Val}
 use Rattle.flow_value.specs.declared.ty.Ty.{Ty}
@@ -37,8 +37,8 @@ use Rattle.lowered_units.specs.Units.{IsTranslated, entries_from}
 use Rattle.lowered_units.proofs.Programs.{basics as basic_types}
 use Rattle.lowered_units.proofs.NestedTrees.{is-nested}
 use Rattle.lowered_units.proofs.Running.{runs-as-lowered}
-use Rattle.lowering_meaning.specs.Coverage.{Coverage, plain_forms}
-use Rattle.lowering_meaning.specs.Laws.{IsPlain, IsMeant, AreValuesKept, AreCostsThere}
+use Rattle.lowering_meaning.specs.Coverage.{Coverage, plain_forms, Kind, Streams, Unions, HasNo}
+use Rattle.lowering_meaning.specs.Laws.{BuildsNoUnion, IsPlain, IsMeant, AreValuesKept, AreCostsThere}
 use Rattle.lowering_meaning.proofs.Sites.{IsAt, AreAt}
 use Rattle.lowering_meaning.proofs.Inside.{part-at}
 use Rattle.lowering_meaning.proofs.Forms.{Typed}
@@ -88,9 +88,9 @@ slice-map f (y ∷ xs) zero x e = go e
     go e = cc
 slice-map f (y ∷ xs) (suc i) x e = slice-map f xs i x e
 
-entries-plain : (p : Program) (l : ℕ) (es : Table) → AllPlain es → ArePlain (entries_from p l es)
-entries-plain p l [] h = tt
-entries-plain p l (e ∷ es) h = (h.0, entries-plain p (suc l) es h.1)
+entries-plain : (k : Kind) (p : Program) (l : ℕ) (es : Table) → AllPlain k es → ArePlain k (entries_from p l es)
+entries-plain k p l [] h = tt
+entries-plain k p l (e ∷ es) h = (h.0, entries-plain k p (suc l) es h.1)
 
 module _ (p : Program) (u : Unit1) (fit : IsFitting p) (t : IsTranslated p u) where
   abbrev N : Network
@@ -123,9 +123,19 @@ module _ (p : Program) (u : Unit1) (fit : IsFitting p) (t : IsTranslated p u) wh
       let x = (calls_same p.functions f names vs i).1 (n, eq) in
       calls_typed p.types p.names fit.headers p.functions fit.tree f h there x.0 names (vs, i) o x.1
 
-  module _ (plain : IsPlain p) where
-    types : ArePlain u.types
-    types = subst ArePlain (sym t.types) (entries-plain p 1 (table p) (table-plain p plain.types))
+  module _ (plain : IsPlain p u) where
+    entries : (k : Kind) → HasNo k p.types → ArePlain k u.types
+    entries k h = subst (ArePlain k) (sym t.types) (entries-plain k p 1 (table p) (table-plain k p h))
+
+    types : ArePlain Streams u.types
+    types = entries Streams plain.types
+
+    records : (g l : ℕ) → S.row g l simple.RBuild ≡ shape.Plain
+    records g l = by plain.unions
+      where
+        by : HasNo Unions p.types ⊎ BuildsNoUnion u → S.row g l simple.RBuild ≡ shape.Plain
+        by (inl h) = records-plain u (entries Unions h) (find (λ p. place_number p == g) (places u)) l
+        by (inr h) = h g l
 
     -- integers have their number in every table
     int : IsNumber p.types p.names integer ty.Int
@@ -143,7 +153,6 @@ module _ (p : Program) (u : Unit1) (fit : IsFitting p) (t : IsTranslated p u) wh
     laws : FormsDrawn N num S p.types p.names fit.headers p.functions plain_forms
     laws =
         let arrays : (g l : ℕ) → S.row g l simple.ABuild ≡ shape.Plain = λ g l. arrays-plain u types (find (λ p. place_number p == g) (places u)) l in
-        let records : (g l : ℕ) → S.row g l simple.RBuild ≡ shape.Plain = λ g l. records-plain u types (find (λ p. place_number p == g) (places u)) l in
         record {
           arrays = arrays;
           operation = λ o c γ tys a n r. operation-drawn N num S p.types p.names arrays records (λ n ms i k. elements-are p u fit t n ms i k) o c γ tys a n r;

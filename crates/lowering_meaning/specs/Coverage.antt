@@ -112,11 +112,24 @@ plain_forms = record { operation = is_plain_operation; product = λ p ks. masks_
 
 -- ---- types
 
-abbrev pub IsPlainForm : Option Form → Type 0
-IsPlainForm (Some (form.Stream t)) = ⊥
-IsPlainForm (Some (form.Union ms)) = ⊥
-IsPlainForm _ = Unit {0}
+-- types that a program may be without
+pub data Kind : Type 0 where
+  Streams : Kind
+  Unions : Kind
 
--- no type of the table is a stream or a union
-abbrev pub HasPlainTypes : List Form → Type 0
-HasPlainTypes forms = (t : ℕ) → IsPlainForm (slice_get forms t)
+abbrev pub MayBeStream : Kind → Type 0
+MayBeStream Streams = ⊥
+MayBeStream Unions = Unit {0}
+
+abbrev pub MayBeUnion : Kind → Type 0
+MayBeUnion Streams = Unit {0}
+MayBeUnion Unions = ⊥
+
+abbrev pub IsNot : Kind → Option Form → Type 0
+IsNot k (Some (form.Stream t)) = MayBeStream k
+IsNot k (Some (form.Union ms)) = MayBeUnion k
+IsNot k _ = Unit {0}
+
+-- no type of the table is of this kind
+abbrev pub HasNo : Kind → List Form → Type 0
+HasNo k forms = (t : ℕ) → IsNot k (slice_get forms t)
