@@ -1,9 +1,7 @@
 -- A `tagcase` gives what the source gives.
-use Rattle.std.proofs.Common.{◌≡◌, ℕ, zero, suc, ◌+◌, ◌*◌, ◌<◌, true, false, List, [], ◌∷◌, ◌++◌, map, length, slice_get, Option, Some, refl, sym, ap, ◌∙◌, subst, arith, append-nil}
-use Rattle.std.specs.Prelude.{nat_lt}
+use Rattle.std.proofs.Common.{◌≡◌, ℕ, zero, suc, ◌+◌, ◌*◌, ◌<◌, true, List, [], ◌∷◌, ◌++◌, map, length, slice_get, Option, Some, refl, sym, ap, ◌∙◌, subst, arith, append-nil}
 use Rattle.flow_value.specs.declared.value.Val.{Val}
 use Rattle.flow_value.specs.declared.value.Val.TheVariants as val
-use Rattle.flow_value.specs.declared.value.Val.TheOpen.{Val-F}
 use Rattle.flow_value.specs.declared.value.Val.TheViews.{out-Val}
 use Rattle.flow_value.specs.declared.cause.Cause.{Cause}
 use Rattle.flow_value.specs.declared.ty.Ty.{Ty}
@@ -11,7 +9,6 @@ use Rattle.flow_value.specs.declared.ty.Ty.TheOpen.{Ty-F}
 use Rattle.flow_value.specs.declared.ty.Ty.TheVariants as ty
 use Rattle.flow_value.specs.declared.ty.Ty.TheViews.{out-Ty}
 use Rattle.flow_value.specs.Well.{is_well_tag}
-use Rattle.if1_graph.specs.declared.op.Simple.{Simple}
 use Rattle.type_table.specs.declared.form.Form.{Form}
 use Rattle.type_table.specs.declared.form.Member.{Member as NumberedMember}
 use Rattle.type_table.specs.Tables.{members_if}
@@ -19,7 +16,7 @@ use Rattle.typed_tree.specs.declared.expr.Case.{Case}
 use Rattle.typed_tree.specs.Types.{IsNumber, AreMembers, Member}
 use Rattle.typed_tree.specs.Types as number
 use Rattle.fitting_trees.specs.Fitting.{TagsFit}
-use Rattle.typed_rows.specs.Rows.{AreOf, Of}
+use Rattle.typed_rows.specs.Rows.{AreOf}
 use Rattle.typed_rows.proofs.Scalars.{with_one}
 use Rattle.typed_rows.proofs.ValueKinds.{UniKind, a_uni, no_uni, as_uni, out_uni, out_err}
 use Rattle.typed_values.proofs.Arms.{place_there}
@@ -27,7 +24,6 @@ use Rattle.meaning.specs.Words.{value_at, failed}
 use Rattle.meaning.specs.Meaning.{Gives as Means, with_content, arm_in, arm_place, arm_of}
 use Rattle.graph_meaning.specs.Carried.{Carried, Value}
 use Rattle.lowering_meaning.proofs.Told.{Telling}
-use Rattle.graph_meaning.specs.NodeValues.{Shape}
 use Rattle.graph_meaning.specs.Forms as form
 use Rattle.graph_meaning.specs.Demand.{Network}
 use Rattle.lowering.specs.declared.feed.Carried as wired
@@ -45,7 +41,7 @@ use Rattle.lowering_meaning.proofs.Sites.{Site, Carries, AllCarry, Placed, Done}
 use Rattle.lowering_meaning.proofs.Parts.{used-there}
 use Rattle.lowering_meaning.proofs.Choices.{Goes, goes-leave, goes-enter, errors-are}
 use Rattle.lowering_meaning.proofs.Forms.{HasType, WiresOf, of-length, FreeOn, Typed, Draws, Drawn, RunsOn, DrawnOn}
-use Rattle.lowering_meaning.proofs.Cases.{Sees, content, nothing, arm-for, graph-for, arm-lowered, AllFree, arms-own, tag-from, GraphAt, graph-at, Around, around, the_form, tag-done, ArmAt, arm-at, arm-gives, arm-wires, arm-of-types}
+use Rattle.lowering_meaning.proofs.Cases.{Sees, content, nothing, arm-for, graph-for, arm-lowered, AllFree, arms-own, tag-from, GraphAt, graph-at, Around, around, the_form, tag-done, arm-at, arm-gives, arm-wires, arm-of-types}
 
 -- ---- the tags of a union
 

@@ -1,21 +1,19 @@
 -- A node that takes an arm by the tag of a union: where it and its arms stand.
-use Rattle.std.proofs.Common.{◌≡◌, ℕ, zero, suc, ◌+◌, ◌<◌, ◌≤◌, Bool, true, false, List, [], ◌∷◌, ◌++◌, map, length, slice_get, get_or, Option, Some, None, refl, sym, ap, ◌∙◌, subst, arith, append-nil, if◌then◌else◌}
+use Rattle.std.proofs.Common.{◌≡◌, ℕ, zero, suc, ◌+◌, ◌<◌, ◌≤◌, Bool, true, false, List, [], ◌∷◌, ◌++◌, map, length, slice_get, get_or, Some, refl, sym, ap, ◌∙◌, subst, arith, append-nil, if◌then◌else◌}
 use Rattle.std.specs.Prelude.{nat_lt}
 use Rattle.std.proofs.lemmas.Bool.{lt-ltb, le-ltb}
 use Rattle.std.proofs.lemmas.List.{length-map}
 use Rattle.std.proofs.lemmas.Option.{same_Some}
 use Rattle.flow_value.specs.declared.value.Val.{Val}
 use Rattle.flow_value.specs.declared.ty.Ty.{Ty}
-use Rattle.if1_graph.specs.declared.op.Simple.{Simple}
 use Rattle.if1_graph.specs.declared.op.Compound.TheVariants as compound
 use Rattle.type_table.specs.declared.form.Form.{Form}
 use Rattle.typed_tree.specs.declared.expr.Case.{Case}
 use Rattle.typed_tree.specs.Types.{IsNumber}
 use Rattle.typed_rows.specs.Rows.{AreOf, Of}
-use Rattle.meaning.specs.Meaning.{Gives as Means, with_content, arm_place}
-use Rattle.graph_meaning.specs.Carried.{Carried, Value, Unfilled}
+use Rattle.meaning.specs.Meaning.{with_content, arm_place}
+use Rattle.graph_meaning.specs.Carried.{Value, Unfilled}
 use Rattle.lowering_meaning.proofs.Told.{Telling}
-use Rattle.graph_meaning.specs.NodeValues.{Shape}
 use Rattle.graph_meaning.specs.Forms.{next_of, first}
 use Rattle.graph_meaning.specs.Forms as form
 use Rattle.graph_meaning.specs.Demand.{Network}
@@ -25,21 +23,20 @@ use Rattle.lowering.specs.declared.feed.Feed.TheVariants.{Port}
 use Rattle.lowering.specs.declared.feed.Carried.TheVariants.{One}
 use Rattle.lowering.specs.declared.feed.Wire.{Wire}
 use Rattle.lowering.specs.Feeds.{wire, into}
-use Rattle.lowering.specs.declared.graph.Action.{Action}
 use Rattle.lowering.specs.declared.graph.Action.TheVariants.{Whole}
 use Rattle.lowering.specs.declared.graph.Lowered.{Lowered}
 use Rattle.lowering.specs.Graphs.{Lowering, uses, used, all_uses, inputs, numbers, closed, closed_graphs, size, new_graph, new_graphs, tag_case_on}
 use Rattle.lowering.specs.Operations.{Lowers}
 use Rattle.lowering.specs.Choices.{arms_from_tag, content_of, first_tag, arm_names, arms_from}
-use Rattle.lowered_units.specs.Networks.{net_of, form_of, nth}
+use Rattle.lowered_units.specs.Networks.{nth}
 use Rattle.lowering_meaning.proofs.From.{after, both}
 use Rattle.lowering_meaning.proofs.Wires.{AllWires, both-wires, left-wires, right-wires, weaker-wires, IsThere, ins-used, used-ins, FromNames, from-in, AreOwn, MadeFrom, AllFrom, inputs-in}
 use Rattle.lowering_meaning.proofs.Sites.{Site, Seen, Carries, AllCarry, Placed, IsAt, AreAt, vertices, values-held, Done, made-done, done-made, sources, carry-both}
-use Rattle.lowering_meaning.proofs.Inside.{inner, keys-carry, entered, Net, nodes-are, placed-inside, Gives, graph-gives, part-at, own-carry}
+use Rattle.lowering_meaning.proofs.Inside.{inner, keys-carry, entered, Net, placed-inside, Gives, graph-gives, part-at, own-carry}
 use Rattle.lowering_meaning.proofs.Nodes.{node-made}
 use Rattle.lowering_meaning.proofs.Choices.{Goes}
 use Rattle.lowering_meaning.proofs.Inverse.{node-inside}
-use Rattle.lowering_meaning.proofs.Forms.{WiresOf, wires-both, wires-into, of-both, Typed, Free, Draws, Drawn}
+use Rattle.lowering_meaning.proofs.Forms.{WiresOf, wires-both, wires-into, of-both, Free, Draws}
 use Rattle.lowering_meaning.proofs.Ifs.{ports-from, no-own}
 
 -- ---- arms

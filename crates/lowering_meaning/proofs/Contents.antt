@@ -1,5 +1,5 @@
 -- What an arm of a `tagcase` sees is of the type that its tag has in the table.
-use Rattle.std.proofs.Common.{◌≡◌, ℕ, zero, suc, ◌+◌, ◌<◌, inl, inr, Bool, true, false, List, [], ◌∷◌, ◌++◌, nat_eq, map, length, slice_get, Contains, Option, Some, None, refl, sym, ap, subst, ◌∙◌, arith}
+use Rattle.std.proofs.Common.{◌≡◌, ℕ, zero, suc, ◌+◌, ◌<◌, inl, inr, Bool, true, false, List, [], ◌∷◌, nat_eq, map, length, slice_get, Contains, Option, Some, None, refl, sym, ap, subst, ◌∙◌, arith}
 use Rattle.std.specs.Prelude.{All, if◌then◌else◌}
 use Rattle.std.proofs.lemmas.Bool.{eqb-true, eq-eqb}
 use Rattle.std.proofs.lemmas.Option.{same_Some}
@@ -8,7 +8,6 @@ use Rattle.flow_value.specs.declared.ty.Ty.{Ty}
 use Rattle.flow_value.specs.declared.ty.Ty.TheVariants as ty
 use Rattle.flow_value.specs.declared.ty.Ty.TheOpen.{Ty-F}
 use Rattle.flow_value.specs.declared.ty.Ty.TheViews.{out-Ty}
-use Rattle.sisal_tree.specs.declared.expr.Constant.{Constant}
 use Rattle.type_table.specs.declared.form.Form.{Form}
 use Rattle.type_table.specs.declared.form.Member.{Member as NumberedMember}
 use Rattle.type_table.specs.Tables.{members_if}
@@ -17,16 +16,8 @@ use Rattle.typed_tree.specs.declared.expr.Choice.{Choice}
 use Rattle.typed_tree.specs.Types.{Member, IsNumber, AreMembers, AreNumbers}
 use Rattle.typed_tree.specs.Types as number
 use Rattle.meaning.specs.Meaning.{arm_place}
-use Rattle.fitting_trees.specs.Fitting.{IsChosen, TagsFit, Renews}
-use Rattle.lowering.specs.declared.feed.Feed.TheVariants.{Literal}
-use Rattle.lowering.specs.declared.feed.Carried.{Carried}
-use Rattle.lowering.specs.declared.feed.Carried.TheVariants.{One, Many, Callee}
-use Rattle.lowering.specs.declared.feed.Wire.{Wire}
-use Rattle.lowering.specs.Feeds.{wire, into}
-use Rattle.lowering.specs.Graphs.{ports}
-use Rattle.lowering.specs.Operations.{wire_at}
-use Rattle.lowering.specs.Choices.{element_in, element_of, is_array, is_array_form, type_in, content_of, tag_named, first_tag}
-use Rattle.lowering.specs.Loops.{take_up, renew, renew_one}
+use Rattle.fitting_trees.specs.Fitting.{IsChosen, TagsFit}
+use Rattle.lowering.specs.Choices.{type_in, content_of, tag_named, first_tag}
 use Rattle.lowered_units.proofs.BuiltTrees.{out-bool, out-char, out-int, out-null, out-array, out-stream, out-record, out-union}
 
 module _ (forms : List Form) (names : List (List ℕ)) where
