@@ -9,7 +9,6 @@ use Rattle.flow_value.specs.declared.ty.Ty.TheOpen.{Ty-F}
 use Rattle.flow_value.specs.declared.ty.Ty.TheVariants as ty
 use Rattle.flow_value.specs.declared.ty.Ty.TheViews.{out-Ty}
 use Rattle.flow_value.specs.Well.{is_well_tag}
-use Rattle.if1_graph.specs.declared.op.Simple.{Simple}
 use Rattle.type_table.specs.declared.form.Form.{Form}
 use Rattle.type_table.specs.declared.form.Member.{Member as NumberedMember}
 use Rattle.type_table.specs.Tables.{members_if}
@@ -24,7 +23,7 @@ use Rattle.typed_values.proofs.Arms.{place_there}
 use Rattle.meaning.specs.Words.{value_at, failed}
 use Rattle.meaning.specs.Meaning.{Gives as Means, with_content, arm_in, arm_place, arm_of}
 use Rattle.graph_meaning.specs.Carried.{Carried, Value}
-use Rattle.graph_meaning.specs.NodeValues.{Shape}
+use Rattle.lowering_meaning.proofs.Told.{Telling}
 use Rattle.graph_meaning.specs.Forms as form
 use Rattle.graph_meaning.specs.Demand.{Network}
 use Rattle.lowering.specs.declared.feed.Carried as wired
@@ -94,12 +93,12 @@ pub wire-from : (env ws : List Wire) → AllWires (FromNames env) ws → FromNam
 wire-from env [] h = tt
 wire-from env (w ∷ ws) h = h.0
 
-module _ (u : Network) (number : ℕ → ℕ) (shape : ℕ → ℕ → Simple → Shape) where
+module _ (u : Network) (number : ℕ → ℕ) (shape : Telling) where
   pub wire-carries : (s : Site) (ws : List Wire) (v : Val) → AllCarry u number shape s ws (v ∷ []) → Carries u number shape s (wire_at ws 0) (Value v)
   wire-carries s [] v a = absurd a
   wire-carries s (w ∷ ws) v a = a.0
 
-module _ (u : Network) (number : ℕ → ℕ) (shape : ℕ → ℕ → Simple → Shape) (forms : List Form) (spellings : List (List ℕ)) where
+module _ (u : Network) (number : ℕ → ℕ) (shape : Telling) (forms : List Form) (spellings : List (List ℕ)) where
   -- ---- arms
 
   pub record ArmDrawn (γ tys : List Ty) (g : Lowers) (h : Means) : Type 0 where

@@ -5,7 +5,6 @@ use Rattle.flow_value.specs.declared.value.Val.TheVariants as val
 use Rattle.flow_value.specs.declared.value.Val.TheViews.{out-Val}
 use Rattle.flow_value.specs.declared.ty.Ty.{Ty}
 use Rattle.flow_value.specs.declared.ty.Ty.TheVariants as ty
-use Rattle.if1_graph.specs.declared.op.Simple.{Simple}
 use Rattle.type_table.specs.declared.form.Form.{Form}
 use Rattle.typed_tree.specs.declared.expr.Case.{Case}
 use Rattle.typed_tree.specs.Types.{Member}
@@ -17,7 +16,7 @@ use Rattle.typed_values.proofs.Arms.{place_there}
 use Rattle.meaning.specs.Words.{value_at, failed}
 use Rattle.meaning.specs.Meaning.{Gives as Means, with_content, arm_in, arm_place, arm_of}
 use Rattle.graph_meaning.specs.Carried.{Value}
-use Rattle.graph_meaning.specs.NodeValues.{Shape}
+use Rattle.lowering_meaning.proofs.Told.{Telling}
 use Rattle.graph_meaning.specs.Forms as form
 use Rattle.graph_meaning.specs.Demand.{Network}
 use Rattle.graph_meaning.specs.Plain.{NodesFire, LaterFires}
@@ -37,7 +36,7 @@ use Rattle.lowering_meaning.proofs.Cases.{Sees, content, nothing, arm-for, graph
 use Rattle.lowering_meaning.proofs.CaseForms as cases
 use Rattle.lowering_meaning.proofs.CaseForms.{type_at, union-wire, count-tags, tag-below, wire-carries, ContentsTyped}
 
-module _ (u : Network) (number : ℕ → ℕ) (shape : ℕ → ℕ → Simple → Shape) (forms : List Form) (spellings : List (List ℕ)) (m : ℕ) (γ : List Ty) where
+module _ (u : Network) (number : ℕ → ℕ) (shape : Telling) (forms : List Form) (spellings : List (List ℕ)) (m : ℕ) (γ : List Ty) where
   -- arms that are read, of which the first so many see a content of these types
   pub data ArmsRead : ℕ → List Lowers → (ℕ → List Means) → List Ty → Type 0 where
     no_arm : ArmsRead 0 [] (λ j. []) []

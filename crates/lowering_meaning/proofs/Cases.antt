@@ -6,7 +6,6 @@ use Rattle.std.proofs.lemmas.List.{length-map}
 use Rattle.std.proofs.lemmas.Option.{same_Some}
 use Rattle.flow_value.specs.declared.value.Val.{Val}
 use Rattle.flow_value.specs.declared.ty.Ty.{Ty}
-use Rattle.if1_graph.specs.declared.op.Simple.{Simple}
 use Rattle.if1_graph.specs.declared.op.Compound.TheVariants as compound
 use Rattle.type_table.specs.declared.form.Form.{Form}
 use Rattle.typed_tree.specs.declared.expr.Case.{Case}
@@ -14,7 +13,7 @@ use Rattle.typed_tree.specs.Types.{IsNumber}
 use Rattle.typed_rows.specs.Rows.{AreOf, Of}
 use Rattle.meaning.specs.Meaning.{with_content, arm_place}
 use Rattle.graph_meaning.specs.Carried.{Value, Unfilled}
-use Rattle.graph_meaning.specs.NodeValues.{Shape}
+use Rattle.lowering_meaning.proofs.Told.{Telling}
 use Rattle.graph_meaning.specs.Forms.{next_of, first}
 use Rattle.graph_meaning.specs.Forms as form
 use Rattle.graph_meaning.specs.Demand.{Network}
@@ -29,10 +28,10 @@ use Rattle.lowering.specs.declared.graph.Lowered.{Lowered}
 use Rattle.lowering.specs.Graphs.{Lowering, uses, used, all_uses, inputs, numbers, closed, closed_graphs, size, new_graph, new_graphs, tag_case_on}
 use Rattle.lowering.specs.Operations.{Lowers}
 use Rattle.lowering.specs.Choices.{arms_from_tag, content_of, first_tag, arm_names, arms_from}
-use Rattle.lowered_units.specs.Networks.{net_of, nth}
+use Rattle.lowered_units.specs.Networks.{nth}
 use Rattle.lowering_meaning.proofs.From.{after, both}
 use Rattle.lowering_meaning.proofs.Wires.{AllWires, both-wires, left-wires, right-wires, weaker-wires, IsThere, ins-used, used-ins, FromNames, from-in, AreOwn, MadeFrom, AllFrom, inputs-in}
-use Rattle.lowering_meaning.proofs.Sites.{Site, Seen, Carries, AllCarry, Placed, AreAt, vertices, values-held, Done, made-done, done-made, sources, carry-both}
+use Rattle.lowering_meaning.proofs.Sites.{Site, Seen, Carries, AllCarry, Placed, IsAt, AreAt, vertices, values-held, Done, made-done, done-made, sources, carry-both}
 use Rattle.lowering_meaning.proofs.Inside.{inner, keys-carry, entered, Net, placed-inside, Gives, graph-gives, part-at, own-carry}
 use Rattle.lowering_meaning.proofs.Nodes.{node-made}
 use Rattle.lowering_meaning.proofs.Choices.{Goes}
@@ -100,13 +99,13 @@ tag-from env w ms arms ts k q a h =
     let all : AllWires (FromNames env) (w ∷ inputs ms) = (a, weaker-wires _ _ (from-in env) (inputs ms) (inputs-in env ms h)) in
     both-wires (FromNames env) (used (tag_case_on w ms arms ts k q).nodes) _ (both-wires (FromNames env) _ [] (used-ins (FromNames env) act (w ∷ inputs ms) all) tt) (ports-from env (suc k) 1 (map One ts))
 
-module _ (u : Network) (number : ℕ → ℕ) (shape : ℕ → ℕ → Simple → Shape) where
+module _ (u : Network) (number : ℕ → ℕ) (shape : Telling) where
   -- ---- one of the graphs inside a node
 
   pub record GraphAt (ks : List Wire) (before own q : ℕ) (fs : List Lowering) (i : ℕ) (f : Lowering) : Type 0 where
     pub at : ℕ
     pub is : slice_get (numbers q (new_graphs q fs)) i ≡ Some at
-    pub net : u at ≡ net_of (shape at) number (closed ks before own (new_graph f at))
+    pub net : IsAt u number shape at (closed ks before own (new_graph f at))
     pub graphs : AreAt u number shape (suc at) (new_graph f at).graphs
     pub there : AllWires (IsThere ks) (uses (new_graph f at))
 

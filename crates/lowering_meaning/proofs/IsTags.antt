@@ -10,7 +10,6 @@ use Rattle.flow_value.specs.declared.ty.Ty.TheVariants as ty
 use Rattle.value_ops.specs.Operations.{op_value}
 use Rattle.value_ops.specs.Views.{union_in}
 use Rattle.value_ops.specs.declared.operation.Operation.TheVariants as operation
-use Rattle.if1_graph.specs.declared.op.Simple.{Simple}
 use Rattle.sisal_tree.specs.declared.expr.Constant.{Constant}
 use Rattle.sisal_tree.specs.declared.expr.Constant.TheVariants as constant
 use Rattle.type_table.specs.declared.form.Form.{Form}
@@ -19,7 +18,6 @@ use Rattle.typed_rows.proofs.Scalars.{with_one}
 use Rattle.typed_rows.proofs.ValueKinds.{UniKind, a_uni, no_uni, as_uni, out_uni, out_err}
 use Rattle.meaning.specs.Timed.{given}
 use Rattle.graph_meaning.specs.Carried.{Carried, Value}
-use Rattle.graph_meaning.specs.NodeValues.{Shape}
 use Rattle.graph_meaning.specs.Forms as form
 use Rattle.graph_meaning.specs.Demand.{Network}
 use Rattle.graph_meaning.specs.Plain.{fixed}
@@ -30,6 +28,7 @@ use Rattle.lowering.specs.Operations.{wire_at}
 use Rattle.lowering.specs.Choices.{tag_count, two_arms, truth, is_tag_lowered}
 use Rattle.lowered_units.specs.Networks.{nth, constant_value}
 use Rattle.lowering_meaning.proofs.From.{always}
+use Rattle.lowering_meaning.proofs.Told.{Telling}
 use Rattle.lowering_meaning.proofs.Timed.{given-is}
 use Rattle.lowering_meaning.proofs.Wires.{AllFrom}
 use Rattle.lowering_meaning.proofs.Sites.{Site, AllCarry, Placed, Done, made-only}
@@ -84,7 +83,7 @@ truths-own forms env q =
     let m = new_graph (truth forms constant.True) q in
     (no-own env m (tt, tt), (no-own env (new_graph (truth forms constant.False) (q + size m)) (tt, tt), tt))
 
-module _ (u : Network) (number : ℕ → ℕ) (shape : ℕ → ℕ → Simple → Shape) (forms : List Form) (spellings : List (List ℕ)) (tag n : ℕ) where
+module _ (u : Network) (number : ℕ → ℕ) (shape : Telling) (forms : List Form) (spellings : List (List ℕ)) (tag n : ℕ) where
   truth-gives : (ks : List Wire) (kv : List Val) (v : Val) (q : ℕ) (fs : List Lowering) (i : ℕ) (c : Constant) (x : GraphAt u number shape ks 1 0 q fs i (truth forms c)) → Gives u number shape x.at (Value v ∷ map Value kv) (Value (constant_value c) ∷ []) 0
   truth-gives ks kv v q fs i c x =
       let site = at_arm u number shape x.at ks kv v in

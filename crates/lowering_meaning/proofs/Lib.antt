@@ -1,5 +1,6 @@
 pub mod From
 pub mod Timed
+pub mod Told
 pub mod Wires
 pub mod Sites
 pub mod Inside
@@ -28,6 +29,9 @@ pub mod GenTypes
 pub mod Products
 pub mod ProductReads
 pub mod Shapes
+pub mod Shaped
+pub mod LowTables
+pub mod Sorts
 pub mod TurnWires
 pub mod TurnForms
 pub mod TurnLoops

@@ -4,7 +4,6 @@ use Rattle.flow_value.specs.declared.value.Val.{Val}
 use Rattle.flow_value.specs.declared.value.Val.TheViews.{out-Val}
 use Rattle.flow_value.specs.declared.ty.Ty.{Ty}
 use Rattle.flow_value.specs.declared.ty.Ty.TheVariants as ty
-use Rattle.if1_graph.specs.declared.op.Simple.{Simple}
 use Rattle.value_ops.specs.Operations.{op_value}
 use Rattle.type_table.specs.declared.form.Form.{Form}
 use Rattle.typed_tree.specs.declared.expr.TypedExpr.{TypedExpr}
@@ -24,7 +23,7 @@ use Rattle.meaning.specs.Timed.{given, plus}
 use Rattle.meaning.specs.Words.{constant_value, value_at}
 use Rattle.meaning.specs.Meaning.{Gives as Means, all_of, defined, kind_gives, arm_of, calls, meaning}
 use Rattle.graph_meaning.specs.Carried.{Value}
-use Rattle.graph_meaning.specs.NodeValues.{Shape}
+use Rattle.lowering_meaning.proofs.Told.{Telling}
 use Rattle.graph_meaning.specs.Demand.{Network}
 use Rattle.graph_meaning.specs.Plain.{NodesFire}
 use Rattle.lowering.specs.declared.feed.Carried.TheVariants.{One}
@@ -47,7 +46,7 @@ use Rattle.lowering_meaning.proofs.CaseReads.{ArmsRead, no_arm, named_arm, other
 use Rattle.lowering_meaning.proofs.Trees as trees
 use Rattle.lowering_meaning.proofs.Trees.{FitsTo, AllFitTo, DefsFitTo, several, several_lists, means, means_lists, EachDrawn, EachOf, CallsDrawn, FormsDrawn}
 
-module _ (u : Network) (number : ℕ → ℕ) (shape : ℕ → ℕ → Simple → Shape) (forms : List Form) (spellings : List (List ℕ)) (hs : List Header) (p : List Function) (cover : Coverage) where
+module _ (u : Network) (number : ℕ → ℕ) (shape : Telling) (forms : List Form) (spellings : List (List ℕ)) (hs : List Header) (p : List Function) (cover : Coverage) where
   -- phrases one for one, at a depth
   pub data EachRead (m : ℕ) (γ : List Ty) : List Phrase → (ℕ → List Means) → Type 0 where
     no_read : EachRead m γ [] (λ j. [])

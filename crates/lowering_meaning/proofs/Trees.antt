@@ -5,7 +5,6 @@ use Rattle.flow_value.specs.declared.value.Val.{Val}
 use Rattle.flow_value.specs.declared.value.Val.TheViews.{out-Val}
 use Rattle.flow_value.specs.declared.ty.Ty.{Ty}
 use Rattle.flow_value.specs.declared.ty.Ty.TheVariants as ty
-use Rattle.if1_graph.specs.declared.op.Simple.{Simple}
 use Rattle.if1_graph.specs.declared.op.Simple.TheVariants as simple
 use Rattle.value_ops.specs.Operations.{op_value}
 use Rattle.value_ops.specs.declared.operation.Operation.{Operation}
@@ -27,6 +26,7 @@ use Rattle.meaning.specs.Timed.{given, plus, andthen}
 use Rattle.meaning.specs.Words.{constant_value, value_at}
 use Rattle.meaning.specs.Meaning.{Gives as Means, all_of, defined, body_of, kind_gives, arm_of, calls, meaning}
 use Rattle.graph_meaning.specs.Carried.{Value}
+use Rattle.lowering_meaning.proofs.Told.{Telling}
 use Rattle.graph_meaning.specs.NodeValues.{Shape}
 use Rattle.graph_meaning.specs.NodeValues as shapes
 use Rattle.graph_meaning.specs.Demand.{Network}
@@ -61,7 +61,7 @@ numbers-length forms spellings [] (t ∷ tys) h = absurd h
 numbers-length forms spellings (n ∷ ns) [] h = absurd h
 numbers-length forms spellings (n ∷ ns) (t ∷ tys) h = ap suc (numbers-length forms spellings ns tys h.1)
 
-module _ (u : Network) (number : ℕ → ℕ) (shape : ℕ → ℕ → Simple → Shape) (forms : List Form) (spellings : List (List ℕ)) (hs : List Header) (p : List Function) (cover : Coverage) where
+module _ (u : Network) (number : ℕ → ℕ) (shape : Telling) (forms : List Form) (spellings : List (List ℕ)) (hs : List Header) (p : List Function) (cover : Coverage) where
   abbrev pub FitsTo : List Ty → TypedExpr → List Ty → Type 0
   FitsTo γ e tys = Fits (AreNumbers forms spellings) hs γ e tys
 
@@ -141,7 +141,7 @@ module _ (u : Network) (number : ℕ → ℕ) (shape : ℕ → ℕ → Simple �
 
   -- what is asked of the forms that are covered
   pub record FormsDrawn : Type 0 where
-    pub arrays : (g l : ℕ) → shape g l simple.ABuild ≡ shapes.Plain
+    pub arrays : (g l : ℕ) → shape.row g l simple.ABuild ≡ shapes.Plain
     pub operation : (o : Operation) → cover.operation o ≡ true → OperationDrawn o
     pub product : (q : Product) (arity : List ℕ) → cover.product q arity ≡ true → ProductDrawn q arity
     pub initial : (t : Turns) (arity : List ℕ) → cover.initial t arity ≡ true → InitialDrawn t arity

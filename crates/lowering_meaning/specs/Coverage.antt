@@ -98,11 +98,10 @@ any_loops c = record { operation = c.operation; product = λ p ks. true; initial
 
 -- ---- the forms of the laws
 
--- every operation but a union of a content, a field of a record, and a stream of its elements; a record changes a field at most once
+-- every operation but a union of a content, and a stream of its elements; a record changes a field at most once
 abbrev pub is_plain_operation : Operation → Bool
 is_plain_operation op.Stream = false
 is_plain_operation (op.Union tag) = false
-is_plain_operation (op.Field place) = false
 is_plain_operation (op.Change places) = all_apart places
 is_plain_operation _ = true
 
