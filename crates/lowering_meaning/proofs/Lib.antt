@@ -32,6 +32,7 @@ pub mod Shapes
 pub mod Shaped
 pub mod LowTables
 pub mod Sorts
+pub mod SortHeads
 pub mod TurnWires
 pub mod TurnForms
 pub mod TurnLoops

@@ -83,7 +83,7 @@ found-entry n e (f ∷ fs) l h = by (is_entry f e) refl h (λ k. found-entry (su
     by false s h later = let r = later h in (suc r.0, r.1, r.2 ∙ omega arith, r.3, r.4)
 
 -- an entry that is entered stands at its label in every later table
-entered : (e : Entry) (ts later : Table) → Grows (enter e ts).table later → HasEntry later (enter e ts).label e
+pub entered : (e : Entry) (ts later : Table) → Grows (enter e ts).table later → HasEntry later (enter e ts).label e
 entered e ts later g = by (label_from 0 e ts) refl g
   where
     by : (o : Option ℕ) → label_from 0 e ts ≡ o → Grows (or_new o e ts).table later → HasEntry later (or_new o e ts).label e
@@ -114,7 +114,7 @@ entered e ts later g = by (label_from 0 e ts) refl g
 -- ---- types
 
 module _ (p : Program) where
-  abbrev E : Table → List TypeEntry
+  abbrev pub E : Table → List TypeEntry
   E es = entries_from p 1 es
 
   length-entries : (label : ℕ) (ts : Table) → length (entries_from p label ts) ≡ length ts
@@ -124,13 +124,13 @@ module _ (p : Program) where
   abbrev forms : List Form
   forms = p.types
 
-  abbrev within : ℕ → ℕ → Table → Labelled
+  abbrev pub within : ℕ → ℕ → Table → Labelled
   within d t ts = label_within p.types p.names d t ts
 
-  abbrev bare : ℕ → Table → ℕ → Option Ty
+  abbrev pub bare : ℕ → Table → ℕ → Option Ty
   bare d later l = ty_within without_names d (E later) l
 
-  at-entry : (later : Table) (l : ℕ) (e : Entry) → (h : HasEntry later l e) → entry_at (E later) l ≡ Some (as_type p (suc h.place) h.entry)
+  pub at-entry : (later : Table) (l : ℕ) (e : Entry) → (h : HasEntry later l e) → entry_at (E later) l ≡ Some (as_type p (suc h.place) h.entry)
   at-entry later l e h = ap (entry_at (E later)) h.is ∙ (entry-is p later h.place ∙ ap (option_map (as_type p (suc h.place))) h.there)
 
   kind-there : (d : ℕ) (later : Table) (l : ℕ) (e : Entry) → (h : HasEntry later l e) → bare (suc d) later l ≡ ty_of without_names (bare d later) (E later) (as_type p (suc h.place) h.entry) (kind_at e.code)
@@ -214,7 +214,7 @@ module _ (p : Program) where
   abbrev FormShown : ℕ → Option Form → Type 0
   FormShown d o = (ts later : Table) → IsLow later → Grows basics later → Labels (suc d) (form_label p.types p.names (within d) o ts) later
 
-  record-shown : (d : ℕ) (ms : List NumberedMember) → EachShown d ms → (ts later : Table) → IsLow later → Grows basics later → Grows (form_label p.types p.names (within d) (Some (form.Record ms)) ts).table later
+  pub record-shown : (d : ℕ) (ms : List NumberedMember) → EachShown d ms → (ts later : Table) → IsLow later → Grows basics later → Grows (form_label p.types p.names (within d) (Some (form.Record ms)) ts).table later
       → (fs : List Member) × (bare (suc d) later (form_label p.types p.names (within d) (Some (form.Record ms)) ts).label ≡ Some (ty.Rec fs)) × (length fs ≡ length ms)
   record-shown d ms s ts later low b g =
       let r = members (within d) 2 (named p.types p.names ms) ts in
@@ -227,38 +227,42 @@ module _ (p : Program) where
         x.2,
       )
 
-  union-shown : (d : ℕ) (ms : List NumberedMember) → EachShown d ms → FormShown d (Some (form.Union ms))
+  pub union-shown : (d : ℕ) (ms : List NumberedMember) → EachShown d ms → (ts later : Table) → IsLow later → Grows basics later → Grows (form_label p.types p.names (within d) (Some (form.Union ms)) ts).table later
+      → (fs : List Member) × (bare (suc d) later (form_label p.types p.names (within d) (Some (form.Union ms)) ts).label ≡ Some (ty.Uni fs)) × (length fs ≡ length ms)
   union-shown d ms s ts later low b g =
       let r = members (within d) 7 (named p.types p.names ms) ts in
       let e = entry 9 r.label 0 [] in
       let h = entered e r.table later g in
       let gr = grows-then r.table (enter e r.table).table later (enter-grows e r.table) g in
       let x = members-shown d 7 is_tag refl ms s ts later low b gr (length (E later)) (omega (arith, members-within d 7 ms ts later gr, length-entries 1 later)) in (
-        ty.Uni x.0,
+        x.0,
         kind-there d later (enter e r.table).label e h ∙ (ap (λ l. members_in d is_tag later (length (E later)) l >>= λ fs. Some (ty.Uni fs)) h.first ∙ ap (λ o. o >>= λ fs. Some (ty.Uni fs)) x.1),
+        x.2,
       )
 
-  array-shown : (d t : ℕ) → Shown d t → FormShown d (Some (form.Array t))
+  pub array-shown : (d t : ℕ) → Shown d t → (ts later : Table) → IsLow later → Grows basics later → Grows (form_label p.types p.names (within d) (Some (form.Array t)) ts).table later
+      → (x : Ty) × (bare (suc d) later (form_label p.types p.names (within d) (Some (form.Array t)) ts).label ≡ Some (ty.Arr x))
   array-shown d t s ts later low b g =
       let r = within d t ts in
       let e = entry 0 r.label 0 [] in
       let h = entered e r.table later g in
       let x = s ts later low b (grows-then r.table (enter e r.table).table later (enter-grows e r.table) g) in
-      (ty.Arr x.0, kind-there d later (enter e r.table).label e h ∙ (ap (λ l. bare d later l >>= λ t. Some (ty.Arr t)) h.first ∙ ap (λ o. o >>= λ t. Some (ty.Arr t)) x.1))
+      (x.0, kind-there d later (enter e r.table).label e h ∙ (ap (λ l. bare d later l >>= λ t. Some (ty.Arr t)) h.first ∙ ap (λ o. o >>= λ t. Some (ty.Arr t)) x.1))
 
-  stream-shown : (d t : ℕ) → Shown d t → FormShown d (Some (form.Stream t))
+  pub stream-shown : (d t : ℕ) → Shown d t → (ts later : Table) → IsLow later → Grows basics later → Grows (form_label p.types p.names (within d) (Some (form.Stream t)) ts).table later
+      → (x : Ty) × (bare (suc d) later (form_label p.types p.names (within d) (Some (form.Stream t)) ts).label ≡ Some (ty.Stream x))
   stream-shown d t s ts later low b g =
       let r = within d t ts in
       let e = entry 6 r.label 0 [] in
       let h = entered e r.table later g in
       let x = s ts later low b (grows-then r.table (enter e r.table).table later (enter-grows e r.table) g) in
-      (ty.Stream x.0, kind-there d later (enter e r.table).label e h ∙ (ap (λ l. bare d later l >>= λ t. Some (ty.Stream t)) h.first ∙ ap (λ o. o >>= λ t. Some (ty.Stream t)) x.1))
+      (x.0, kind-there d later (enter e r.table).label e h ∙ (ap (λ l. bare d later l >>= λ t. Some (ty.Stream t)) h.first ∙ ap (λ o. o >>= λ t. Some (ty.Stream t)) x.1))
 
   module _ (well : IsTable p.types) where
-    abbrev depth : ℕ → ℕ
+    abbrev pub depth : ℕ → ℕ
     depth t = get_or (depths p.types) t 0
 
-    members-length : (ms : List NumberedMember) (fs : List Member) → AreMembers p.types p.names ms fs → length ms ≡ length fs
+    pub members-length : (ms : List NumberedMember) (fs : List Member) → AreMembers p.types p.names ms fs → length ms ≡ length fs
     members-length _ _ no_member = refl
     members-length _ _ (a_member {ms = ms} {fs = fs} s k r) = ap suc (members-length ms fs r)
 
@@ -280,7 +284,7 @@ module _ (p : Program) where
         same : Ty-F.Rec gs ≡ Ty-F.Rec fs → gs ≡ fs
         same e = cc
 
-    shallow : (ds : List ℕ) → All (λ d. d ≤ 64) ds → (t : ℕ) → get_or ds t 0 ≤ 64
+    pub shallow : (ds : List ℕ) → All (λ d. d ≤ 64) ds → (t : ℕ) → get_or ds t 0 ≤ 64
     shallow [] h zero = omega arith
     shallow [] h (suc t) = omega arith
     shallow (d ∷ ds) h zero = All-head (λ d. d ≤ 64) d ds h
@@ -289,11 +293,11 @@ module _ (p : Program) where
     abbrev Below : ℕ → Type 0
     Below d = (n : ℕ) (t : Ty) → depth n ≤ d → IsNumber p.types p.names n t → Shown d n
 
-    each-shown : (d : ℕ) → Below d → (ms : List NumberedMember) (fs : List Member) → AreMembers p.types p.names ms fs → deepest (depths p.types) (map (λ m. m.ty) ms) ≤ d → EachShown d ms
+    pub each-shown : (d : ℕ) → Below d → (ms : List NumberedMember) (fs : List Member) → AreMembers p.types p.names ms fs → deepest (depths p.types) (map (λ m. m.ty) ms) ≤ d → EachShown d ms
     each-shown d rec _ _ no_member h = tt
     each-shown d rec _ _ (a_member {n = n} {t = t} {ms = ms} {fs = fs} s k r) h = (rec n t (omega (arith, h)) k, each-shown d rec ms fs r (omega (arith, h)))
 
-    form-at : (n : ℕ) (t : Ty) → IsNumber p.types p.names n t → (f : Form) × (slice_get p.types n ≡ Some f)
+    pub form-at : (n : ℕ) (t : Ty) → IsNumber p.types p.names n t → (f : Form) × (slice_get p.types n ≡ Some f)
     form-at n _ (number.boolean e) = (form.Boolean, e)
     form-at n _ (number.character e) = (form.Character, e)
     form-at n _ (number.integer e) = (form.Integer, e)
@@ -303,17 +307,17 @@ module _ (p : Program) where
     form-at n _ (number.a_record {ms = ms} e h) = (form.Record ms, e)
     form-at n _ (number.a_union {ms = ms} e h) = (form.Union ms, e)
 
-    shown : (d : ℕ) → Below d
+    pub shown : (d : ℕ) → Below d
     shown zero n t h k = let f = form-at n t k in absurd (omega (arith, h, depth_at p.types well n f.0 f.1))
     shown (suc d) n _ h (number.boolean e) = subst (FormShown d) (sym e) (λ ts later low b g. (ty.Bool, ap (λ es. bare (suc d) es 1) b.is))
     shown (suc d) n _ h (number.character e) = subst (FormShown d) (sym e) (λ ts later low b g. (ty.Char, ap (λ es. bare (suc d) es 2) b.is))
     shown (suc d) n _ h (number.integer e) = subst (FormShown d) (sym e) (λ ts later low b g. (ty.Int, ap (λ es. bare (suc d) es 3) b.is))
     shown (suc d) n _ h (number.null e) = subst (FormShown d) (sym e) (λ ts later low b g. (ty.Null, ap (λ es. bare (suc d) es 4) b.is))
-    shown (suc d) n _ h (number.array {m = m} {t = t} e k) = subst (FormShown d) (sym e) (array-shown d m (shown d m t (omega (arith, h, depth_at p.types well n (form.Array m) e)) k))
-    shown (suc d) n _ h (number.stream {m = m} {t = t} e k) = subst (FormShown d) (sym e) (stream-shown d m (shown d m t (omega (arith, h, depth_at p.types well n (form.Stream m) e)) k))
+    shown (suc d) n _ h (number.array {m = m} {t = t} e k) = subst (FormShown d) (sym e) (λ ts later low b g. let r = array-shown d m (shown d m t (omega (arith, h, depth_at p.types well n (form.Array m) e)) k) ts later low b g in (ty.Arr r.0, r.1))
+    shown (suc d) n _ h (number.stream {m = m} {t = t} e k) = subst (FormShown d) (sym e) (λ ts later low b g. let r = stream-shown d m (shown d m t (omega (arith, h, depth_at p.types well n (form.Stream m) e)) k) ts later low b g in (ty.Stream r.0, r.1))
     shown (suc d) n _ h (number.a_record {ms = ms} {fs = fs} e k) =
         subst (FormShown d) (sym e) (λ ts later low b g. let r = record-shown d ms (each-shown d (shown d) ms fs k (omega (arith, h, depth_at p.types well n (form.Record ms) e))) ts later low b g in (ty.Rec r.0, r.1))
-    shown (suc d) n _ h (number.a_union {ms = ms} {fs = fs} e k) = subst (FormShown d) (sym e) (union-shown d ms (each-shown d (shown d) ms fs k (omega (arith, h, depth_at p.types well n (form.Union ms) e))))
+    shown (suc d) n _ h (number.a_union {ms = ms} {fs = fs} e k) = subst (FormShown d) (sym e) (λ ts later low b g. let r = union-shown d ms (each-shown d (shown d) ms fs k (omega (arith, h, depth_at p.types well n (form.Union ms) e))) ts later low b g in (ty.Uni r.0, r.1))
 
     -- the fields of a record's type, where a table has entered it
     pub fields-at : (n : ℕ) (fs : List Member) → IsNumber p.types p.names n (ty.Rec fs) → (ts later : Table) → IsLow later → Grows basics later → Grows (type_label p.types p.names n ts).table later
