@@ -110,9 +110,9 @@ module _ (k : Known) (denotes : Written → Ty → Type 0) where
   clauses-one c s _ _ _ _ (rule.a_clause l {a = a} {e = e} {t = t} {cs = cs} {forms = clauses} {ts = ts} {tys = tys} p h d (rule.a_mask {e = f} {t = u} m) r) =
       both _ _ (one-value c s e t a p) (both _ _ (one-value c s f u ty.Bool m) (clauses-one c s cs clauses ts tys r))
 
-  module _ (of : Operation → Bool) (tag : Bool) where
+  module _ (of : Operation → Bool) where
     abbrev S : Coverage
-    S = record { operation = of; tag_case = tag; product = λ p ks. masks_alone p.clauses ks; initial = λ t ks. all_one ks }
+    S = record { operation = of; product = λ p ks. masks_alone p.clauses ks; initial = λ t ks. all_one ks }
 
     abbrev L : Coverage
     L = any_loops S
@@ -191,11 +191,10 @@ module _ (k : Known) (denotes : Written → Ty → Type 0) where
     case-to : (l : ℕ) (ns : List ℕ) (c : Case) (ts : List TypedExpr) (us : List (List TypedExpr)) → (AreIn L ts → AreIn S ts) → (EachIn L us → EachIn S us) → In L (with l ns (typed.Case c ts us)) → In S (with l ns (typed.Case c ts us))
     case-to l ns c ts us f g = kind-to l ns (typed.Case c ts us) (TypedKind-F.Case c ts us) (sym (typed.rolls-Case c ts us)) go
       where
-        go : (tag && (all_ok (map (verdict L) ts) && each_ok (map (map (verdict L)) us))) ≡ true → (tag && (all_ok (map (verdict S) ts) && each_ok (map (map (verdict S)) us))) ≡ true
+        go : (all_ok (map (verdict L) ts) && each_ok (map (map (verdict L)) us)) ≡ true → (all_ok (map (verdict S) ts) && each_ok (map (map (verdict S)) us)) ≡ true
         go h =
-            let x = and-true tag (all_ok (map (verdict L) ts) && each_ok (map (map (verdict L)) us)) h in
-            let y = and-true (all_ok (map (verdict L) ts)) (each_ok (map (map (verdict L)) us)) x.1 in
-            both _ _ x.0 (both _ _ (f y.0) (g y.1))
+            let y = and-true (all_ok (map (verdict L) ts)) (each_ok (map (map (verdict L)) us)) h in
+            both _ _ (f y.0) (g y.1)
 
     initial-to : (l : ℕ) (ns : List ℕ) (t : Turns) (us : List (List TypedExpr)) (tests : List TypedExpr) (vs : List (List TypedExpr)) (ts : List TypedExpr) → all_one (counts (map (verdict S) ts)) ≡ true
         → (EachIn L us → EachIn S us) → (AreIn L tests → AreIn S tests) → (EachIn L vs → EachIn S vs) → (AreIn L ts → AreIn S ts) → In L (with l ns (typed.Initial t us tests vs ts)) → In S (with l ns (typed.Initial t us tests vs ts))
@@ -319,7 +318,7 @@ module _ (u : tree.Unit) (forms : List Form) (ds : List Declared) where
       go : ts ≡ es → all_ok (map (verdict (any_loops plain_forms)) es) ≡ true → all_ok (map (verdict plain_forms) es) ≡ true
       go e h =
           ap (λ x. all_ok (map (verdict plain_forms) x)) (sym e)
-          ∙ all-to (known u forms ds d.types) (denotes u d.types) is_plain_operation false (units.parameters d.signature) exprs ts d.signature.results p (ap (λ x. all_ok (map (verdict (any_loops plain_forms)) x)) e ∙ h)
+          ∙ all-to (known u forms ds d.types) (denotes u d.types) is_plain_operation (units.parameters d.signature) exprs ts d.signature.results p (ap (λ x. all_ok (map (verdict (any_loops plain_forms)) x)) e ∙ h)
 
   functions-to : (es : List Declared) (fs : List Function) → AreFunctionsOf u forms ds es fs → (i : ℕ) (f : Function) (b : List TypedExpr) → slice_get fs i ≡ Some f → f.body ≡ Some b
       → all_ok (map (verdict (any_loops plain_forms)) b) ≡ true → all_ok (map (verdict plain_forms) b) ≡ true

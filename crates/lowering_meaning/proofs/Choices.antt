@@ -3,9 +3,8 @@ use Rattle.std.proofs.Common.{◌≡◌, ℕ, zero, suc, ◌+◌, ◌≤◌, fal
 use Rattle.flow_value.specs.declared.value.Val.{Val}
 use Rattle.flow_value.specs.declared.value.Val.TheVariants as val
 use Rattle.flow_value.specs.declared.cause.Cause.{Cause}
-use Rattle.if1_graph.specs.declared.op.Simple.{Simple}
 use Rattle.graph_meaning.specs.Carried.{Carried, Value}
-use Rattle.graph_meaning.specs.NodeValues.{Shape}
+use Rattle.lowering_meaning.proofs.Told.{Telling}
 use Rattle.graph_meaning.specs.Forms.{Form, Select, Next, Stage, Enter, Leave, Chosen, Selecting, first, next_of, follow, enter_chosen}
 use Rattle.graph_meaning.specs.Demand.{Network}
 use Rattle.graph_meaning.specs.Plain.{is_deeper, Leads, leaves, enters, LaterFires, of_leaving, of_graph}
@@ -17,7 +16,7 @@ pub errors-are : (n : ℕ) (c : Cause) → replicate n (Value (val.Err c)) ≡ m
 errors-are zero c = refl
 errors-are (suc n) c = ap (λ cs. Value (val.Err c) ∷ cs) (errors-are n c)
 
-module _ (u : Network) (number : ℕ → ℕ) (shape : ℕ → ℕ → Simple → Shape) where
+module _ (u : Network) (number : ℕ → ℕ) (shape : Telling) where
   -- what a node of this form has from here on, and what it fires from here on
   pub record Goes (form : Form) (ks : List Carried) (next : Next) (rs : List Carried) (limit : ℕ) : Type 0 where
     pub cost : ℕ

@@ -3,12 +3,11 @@
 use Rattle.std.proofs.Common.{◌≡◌, ℕ, suc, ◌+◌, ◌*◌, ◌≤◌, List, [], ◌∷◌, ◌++◌, map, length, Some, refl, sym, ap, ◌∙◌, subst, arith, append_assoc, append-nil}
 use Rattle.flow_value.specs.declared.value.Val.{Val}
 use Rattle.flow_value.specs.declared.ty.Ty.{Ty}
-use Rattle.if1_graph.specs.declared.op.Simple.{Simple}
 use Rattle.type_table.specs.declared.form.Form.{Form}
 use Rattle.typed_rows.specs.Rows.{AreOf}
 use Rattle.meaning.specs.Timed.{given, plus, andthen}
 use Rattle.meaning.specs.Meaning.{Gives as Means, all_of, defined, body_of}
-use Rattle.graph_meaning.specs.NodeValues.{Shape}
+use Rattle.lowering_meaning.proofs.Told.{Telling}
 use Rattle.graph_meaning.specs.Demand.{Network}
 use Rattle.typed_tree.specs.Types.{IsNumber, AreNumbers}
 use Rattle.lowering.specs.declared.feed.Carried.{Carried}
@@ -125,7 +124,7 @@ ports-wired forms spellings n port (k ∷ ns) [] a = absurd a
 abbrev pub Wired : List Form → List (List ℕ) → List Ty → Lowers → List Ty → Type 0
 Wired forms spellings γ g tys = (env : List Wire) (k q : ℕ) → WiresOf forms spellings γ env → WiresOf forms spellings tys (g env k q).values
 
-module _ (u : Network) (number : ℕ → ℕ) (shape : ℕ → ℕ → Simple → Shape) (forms : List Form) (spellings : List (List ℕ)) where
+module _ (u : Network) (number : ℕ → ℕ) (shape : Telling) (forms : List Form) (spellings : List (List ℕ)) where
   -- wherever a phrase stands, on these values of the names it gives these values, with at most so many firings
   abbrev pub Draws : List Ty → Lowers → List Val → List Val → ℕ → Type 0
   Draws γ g names vs limit = (s : Site) (k q : ℕ) (env : List Wire) → WiresOf forms spellings γ env → AllCarry u number shape s env names → Placed u number shape s k q (g env k q) → Done u number shape s k (g env k q) vs limit

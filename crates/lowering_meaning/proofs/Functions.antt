@@ -6,7 +6,6 @@ use Rattle.flow_value.specs.declared.value.Val.{Val}
 use Rattle.flow_value.specs.declared.value.Val.TheVariants as val
 use Rattle.flow_value.specs.declared.cause.Cause.TheVariants as cause
 use Rattle.flow_value.specs.declared.ty.Ty.{Ty}
-use Rattle.if1_graph.specs.declared.op.Simple.{Simple}
 use Rattle.if1_graph.specs.declared.op.Simple.TheVariants as simple
 use Rattle.type_table.specs.declared.form.Form.{Form}
 use Rattle.typed_tree.specs.declared.expr.TypedExpr.{TypedExpr}
@@ -18,7 +17,7 @@ use Rattle.meaning.specs.Timed.{given, plus, andthen}
 use Rattle.meaning.specs.Words.{failed}
 use Rattle.meaning.specs.Meaning.{Gives as Means, all_of, results_of, function_gives, calls, meaning}
 use Rattle.graph_meaning.specs.Carried.{Value, Unfilled}
-use Rattle.graph_meaning.specs.NodeValues.{Shape}
+use Rattle.lowering_meaning.proofs.Told.{Telling}
 use Rattle.graph_meaning.specs.Demand.{Network}
 use Rattle.graph_meaning.specs.Plain.{NodesFire}
 use Rattle.lowering.specs.declared.feed.Feed.{Feed}
@@ -34,11 +33,10 @@ use Rattle.lowering.specs.Operations.{Lowers, all_lowered}
 use Rattle.lowering.specs.Loops.{own_inputs}
 use Rattle.lowering.specs.Phrases.{each, phrase, lowers}
 use Rattle.lowering.specs.Programs.{stub, bodies, function_lowered}
-use Rattle.lowered_units.specs.Networks.{net_of}
 use Rattle.lowering_meaning.specs.Coverage.{Coverage, AreCovered}
 use Rattle.lowering_meaning.proofs.Timed.{Yield, yield-given, yield-plus, yield-deeper}
 use Rattle.lowering_meaning.proofs.Wires.{AllWires, left-wires, right-wires, weaker-wires, In, IsThere, FromNames, MadeFrom}
-use Rattle.lowering_meaning.proofs.Sites.{Site, AllCarry, AreAt, Done, as-values, done-made, done-more}
+use Rattle.lowering_meaning.proofs.Sites.{Site, AllCarry, IsAt, AreAt, Done, as-values, done-made, done-more}
 use Rattle.lowering_meaning.proofs.Inside.{inner, nodes-are, placed-inside, Gives, graph-gives, own-carry}
 use Rattle.lowering_meaning.proofs.Forms.{ports-wired, Typed, of-length, Drawn, step-drawn, nil-drawn, cons-drawn}
 use Rattle.lowering_meaning.proofs.Ifs.{node-from}
@@ -108,7 +106,7 @@ stubs-mean (n ∷ ns) names =
     counted : (k : ℕ) → 1 + 0 + (k + 0 + 0) ≡ suc k + 0
     counted k = omega arith
 
-module _ (u : Network) (number : ℕ → ℕ) (shape : ℕ → ℕ → Simple → Shape) (forms : List Form) (spellings : List (List ℕ)) where
+module _ (u : Network) (number : ℕ → ℕ) (shape : Telling) (forms : List Form) (spellings : List (List ℕ)) where
   stub-drawn : (γ : List Ty) (t : ℕ) → Drawn u number shape forms spellings γ 1 0 (stub t) stub_means
   stub-drawn γ t =
       step-drawn u number shape forms spellings γ (stub t) (λ names. given (val.Err cause.Explicit ∷ []))
@@ -125,13 +123,13 @@ module _ (u : Network) (number : ℕ → ℕ) (shape : ℕ → ℕ → Simple �
   stubs-drawn γ [] = nil-drawn u number shape forms spellings γ
   stubs-drawn γ (n ∷ ns) = cons-drawn u number shape forms spellings γ (length ns) (stub n) (map stub ns) stub_means (map (λ n. stub_means) ns) (stub-drawn γ n) (stubs-drawn γ ns)
 
-module _ (u : Network) (number : ℕ → ℕ) (shape : ℕ → ℕ → Simple → Shape) (forms : List Form) (spellings : List (List ℕ)) (hs : List Header) (p : List Function) (cover : Coverage) where
+module _ (u : Network) (number : ℕ → ℕ) (shape : Telling) (forms : List Form) (spellings : List (List ℕ)) (hs : List Header) (p : List Function) (cover : Coverage) where
   abbrev pub made : ℕ → Function → Lowered
   made f d = function_lowered forms d 0 (suc (number f))
 
   -- where the graph of a function stands
   pub record FunctionAt (f : ℕ) (d : Function) : Type 0 where
-    pub net : u (number f) ≡ net_of (shape (number f)) number (closed [] 0 0 (made f d))
+    pub net : IsAt u number shape (number f) (closed [] 0 0 (made f d))
     pub graphs : AreAt u number shape (suc (number f)) (made f d).graphs
 
   module _ (fit : FunctionsFit (AreNumbers forms spellings) hs hs p) (covers : AreCovered cover p)

@@ -5,7 +5,6 @@ use Rattle.flow_value.specs.declared.value.Val.{Val}
 use Rattle.flow_value.specs.declared.value.Val.TheOpen.{Val-F}
 use Rattle.flow_value.specs.declared.value.Val.TheViews.{out-Val}
 use Rattle.flow_value.specs.declared.ty.Ty.{Ty}
-use Rattle.if1_graph.specs.declared.op.Simple.{Simple}
 use Rattle.if1_graph.specs.declared.op.Simple.TheVariants as simple
 use Rattle.type_table.specs.declared.form.Form.{Form}
 use Rattle.typed_tree.specs.declared.expr.Source.{Source}
@@ -13,7 +12,8 @@ use Rattle.typed_tree.specs.declared.expr.Source.TheVariants as source
 use Rattle.fitting_trees.specs.Fitting.{Goes, no_source, over_range, over_array, over_stream, over_array_at, over_stream_at}
 use Rattle.typed_rows.specs.Rows.{AreOf}
 use Rattle.graph_meaning.specs.Carried.{Carried, Value, Unfilled}
-use Rattle.graph_meaning.specs.NodeValues.{Shape, scatter_in, scatter_of}
+use Rattle.lowering_meaning.proofs.Told.{Telling}
+use Rattle.graph_meaning.specs.NodeValues.{scatter_in, scatter_of}
 use Rattle.graph_meaning.specs.Demand.{Network}
 use Rattle.lowering.specs.declared.feed.Carried.TheVariants.{Many}
 use Rattle.lowering.specs.declared.feed.Wire.{Wire}
@@ -117,7 +117,7 @@ module _ (forms : List Form) where
 
   -- ---- what they give
 
-  module _ (u : Network) (number : ℕ → ℕ) (shape : ℕ → ℕ → Simple → Shape) where
+  module _ (u : Network) (number : ℕ → ℕ) (shape : Telling) where
     range-made : (s : Site) (k q : ℕ) (x y : Wire) (v w : Val) → AllCarry u number shape s (x ∷ y ∷ []) (v ∷ w ∷ []) → Placed u number shape s k q (generator_lowered forms source.Range (x ∷ y ∷ []) k q)
         → Made u number shape s k (generator_lowered forms source.Range (x ∷ y ∷ []) k q) (generated_by source.Range (v ∷ w ∷ [])) 1
     range-made s k q x y v w a pl =

@@ -6,7 +6,6 @@ use Rattle.flow_value.specs.declared.ty.Ty.{Ty}
 use Rattle.flow_value.specs.declared.ty.Ty.TheVariants as ty
 use Rattle.value_ops.specs.Operations.{op_value}
 use Rattle.value_ops.specs.declared.operation.Operation.TheVariants as operation
-use Rattle.if1_graph.specs.declared.op.Simple.{Simple}
 use Rattle.if1_graph.specs.declared.op.Compound.TheVariants as compound
 use Rattle.type_table.specs.declared.form.Form.{Form}
 use Rattle.typed_rows.specs.Rows.{AreOf}
@@ -15,7 +14,7 @@ use Rattle.meaning.specs.Timed.{andthen}
 use Rattle.meaning.specs.Words.{failed, test_of}
 use Rattle.meaning.specs.Meaning.{Gives as Means, chosen}
 use Rattle.graph_meaning.specs.Carried.{Carried, Value}
-use Rattle.graph_meaning.specs.NodeValues.{Shape}
+use Rattle.lowering_meaning.proofs.Told.{Telling}
 use Rattle.graph_meaning.specs.Forms as form
 use Rattle.graph_meaning.specs.Demand.{Network}
 use Rattle.graph_meaning.specs.Plain.{NodesFire, LaterFires}
@@ -33,11 +32,11 @@ use Rattle.lowering_meaning.proofs.ReadForms.{Read, DrawnAll, TypedAll}
 use Rattle.lowering_meaning.proofs.Ifs as ifs
 use Rattle.lowering_meaning.proofs.Ifs.{the_if, OneTest, one-test, bool-says, error-says}
 
-same-depth : (l n : ℕ) → ((false ≡ true) × (suc l ≡ n)) ⊎ ((false ≡ false) × (l ≡ n)) → l ≡ n
+pub same-depth : (l n : ℕ) → ((false ≡ true) × (suc l ≡ n)) ⊎ ((false ≡ false) × (l ≡ n)) → l ≡ n
 same-depth l n (inl x) = absurd cc
 same-depth l n (inr x) = x.1
 
-module _ (ts us vs : List Lowers) (ns : List ℕ) (u : Network) (number : ℕ → ℕ) (shape : ℕ → ℕ → Simple → Shape) (forms : List Form) (spellings : List (List ℕ)) where
+module _ (ts us vs : List Lowers) (ns : List ℕ) (u : Network) (number : ℕ → ℕ) (shape : Telling) (forms : List Form) (spellings : List (List ℕ)) where
   module _ (m : ℕ) (γ : List Ty) (ht hu hv : ℕ → Means) (i j k : ℕ) (dt : DrawnAll u number shape forms spellings γ i 0 (all_lowered ts) ht) (tt' : TypedAll u number shape forms spellings γ ht (ty.Bool ∷ []))
       (rt : Read u number shape forms spellings m γ (all_lowered ts) ht) (fu : Free (all_lowered us)) (ru : Read u number shape forms spellings m γ (all_lowered us) hu) (fv : Free (all_lowered vs)) (rv : Read u number shape forms spellings m γ (all_lowered vs) hv) where
     abbrev ft : Free (all_lowered ts)

@@ -9,7 +9,6 @@ use Rattle.flow_value.specs.declared.ty.Ty.{Ty}
 use Rattle.flow_value.specs.declared.ty.Ty.TheVariants as ty
 use Rattle.value_ops.specs.Operations.{op_value}
 use Rattle.value_ops.specs.declared.operation.Operation.TheVariants as operation
-use Rattle.if1_graph.specs.declared.op.Simple.{Simple}
 use Rattle.if1_graph.specs.declared.op.Simple.TheVariants as simple
 use Rattle.if1_graph.specs.declared.op.Compound.{Compound}
 use Rattle.if1_graph.specs.declared.op.Compound.TheVariants as compound
@@ -22,7 +21,7 @@ use Rattle.meaning.specs.Timed.{given, andthen}
 use Rattle.meaning.specs.Words.{failed, test_of, test_part}
 use Rattle.meaning.specs.Meaning.{Gives as Means, chosen}
 use Rattle.graph_meaning.specs.Carried.{Carried, Value}
-use Rattle.graph_meaning.specs.NodeValues.{Shape}
+use Rattle.lowering_meaning.proofs.Told.{Telling}
 use Rattle.graph_meaning.specs.Forms as form
 use Rattle.graph_meaning.specs.Demand.{Network}
 use Rattle.lowering.specs.declared.feed.Carried as wired
@@ -119,7 +118,7 @@ module _ (ts us vs : List Lowers) (ns : List ℕ) where
   pub if-free : Free (all_lowered ts) → Free (all_lowered us) → Free (all_lowered vs) → Free the_if
   if-free ft fu fv env k q = whole-from env compound.Select (graphs q env) (arms q env) 0 ns k q (graphs-from q env ft fu fv)
 
-  module _ (u : Network) (number : ℕ → ℕ) (shape : ℕ → ℕ → Simple → Shape) (forms : List Form) (spellings : List (List ℕ)) where
+  module _ (u : Network) (number : ℕ → ℕ) (shape : Telling) (forms : List Form) (spellings : List (List ℕ)) where
     number-one : (b : Bool) → op_value (operation.Unary unary.Int) (val.Bool b ∷ []) ≡ val.Int (pos (if b then 1 else 0))
     number-one true = refl
     number-one false = refl

@@ -1,9 +1,8 @@
 -- Graphs inside of a node: what the names carry there, and that what is lowered is what the graph gives and fires.
 use Rattle.std.proofs.Common.{◌≡◌, ℕ, suc, ◌+◌, ◌-◌, ◌<◌, ◌≤◌, Bool, true, false, List, [], ◌∷◌, map, length, get_or, Some, inl, inr, refl, sym, ap, ◌∙◌, subst, arith, if◌then◌else◌, eq-eqb, ne_eqb}
 use Rattle.flow_value.specs.declared.value.Val.{Val}
-use Rattle.if1_graph.specs.declared.op.Simple.{Simple}
 use Rattle.graph_meaning.specs.Carried.{Carried, Value, Unfilled}
-use Rattle.graph_meaning.specs.NodeValues.{Shape}
+use Rattle.lowering_meaning.proofs.Told.{Telling, opened}
 use Rattle.graph_meaning.specs.Demand.{Source, Fixed, Vertex, Network, at_label}
 use Rattle.graph_meaning.specs.Demand as demand
 use Rattle.graph_meaning.specs.Plain.{CarryAll, no_port, port, fixed, input, NodesFire}
@@ -21,13 +20,13 @@ use Rattle.lowered_units.specs.Networks.{source_of, sources_of, kind_of, net_of}
 use Rattle.lowered_units.specs.Networks as lowered
 use Rattle.lowering_meaning.proofs.From.{From, always}
 use Rattle.lowering_meaning.proofs.Wires.{AllWires, In, is_there, IsThere, is-port-same}
-use Rattle.lowering_meaning.proofs.Sites.{Site, at_site, sources, Seen, Held, Carries, AllCarry, AllCarried, Placed, StandIn, AreAt, vertex, vertices, all-held, Made, are-left, are-right}
+use Rattle.lowering_meaning.proofs.Sites.{Site, at_site, sources, Seen, Held, Carries, AllCarry, AllCarried, Placed, StandIn, IsAt, AreAt, vertex, vertices, all-held, Made, are-left, are-right}
 
 -- a graph inside of a node
 abbrev pub inner : ℕ → List Wire → ℕ → ℕ → List Carried → Site
 inner q ks first own ins = record { graph = q; ins = ins; keys = ks; first = first; own = own }
 
-module _ (u : Network) (number : ℕ → ℕ) (shape : ℕ → ℕ → Simple → Shape) where
+module _ (u : Network) (number : ℕ → ℕ) (shape : Telling) where
   -- ---- no two depths differ
 
   pub held-once : (s : Site) (o : Source) (c d : Carried) → Held u number shape s o c → Held u number shape s o d → c ≡ d
@@ -123,10 +122,10 @@ module _ (u : Network) (number : ℕ → ℕ) (shape : ℕ → ℕ → Simple �
   closed-sources s [] = refl
   closed-sources s (w ∷ ws) = ap (λ os. at_site s w.feed ∷ os) (closed-sources s ws)
 
-  closed-vertices : (s : Site) (n : ℕ) (vs : List LoweredNode) → lowered.vertices (shape s.graph) number (suc n) (closed_nodes s.keys s.first s.own vs) ≡ vertices u number shape s n vs
+  closed-vertices : (s : Site) (n : ℕ) (vs : List LoweredNode) → lowered.vertices (shape.row s.graph) number (suc n) (closed_nodes s.keys s.first s.own vs) ≡ vertices u number shape s n vs
   closed-vertices s n [] = refl
   closed-vertices s n (v ∷ vs) =
-      ap (λ os. record { label = suc n; kind = kind_of (shape s.graph) number (suc n) v.action; ins = os; before = [] } ∷ lowered.vertices (shape s.graph) number (suc (suc n)) (closed_nodes s.keys s.first s.own vs)) (closed-sources s v.ins)
+      ap (λ os. record { label = suc n; kind = kind_of (shape.row s.graph) number (suc n) v.action; ins = os; before = [] } ∷ lowered.vertices (shape.row s.graph) number (suc (suc n)) (closed_nodes s.keys s.first s.own vs)) (closed-sources s v.ins)
       ∙ ap (λ xs. vertex u number shape s n v ∷ xs) (closed-vertices s (suc n) vs)
 
   -- nodes stand where they are made
@@ -144,18 +143,19 @@ module _ (u : Network) (number : ℕ → ℕ) (shape : ℕ → ℕ → Simple �
 
   -- what stands at the number of a graph inside
   abbrev pub Net : Site → Lowered → Type 0
-  Net s m = u s.graph ≡ net_of (shape s.graph) number (closed s.keys s.first s.own m)
+  Net s m = IsAt u number shape s.graph (closed s.keys s.first s.own m)
 
   pub nodes-are : (s : Site) (m : Lowered) → Net s m → (u s.graph).nodes ≡ vertices u number shape s 0 m.nodes
-  nodes-are s m e = ap (λ g. g.nodes) e ∙ closed-vertices s 0 m.nodes
+  nodes-are s m e = ap (λ g. g.nodes) e.0 ∙ closed-vertices s 0 m.nodes
 
   pub results-are : (s : Site) (m : Lowered) → Net s m → (u s.graph).results ≡ sources s m.values
-  results-are s m e = ap (λ g. g.results) e ∙ closed-sources s m.values
+  results-are s m e = ap (λ g. g.results) e.0 ∙ closed-sources s m.values
 
   pub placed-inside : (s : Site) (m : Lowered) → Net s m → AreAt u number shape (suc s.graph) m.graphs → AllWires (IsThere s.keys) (used m.nodes) → Placed u number shape s 0 (suc s.graph) m
   placed-inside s m e a t = record {
     nodes = subst (λ xs. StandIn u number shape xs s 0 m.nodes) (sym (nodes-are s m e)) (stands s 0 m.nodes);
     graphs = a;
+    told = opened shape s.graph 0 s.keys s.first s.own m.nodes e.1;
     there = t;
   }
 
@@ -176,7 +176,7 @@ module _ (u : Network) (number : ℕ → ℕ) (shape : ℕ → ℕ → Simple �
 
   -- one of the graphs inside a node, and the others
   pub record PartAt (q : ℕ) (ks : List Wire) (first own : ℕ) (m : Lowered) (ms : List Lowered) : Type 0 where
-    pub net : u q ≡ net_of (shape q) number (closed ks first own m)
+    pub net : IsAt u number shape q (closed ks first own m)
     pub graphs : AreAt u number shape (suc q) m.graphs
     pub others : AreAt u number shape (q + size m) (closed_graphs ks first own ms)
 

@@ -1,5 +1,6 @@
 pub mod From
 pub mod Timed
+pub mod Told
 pub mod Wires
 pub mod Sites
 pub mod Inside
@@ -9,9 +10,13 @@ pub mod Forms
 pub mod Inverse
 pub mod Parts
 pub mod Ifs
+pub mod Contents
+pub mod Cases
+pub mod CaseForms
 pub mod Operations
 pub mod ReadForms
 pub mod IfReads
+pub mod CaseReads
 pub mod Layers
 pub mod Widths
 pub mod WireTypes
@@ -24,6 +29,10 @@ pub mod GenTypes
 pub mod Products
 pub mod ProductReads
 pub mod Shapes
+pub mod Shaped
+pub mod LowTables
+pub mod Sorts
+pub mod SortHeads
 pub mod TurnWires
 pub mod TurnForms
 pub mod TurnLoops
@@ -33,6 +42,7 @@ pub mod Functions
 pub mod PlainTypes
 pub mod PlainTables
 pub mod Changes
+pub mod IsTags
 pub mod Applied
 pub mod Alone
 pub mod Theorem

@@ -3,7 +3,8 @@ use Rattle.std.proofs.Common.{◌≡◌, ℕ, zero, suc, false, ◌+◌, ◌-◌
 use Rattle.flow_value.specs.declared.value.Val.{Val}
 use Rattle.if1_graph.specs.declared.op.Simple.{Simple}
 use Rattle.graph_meaning.specs.Carried.{Carried, Value, Unfilled, vals}
-use Rattle.graph_meaning.specs.NodeValues.{Shape, op}
+use Rattle.lowering_meaning.proofs.Told.{Telling}
+use Rattle.graph_meaning.specs.NodeValues.{op}
 use Rattle.graph_meaning.specs.Forms as form
 use Rattle.graph_meaning.specs.Demand.{Source, Kind, Plain, Network, at_label}
 use Rattle.graph_meaning.specs.Demand as demand
@@ -27,7 +28,7 @@ pub values-of : (vs : List Val) → vals (map Value vs) ≡ vs
 values-of [] = refl
 values-of (v ∷ vs) = ap (λ ws. v ∷ ws) (values-of vs)
 
-module _ (u : Network) (number : ℕ → ℕ) (shape : ℕ → ℕ → Simple → Shape) where
+module _ (u : Network) (number : ℕ → ℕ) (shape : Telling) where
   -- the output ports of a node, by the list of its outputs from a place on
   node-ports : (s : Site) (k j : ℕ) (ts : List wired.Carried) (rs ds : List Carried)
       → ((i : ℕ) → Held u number shape s (demand.Port (suc k) (suc i)) (get_or rs i Unfilled))
@@ -52,8 +53,8 @@ module _ (u : Network) (number : ℕ → ℕ) (shape : ℕ → ℕ → Simple �
   pub node-made : (s : Site) (k j : ℕ) (act : Action) (ins : List Wire) (ts : List wired.Carried) (cs outs ds : List Carried) (inner limit : ℕ)
       → at_label (u s.graph).nodes (suc k) ≡ Some (vertex u number shape s k (node act ins))
       → HeldAll u number shape s (sources s ins) cs
-      → From (λ m. Outputs u m (kind_of (shape s.graph) number (suc k) act) cs outs)
-      → From (λ m. InnerFires u m s.graph s.ins (kind_of (shape s.graph) number (suc k) act) (sources s ins) inner)
+      → From (λ m. Outputs u m (kind_of (shape.row s.graph) number (suc k) act) cs outs)
+      → From (λ m. InnerFires u m s.graph s.ins (kind_of (shape.row s.graph) number (suc k) act) (sources s ins) inner)
       → length ts ≡ length ds
       → ((i : ℕ) → i < length ds → get_or outs (j + i) Unfilled ≡ get_or ds i Unfilled)
       → 1 + inner ≤ limit
@@ -80,22 +81,22 @@ module _ (u : Network) (number : ℕ → ℕ) (shape : ℕ → ℕ → Simple �
   -- a node of a row
   pub row-made : (s : Site) (k q j : ℕ) (o : Simple) (ws : List Wire) (ts : List wired.Carried) (cs ds : List Carried)
       → Placed u number shape s k q (a_node (Row o) ws (suc j) ts k q) → AllCarried u number shape s ws cs
-      → length ts ≡ length ds → ((i : ℕ) → i < length ds → get_or (op o (shape s.graph (suc k) o) cs) (j + i) Unfilled ≡ get_or ds i Unfilled)
+      → length ts ≡ length ds → ((i : ℕ) → i < length ds → get_or (op o (shape.row s.graph (suc k) o) cs) (j + i) Unfilled ≡ get_or ds i Unfilled)
       → Made u number shape s k (a_node (Row o) ws (suc j) ts k q) ds 1
   row-made s k q j o ws ts cs ds pl a l e =
       let there = seen-ins s (Row o) ws k q (suc j) ts pl in
-      let d = node-made s k j (Row o) ws ts cs (op o (shape s.graph (suc k) o) cs) ds 0 1 pl.nodes.0 (all-held u number shape s ws cs there a)
-      (always _ (λ m. simple_outputs m o (shape s.graph (suc k) o) cs)) (always _ (λ m. of_simple m s.graph s.ins o (shape s.graph (suc k) o) (sources s ws))) l e (omega arith) in
+      let d = node-made s k j (Row o) ws ts cs (op o (shape.row s.graph (suc k) o) cs) ds 0 1 pl.nodes.0 (all-held u number shape s ws cs there a)
+      (always _ (λ m. simple_outputs m o (shape.row s.graph (suc k) o) cs)) (always _ (λ m. of_simple m s.graph s.ins o (shape.row s.graph (suc k) o) (sources s ws))) l e (omega arith) in
       record { cost = d.cost; fires = d.fires; bound = d.bound; held = d.held }
 
   -- a node of a row with one output, which is a value
   pub row-done : (s : Site) (k q : ℕ) (o : Simple) (ws : List Wire) (t : ℕ) (cs : List Carried) (v : Val)
-      → op o (shape s.graph (suc k) o) cs ≡ Value v ∷ []
+      → op o (shape.row s.graph (suc k) o) cs ≡ Value v ∷ []
       → Placed u number shape s k q (row_lowered o ws (t ∷ []) k q) → AllCarried u number shape s ws cs
       → Done u number shape s k (row_lowered o ws (t ∷ []) k q) (v ∷ []) 1
   row-done s k q o ws t cs v is pl a =
       made-done u number shape s k (row_lowered o ws (t ∷ []) k q) (v ∷ []) 1
-      (row-made s k q 0 o ws (One t ∷ []) cs (Value v ∷ []) pl a refl (λ i n. let y : 0 + i ≡ i = omega arith in ap (λ x. get_or (op o (shape s.graph (suc k) o) cs) x Unfilled) y ∙ ap (λ rs. get_or rs i Unfilled) is))
+      (row-made s k q 0 o ws (One t ∷ []) cs (Value v ∷ []) pl a refl (λ i n. let y : 0 + i ≡ i = omega arith in ap (λ x. get_or (op o (shape.row s.graph (suc k) o) cs) x Unfilled) y ∙ ap (λ rs. get_or rs i Unfilled) is))
 
   -- a call, by what its graph gives
   pub call-done : (s : Site) (k q f : ℕ) (ws : List Wire) (ts : List ℕ) (vs rs : List Val) (limit : ℕ)

@@ -7,7 +7,6 @@ use Rattle.flow_value.specs.declared.operation.Scalar1.TheVariants as unary
 use Rattle.flow_value.specs.declared.ty.Ty.{Ty}
 use Rattle.value_ops.specs.Operations.{op_value}
 use Rattle.value_ops.specs.declared.operation.Operation.TheVariants as operation
-use Rattle.if1_graph.specs.declared.op.Simple.{Simple}
 use Rattle.if1_graph.specs.declared.op.Simple.TheVariants as simple
 use Rattle.type_table.specs.declared.form.Form.{Form}
 use Rattle.typed_tree.specs.declared.program.Function.{Function}
@@ -16,7 +15,7 @@ use Rattle.typed_rows.specs.Rows.{AreOf}
 use Rattle.meaning.specs.Timed.{Timed, given, plus, andthen}
 use Rattle.meaning.specs.Meaning.{Gives as Means, all_of, defined, body_of}
 use Rattle.graph_meaning.specs.Carried.{Value}
-use Rattle.graph_meaning.specs.NodeValues.{Shape}
+use Rattle.lowering_meaning.proofs.Told.{Telling}
 use Rattle.graph_meaning.specs.Demand.{Network}
 use Rattle.lowering.specs.declared.feed.Carried.TheVariants.{One}
 use Rattle.lowering.specs.declared.feed.Wire.{Wire}
@@ -99,7 +98,7 @@ single (t ∷ s ∷ tys) vs l o = absurd (omega (arith, l))
 rebuilt : (h t : Timed (List Val)) (v w : List Val) (a b : ℕ) → h ≡ Some (v, a) → t ≡ Some (w, b) → andthen h (λ vs. andthen t (λ ws. given (vs ++ ws))) ≡ Some (v ++ w, a + (b + 0))
 rebuilt h t v w a b e f = ap (λ o. andthen o (λ vs. andthen t (λ ws. given (vs ++ ws)))) e ∙ ap (λ o. plus a (andthen o (λ ws. given (v ++ ws)))) f
 
-module _ (u : Network) (number : ℕ → ℕ) (shape : ℕ → ℕ → Simple → Shape) (forms : List Form) (spellings : List (List ℕ)) where
+module _ (u : Network) (number : ℕ → ℕ) (shape : Telling) (forms : List Form) (spellings : List (List ℕ)) where
   -- ---- a Not
 
   abbrev the_not : List Wire → Lowering
@@ -136,7 +135,7 @@ module _ (u : Network) (number : ℕ → ℕ) (shape : ℕ → ℕ → Simple �
   pub not-wide : (g : Lowers) → Wide 1 (with_not g)
   not-wide g env n q = refl
 
-module _ (u : Network) (number : ℕ → ℕ) (shape : ℕ → ℕ → Simple → Shape) (forms : List Form) (spellings : List (List ℕ)) (hs : List Header) (p : List Function) (cover : Coverage) where
+module _ (u : Network) (number : ℕ → ℕ) (shape : Telling) (forms : List Form) (spellings : List (List ℕ)) (hs : List Header) (p : List Function) (cover : Coverage) where
   abbrev EachD : List Ty → List Phrase → List Means → Type 0
   EachD γ gs ks = EachDrawn u number shape forms spellings hs p cover γ gs ks
 

@@ -19,6 +19,7 @@ use Rattle.meaning.specs.Timed.{given}
 use Rattle.meaning.specs.Words.{value_at, constant_value}
 use Rattle.meaning.specs.Meaning.{Gives as Means}
 use Rattle.graph_meaning.specs.Carried.{Value, vals}
+use Rattle.lowering_meaning.proofs.Told.{Telling}
 use Rattle.graph_meaning.specs.NodeValues.{Shape, op, row_of_elements, built}
 use Rattle.graph_meaning.specs.NodeValues as shapes
 use Rattle.graph_meaning.specs.Demand.{Network}
@@ -69,7 +70,7 @@ letters-from : (env : List Wire) (s : List ℕ) → AllWires (FromNames env) (ma
 letters-from env [] = tt
 letters-from env (c ∷ s) = (tt, letters-from env s)
 
-module _ (u : Network) (number : ℕ → ℕ) (shape : ℕ → ℕ → Simple → Shape) where
+module _ (u : Network) (number : ℕ → ℕ) (shape : Telling) where
   pub held-literal : (s : Site) (c : Constant) (v : Val) → lowered_value c ≡ v → Held u number shape s (Fixed (Value (lowered_value c))) (Value v)
   held-literal s c v is = always _ (λ d. subst (λ w. plain.Carries u d s.graph s.ins (Fixed (Value (lowered_value c))) (Value w)) is (fixed d s.graph s.ins (Value (lowered_value c))))
 
@@ -77,7 +78,7 @@ module _ (u : Network) (number : ℕ → ℕ) (shape : ℕ → ℕ → Simple �
   letters-carried s [] = tt
   letters-carried s (c ∷ cs) = ((λ _. held-literal s (constant.Letter c) (val.Char c) refl), letters-carried s cs)
 
-module _ (u : Network) (number : ℕ → ℕ) (shape : ℕ → ℕ → Simple → Shape) (forms : List Form) (spellings : List (List ℕ)) where
+module _ (u : Network) (number : ℕ → ℕ) (shape : Telling) (forms : List Form) (spellings : List (List ℕ)) where
   pub value-drawn : (γ : List Ty) (x : ℕ) (a : Ty) → slice_get γ x ≡ Some a → Drawn u number shape forms spellings γ 0 7 (λ env. only (wire_at env x ∷ [])) (λ names. given (value_at names x ∷ []))
   value-drawn γ x a e = record {
     free = λ env k q. (at-from env x, tt);
@@ -112,7 +113,7 @@ module _ (u : Network) (number : ℕ → ℕ) (shape : ℕ → ℕ → Simple �
   -- ---- operations
 
   -- a row of one output that gives what the operation gives
-  pub row-on : (γ tys : List Ty) (o : Simple) (f : Operation) (t : ℕ) → ((s : Site) (k : ℕ) (vs : List Val) → op o (shape s.graph (suc k) o) (map Value vs) ≡ Value (op_value f vs) ∷ [])
+  pub row-on : (γ tys : List Ty) (o : Simple) (f : Operation) (t : ℕ) → ((s : Site) (k : ℕ) (vs : List Val) → op o (shape.row s.graph (suc k) o) (map Value vs) ≡ Value (op_value f vs) ∷ [])
       → DrawnOn u number shape forms spellings γ tys 0 7 (λ env ws. row_lowered o ws (t ∷ [])) (λ names vs. given (op_value f vs ∷ []))
   row-on γ tys o f t is names vs rs j a b h = record {
     limit = 1;
@@ -141,7 +142,7 @@ module _ (u : Network) (number : ℕ → ℕ) (shape : ℕ → ℕ → Simple �
       two s k q (x ∷ y ∷ z ∷ ws) (v ∷ w ∷ []) b d pl = absurd d.1.1
 
   -- an array without elements
-  pub empty-on : (γ : List Ty) (t : ℕ) → ((g l : ℕ) → shape g l simple.ABuild ≡ shapes.Plain) → DrawnOn u number shape forms spellings γ [] 0 7 (λ env ws. row_lowered simple.ABuild (one ∷ ws) (t ∷ [])) (λ names vs. given (op_value operation.EmptyArray vs ∷ []))
+  pub empty-on : (γ : List Ty) (t : ℕ) → ((g l : ℕ) → shape.row g l simple.ABuild ≡ shapes.Plain) → DrawnOn u number shape forms spellings γ [] 0 7 (λ env ws. row_lowered simple.ABuild (one ∷ ws) (t ∷ [])) (λ names vs. given (op_value operation.EmptyArray vs ∷ []))
   empty-on γ t flat names vs rs j o b h = record { limit = 1; bound = omega arith; draws = λ s k q env ws w1 w2 c d pl. subst (λ xs. Done u number shape s k (row_lowered simple.ABuild (one ∷ ws) (t ∷ []) k q) xs 1) (given-is (op_value operation.EmptyArray vs ∷ []) rs j h).0 (none s k q ws vs b d pl) }
     where
       none : (s : Site) (k q : ℕ) (ws : List Wire) (vs : List Val) → AreOf [] vs → AllCarry u number shape s ws vs → Placed u number shape s k q (row_lowered simple.ABuild (one ∷ ws) (t ∷ []) k q)
@@ -151,7 +152,7 @@ module _ (u : Network) (number : ℕ → ℕ) (shape : ℕ → ℕ → Simple �
       none s k q (w ∷ ws) [] b d pl = absurd d
       none s k q ws (v ∷ vs) b d pl = absurd b
 
-  text-drawn : (γ : List Ty) (cs : List ℕ) (t : ℕ) → ((g l : ℕ) → shape g l simple.ABuild ≡ shapes.Plain) → Drawn u number shape forms spellings γ 0 7 (λ env. constant_lowered (constant.Quoted cs) (t ∷ [])) (λ names. given (constant_value (constant.Quoted cs) ∷ []))
+  text-drawn : (γ : List Ty) (cs : List ℕ) (t : ℕ) → ((g l : ℕ) → shape.row g l simple.ABuild ≡ shapes.Plain) → Drawn u number shape forms spellings γ 0 7 (λ env. constant_lowered (constant.Quoted cs) (t ∷ [])) (λ names. given (constant_value (constant.Quoted cs) ∷ []))
   text-drawn γ cs t flat = record {
     free = λ env k q. node-from env (Row simple.ABuild) (one ∷ map (λ c. wire (Literal (constant.Letter c)) (One character)) cs) 1 (One t ∷ []) k q (tt, letters-from env cs);
     runs = λ names vs i o h. record {
@@ -166,7 +167,7 @@ module _ (u : Network) (number : ℕ → ℕ) (shape : ℕ → ℕ → Simple �
     };
   }
 
-  pub constant-drawn : (γ : List Ty) (c : Constant) (t : ℕ) → ((g l : ℕ) → shape g l simple.ABuild ≡ shapes.Plain) → Drawn u number shape forms spellings γ 0 7 (λ env. constant_lowered c (t ∷ [])) (λ names. given (constant_value c ∷ []))
+  pub constant-drawn : (γ : List Ty) (c : Constant) (t : ℕ) → ((g l : ℕ) → shape.row g l simple.ABuild ≡ shapes.Plain) → Drawn u number shape forms spellings γ 0 7 (λ env. constant_lowered c (t ∷ [])) (λ names. given (constant_value c ∷ []))
   constant-drawn γ (constant.Integer n) t flat = literal-drawn γ (constant.Integer n) t refl
   constant-drawn γ (constant.Letter n) t flat = literal-drawn γ (constant.Letter n) t refl
   constant-drawn γ (constant.Quoted cs) t flat = text-drawn γ cs t flat

@@ -2,10 +2,9 @@
 use Rattle.std.proofs.Common.{◌≡◌, ℕ, zero, suc, ◌+◌, ◌<◌, List, [], ◌∷◌, ◌++◌, map, length, get_or, refl, sym, ap, ◌∙◌, subst, arith}
 use Rattle.std.proofs.lemmas.List.{length-map}
 use Rattle.flow_value.specs.declared.value.Val.{Val}
-use Rattle.if1_graph.specs.declared.op.Simple.{Simple}
 use Rattle.if1_graph.specs.declared.op.Compound.{Compound}
 use Rattle.graph_meaning.specs.Carried.{Carried, Value, Unfilled}
-use Rattle.graph_meaning.specs.NodeValues.{Shape}
+use Rattle.lowering_meaning.proofs.Told.{Telling}
 use Rattle.graph_meaning.specs.Forms.{Form, next_of, first}
 use Rattle.graph_meaning.specs.Demand.{Network}
 use Rattle.graph_meaning.specs.Plain.{whole as whole_outputs, of_whole, NodesFire, LaterFires}
@@ -44,7 +43,7 @@ get-right (x ∷ xs) ys d (suc n) i e =
     let f : suc n + 0 + i ≡ suc (n + 0 + i) = omega arith in
     ap (λ k. get_or (x ∷ xs ++ ys) k d) f ∙ get-right xs ys d n i (omega (arith, e))
 
-module _ (u : Network) (number : ℕ → ℕ) (shape : ℕ → ℕ → Simple → Shape) where
+module _ (u : Network) (number : ℕ → ℕ) (shape : Telling) where
   -- ---- one of the graphs
 
   -- a graph inside of a node whose inputs have these values, with these own inputs

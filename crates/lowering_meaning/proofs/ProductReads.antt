@@ -2,7 +2,6 @@
 use Rattle.std.proofs.Common.{◌≡◌, ℕ, suc, true, List, ◌++◌, map, length}
 use Rattle.flow_value.specs.declared.ty.Ty.{Ty}
 use Rattle.flow_value.specs.declared.ty.Ty.TheVariants as ty
-use Rattle.if1_graph.specs.declared.op.Simple.{Simple}
 use Rattle.if1_graph.specs.declared.op.Compound.TheVariants as compound
 use Rattle.type_table.specs.declared.form.Form.{Form}
 use Rattle.typed_tree.specs.declared.expr.Product.{Product}
@@ -13,7 +12,7 @@ use Rattle.meaning.specs.Timed.{Timed, plus}
 use Rattle.meaning.specs.Sources.{places_of, names_at}
 use Rattle.meaning.specs.Meaning.{Gives as Means, all_of, defined, body_of, over}
 use Rattle.graph_meaning.specs.Carried.{Value}
-use Rattle.graph_meaning.specs.NodeValues.{Shape}
+use Rattle.lowering_meaning.proofs.Told.{Telling}
 use Rattle.graph_meaning.specs.Demand.{Network}
 use Rattle.lowering.specs.Feeds.{into}
 use Rattle.lowering.specs.Operations.{integer, all_lowered, defs_lowered}
@@ -39,7 +38,7 @@ yields-mine a y = record { value = y.value; steps = y.steps; from = from-mine _ 
 pub yield-theirs : {A : Type 0} (a : ℕ → Timed A) → Yields a → Yield a
 yield-theirs a y = record { value = y.value; steps = y.steps; from = from-theirs _ y.from }
 
-module _ (u : Network) (number : ℕ → ℕ) (shape : ℕ → ℕ → Simple → Shape) (forms : List Form) (spellings : List (List ℕ)) (hs : List Header) (p : List Function) (cover : Coverage) where
+module _ (u : Network) (number : ℕ → ℕ) (shape : Telling) (forms : List Form) (spellings : List (List ℕ)) (hs : List Header) (p : List Function) (cover : Coverage) where
   -- list phrases, read one after another
   pub each-read-all : (m : ℕ) (γ : List Ty) (gs : List Phrase) (ks : ℕ → List Means) → EachRead u number shape forms spellings hs p cover m γ gs ks → Read u number shape forms spellings m γ (all_lowered (each gs)) (λ j. all_of (ks j))
   each-read-all m γ _ _ no_read = nil-read u number shape forms spellings m γ

@@ -8,7 +8,6 @@ use Rattle.flow_value.specs.declared.ty.Ty.TheVariants as ty
 use Rattle.value_ops.specs.Operations.{op_value}
 use Rattle.value_ops.specs.declared.operation.Operation.TheVariants as operation
 use Rattle.sisal_tree.specs.declared.expr.Constant.TheVariants as constant
-use Rattle.if1_graph.specs.declared.op.Simple.{Simple}
 use Rattle.if1_graph.specs.declared.op.Compound.TheVariants as compound
 use Rattle.type_table.specs.declared.form.Form.{Form}
 use Rattle.loop_folds.specs.declared.masking.Masking.TheVariants as masking
@@ -34,7 +33,7 @@ use Rattle.meaning.specs.Rows.{no_rows, with_cells, with_row, with_rows, cells_i
 use Rattle.meaning.specs.Rows as rows
 use Rattle.meaning.specs.Meaning.{Gives as Means, all_of, defined, body_of, over, environments, at_place, each as at_each, folded}
 use Rattle.graph_meaning.specs.Carried.{Carried, Value, Many, Unfilled}
-use Rattle.graph_meaning.specs.NodeValues.{Shape}
+use Rattle.lowering_meaning.proofs.Told.{Telling}
 use Rattle.graph_meaning.specs.Forms.{columns, add_row}
 use Rattle.graph_meaning.specs.Demand.{Network}
 use Rattle.lowering.specs.declared.feed.Carried as wired
@@ -92,7 +91,7 @@ pub into-left : (env ws own : List Wire) → AllWires (FromNames (map into (env 
 into-left env ws own =
     in-all (map into env) (FromNames (map into (env ++ ws) ++ own)) (λ w a. from-in (map into (env ++ ws) ++ own) w (in-left w (map into (env ++ ws)) own (subst (In w) (sym (map-both into env ws)) (in-left w (map into env) (map into ws) a))))
 
-carried-length : (u : Network) (number : ℕ → ℕ) (shape : ℕ → ℕ → Simple → Shape) (s : Site) (ws : List Wire) (cs : List Carried) → AllCarried u number shape s ws cs → length ws ≡ length cs
+carried-length : (u : Network) (number : ℕ → ℕ) (shape : Telling) (s : Site) (ws : List Wire) (cs : List Carried) → AllCarried u number shape s ws cs → length ws ≡ length cs
 carried-length u number shape s [] [] a = refl
 carried-length u number shape s (w ∷ ws) (c ∷ cs) a = ap suc (carried-length u number shape s ws cs a.1)
 carried-length u number shape s [] (c ∷ cs) a = absurd a
@@ -243,7 +242,7 @@ module _ (forms : List Form) (spellings : List (List ℕ)) (q : Product) (ds : L
 
   -- ---- where a loop stands
 
-  module _ (u : Network) (number : ℕ → ℕ) (shape : ℕ → ℕ → Simple → Shape) (tys xs : List Ty) (goes : Goes q.sources tys xs) (int : IsNumber forms spellings integer ty.Int) (fb : Free the_body) (wide : ℕ) (wb : Wide wide the_body) where
+  module _ (u : Network) (number : ℕ → ℕ) (shape : Telling) (tys xs : List Ty) (goes : Goes q.sources tys xs) (int : IsNumber forms spellings integer ty.Int) (fb : Free the_body) (wide : ℕ) (wb : Wide wide the_body) where
     module _ (s : Site) (k j : ℕ) (env ws : List Wire) (names vs : List Val) (γ : List Ty) (ew : WiresOf forms spellings γ env) (fw : WiresOf forms spellings tys ws) (a : AllCarry u number shape s env names) (b : AllCarry u number shape s ws vs) (ov : AreOf tys vs) (pl : Placed u number shape s k j (the_loop env ws k j)) where
       abbrev pub ks : List Wire
       ks = inputs (graphs j env ws)
@@ -421,7 +420,7 @@ module _ (forms : List Form) (spellings : List (List ℕ)) (q : Product) (ds : L
 
 -- ---- the law
 
-module _ (u : Network) (number : ℕ → ℕ) (shape : ℕ → ℕ → Simple → Shape) (forms : List Form) (spellings : List (List ℕ)) (hs : List Header) (p : List Function) (cover : Coverage) where
+module _ (u : Network) (number : ℕ → ℕ) (shape : Telling) (forms : List Form) (spellings : List (List ℕ)) (hs : List Header) (p : List Function) (cover : Coverage) where
   -- what is asked of the shapes of the nodes of clauses
   abbrev pub ShapesAre : Type 0
   ShapesAre = (cs : List ClauseForm) (row made : List Ty) (ns : List ℕ) → AreMade cs row made → AreNumbers forms spellings ns made → AreShaped u number shape cs

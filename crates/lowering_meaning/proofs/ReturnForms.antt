@@ -12,7 +12,8 @@ use Rattle.loop_folds.specs.declared.folding.Folding.{Folding}
 use Rattle.loop_folds.specs.declared.folding.Folding.TheVariants as folding
 use Rattle.typed_tree.specs.declared.expr.ClauseForm.{ClauseForm}
 use Rattle.graph_meaning.specs.Carried.{Carried, Value, Name}
-use Rattle.graph_meaning.specs.NodeValues.{Shape, op, fold_of}
+use Rattle.lowering_meaning.proofs.Told.{Telling}
+use Rattle.graph_meaning.specs.NodeValues.{op, fold_of}
 use Rattle.graph_meaning.specs.Demand.{Network, Fixed}
 use Rattle.graph_meaning.specs.Plain.{fixed}
 use Rattle.lowering.specs.declared.feed.Feed.TheVariants.{Named}
@@ -72,7 +73,7 @@ returns-from env b (c ∷ cs) ms (t ∷ ts) k q h a =
 
 -- ---- what they give
 
-module _ (u : Network) (number : ℕ → ℕ) (shape : ℕ → ℕ → Simple → Shape) where
+module _ (u : Network) (number : ℕ → ℕ) (shape : Telling) where
   -- the lower bound of arrays
   abbrev pub IsBound : Site → Bound → ℤ → Type 0
   IsBound s (Wired w) l = Carries u number shape s w (Value (val.Int l))
@@ -86,14 +87,14 @@ module _ (u : Network) (number : ℕ → ℕ) (shape : ℕ → ℕ → Simple �
   -- the shapes of the nodes of clauses
   abbrev pub AreShaped : List ClauseForm → Type 0
   AreShaped [] = Unit {0}
-  AreShaped (c ∷ cs) = ((g l : ℕ) → IsShaped c.folding (shape g l (fold_row c.folding c.direction))) × AreShaped cs
+  AreShaped (c ∷ cs) = ((g l : ℕ) → IsShaped c.folding (shape.row g l (fold_row c.folding c.direction))) × AreShaped cs
 
   named : (s : Site) (t : List ℕ) → Held u number shape s (Fixed (Name t)) (Name t)
   named s t = always _ (λ d. fixed d s.graph s.ins (Name t))
 
   -- a reduction, by what its node gives
   reduce-done : (s : Site) (k q : ℕ) (f : Folding) (d : Direction) (ms : List Wire) (t : ℕ) (cs : List Carried) (l : ℤ)
-      → op (simple.Reduce (grouping_of d)) (shape s.graph (suc k) (simple.Reduce (grouping_of d))) (Name (reducer_name f) ∷ cs) ≡ Value (fold_of f l cs) ∷ []
+      → op (simple.Reduce (grouping_of d)) (shape.row s.graph (suc k) (simple.Reduce (grouping_of d))) (Name (reducer_name f) ∷ cs) ≡ Value (fold_of f l cs) ∷ []
       → AllCarried u number shape s ms cs → Placed u number shape s k q (row_lowered (simple.Reduce (grouping_of d)) (wire (Named (reducer_name f)) (One integer) ∷ ms) (t ∷ []) k q)
       → Done u number shape s k (row_lowered (simple.Reduce (grouping_of d)) (wire (Named (reducer_name f)) (One integer) ∷ ms) (t ∷ []) k q) (fold_of f l cs ∷ []) 2
   reduce-done s k q f d ms t cs l e a pl =
@@ -101,32 +102,32 @@ module _ (u : Network) (number : ℕ → ℕ) (shape : ℕ → ℕ → Simple �
       done-more u number shape s k (row_lowered (simple.Reduce (grouping_of d)) ws (t ∷ []) k q) (fold_of f l cs ∷ []) 1 2
       (row-done u number shape s k q (simple.Reduce (grouping_of d)) ws t (Name (reducer_name f) ∷ cs) (fold_of f l cs) e pl ((λ _. named s (reducer_name f)), a)) (omega arith)
 
-  fold-done : (s : Site) (k q : ℕ) (b : Bound) (f : Folding) (d : Direction) (ms : List Wire) (t : ℕ) (cs : List Carried) (l : ℤ) → (f ≡ folding.Array → IsBound s b l) → ((g n : ℕ) → IsShaped f (shape g n (fold_row f d)))
+  fold-done : (s : Site) (k q : ℕ) (b : Bound) (f : Folding) (d : Direction) (ms : List Wire) (t : ℕ) (cs : List Carried) (l : ℤ) → (f ≡ folding.Array → IsBound s b l) → ((g n : ℕ) → IsShaped f (shape.row g n (fold_row f d)))
       → AllCarried u number shape s ms cs → Placed u number shape s k q (fold_lowered b f d ms t k q) → Done u number shape s k (fold_lowered b f d ms t k q) (fold_of f l cs ∷ []) 2
   fold-done s k q (Wired w) folding.Array d ms t cs l b h a pl =
       let m = row_lowered simple.AGather (w ∷ ms) (t ∷ []) k q in
-      done-more u number shape s k m (fold_of folding.Array l cs ∷ []) 1 2 (row-done u number shape s k q simple.AGather (w ∷ ms) t (Value (val.Int l) ∷ cs) (fold_of folding.Array l cs) (fold-nodes folding.Array d (shape s.graph (suc k) simple.AGather) l cs (h s.graph (suc k))) pl (b refl, a)) (omega arith)
+      done-more u number shape s k m (fold_of folding.Array l cs ∷ []) 1 2 (row-done u number shape s k q simple.AGather (w ∷ ms) t (Value (val.Int l) ∷ cs) (fold_of folding.Array l cs) (fold-nodes folding.Array d (shape.row s.graph (suc k) simple.AGather) l cs (h s.graph (suc k))) pl (b refl, a)) (omega arith)
   fold-done s k q (Limit w) folding.Array d ms t cs l b h a pl =
       let m = row_lowered simple.ALimL (w ∷ []) (integer ∷ []) k q in
       let n = row_lowered simple.AGather (wire_at m.values 0 ∷ ms) (t ∷ []) (k + length m.nodes) (q + length m.graphs) in
       let x = row-done u number shape s k q simple.ALimL (w ∷ []) integer (Value (b refl).0 ∷ []) (val.Int l) (ap (λ v. Value v ∷ []) (b refl).2) (placed-left u number shape s k q m n pl) ((b refl).1, tt) in
       let y = row-done u number shape s (k + length m.nodes) (q + length m.graphs) simple.AGather (wire_at m.values 0 ∷ ms) t (Value (val.Int l) ∷ cs) (fold_of folding.Array l cs)
-      (fold-nodes folding.Array d (shape s.graph (suc (k + length m.nodes)) simple.AGather) l cs (h s.graph (suc (k + length m.nodes)))) (placed-right u number shape s k q m n pl) (x.held.0, a) in
+      (fold-nodes folding.Array d (shape.row s.graph (suc (k + length m.nodes)) simple.AGather) l cs (h s.graph (suc (k + length m.nodes)))) (placed-right u number shape s k q m n pl) (x.held.0, a) in
       done-both u number shape s k m n (val.Int l ∷ []) (fold_of folding.Array l cs ∷ []) 1 1 x y
   fold-done s k q b folding.Stream d ms t cs l _ h a pl =
       let m = row_lowered simple.AGather (one ∷ ms) (t ∷ []) k q in
       done-more u number shape s k m (fold_of folding.Stream l cs ∷ []) 1 2
-      (row-done u number shape s k q simple.AGather (one ∷ ms) t (Value (val.Int (pos 1)) ∷ cs) (fold_of folding.Stream l cs) (fold-nodes folding.Stream d (shape s.graph (suc k) simple.AGather) l cs (h s.graph (suc k))) pl
+      (row-done u number shape s k q simple.AGather (one ∷ ms) t (Value (val.Int (pos 1)) ∷ cs) (fold_of folding.Stream l cs) (fold-nodes folding.Stream d (shape.row s.graph (suc k) simple.AGather) l cs (h s.graph (suc k))) pl
       ((λ _. held-literal u number shape s (constant.Integer (pos 1)) (val.Int (pos 1)) refl), a)) (omega arith)
   fold-done s k q b folding.Last d ms t cs l _ h a pl =
       let m = row_lowered simple.FinalValue ms (t ∷ []) k q in
-      done-more u number shape s k m (fold_of folding.Last l cs ∷ []) 1 2 (row-done u number shape s k q simple.FinalValue ms t cs (fold_of folding.Last l cs) (fold-nodes folding.Last d (shape s.graph (suc k) simple.FinalValue) l cs (h s.graph (suc k))) pl a) (omega arith)
-  fold-done s k q b folding.Sum d ms t cs l _ h a pl = reduce-done s k q folding.Sum d ms t cs l (fold-nodes folding.Sum d (shape s.graph (suc k) (simple.Reduce (grouping_of d))) l cs (h s.graph (suc k))) a pl
-  fold-done s k q b folding.Product d ms t cs l _ h a pl = reduce-done s k q folding.Product d ms t cs l (fold-nodes folding.Product d (shape s.graph (suc k) (simple.Reduce (grouping_of d))) l cs (h s.graph (suc k))) a pl
-  fold-done s k q b folding.Least d ms t cs l _ h a pl = reduce-done s k q folding.Least d ms t cs l (fold-nodes folding.Least d (shape s.graph (suc k) (simple.Reduce (grouping_of d))) l cs (h s.graph (suc k))) a pl
-  fold-done s k q b folding.Greatest d ms t cs l _ h a pl = reduce-done s k q folding.Greatest d ms t cs l (fold-nodes folding.Greatest d (shape s.graph (suc k) (simple.Reduce (grouping_of d))) l cs (h s.graph (suc k))) a pl
-  fold-done s k q b folding.CatenateArrays d ms t cs l _ h a pl = reduce-done s k q folding.CatenateArrays d ms t cs l (fold-nodes folding.CatenateArrays d (shape s.graph (suc k) (simple.Reduce (grouping_of d))) l cs (h s.graph (suc k))) a pl
-  fold-done s k q b folding.CatenateStreams d ms t cs l _ h a pl = reduce-done s k q folding.CatenateStreams d ms t cs l (fold-nodes folding.CatenateStreams d (shape s.graph (suc k) (simple.Reduce (grouping_of d))) l cs (h s.graph (suc k))) a pl
+      done-more u number shape s k m (fold_of folding.Last l cs ∷ []) 1 2 (row-done u number shape s k q simple.FinalValue ms t cs (fold_of folding.Last l cs) (fold-nodes folding.Last d (shape.row s.graph (suc k) simple.FinalValue) l cs (h s.graph (suc k))) pl a) (omega arith)
+  fold-done s k q b folding.Sum d ms t cs l _ h a pl = reduce-done s k q folding.Sum d ms t cs l (fold-nodes folding.Sum d (shape.row s.graph (suc k) (simple.Reduce (grouping_of d))) l cs (h s.graph (suc k))) a pl
+  fold-done s k q b folding.Product d ms t cs l _ h a pl = reduce-done s k q folding.Product d ms t cs l (fold-nodes folding.Product d (shape.row s.graph (suc k) (simple.Reduce (grouping_of d))) l cs (h s.graph (suc k))) a pl
+  fold-done s k q b folding.Least d ms t cs l _ h a pl = reduce-done s k q folding.Least d ms t cs l (fold-nodes folding.Least d (shape.row s.graph (suc k) (simple.Reduce (grouping_of d))) l cs (h s.graph (suc k))) a pl
+  fold-done s k q b folding.Greatest d ms t cs l _ h a pl = reduce-done s k q folding.Greatest d ms t cs l (fold-nodes folding.Greatest d (shape.row s.graph (suc k) (simple.Reduce (grouping_of d))) l cs (h s.graph (suc k))) a pl
+  fold-done s k q b folding.CatenateArrays d ms t cs l _ h a pl = reduce-done s k q folding.CatenateArrays d ms t cs l (fold-nodes folding.CatenateArrays d (shape.row s.graph (suc k) (simple.Reduce (grouping_of d))) l cs (h s.graph (suc k))) a pl
+  fold-done s k q b folding.CatenateStreams d ms t cs l _ h a pl = reduce-done s k q folding.CatenateStreams d ms t cs l (fold-nodes folding.CatenateStreams d (shape.row s.graph (suc k) (simple.Reduce (grouping_of d))) l cs (h s.graph (suc k))) a pl
 
   first-carried : (s : Site) (ws : List Wire) (cs : List Carried) (n : ℕ) → AllCarried u number shape s ws cs → AllCarried u number shape s (take_up n ws) (take n cs)
   first-carried s ws cs zero a = tt

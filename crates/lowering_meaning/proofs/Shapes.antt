@@ -1,10 +1,9 @@
--- The shapes of the nodes of clauses, where no type is a stream or a union.
+-- The shapes of the nodes of clauses, where no type is a stream.
 use Rattle.std.proofs.Common.{◌≡◌, ℕ, List, [], ◌∷◌, sym, ap, subst}
 use Rattle.flow_value.specs.declared.ty.Ty.{Ty}
 use Rattle.flow_value.specs.declared.ty.Ty.TheVariants as ty
 use Rattle.flow_value.specs.declared.ty.Ty.TheOpen.{Ty-F}
 use Rattle.flow_value.specs.declared.ty.Ty.TheViews.{out-Ty}
-use Rattle.if1_graph.specs.declared.op.Simple.{Simple}
 use Rattle.if1_graph.specs.declared.op.Simple.TheVariants as simple
 use Rattle.if1_graph.specs.declared.op.Grouping.{Grouping}
 use Rattle.loop_folds.specs.declared.folding.Folding.{Folding}
@@ -15,17 +14,18 @@ use Rattle.typed_tree.specs.Types as number
 use Rattle.fitting_trees.specs.Fitting.{Makes, AreMade}
 use Rattle.fitting_trees.specs.Fitting as is
 use Rattle.sisal_tree.specs.declared.expr.Direction.{Direction}
+use Rattle.lowering_meaning.proofs.Told.{Telling}
 use Rattle.graph_meaning.specs.NodeValues.{Shape, gathering, catenation}
 use Rattle.graph_meaning.specs.NodeValues as shapes
 use Rattle.graph_meaning.specs.Demand.{Network}
 use Rattle.lowering.specs.Loops.{grouping_of}
 use Rattle.lowered_units.proofs.BuiltTrees.{out-bool, out-char, out-int, out-null, out-array, out-stream, out-record, out-union}
 use Rattle.loop_columns.specs.Clauses.{fold_row, IsShaped}
-use Rattle.lowering_meaning.specs.Coverage.{HasPlainTypes, IsPlainForm}
+use Rattle.lowering_meaning.specs.Coverage.{Streams, HasNo, IsNot}
 use Rattle.lowering_meaning.proofs.ReturnForms.{AreShaped}
 
-module _ (u : Network) (num : ℕ → ℕ) (shape : ℕ → ℕ → Simple → Shape) (forms : List Form) (spellings : List (List ℕ)) (plain : HasPlainTypes forms)
-    (gathers : (g l : ℕ) → shape g l simple.AGather ≡ shapes.Plain) (reduces : (g l : ℕ) (r : Grouping) → shape g l (simple.Reduce r) ≡ shapes.Plain) where
+module _ (u : Network) (num : ℕ → ℕ) (shape : Telling) (forms : List Form) (spellings : List (List ℕ)) (plain : HasNo Streams forms)
+    (gathers : (g l : ℕ) → shape.row g l simple.AGather ≡ shapes.Plain) (reduces : (g l : ℕ) (r : Grouping) → shape.row g l (simple.Reduce r) ≡ shapes.Plain) where
   -- no type is a stream
   abbrev NotStream : Ty-F Ty → Type 0
   NotStream (Ty-F.Stream t) = ⊥
@@ -37,14 +37,14 @@ module _ (u : Network) (num : ℕ → ℕ) (shape : ℕ → ℕ → Simple → S
   no-stream n _ (number.integer e) = subst NotStream (sym out-int) tt
   no-stream n _ (number.null e) = subst NotStream (sym out-null) tt
   no-stream n _ (number.array {t = t} e h) = subst NotStream (sym (out-array t)) tt
-  no-stream n _ (number.stream e h) = absurd (subst IsPlainForm e (plain n))
+  no-stream n _ (number.stream e h) = absurd (subst (IsNot Streams) e (plain n))
   no-stream n _ (number.a_record {fs = fs} e h) = subst NotStream (sym (out-record fs)) tt
   no-stream n _ (number.a_union {fs = fs} e h) = subst NotStream (sym (out-union fs)) tt
 
   stream-is : (t : Ty) → NotStream (out-Ty (ty.Stream t)) → ⊥
   stream-is t h = subst NotStream (out-stream t) h
 
-  folding-shaped : (n : ℕ) (f : Folding) (d : Direction) (a b : Ty) → Makes f a b → IsNumber forms spellings n b → (g l : ℕ) → IsShaped f (shape g l (fold_row f d))
+  folding-shaped : (n : ℕ) (f : Folding) (d : Direction) (a b : Ty) → Makes f a b → IsNumber forms spellings n b → (g l : ℕ) → IsShaped f (shape.row g l (fold_row f d))
   folding-shaped n _ d _ _ (is.makes_array a) h g l = ap gathering (gathers g l)
   folding-shaped n _ d _ _ (is.makes_stream a) h g l = absurd (stream-is a (no-stream n (ty.Stream a) h))
   folding-shaped n _ d _ _ (is.makes_last a) h g l = tt

@@ -1,9 +1,8 @@
 -- Where a phrase stands in a network: what its wires carry and its nodes fire, from some depth on.
 use Rattle.std.proofs.Common.{◌≡◌, ℕ, suc, ◌+◌, ◌≤◌, List, [], ◌∷◌, ◌++◌, map, length, refl, sym, ap, ◌∙◌, subst, arith, Some}
 use Rattle.flow_value.specs.declared.value.Val.{Val}
-use Rattle.if1_graph.specs.declared.op.Simple.{Simple}
 use Rattle.graph_meaning.specs.Carried.{Carried, Value}
-use Rattle.graph_meaning.specs.NodeValues.{Shape}
+use Rattle.lowering_meaning.proofs.Told.{Telling, AreTold, told-left, told-right}
 use Rattle.graph_meaning.specs.Demand.{Source, Vertex, Network, at_label}
 use Rattle.graph_meaning.specs.Plain.{CarryAll, no_port, port, NodesFire, no_node, a_node, InnerFires}
 use Rattle.graph_meaning.specs.Plain as plain
@@ -37,7 +36,7 @@ sources s ws = map (λ w. at_site s w.feed) ws
 abbrev pub Seen : Site → Wire → Type 0
 Seen s w = IsThere s.keys w
 
-module _ (u : Network) (number : ℕ → ℕ) (shape : ℕ → ℕ → Simple → Shape) where
+module _ (u : Network) (number : ℕ → ℕ) (shape : Telling) where
   abbrev pub Held : Site → Source → Carried → Type 0
   Held s o c = From (λ m. plain.Carries u m s.graph s.ins o c)
 
@@ -49,7 +48,7 @@ module _ (u : Network) (number : ℕ → ℕ) (shape : ℕ → ℕ → Simple �
 
   -- a node behind so many nodes
   abbrev pub vertex : Site → ℕ → LoweredNode → Vertex
-  vertex s n v = record { label = suc n; kind = kind_of (shape s.graph) number (suc n) v.action; ins = sources s v.ins; before = [] }
+  vertex s n v = record { label = suc n; kind = kind_of (shape.row s.graph) number (suc n) v.action; ins = sources s v.ins; before = [] }
 
   abbrev pub vertices : Site → ℕ → List LoweredNode → List Vertex
   vertices s n [] = []
@@ -63,15 +62,20 @@ module _ (u : Network) (number : ℕ → ℕ) (shape : ℕ → ℕ → Simple �
   abbrev pub StandsAt : Site → ℕ → List LoweredNode → Type 0
   StandsAt s n vs = StandIn (u s.graph).nodes s n vs
 
+  -- a graph of the network is this one, and its nodes have the shapes of their wires
+  abbrev pub IsAt : ℕ → LoweredGraph → Type 0
+  IsAt q d = (u q ≡ net_of (shape.row q) number d) × AreTold shape q 0 d.nodes
+
   -- graphs of the network from a number on are these
   abbrev pub AreAt : ℕ → List LoweredGraph → Type 0
   AreAt q [] = Unit {0}
-  AreAt q (d ∷ ds) = (u q ≡ net_of (shape q) number d) × AreAt (suc q) ds
+  AreAt q (d ∷ ds) = IsAt q d × AreAt (suc q) ds
 
   -- what a phrase becomes stands there behind so many nodes, and the graphs inside of it from a number on
   pub record Placed (s : Site) (n q : ℕ) (m : Lowered) : Type 0 where
     pub nodes : StandsAt s n m.nodes
     pub graphs : AreAt q m.graphs
+    pub told : AreTold shape s.graph n m.nodes
     pub there : AllWires (Seen s) (used m.nodes)
 
   -- a wire carries this, if it is there
@@ -179,6 +183,7 @@ module _ (u : Network) (number : ℕ → ℕ) (shape : ℕ → ℕ → Simple �
   placed-left s n q a b h = record {
     nodes = stands-left s n a.nodes b.nodes h.nodes;
     graphs = are-left q a.graphs b.graphs h.graphs;
+    told = told-left shape s.graph n a.nodes b.nodes h.told;
     there = left-wires _ (used a.nodes) (used b.nodes) (used-apart _ a.nodes b.nodes h.there);
   }
 
@@ -186,6 +191,7 @@ module _ (u : Network) (number : ℕ → ℕ) (shape : ℕ → ℕ → Simple �
   placed-right s n q a b h = record {
     nodes = stands-right s n a.nodes b.nodes h.nodes;
     graphs = are-right q a.graphs b.graphs h.graphs;
+    told = told-right shape s.graph n a.nodes b.nodes h.told;
     there = right-wires _ (used a.nodes) (used b.nodes) (used-apart _ a.nodes b.nodes h.there);
   }
 

@@ -1,11 +1,10 @@
 -- The functions of a translated program.
-use Rattle.std.proofs.Common.{◌≡◌, ℕ, zero, suc, ◌+◌, List, [], ◌∷◌, map, slice_get, get_or, Some, refl, sym, ap, ◌∙◌, subst, arith}
+use Rattle.std.proofs.Common.{◌≡◌, ℕ, zero, suc, ◌+◌, List, [], ◌∷◌, map, slice_get, get_or, Some, refl, sym, ap, ◌∙◌, subst, arith, ◌⊎◌, inl, inr}
 use Rattle.std.specs.Prelude.{find, ◌==◌}
 use Rattle.flow_value.specs.declared.value.Val.{Val}
 use Rattle.flow_value.specs.declared.ty.Ty.{Ty}
 use Rattle.if1_graph.specs.declared.graph.Unit1.{Unit1}
 use Rattle.if1_graph.specs.declared.op.Grouping.{Grouping}
-use Rattle.if1_graph.specs.declared.op.Simple.{Simple}
 use Rattle.if1_graph.specs.declared.op.Simple.TheVariants as simple
 use Rattle.if1_graph.specs.Units.{places, number_of as place_number}
 use Rattle.typed_tree.specs.declared.expr.TypedExpr.{TypedExpr}
@@ -23,6 +22,7 @@ use Rattle.meaning.specs.Plain.{plain_calls}
 use Rattle.meaning_laws.specs.Laws.{IsGiven}
 use Rattle.meaning_laws.proofs.Agree.{same, calls_same}
 use Rattle.graph_meaning.specs.Carried.{Value}
+use Rattle.lowering_meaning.proofs.Told.{Telling}
 use Rattle.graph_meaning.specs.NodeValues.{Shape}
 use Rattle.graph_meaning.specs.NodeValues as shape
 use Rattle.graph_meaning.specs.Demand.{Network}
@@ -33,14 +33,13 @@ use Rattle.lowering.specs.Graphs.{Lowering, closed, closed_graphs, new_graph, ne
 use Rattle.lowering.specs.Programs.{function_lowered, graphs, graph_at, number_of}
 use Rattle.lowering.specs.Types.{Table, table}
 use Rattle.lowered_units.specs.Fitting.{IsFitting}
-use Rattle.lowered_units.specs.Networks.{net_of, shapes}
 use Rattle.lowered_units.specs.Units.{IsTranslated, entries_from}
 use Rattle.lowered_units.proofs.Programs.{basics as basic_types}
 use Rattle.lowered_units.proofs.NestedTrees.{is-nested}
 use Rattle.lowered_units.proofs.Running.{runs-as-lowered}
-use Rattle.lowering_meaning.specs.Coverage.{Coverage, plain_forms}
-use Rattle.lowering_meaning.specs.Laws.{IsPlain, IsMeant, AreValuesKept, AreCostsThere}
-use Rattle.lowering_meaning.proofs.Sites.{AreAt}
+use Rattle.lowering_meaning.specs.Coverage.{Coverage, plain_forms, Kind, Streams, Unions, HasNo}
+use Rattle.lowering_meaning.specs.Laws.{BuildsNoUnion, IsPlain, IsMeant, AreValuesKept, AreCostsThere}
+use Rattle.lowering_meaning.proofs.Sites.{IsAt, AreAt}
 use Rattle.lowering_meaning.proofs.Inside.{part-at}
 use Rattle.lowering_meaning.proofs.Forms.{Typed}
 use Rattle.lowering_meaning.proofs.Trees.{FormsDrawn}
@@ -53,16 +52,18 @@ use Rattle.lowering_meaning.proofs.ProductReads.{product-read}
 use Rattle.lowering_meaning.proofs.TurnLaws.{turns-drawn, turns-read}
 use Rattle.lowering_meaning.proofs.PlainTables.{AllPlain, table-plain}
 use Rattle.lowering_meaning.proofs.Applied.{operation-drawn}
+use Rattle.lowering_meaning.proofs.Shaped.{telling, are-told}
+use Rattle.lowering_meaning.proofs.Sorts.{elements-are}
 
 -- ---- where the graphs of functions stand
 
-module _ (u : Network) (number : ℕ → ℕ) (shape : ℕ → ℕ → Simple → Shape) where
-  all-at : (q : ℕ) (ds : List LoweredGraph) → ((i j : ℕ) (d : LoweredGraph) → slice_get ds i ≡ Some d → j ≡ q + i → u j ≡ net_of (shape j) number d) → AreAt u number shape q ds
+module _ (u : Network) (number : ℕ → ℕ) (shape : Telling) where
+  all-at : (q : ℕ) (ds : List LoweredGraph) → ((i j : ℕ) (d : LoweredGraph) → slice_get ds i ≡ Some d → j ≡ q + i → IsAt u number shape j d) → AreAt u number shape q ds
   all-at q [] h = tt
   all-at q (d ∷ ds) h = (h 0 q d refl (omega arith), all-at (suc q) ds (λ i j e k n. h (suc i) j e k (omega (arith, n))))
 
   pub record Stands (n : ℕ) (g : Lowering) : Type 0 where
-    pub net : u n ≡ net_of (shape n) number (closed [] 0 0 (new_graph g n))
+    pub net : IsAt u number shape n (closed [] 0 0 (new_graph g n))
     pub graphs : AreAt u number shape (suc n) (new_graph g n).graphs
 
   function-at : (q : ℕ) (gs : List Lowering) → AreAt u number shape q (closed_graphs [] 0 0 (new_graphs q gs)) → (f : ℕ) (g : Lowering) → slice_get gs f ≡ Some g → Stands (get_or (numbers q (new_graphs q gs)) f 0) g
@@ -87,9 +88,9 @@ slice-map f (y ∷ xs) zero x e = go e
     go e = cc
 slice-map f (y ∷ xs) (suc i) x e = slice-map f xs i x e
 
-entries-plain : (p : Program) (l : ℕ) (es : Table) → AllPlain es → ArePlain (entries_from p l es)
-entries-plain p l [] h = tt
-entries-plain p l (e ∷ es) h = (h.0, entries-plain p (suc l) es h.1)
+entries-plain : (k : Kind) (p : Program) (l : ℕ) (es : Table) → AllPlain k es → ArePlain k (entries_from p l es)
+entries-plain k p l [] h = tt
+entries-plain k p l (e ∷ es) h = (h.0, entries-plain k p (suc l) es h.1)
 
 module _ (p : Program) (u : Unit1) (fit : IsFitting p) (t : IsTranslated p u) where
   abbrev N : Network
@@ -98,12 +99,14 @@ module _ (p : Program) (u : Unit1) (fit : IsFitting p) (t : IsTranslated p u) wh
   abbrev num : ℕ → ℕ
   num = number_of p
 
-  abbrev S : ℕ → ℕ → Simple → Shape
-  S = shapes u
+  abbrev S : Telling
+  S = telling p u
 
   stand : (cover : Coverage) (f : ℕ) (d : Function) → slice_get p.functions f ≡ Some d → FunctionAt N num S p.types p.names fit.headers p.functions cover f d
   stand cover f d e =
-      let all = all-at N num S 1 (graphs p) (λ i j x s n. runs-as-lowered p u fit t (is-nested p u fit t) j x (ap (graph_at p) (one-more i j n) ∙ s)) in
+      let all = all-at N num S 1 (graphs p) (λ i j x s n.
+      let there = ap (graph_at p) (one-more i j n) ∙ s in
+      (runs-as-lowered p u fit t (is-nested p u fit t) j x there, are-told p u fit t (is-nested p u fit t) j x there)) in
       let s = function-at N num S 1 (map (function_lowered p.types) p.functions) all f (function_lowered p.types d) (slice-map (function_lowered p.types) p.functions f d e) in
       record { net = s.net; graphs = s.graphs }
     where
@@ -120,18 +123,28 @@ module _ (p : Program) (u : Unit1) (fit : IsFitting p) (t : IsTranslated p u) wh
       let x = (calls_same p.functions f names vs i).1 (n, eq) in
       calls_typed p.types p.names fit.headers p.functions fit.tree f h there x.0 names (vs, i) o x.1
 
-  module _ (plain : IsPlain p) where
-    types : ArePlain u.types
-    types = subst ArePlain (sym t.types) (entries-plain p 1 (table p) (table-plain p plain.types))
+  module _ (plain : IsPlain p u) where
+    entries : (k : Kind) → HasNo k p.types → ArePlain k u.types
+    entries k h = subst (ArePlain k) (sym t.types) (entries-plain k p 1 (table p) (table-plain k p h))
+
+    types : ArePlain Streams u.types
+    types = entries Streams plain.types
+
+    records : (g l : ℕ) → S.row g l simple.RBuild ≡ shape.Plain
+    records g l = by plain.unions
+      where
+        by : HasNo Unions p.types ⊎ BuildsNoUnion u → S.row g l simple.RBuild ≡ shape.Plain
+        by (inl h) = records-plain u (entries Unions h) (find (λ p. place_number p == g) (places u)) l
+        by (inr h) = h g l
 
     -- integers have their number in every table
     int : IsNumber p.types p.names integer ty.Int
     int = number.integer (basic_types p fit).integers
 
-    gathers : (g l : ℕ) → S g l simple.AGather ≡ shape.Plain
+    gathers : (g l : ℕ) → S.row g l simple.AGather ≡ shape.Plain
     gathers g l = gathers-plain u types (find (λ p. place_number p == g) (places u)) l
 
-    reduces : (g l : ℕ) (r : Grouping) → S g l (simple.Reduce r) ≡ shape.Plain
+    reduces : (g l : ℕ) (r : Grouping) → S.row g l (simple.Reduce r) ≡ shape.Plain
     reduces g l r = reduces-plain u types (find (λ p. place_number p == g) (places u)) l r
 
     clauses : ShapesAre N num S p.types p.names fit.headers p.functions plain_forms
@@ -139,12 +152,10 @@ module _ (p : Program) (u : Unit1) (fit : IsFitting p) (t : IsTranslated p u) wh
 
     laws : FormsDrawn N num S p.types p.names fit.headers p.functions plain_forms
     laws =
-        let arrays : (g l : ℕ) → S g l simple.ABuild ≡ shape.Plain = λ g l. arrays-plain u types (find (λ p. place_number p == g) (places u)) l in
-        let records : (g l : ℕ) → S g l simple.RBuild ≡ shape.Plain = λ g l. records-plain u types (find (λ p. place_number p == g) (places u)) l in
+        let arrays : (g l : ℕ) → S.row g l simple.ABuild ≡ shape.Plain = λ g l. arrays-plain u types (find (λ p. place_number p == g) (places u)) l in
         record {
           arrays = arrays;
-          operation = λ o c γ tys a n r. operation-drawn N num S p.types p.names arrays records o c γ tys a n r;
-          no_case = refl;
+          operation = λ o c γ tys a n r. operation-drawn N num S p.types p.names arrays records (λ n ms i k. elements-are p u fit t n ms i k) o c γ tys a n r;
           product = λ q ks c. product-drawn N num S p.types p.names fit.headers p.functions plain_forms clauses int q ks c;
           initial = λ t ks c. turns-drawn N num S p.types p.names fit.headers p.functions plain_forms clauses t ks c;
         }

@@ -1,9 +1,9 @@
 -- Where the graphs of fitting expressions fire, the source gives something: a case a form.
-use Rattle.std.proofs.Common.{◌≡◌, ℕ, ◌<◌, ◌≤◌, Bool, true, false, List, [], ◌∷◌, ◌++◌, map, length, slice_get, Some, sym, ◌∙◌, arith}
+use Rattle.std.proofs.Common.{◌≡◌, ℕ, ◌<◌, ◌≤◌, true, List, [], ◌∷◌, ◌++◌, map, length, slice_get, Some, sym, ◌∙◌, arith}
 use Rattle.flow_value.specs.declared.value.Val.{Val}
+use Rattle.flow_value.specs.declared.value.Val.TheViews.{out-Val}
 use Rattle.flow_value.specs.declared.ty.Ty.{Ty}
 use Rattle.flow_value.specs.declared.ty.Ty.TheVariants as ty
-use Rattle.if1_graph.specs.declared.op.Simple.{Simple}
 use Rattle.value_ops.specs.Operations.{op_value}
 use Rattle.type_table.specs.declared.form.Form.{Form}
 use Rattle.typed_tree.specs.declared.expr.TypedExpr.{TypedExpr}
@@ -21,16 +21,16 @@ use Rattle.fitting_trees.specs.Fitting as is
 use Rattle.typed_rows.specs.Rows.{AreOf}
 use Rattle.meaning.specs.Timed.{given, plus}
 use Rattle.meaning.specs.Words.{constant_value, value_at}
-use Rattle.meaning.specs.Meaning.{Gives as Means, all_of, defined, kind_gives, calls, meaning}
+use Rattle.meaning.specs.Meaning.{Gives as Means, all_of, defined, kind_gives, arm_of, calls, meaning}
 use Rattle.graph_meaning.specs.Carried.{Value}
-use Rattle.graph_meaning.specs.NodeValues.{Shape}
+use Rattle.lowering_meaning.proofs.Told.{Telling}
 use Rattle.graph_meaning.specs.Demand.{Network}
 use Rattle.graph_meaning.specs.Plain.{NodesFire}
 use Rattle.lowering.specs.declared.feed.Carried.TheVariants.{One}
 use Rattle.lowering.specs.declared.graph.Action.TheVariants.{Call}
 use Rattle.lowering.specs.Graphs.{a_node}
 use Rattle.lowering.specs.Operations.{Lowers, all_lowered, defs_lowered}
-use Rattle.lowering.specs.Choices.{applied}
+use Rattle.lowering.specs.Choices.{applied, case_lowered}
 use Rattle.lowering.specs.Loops.{Phrase}
 use Rattle.lowering.specs.Phrases.{each, kind_lowered, phrase, lowers}
 use Rattle.lowering_meaning.specs.Coverage.{Coverage, all_ok, each_ok, counts, total, kind_covered, verdict}
@@ -40,10 +40,13 @@ use Rattle.lowering_meaning.proofs.Forms.{Wired, Typed}
 use Rattle.lowering_meaning.proofs.ReadForms.{Read, DrawnAll, TypedAll, read-as, step-read, given-read, nil-read, cons-read, then-read, given-on, nil-defs-read, cons-defs-read, body-read, call-on}
 use Rattle.lowering_meaning.proofs.WireTypes.{all-wired, defs-wired}
 use Rattle.lowering_meaning.proofs.IfReads.{if-read}
+use Rattle.lowering_meaning.proofs.Contents.{content-typed}
+use Rattle.lowering_meaning.proofs.CaseForms.{arms-free}
+use Rattle.lowering_meaning.proofs.CaseReads.{ArmsRead, no_arm, named_arm, other_arm, case-read}
 use Rattle.lowering_meaning.proofs.Trees as trees
 use Rattle.lowering_meaning.proofs.Trees.{FitsTo, AllFitTo, DefsFitTo, several, several_lists, means, means_lists, EachDrawn, EachOf, CallsDrawn, FormsDrawn}
 
-module _ (u : Network) (number : ℕ → ℕ) (shape : ℕ → ℕ → Simple → Shape) (forms : List Form) (spellings : List (List ℕ)) (hs : List Header) (p : List Function) (cover : Coverage) where
+module _ (u : Network) (number : ℕ → ℕ) (shape : Telling) (forms : List Form) (spellings : List (List ℕ)) (hs : List Header) (p : List Function) (cover : Coverage) where
   -- phrases one for one, at a depth
   pub data EachRead (m : ℕ) (γ : List Ty) : List Phrase → (ℕ → List Means) → Type 0 where
     no_read : EachRead m γ [] (λ j. [])
@@ -169,11 +172,17 @@ module _ (u : Network) (number : ℕ → ℕ) (shape : ℕ → ℕ → Simple �
           seen m γ l ns (typed.If ts us vs) (TypedKind-F.If ts us vs) e
           (if-read (L ts) (L us) (L vs) ns u number shape forms spellings m γ (M ts) (M us) (M vs) (length (map (phrase forms) ts)) 0 0 (all-d γ ts (ty.Bool ∷ []) t c.0) (all-t γ ts (ty.Bool ∷ []) t)
           (all-read γ ts (ty.Bool ∷ []) t c.0 m r) (all-d γ us tys h d.0 0).free (all-read γ us tys h d.0 m r) (all-d γ vs tys k d.1 0).free (all-read γ vs tys k d.1 m r))
-      expr-read γ _ tys (is.tag_case ms contents {l = l} {ns = ns} {c = c} {ts = ts} {arms = arms} h a t x named others one num) v m r =
-          absurd (none laws.no_case (and-true _ _ (covered l ns (typed.Case c ts arms) (TypedKind-F.Case c ts arms) (sym (typed.rolls-Case c ts arms)) v)).0)
-        where
-          none : {b : Bool} → b ≡ false → b ≡ true → ⊥
-          none e f = cc
+      expr-read γ _ tys (is.tag_case ms contents {l = l} {ns = ns} {c = c} {ts = ts} {arms = arms} h a t named chosen others one num) v m r =
+          let e = sym (typed.rolls-Case c ts arms) in
+          let d = and-true _ _ (covered l ns (typed.Case c ts arms) (TypedKind-F.Case c ts arms) e v) in
+          let us : List (List Lowers) = several_lists u number shape forms spellings hs p cover arms in
+          let gs : List Lowers = map all_lowered us in
+          let ks : ℕ → List Means = λ j. map all_of (means_lists u number shape forms spellings hs p cover j arms) in
+          seen m γ l ns (typed.Case c ts arms) (TypedKind-F.Case c ts arms) e
+          (then-read u number shape forms spellings m γ (ty.Uni ms ∷ []) (length (map (phrase forms) ts)) (all_lowered (several u number shape forms spellings hs p cover ts)) (λ j. all_of (means u number shape forms spellings hs p cover j ts)) (λ env ws. case_lowered forms c us ns ws env) (λ j names vs. arm_of c (length ns) (ks j) (out-Val (value_at vs 0)) names)
+          (all-d γ ts (ty.Uni ms ∷ []) h d.0) (all-t γ ts (ty.Uni ms ∷ []) h) (all-wired forms spellings hs γ ts (ty.Uni ms ∷ []) h) (all-read γ ts (ty.Uni ms ∷ []) h d.0 m r)
+          (case-read u number shape forms spellings m γ c gs ns contents ms (length arms) ks (trees.several-length u number shape forms spellings hs p cover arms) t (λ k num i a below at. content-typed forms spellings k ms contents c (length arms) num t chosen i (named i below) a at)
+          (arms-free u number shape forms spellings (trees.arms-drawn u number shape forms spellings hs p cover sound sound-calls laws 0 (calls-drawn 0) γ c.named arms contents tys a d.1)) (arms-read γ c.named arms contents tys a d.1 m r)))
       expr-read γ _ made (is.product {tys = tys} {names = xs} {δ = δ} {row = row} {l = l} {ns = ns} {p = q} {bounds = bounds} {us = us} {ts = ts} b g d h x num) v m r =
           let e = sym (typed.rolls-Product q bounds us ts) in
           let c = and-true _ _ (covered l ns (typed.Product q bounds us ts) (TypedKind-F.Product q bounds us ts) e v) in
@@ -218,3 +227,15 @@ module _ (u : Network) (number : ℕ → ℕ) (shape : ℕ → ℕ → Simple �
           let c = and-true _ _ v in
           cons-defs-read u number shape forms spellings m γ tys (length (map (phrase forms) ts)) (several u number shape forms spellings hs p cover ts) (several_lists u number shape forms spellings hs p cover us) (λ j. means u number shape forms spellings hs p cover j ts) (λ j. means_lists u number shape forms spellings hs p cover j us)
           (all-d γ ts tys h c.0) (all-t γ ts tys h) (all-wired forms spellings hs γ ts tys h) (all-read γ ts tys h c.0 m r) (defs-read (γ ++ tys) us others k c.1 m r)
+
+      pub arms-read : (γ : List Ty) (named : ℕ) (arms : List (List TypedExpr)) (contents tys : List Ty) → trees.ArmsFitTo u number shape forms spellings hs p cover γ named arms contents tys → each_covered arms → (m : ℕ) → CallsRead m
+          → ArmsRead u number shape forms spellings m γ named (map all_lowered (several_lists u number shape forms spellings hs p cover arms)) (λ j. map all_of (means_lists u number shape forms spellings hs p cover j arms)) contents
+      arms-read γ _ _ _ tys is.no_arm v m r = no_arm
+      arms-read γ _ _ _ tys (is.a_named_arm {contents = contents} {named = named} a {ts = ts} {arms = arms} h k) v m r =
+          let c = and-true _ _ v in
+          named_arm named (all_lowered (several u number shape forms spellings hs p cover ts)) (map all_lowered (several_lists u number shape forms spellings hs p cover arms)) (λ j. all_of (means u number shape forms spellings hs p cover j ts)) (λ j. map all_of (means_lists u number shape forms spellings hs p cover j arms)) a contents
+          (all-read (γ ++ a ∷ []) ts tys h c.0 m r) (arms-read γ named arms contents tys k c.1 m r)
+      arms-read γ _ _ _ tys (is.an_arm {ts = ts} {arms = arms} h k) v m r =
+          let c = and-true _ _ v in
+          other_arm (all_lowered (several u number shape forms spellings hs p cover ts)) (map all_lowered (several_lists u number shape forms spellings hs p cover arms)) (λ j. all_of (means u number shape forms spellings hs p cover j ts)) (λ j. map all_of (means_lists u number shape forms spellings hs p cover j arms))
+          (all-read γ ts tys h c.0 m r) (arms-read γ 0 arms [] tys k c.1 m r)

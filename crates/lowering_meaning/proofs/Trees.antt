@@ -1,10 +1,10 @@
 -- What fitting expressions give in the source, their graphs give: a case a form.
-use Rattle.std.proofs.Common.{◌≡◌, ℕ, suc, ◌+◌, ◌*◌, Bool, true, false, List, [], ◌∷◌, ◌++◌, map, length, slice_get, Some, None, refl, sym, ap, ◌∙◌, subst, arith}
+use Rattle.std.proofs.Common.{◌≡◌, ℕ, suc, ◌+◌, ◌*◌, true, List, [], ◌∷◌, ◌++◌, map, length, slice_get, Some, None, refl, sym, ap, ◌∙◌, subst, arith}
 use Rattle.std.proofs.lemmas.List.{length-append}
 use Rattle.flow_value.specs.declared.value.Val.{Val}
+use Rattle.flow_value.specs.declared.value.Val.TheViews.{out-Val}
 use Rattle.flow_value.specs.declared.ty.Ty.{Ty}
 use Rattle.flow_value.specs.declared.ty.Ty.TheVariants as ty
-use Rattle.if1_graph.specs.declared.op.Simple.{Simple}
 use Rattle.if1_graph.specs.declared.op.Simple.TheVariants as simple
 use Rattle.value_ops.specs.Operations.{op_value}
 use Rattle.value_ops.specs.declared.operation.Operation.{Operation}
@@ -24,8 +24,9 @@ use Rattle.fitting_trees.specs.Fitting as is
 use Rattle.typed_rows.specs.Rows.{AreOf}
 use Rattle.meaning.specs.Timed.{given, plus, andthen}
 use Rattle.meaning.specs.Words.{constant_value, value_at}
-use Rattle.meaning.specs.Meaning.{Gives as Means, all_of, defined, body_of, kind_gives, calls, meaning}
+use Rattle.meaning.specs.Meaning.{Gives as Means, all_of, defined, body_of, kind_gives, arm_of, calls, meaning}
 use Rattle.graph_meaning.specs.Carried.{Value}
+use Rattle.lowering_meaning.proofs.Told.{Telling}
 use Rattle.graph_meaning.specs.NodeValues.{Shape}
 use Rattle.graph_meaning.specs.NodeValues as shapes
 use Rattle.graph_meaning.specs.Demand.{Network}
@@ -34,7 +35,7 @@ use Rattle.lowering.specs.declared.graph.Action.TheVariants.{Call}
 use Rattle.lowering.specs.Graphs.{only, a_node}
 use Rattle.lowering.specs.Graphs as graphs
 use Rattle.lowering.specs.Operations.{Lowers, all_lowered, defs_lowered, body_lowered, constant_lowered}
-use Rattle.lowering.specs.Choices.{applied}
+use Rattle.lowering.specs.Choices.{applied, case_lowered}
 use Rattle.lowering.specs.Loops.{Phrase}
 use Rattle.lowering.specs.Phrases.{each, kind_lowered, phrase, lowers}
 use Rattle.lowering_meaning.specs.Coverage.{Coverage, all_ok, each_ok, counts, total, kind_covered, verdict}
@@ -42,6 +43,8 @@ use Rattle.lowering_meaning.proofs.Layers.{parts_meant, meaning-is, parts_lowere
 use Rattle.lowering_meaning.proofs.Inside.{Gives}
 use Rattle.lowering_meaning.proofs.Forms.{Wired, Typed, nil-typed, cons-typed, nil-defs-typed, cons-defs-typed, FreeOn, Drawn, drawn-as, step-drawn, nil-drawn, cons-drawn, DrawnOn, then-drawn, nil-defs-drawn, cons-defs-drawn, body-drawn, less-drawn}
 use Rattle.lowering_meaning.proofs.Ifs.{node-from, if-drawn}
+use Rattle.lowering_meaning.proofs.Contents.{content-typed}
+use Rattle.lowering_meaning.proofs.CaseForms.{ArmsDrawn, no_arm, named_arm, other_arm, arms-free, case-free, case-drawn}
 use Rattle.lowering_meaning.proofs.Widths.{Wide, expr-wide, fit-count}
 use Rattle.lowering_meaning.proofs.WireTypes.{all-wired, defs-wired}
 use Rattle.lowering_meaning.proofs.Operations.{value-drawn, constant-drawn, call-on}
@@ -58,7 +61,7 @@ numbers-length forms spellings [] (t ∷ tys) h = absurd h
 numbers-length forms spellings (n ∷ ns) [] h = absurd h
 numbers-length forms spellings (n ∷ ns) (t ∷ tys) h = ap suc (numbers-length forms spellings ns tys h.1)
 
-module _ (u : Network) (number : ℕ → ℕ) (shape : ℕ → ℕ → Simple → Shape) (forms : List Form) (spellings : List (List ℕ)) (hs : List Header) (p : List Function) (cover : Coverage) where
+module _ (u : Network) (number : ℕ → ℕ) (shape : Telling) (forms : List Form) (spellings : List (List ℕ)) (hs : List Header) (p : List Function) (cover : Coverage) where
   abbrev pub FitsTo : List Ty → TypedExpr → List Ty → Type 0
   FitsTo γ e tys = Fits (AreNumbers forms spellings) hs γ e tys
 
@@ -68,11 +71,18 @@ module _ (u : Network) (number : ℕ → ℕ) (shape : ℕ → ℕ → Simple �
   abbrev pub DefsFitTo : List Ty → List (List TypedExpr) → List Ty → Type 0
   DefsFitTo γ us δ = DefsFit (AreNumbers forms spellings) hs γ us δ
 
+  abbrev pub ArmsFitTo : List Ty → ℕ → List (List TypedExpr) → List Ty → List Ty → Type 0
+  ArmsFitTo γ named arms contents tys = ArmsFit (AreNumbers forms spellings) hs γ named arms contents tys
+
   abbrev pub several : List TypedExpr → List Lowers
   several es = each (map (phrase forms) es)
 
   abbrev pub several_lists : List (List TypedExpr) → List (List Lowers)
   several_lists us = map each (map (map (phrase forms)) us)
+
+  pub several-length : (us : List (List TypedExpr)) → length us ≡ length (map all_lowered (several_lists us))
+  several-length [] = refl
+  several-length (ts ∷ us) = ap suc (several-length us)
 
   abbrev pub means : ℕ → List TypedExpr → List Means
   means n es = map (meaning n p) es
@@ -131,9 +141,8 @@ module _ (u : Network) (number : ℕ → ℕ) (shape : ℕ → ℕ → Simple �
 
   -- what is asked of the forms that are covered
   pub record FormsDrawn : Type 0 where
-    pub arrays : (g l : ℕ) → shape g l simple.ABuild ≡ shapes.Plain
+    pub arrays : (g l : ℕ) → shape.row g l simple.ABuild ≡ shapes.Plain
     pub operation : (o : Operation) → cover.operation o ≡ true → OperationDrawn o
-    pub no_case : cover.tag_case ≡ false
     pub product : (q : Product) (arity : List ℕ) → cover.product q arity ≡ true → ProductDrawn q arity
     pub initial : (t : Turns) (arity : List ℕ) → cover.initial t arity ≡ true → InitialDrawn t arity
 
@@ -242,11 +251,17 @@ module _ (u : Network) (number : ℕ → ℕ) (shape : ℕ → ℕ → Simple �
             seen γ l ns (typed.If ts us vs) (TypedKind-F.If ts us vs) e
             (if-drawn (several ts) (several us) (several vs) ns u number shape forms spellings γ tys (length (map (phrase forms) ts)) (length (map (phrase forms) us)) (length (map (phrase forms) vs)) (all_of (means n ts)) (all_of (means n us)) (all_of (means n vs))
             (all-drawn γ ts (ty.Bool ∷ []) t c.0) (all-typed n γ ts (ty.Bool ∷ []) t) (all-drawn γ us tys h d.0) (all-typed n γ us tys h) (all-drawn γ vs tys k d.1) (all-typed n γ vs tys k) (numbers-length forms spellings ns tys num))
-        expr-drawn γ _ tys (is.tag_case ms contents {l = l} {ns = ns} {c = c} {ts = ts} {arms = arms} h a t r named others one num) v =
-            absurd (none laws.no_case (and-true _ _ (covered l ns (typed.Case c ts arms) (TypedKind-F.Case c ts arms) (sym (typed.rolls-Case c ts arms)) v)).0)
-          where
-            none : {b : Bool} → b ≡ false → b ≡ true → ⊥
-            none e f = cc
+        expr-drawn γ _ tys (is.tag_case ms contents {l = l} {ns = ns} {c = c} {ts = ts} {arms = arms} h a t named chosen others one num) v =
+            let e = sym (typed.rolls-Case c ts arms) in
+            let d = and-true _ _ (covered l ns (typed.Case c ts arms) (TypedKind-F.Case c ts arms) e v) in
+            let gs : List Lowers = map all_lowered (several_lists arms) in
+            let ks : List Means = map all_of (means_lists n arms) in
+            let made = arms-drawn γ c.named arms contents tys a d.1 in
+            seen γ l ns (typed.Case c ts arms) (TypedKind-F.Case c ts arms) e
+            (then-drawn u number shape forms spellings γ (ty.Uni ms ∷ []) (length (map (phrase forms) ts)) 0 7 (all_lowered (several ts)) (all_of (means n ts)) (λ env ws. case_lowered forms c (several_lists arms) ns ws env) (λ names vs. arm_of c (length ns) ks (out-Val (value_at vs 0)) names)
+            (all-drawn γ ts (ty.Uni ms ∷ []) h d.0) (all-typed n γ ts (ty.Uni ms ∷ []) h) (all-wired forms spellings hs γ ts (ty.Uni ms ∷ []) h)
+            (case-free u number shape forms spellings c gs ns (arms-free u number shape forms spellings made))
+            (case-drawn u number shape forms spellings c gs ns γ tys contents ms (length arms) ks (several-length arms) t (λ k num i a below at. content-typed forms spellings k ms contents c (length arms) num t chosen i (named i below) a at) made (numbers-length forms spellings ns tys num)))
         expr-drawn γ _ made (is.product {tys = tys} {names = xs} {δ = δ} {row = row} {l = l} {ns = ns} {p = q} {bounds = bounds} {us = us} {ts = ts} b g d h m num) v =
             let e = sym (typed.rolls-Product q bounds us ts) in
             let c = and-true _ _ (covered l ns (typed.Product q bounds us ts) (TypedKind-F.Product q bounds us ts) e v) in
@@ -283,3 +298,15 @@ module _ (u : Network) (number : ℕ → ℕ) (shape : ℕ → ℕ → Simple �
         defs-drawn γ _ _ (is.a_def {tys = tys} {others = others} {ts = ts} {us = us} h k) v =
             let c = and-true _ _ v in
             cons-defs-drawn u number shape forms spellings γ tys (length (map (phrase forms) ts)) (several ts) (several_lists us) (means n ts) (means_lists n us) (all-drawn γ ts tys h c.0) (all-typed n γ ts tys h) (all-wired forms spellings hs γ ts tys h) (defs-drawn (γ ++ tys) us others k c.1)
+
+        pub arms-drawn : (γ : List Ty) (named : ℕ) (arms : List (List TypedExpr)) (contents tys : List Ty) → ArmsFitTo γ named arms contents tys → each_covered arms
+            → ArmsDrawn u number shape forms spellings γ tys named (map all_lowered (several_lists arms)) (map all_of (means_lists n arms)) contents
+        arms-drawn γ _ _ _ tys is.no_arm v = no_arm
+        arms-drawn γ _ _ _ tys (is.a_named_arm {contents = contents} {named = named} a {ts = ts} {arms = arms} h k) v =
+            let c = and-true _ _ v in
+            named_arm named (all_lowered (several ts)) (map all_lowered (several_lists arms)) (all_of (means n ts)) (map all_of (means_lists n arms)) a contents
+            (record { slack = length (map (phrase forms) ts); drawn = all-drawn (γ ++ a ∷ []) ts tys h c.0; typed = all-typed n (γ ++ a ∷ []) ts tys h }) (arms-drawn γ named arms contents tys k c.1)
+        arms-drawn γ _ _ _ tys (is.an_arm {ts = ts} {arms = arms} h k) v =
+            let c = and-true _ _ v in
+            other_arm (all_lowered (several ts)) (map all_lowered (several_lists arms)) (all_of (means n ts)) (map all_of (means_lists n arms))
+            (record { slack = length (map (phrase forms) ts); drawn = all-drawn γ ts tys h c.0; typed = all-typed n γ ts tys h }) (arms-drawn γ 0 arms [] tys k c.1)

@@ -8,7 +8,6 @@ use Rattle.flow_value.specs.declared.value.Val.TheVariants as val
 use Rattle.flow_value.specs.declared.operation.Scalar1.TheVariants as unary
 use Rattle.value_ops.specs.Operations.{op_value}
 use Rattle.value_ops.specs.declared.operation.Operation.TheVariants as operation
-use Rattle.if1_graph.specs.declared.op.Simple.{Simple}
 use Rattle.if1_graph.specs.declared.op.Simple.TheVariants as simple
 use Rattle.sisal_tree.specs.declared.expr.Constant.TheVariants as constant
 use Rattle.flow_value.specs.declared.ty.Ty.{Ty}
@@ -18,7 +17,7 @@ use Rattle.typed_tree.specs.declared.expr.Turns.{Turns}
 use Rattle.typed_rows.proofs.Rows.{and_two}
 use Rattle.meaning.specs.Meaning as source
 use Rattle.graph_meaning.specs.Carried.{Carried, Value, Unfilled}
-use Rattle.graph_meaning.specs.NodeValues.{Shape}
+use Rattle.lowering_meaning.proofs.Told.{Telling}
 use Rattle.graph_meaning.specs.Demand.{Network}
 use Rattle.lowering.specs.declared.feed.Carried as wired
 use Rattle.lowering.specs.declared.feed.Carried.TheVariants.{One}
@@ -91,7 +90,7 @@ module _ (loop : Option ℕ → Option ℕ) (w : ℕ) (below : (z : Option ℕ) 
           let y : next + length (extra (Some x) p.lowers ++ extras loop bs ps) ≤ w = subst (λ z. next + length (extra z p.lowers ++ extras loop bs ps) ≤ w) e h in
           (below p.name x e, rest next y)
 
-module _ (u : Network) (number : ℕ → ℕ) (shape : ℕ → ℕ → Simple → Shape) where
+module _ (u : Network) (number : ℕ → ℕ) (shape : Telling) where
   -- the wire of a place carries what stands there
   carried-at : (s : Site) (ws : List Wire) (cs : List Carried) (x : ℕ) → x < length cs → AllCarried u number shape s ws cs → Carries u number shape s (wire_at ws x) (get_or cs x Unfilled)
   carried-at s [] [] x h a = absurd (omega (arith, h))
@@ -233,7 +232,7 @@ module _ (t : Turns) (fs : List (List Lowers)) (ts : List Lowers) (ds : List (Li
   loop-free ff ft fd fe env k q = whole-from env (loop_kind t.is_first) (graphs q env) (arms q env) 0 ns k q (graphs-from q env ff ft fd (fe (loop q env)))
 
   -- where a loop stands
-  module _ (u : Network) (number : ℕ → ℕ) (shape : ℕ → ℕ → Simple → Shape) (forms : List TypeForm) (spellings : List (List ℕ)) (γ around_loop later : List Ty) (s : Site) (k q : ℕ) (env : List Wire) (names : List Val) (a : AllCarry u number shape s env names) (pl : Placed u number shape s k q (the_loop env k q))
+  module _ (u : Network) (number : ℕ → ℕ) (shape : Telling) (forms : List TypeForm) (spellings : List (List ℕ)) (γ around_loop later : List Ty) (s : Site) (k q : ℕ) (env : List Wire) (names : List Val) (a : AllCarry u number shape s env names) (pl : Placed u number shape s k q (the_loop env k q))
       (ff : Free (defs_lowered fs)) (ft : Free (all_lowered ts)) (fd : Free (defs_lowered ds)) (fe : (loop : Option ℕ → Option ℕ) → Free (all_lowered (extras loop bs ps)))
       (we : WiresOf forms spellings γ env) (wf : WiredTo forms spellings γ (defs_lowered fs) (γ ++ around_loop)) (wd : WiredTo forms spellings (γ ++ around_loop) (defs_lowered ds) ((γ ++ around_loop) ++ later)) (ren : Renews around_loop t.renewed later) where
     abbrev pub ks : List Wire

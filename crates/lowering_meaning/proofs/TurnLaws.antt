@@ -2,7 +2,6 @@
 -- gives something.
 use Rattle.std.proofs.Common.{◌≡◌, ℕ, suc, ◌+◌, true, List, [], ◌∷◌, ◌++◌, length, Option, refl, sym, ap, ◌∙◌, arith, nat_eq}
 use Rattle.flow_value.specs.declared.ty.Ty.{Ty}
-use Rattle.if1_graph.specs.declared.op.Simple.{Simple}
 use Rattle.type_table.specs.declared.form.Form.{Form}
 use Rattle.typed_tree.specs.declared.program.Function.{Function}
 use Rattle.typed_tree.specs.declared.expr.Turns.{Turns}
@@ -12,7 +11,7 @@ use Rattle.loop_folds.specs.declared.masking.Masking.TheVariants as masking
 use Rattle.fitting_trees.specs.Fitting.{Header}
 use Rattle.meaning.specs.Rows.{span}
 use Rattle.meaning.specs.Meaning.{Gives as Means}
-use Rattle.graph_meaning.specs.NodeValues.{Shape}
+use Rattle.lowering_meaning.proofs.Told.{Telling}
 use Rattle.graph_meaning.specs.Demand.{Network}
 use Rattle.lowering.specs.Operations.{all_lowered}
 use Rattle.lowering.specs.Loops.{Phrase, mask_places, unless_places, extras}
@@ -43,7 +42,7 @@ flags-are (c ∷ cs) = go c.masking (flags-are cs)
     go masking.When e = omega (arith, e)
     go masking.Unless e = omega (arith, e)
 
-module _ (u : Network) (number : ℕ → ℕ) (shape : ℕ → ℕ → Simple → Shape) (forms : List Form) (spellings : List (List ℕ)) (hs : List Header) (p : List Function) (cover : Coverage) where
+module _ (u : Network) (number : ℕ → ℕ) (shape : Telling) (forms : List Form) (spellings : List (List ℕ)) (hs : List Header) (p : List Function) (cover : Coverage) where
   named-phrases : (γ : List Ty) (gs : List Phrase) (ks : List Means) (cs : List ℕ) → EachOf u number shape forms spellings hs p cover γ gs ks cs → AreNamedPhrases gs ks
   named-phrases γ [] [] [] o = tt
   named-phrases γ (g ∷ gs) (k ∷ ks) (c ∷ cs) o = (o.0.2, named-phrases γ gs ks cs o.1)

@@ -5,7 +5,6 @@ use Rattle.flow_value.specs.declared.cause.Cause.{Cause}
 use Rattle.flow_value.specs.declared.value.Val.{Val}
 use Rattle.flow_value.specs.declared.ty.Ty.{Ty}
 use Rattle.flow_value.specs.declared.ty.Ty.TheVariants as ty
-use Rattle.if1_graph.specs.declared.op.Simple.{Simple}
 use Rattle.type_table.specs.declared.form.Form.{Form}
 use Rattle.typed_tree.specs.declared.program.Function.{Function}
 use Rattle.typed_tree.specs.declared.expr.Turns.{Turns}
@@ -22,7 +21,7 @@ use Rattle.meaning.specs.Rows.{span, no_rows, with_rows, with_row, with_cells, c
 use Rattle.meaning.specs.Meaning.{Gives as Means, all_of, defined, turned, each as each_of, members, unless_failed, folded, looped}
 use Rattle.meaning.specs.Meaning as source
 use Rattle.graph_meaning.specs.Carried.{Carried, Value, Many, Unfilled}
-use Rattle.graph_meaning.specs.NodeValues.{Shape}
+use Rattle.lowering_meaning.proofs.Told.{Telling}
 use Rattle.graph_meaning.specs.Forms.{columns, add_row}
 use Rattle.graph_meaning.specs.Demand.{Network}
 use Rattle.lowering.specs.declared.feed.Wire.{Wire}
@@ -165,7 +164,7 @@ clauses_made cs rows = made (pos 1) (with_rows cs (no_rows cs) rows)
 
 -- ---- the loop
 
-module _ (u : Network) (number : ℕ → ℕ) (shape : ℕ → ℕ → Simple → Shape) (forms : List Form) (spellings : List (List ℕ)) (hs : List Header) (p : List Function) (cover : Coverage) where
+module _ (u : Network) (number : ℕ → ℕ) (shape : Telling) (forms : List Form) (spellings : List (List ℕ)) (hs : List Header) (p : List Function) (cover : Coverage) where
   abbrev EachD : List Ty → List Phrase → List Means → Type 0
   EachD γ gs ks = EachDrawn u number shape forms spellings hs p cover γ gs ks
 

@@ -4,7 +4,6 @@ use Rattle.flow_value.specs.declared.value.Val.{Val}
 use Rattle.flow_value.specs.declared.operation.Scalar1.TheVariants as unary
 use Rattle.flow_value.specs.declared.ty.Ty.{Ty}
 use Rattle.flow_value.specs.declared.ty.Ty.TheVariants as ty
-use Rattle.if1_graph.specs.declared.op.Simple.{Simple}
 use Rattle.if1_graph.specs.declared.op.Simple.TheVariants as simple
 use Rattle.type_table.specs.declared.form.Form.{Form}
 use Rattle.typed_tree.specs.declared.program.Function.{Function}
@@ -17,7 +16,7 @@ use Rattle.meaning.specs.Words.{value_at}
 use Rattle.meaning.specs.Meaning.{Gives as Means, all_of, defined, turned, looped}
 use Rattle.meaning.specs.Meaning as source
 use Rattle.graph_meaning.specs.Carried.{Carried, Value}
-use Rattle.graph_meaning.specs.NodeValues.{Shape}
+use Rattle.lowering_meaning.proofs.Told.{Telling}
 use Rattle.graph_meaning.specs.Forms.{Form as NodeForm, Starting, Enter, first, next_of}
 use Rattle.graph_meaning.specs.Demand.{Network}
 use Rattle.graph_meaning.specs.Plain.{is_deeper, NodesFire, LaterFires}
@@ -66,7 +65,7 @@ begins : (b : Bool) (i t c r o : ℕ) (ks : List Carried) → next_of (first (lo
 begins true i t c r o ks = refl
 begins false i t c r o ks = refl
 
-module _ (u : Network) (number : ℕ → ℕ) (shape : ℕ → ℕ → Simple → Shape) (forms : List Form) (spellings : List (List ℕ)) (hs : List Header) (pr : List Function) (cover : Coverage) where
+module _ (u : Network) (number : ℕ → ℕ) (shape : Telling) (forms : List Form) (spellings : List (List ℕ)) (hs : List Header) (pr : List Function) (cover : Coverage) where
   abbrev EachR : ℕ → List Ty → List Phrase → (ℕ → List Means) → Type 0
   EachR m γ gs ks = EachRead u number shape forms spellings hs pr cover m γ gs ks
 

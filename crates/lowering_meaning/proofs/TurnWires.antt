@@ -7,7 +7,6 @@ use Rattle.flow_value.specs.declared.operation.Scalar1.TheVariants as unary
 use Rattle.flow_value.specs.declared.ty.Ty.{Ty}
 use Rattle.value_ops.specs.Operations.{op_value}
 use Rattle.value_ops.specs.declared.operation.Operation.TheVariants as operation
-use Rattle.if1_graph.specs.declared.op.Simple.{Simple}
 use Rattle.type_table.specs.declared.form.Form.{Form}
 use Rattle.typed_tree.specs.declared.program.Function.{Function}
 use Rattle.fitting_trees.specs.Fitting.{Header, Renews}
@@ -16,7 +15,7 @@ use Rattle.meaning.specs.Timed.{given, andthen}
 use Rattle.meaning.specs.Meaning.{Gives as Means, all_of}
 use Rattle.meaning.specs.Meaning as source
 use Rattle.graph_meaning.specs.Carried.{Carried}
-use Rattle.graph_meaning.specs.NodeValues.{Shape}
+use Rattle.lowering_meaning.proofs.Told.{Telling}
 use Rattle.graph_meaning.specs.Demand.{Network}
 use Rattle.lowering.specs.declared.feed.Carried as wired
 use Rattle.lowering.specs.declared.feed.Wire.{Wire}
@@ -111,7 +110,7 @@ module _ (forms : List Form) (spellings : List (List ℕ)) where
   wires-renew loop (None ∷ rs) (t ∷ later) r (w ∷ ws) l h a = wires-renew loop rs later r ws l h.1 a
   wires-renew loop (Some x ∷ rs) (t ∷ later) r (w ∷ ws) l h a = wires-set loop (renew rs ws l) x t w r.0 h.0 (wires-renew loop rs later r.1 ws l h.1 a)
 
-module _ (u : Network) (number : ℕ → ℕ) (shape : ℕ → ℕ → Simple → Shape) where
+module _ (u : Network) (number : ℕ → ℕ) (shape : Telling) where
   pub carry-drop : (s : Site) (n : ℕ) (ws : List Wire) (vs : List Val) → AllCarry u number shape s ws vs → AllCarry u number shape s (drop n ws) (drop n vs)
   carry-drop s zero ws vs a = a
   carry-drop s (suc n) [] [] a = tt
@@ -150,7 +149,7 @@ module _ (u : Network) (number : ℕ → ℕ) (shape : ℕ → ℕ → Simple �
   own-first s j (t ∷ ts) us [] ds l a = absurd (omega (arith, l))
   own-first s j (t ∷ ts) us (c ∷ cs) ds l a = (a.0, own-first s (suc j) ts us cs ds (omega (arith, l)) a.1)
 
-module _ (u : Network) (number : ℕ → ℕ) (shape : ℕ → ℕ → Simple → Shape) (forms : List Form) (spellings : List (List ℕ)) (hs : List Header) (p : List Function) (cover : Coverage) (loop : Option ℕ → Option ℕ) where
+module _ (u : Network) (number : ℕ → ℕ) (shape : Telling) (forms : List Form) (spellings : List (List ℕ)) (hs : List Header) (p : List Function) (cover : Coverage) (loop : Option ℕ → Option ℕ) where
   abbrev EachD : List Ty → List Phrase → List Means → Type 0
   EachD γ gs ks = EachDrawn u number shape forms spellings hs p cover γ gs ks
 

@@ -14,10 +14,9 @@ use Rattle.typed_tree.specs.declared.expr.Turns.{Turns}
 use Rattle.typed_tree.specs.declared.program.Function.{Function}
 use Rattle.lowering.specs.Loops.{unless_places}
 
--- which operations, `tagcase`s and loops; of a loop by how many values each phrase of its clauses has
+-- which operations and loops; of a loop by how many values each phrase of its clauses has
 pub record Coverage : Type 0 where
   pub operation : Operation → Bool
-  pub tag_case : Bool
   pub product : Product → List ℕ → Bool
   pub initial : Turns → List ℕ → Bool
 
@@ -50,7 +49,7 @@ module _ (c : Coverage) where
   kind_covered (TypedKind-F.Apply o gs) = c.operation o && all_ok gs
   kind_covered (TypedKind-F.Let ds gs) = each_ok ds && all_ok gs
   kind_covered (TypedKind-F.If test arm other) = all_ok test && (all_ok arm && all_ok other)
-  kind_covered (TypedKind-F.Case k us arms) = c.tag_case && (all_ok us && each_ok arms)
+  kind_covered (TypedKind-F.Case k us arms) = all_ok us && each_ok arms
   kind_covered (TypedKind-F.Product p bs ds gs) = c.product p (counts gs) && (all_ok bs && (each_ok ds && all_ok gs))
   kind_covered (TypedKind-F.Initial t fs test ds gs) = c.initial t (counts gs) && (each_ok fs && (all_ok test && (each_ok ds && all_ok gs)))
 
@@ -95,30 +94,41 @@ all_apart (x ∷ xs) = if is_in x xs then false else all_apart xs
 
 -- loops of any phrases
 abbrev pub any_loops : Coverage → Coverage
-any_loops c = record { operation = c.operation; tag_case = c.tag_case; product = λ p ks. true; initial = λ t ks. true }
+any_loops c = record { operation = c.operation; product = λ p ks. true; initial = λ t ks. true }
 
 -- ---- the forms of the laws
 
--- every operation but those on unions, a field of a record, and a stream of its elements; a record changes a field at most once
+-- every operation but a union of a content, and a stream of its elements; a record changes a field at most once
 abbrev pub is_plain_operation : Operation → Bool
 is_plain_operation op.Stream = false
 is_plain_operation (op.Union tag) = false
-is_plain_operation (op.IsTag tag) = false
-is_plain_operation (op.Field place) = false
 is_plain_operation (op.Change places) = all_apart places
 is_plain_operation _ = true
 
--- no `tagcase`; each phrase of the clauses of a `for initial` has one value
+-- each phrase of the clauses of a `for initial` has one value
 abbrev pub plain_forms : Coverage
-plain_forms = record { operation = is_plain_operation; tag_case = false; product = λ p ks. masks_alone p.clauses ks; initial = λ t ks. all_one ks }
+plain_forms = record { operation = is_plain_operation; product = λ p ks. masks_alone p.clauses ks; initial = λ t ks. all_one ks }
 
 -- ---- types
 
-abbrev pub IsPlainForm : Option Form → Type 0
-IsPlainForm (Some (form.Stream t)) = ⊥
-IsPlainForm (Some (form.Union ms)) = ⊥
-IsPlainForm _ = Unit {0}
+-- types that a program may be without
+pub data Kind : Type 0 where
+  Streams : Kind
+  Unions : Kind
 
--- no type of the table is a stream or a union
-abbrev pub HasPlainTypes : List Form → Type 0
-HasPlainTypes forms = (t : ℕ) → IsPlainForm (slice_get forms t)
+abbrev pub MayBeStream : Kind → Type 0
+MayBeStream Streams = ⊥
+MayBeStream Unions = Unit {0}
+
+abbrev pub MayBeUnion : Kind → Type 0
+MayBeUnion Streams = Unit {0}
+MayBeUnion Unions = ⊥
+
+abbrev pub IsNot : Kind → Option Form → Type 0
+IsNot k (Some (form.Stream t)) = MayBeStream k
+IsNot k (Some (form.Union ms)) = MayBeUnion k
+IsNot k _ = Unit {0}
+
+-- no type of the table is of this kind
+abbrev pub HasNo : Kind → List Form → Type 0
+HasNo k forms = (t : ℕ) → IsNot k (slice_get forms t)

@@ -3,9 +3,9 @@ ghost use Rattle.lowering_meaning.specs.Laws.{AreCostsThere, AreLoopsCovered, Ar
 
 /// On arguments of the types of its parameters, where the source gives values to a function of a
 /// translated program, the function's graph means these values, with a cost of at most 8 times the
-/// steps. The program has no `tagcase`, no operations on unions, reads no fields of records, and has no
-/// stream or union types; where a clause of a loop has `unless`, and in `for initial`, each phrase of the
-/// clauses has one value, and no field is replaced twice at once.
+/// steps. The program has no stream types; it builds no union, and where it has union types, no node that
+/// builds a record shows one; where a clause of a loop has `unless`, and in `for initial`, each phrase of
+/// the clauses has one value, and no field is replaced twice at once.
 pub fn values_are_those_of_the_source()
     ensures { AreValuesKept }
 {}
