@@ -13,13 +13,7 @@ build=$(mktemp -d)
 trap 'rm -rf "$build"' EXIT
 "$sisal" --version >/dev/null
 
-milliseconds() { # a command
-    local begin end
-    begin=$(date +%s%N)
-    "$@" >"$build/printed"
-    end=$(date +%s%N)
-    echo $(((end - begin) / 1000000))
-}
+. bench/milliseconds.sh
 ours_on() { "$sisal" run --limit $most "$2" <"bench/run/$1.sis"; }
 theirs_on() { python3 "bench/run/$1.py" "$2"; }
 
