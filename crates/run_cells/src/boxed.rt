@@ -1,5 +1,6 @@
 //! A box that moves from cell to cell.
 ghost use Rattle.std.specs.Prelude.{◌≡◌, IfOk};
+ghost use Rattle.std.specs.Borrow.{Lends, sem};
 
 use flow_value::NoMemory;
 use std::alloc::Global;
@@ -20,11 +21,21 @@ impl<T> Model for Boxed<T> {
 }
 
 impl<T> Boxed<T> {
+    ghost use Rattle.run_cells.specs.contracts.boxed.Boxed.{the_row};
+
     /// The value, lent.
     pub fn get(&self) -> &T
         ensures { result.now ≡ self.now }
     {
         &self.inner
+    }
+
+    /// The value, lent to be changed where it stands.
+    pub fn get_mut(&mut self) -> &mut T
+        ensures* writes_back { sem 𝓛 (Lends (the_row T.row) T.row self.entry result (λ w. w)) }
+        ensures value { result.now ≡ self.old }
+    {
+        self.inner.as_mut()
     }
 
     /// The value, moved out.

@@ -154,9 +154,7 @@ fn in_place(row: Simple, boxed: Boxed<Val>, ins: &mut [Option<Val>]) -> Boxed<Va
     ensures { values_taken row boxed ins.old ≡ result ∷ [] }
 {
     let mut owner = boxed;
-    let mut value = owner.replace(Val::Null);
-    fire_taken(row, &mut value, ins);
-    let _null = owner.replace(value);
+    fire_taken(row, owner.get_mut(), ins);
     owner
 }
 
@@ -171,9 +169,7 @@ fn extended(
     ensures { IfOk result (λ b. values_taken row boxed (map operand_value ins.old) ≡ b ∷ []) }
 {
     let mut owner = boxed;
-    let mut value = owner.replace(Val::Null);
-    extend_taken(alloc, row, &mut value, ins)?;
-    let _null = owner.replace(value);
+    extend_taken(alloc, row, owner.get_mut(), ins)?;
     Ok(owner)
 }
 
