@@ -45,6 +45,7 @@ fn update_by(owned: &mut Val, ins: &mut [Option<Val>])
 
 /// Makes of `owned`, the array of an AReplace, the array with `v` at a place, and else the error
 /// that the node gives. It asks for no memory.
+#[inline(always)]
 pub fn update_taken(owned: &mut Val, i: &Val, v: Val)
     ensures { owned.new ≡ op_value operation.Update (owned.old ∷ i.now ∷ v ∷ []) }
 {
@@ -238,6 +239,7 @@ fn last_in(a: &Array) -> i128
 }
 
 /// How far a place of the array is above its lower bound.
+#[inline(always)]
 fn place_in(a: &Array, place: i64) -> Option<usize>
     ensures place { result ≡ place_of a.now place }
     ensures within { IfSome result (λ n. n < length a.now.items) }
@@ -249,6 +251,7 @@ fn place_in(a: &Array, place: i64) -> Option<usize>
     }
 }
 
+#[inline(always)]
 fn is_place_in(a: &Array, place: i64) -> bool
     ensures { result ≡ is_place a.now place }
 {

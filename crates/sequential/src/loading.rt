@@ -9,6 +9,7 @@ use std::alloc::Global;
 use step_code::{Code, Operand};
 
 /// Brings operands in order to a list, which is emptied first. What one takes, no later one reads.
+#[inline(always)]
 pub fn load(
     alloc: Global,
     code: &Code,

@@ -5,8 +5,10 @@ pub mod Counts
 pub mod CountRows
 pub mod LentSteps
 pub mod TakeSteps
-pub mod RouteSteps
 pub mod UpdateSteps
+pub mod RouteSteps
+pub mod ChangeSteps
+pub mod MakeSteps
 pub mod ElementSteps
 pub mod PartRows
 pub mod RangeRows

@@ -4,3 +4,4 @@ pub mod Taking
 pub mod Routes
 pub mod Updating
 pub mod Elements
+pub mod Changing

@@ -1,12 +1,14 @@
 //! Steps of the machine of one worker that fire simple nodes.
 #![tactic(auto)]
 
+mod changing;
 mod counting;
 mod elements;
 mod firing;
 mod given;
 mod kept;
 mod loaded;
+mod making;
 mod outputs;
 mod parts;
 mod ranges;

@@ -149,7 +149,7 @@ fn all_out<'a>(
 // ---- in place
 
 /// The value in a box, changed there; takes no memory.
-fn in_place(row: Simple, boxed: Boxed<Val>, ins: &mut [Option<Val>]) -> Boxed<Val>
+pub fn in_place(row: Simple, boxed: Boxed<Val>, ins: &mut [Option<Val>]) -> Boxed<Val>
     requires { NeedsNoRoom row }
     ensures { values_taken row boxed ins.old ≡ result ∷ [] }
 {

@@ -8,6 +8,7 @@ use run_cells::Cell;
 use std::mem;
 
 /// Puts what was brought into as many cells from one on.
+#[inline(always)]
 pub fn settle(cells: &mut Vec<Cell>, from: usize, loaded: &mut Vec<Cell>)
     requires { from + length loaded.old.items ≤ length cells.old.items }
     ensures laid { IsLaid from (length loaded.old.items) (heap_of loaded.old.items) (heap_of cells.old.items) (heap_of cells.new.items) }
