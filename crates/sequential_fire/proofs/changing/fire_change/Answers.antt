@@ -6,7 +6,7 @@ use Rattle.sequential.specs.Loading.{AreInside}
 use Rattle.sequential.specs.declared.machine.Machine.{Machine}
 use Rattle.sequential.specs.declared.machine.Turn.TheVariants as turn
 use Rattle.sequential.proofs.Same.{are-for-all}
-use Rattle.sequential_fire.specs.Changing.{AreAtHand, further_of, operands_of, ports_of}
+use Rattle.sequential_fire.specs.Changing.{AreAtHand, further_of, ports_of}
 use Rattle.sequential_fire.proofs.TakeSteps.{take-over}
 use Rattle.sequential_fire.proofs.ChangeSteps.{change-goes, inside-first}
 use Rattle.sequential_fire.proofs.changing.fire_change.Goals as goal
@@ -17,12 +17,21 @@ returns-then-machine-limit-clause-does c =
     let over = c.if-machine-limit.true in
     take-over a.code.now a.limit a.machine.now a.machine.now a.row a.written a.shape a.ins a.many a.out a.kept a.counted (omega (arith, over))
 
-pub at_hand-requires : goal.at_hand-requires
-at_hand-requires c =
+pub at_hand-requires-clause-first : goal.at_hand-requires-clause-first
+at_hand-requires-clause-first c =
     let a = c.args in
     let m = a.machine.now in
-    subst (λ xs. AreInside a.code.now (length xs - m.base) (operands_of a.change)) (sym c.as_slice.ensures.value)
-    (subst (AreInside a.code.now (length m.cells.items - m.base)) c.requires.operands c.requires.inside)
+    let i = inside-first a.code.now (length m.cells.items - m.base) (listed a.code.now a.ins a.many) a.change.first (further_of a.change.further) c.requires.operands c.requires.inside in
+    let lt = i.0 in
+    let e = ap length c.as_slice.ensures.value in
+    omega (arith, lt, e)
+
+pub at_hand-requires-clause-further : goal.at_hand-requires-clause-further
+at_hand-requires-clause-further c =
+    let a = c.args in
+    let m = a.machine.now in
+    subst (λ xs. AreInside a.code.now (length xs - m.base) (further_of a.change.further)) (sym c.as_slice.ensures.value)
+    (inside-first a.code.now (length m.cells.items - m.base) (listed a.code.now a.ins a.many) a.change.first (further_of a.change.further) c.requires.operands c.requires.inside).1
 
 pub box_out-boxed-requires-clause-inside : goal.box_out-boxed-requires-clause-inside
 box_out-boxed-requires-clause-inside c =
