@@ -10,8 +10,8 @@ use Rattle.sequential.specs.declared.machine.Machine.{Machine}
 use Rattle.sequential.proofs.FireSteps.{fire-goes}
 use Rattle.sequential_fire.proofs.making.fire_build.Goals as goal
 
-pub returns-in-Some-clause-does : goal.returns-in-Some-clause-does
-returns-in-Some-clause-does c =
+pub returns-in_ok-cell-in-Some-clause-does : goal.returns-in_ok-cell-in-Some-clause-does
+returns-in_ok-cell-in-Some-clause-does c =
     let a = c.args in
     let m = a.machine.now in
     let u = c.in-Some.content in
