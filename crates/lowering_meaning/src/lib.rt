@@ -7,5 +7,5 @@
 mod laws;
 
 pub use laws::{
-    costs_come_where_values_do, typed_loops_are_covered, values_are_those_of_the_source,
+    costs_come_where_values_do, typed_programs_are_covered, values_are_those_of_the_source,
 };
