@@ -1,6 +1,6 @@
 -- In a typed program each clause of a `for initial` has one value, and so has each clause of a `for` with a mask; and no field of a
 -- record is replaced twice at once.
-use Rattle.std.proofs.Common.{◌≡◌, ℕ, zero, suc, Bool, true, false, ◌&&◌, ◌||◌, List, [], ◌∷◌, ◌++◌, map, Option, Some, slice_get, length, refl, sym, ap, subst, ◌∙◌}
+use Rattle.std.proofs.Common.{◌≡◌, ℕ, zero, suc, Bool, true, false, ◌&&◌, ◌||◌, List, [], ◌∷◌, ◌++◌, map, Option, Some, None, slice_get, length, refl, sym, ap, subst, ◌∙◌}
 use Rattle.std.specs.Prelude.{nat_eq, if◌then◌else◌, Contains}
 use Rattle.std.proofs.lemmas.Bool.{eqb-true}
 use Rattle.if1_marks.proofs.Lists.{here, there}
@@ -171,27 +171,28 @@ module _ (k : Known) (denotes : Written → Ty → Type 0) where
 
   -- ---- fields that are replaced
 
+  abbrev name_in : Option Member → List ℕ
+  name_in None = []
+  name_in (Some m) = m.0
+
   -- a name stands at one place, so places of distinct names are apart
   placed-in : (x place : ℕ) (a : Ty) (s : Scope) (ms : List Member) (vs : List FieldValue) (places : List ℕ) (us : List TypedExpr) → AreNamesOnce k.spellings → Has k ms x place a → Replaces k denotes s ms vs places us
       → (Contains (map (λ v. v.field.name) vs) x → ⊥) → is_in place places ≡ false
   placed-in x place a s ms _ _ _ once h rule.no_field n = refl
-  placed-in x place a s ms _ _ _ once h (rule.a_field {a = b} {n = m} {e = e} {place = other} {vs = vs} {places = places} {us = us} i p q) n =
+  placed-in x place a s ms _ _ _ once h (rule.a_field {n = m} {place = other} {a = b} {e = e} {vs = vs} {places = places} {us = us} i p q) n =
       by (nat_eq other place) refl (placed-in x place a s ms vs places us once h q (λ c. n (there m.name (map (λ v. v.field.name) vs) x c)))
     where
       by : (b : Bool) → nat_eq other place ≡ b → is_in place places ≡ false → (if b then true else is_in place places) ≡ false
       by false e r = r
       by true e r =
           let same : other ≡ place = eqb-true other place e in
-          let named : i.spelling ≡ h.spelling = spelled (sym i.member ∙ (ap (slice_get ms) same ∙ h.member)) in
+          let named : i.spelling ≡ h.spelling = ap name_in (sym i.member ∙ (ap (slice_get ms) same ∙ h.member)) in
           let is : m.name ≡ x = once m.name x h.spelling (i.spelled ∙ ap Some named) h.spelled in
           absurd (n (subst (Contains (m.name ∷ map (λ v. v.field.name) vs)) is (here m.name (map (λ v. v.field.name) vs))))
-        where
-          spelled : {s t : List ℕ} {b c : Ty} → Some (s, b) ≡ Some (t, c) → s ≡ t
-          spelled e = cc
 
   apart : (s : Scope) (ms : List Member) (vs : List FieldValue) (places : List ℕ) (us : List TypedExpr) → AreNamesOnce k.spellings → Replaces k denotes s ms vs places us → AreDistinct (map (λ v. v.field.name) vs) → all_apart places ≡ true
   apart s ms _ _ _ once rule.no_field d = refl
-  apart s ms _ _ _ once (rule.a_field {a = a} {n = n} {e = e} {place = place} {vs = vs} {places = places} {us = us} i p q) d =
+  apart s ms _ _ _ once (rule.a_field {n = n} {place = place} {a = a} {e = e} {vs = vs} {places = places} {us = us} i p q) d =
       ap (λ b. if b then false else all_apart places) (placed-in n.name place a s ms vs places us once i q d.0) ∙ apart s ms vs places us once q d.1
 
   module _ (once : AreNamesOnce k.spellings) where

@@ -112,7 +112,7 @@ absents-from env zero = tt
 absents-from env (suc n) = (tt, absents-from env n)
 
 -- ports that are not filled
-gaps : ℕ → List Carrying
+abbrev gaps : ℕ → List Carrying
 gaps zero = []
 gaps (suc n) = Unfilled ∷ gaps n
 

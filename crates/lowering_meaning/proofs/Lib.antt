@@ -46,3 +46,6 @@ pub mod IsTags
 pub mod Applied
 pub mod Alone
 pub mod Theorem
+pub mod Unmarked
+pub mod Bare
+pub mod Runs

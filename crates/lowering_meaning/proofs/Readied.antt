@@ -1,6 +1,6 @@
 -- In a ready unit of a program the edges from one output show the same, and a graph inside of a node shows of the node's inputs what the
 -- node shows.
-use Rattle.std.proofs.Common.{◌≡◌, ℕ, zero, suc, ◌+◌, ◌<◌, ◌≤◌, inl, inr, ◌⊎◌, Bool, true, false, ◌&&◌, List, [], ◌∷◌, ◌++◌, map, length, slice_get, Option, Some, None, Contains, refl, sym, ap, subst, ◌∙◌, arith, ◌==◌}
+use Rattle.std.proofs.Common.{◌≡◌, ℕ, zero, suc, ◌+◌, ◌-◌, ◌<◌, ◌≤◌, inl, inr, ◌⊎◌, Bool, true, false, ◌&&◌, List, [], ◌∷◌, ◌++◌, map, length, slice_get, Option, Some, None, Contains, refl, sym, ap, subst, ◌∙◌, arith, ◌==◌}
 use Rattle.std.specs.Prelude.{All, find, filter, MatchOption, MatchBool, nat_le}
 use Rattle.std.proofs.lemmas.Bool.{eq-eqb, le-leb}
 use Rattle.std.proofs.lemmas.List.Elements.{All-head, All-tail}
@@ -22,7 +22,7 @@ use Rattle.if1_graph.specs.Ports.{carried, leaves, edges_from, part_of}
 use Rattle.if1_graph.specs.Ready.{IsReady}
 use Rattle.if1_graph.specs.Tables.{◌>>=◌}
 use Rattle.if1_graph.specs.Types.{Sort, sort_at}
-use Rattle.if1_graph.specs.Typing.{kind_of, IsFunctionName, IsGiven, AgreesWith, FitsNodeInput, FitsPartInput}
+use Rattle.if1_graph.specs.Typing.{kind_of, IsFunctionName, IsGiven, AgreesWith, FitsNodeInput, FitsOwnInput, FitsPartInput}
 use Rattle.if1_graph.specs.Units.{label_of as node_label, edge_into, width, most_levels, Home, Inside, Place, places, number_of as place_number}
 use Rattle.if1_marks.proofs.Lists.{here, there, here-or-there, in-none, in-filter}
 use Rattle.graph_meaning.specs.Networks.{first_type}
@@ -294,7 +294,7 @@ module _ (p : Program) (u : Unit1) (fit : IsFitting p) (t : IsTranslated p u) wh
         ap (λ m. edge_into x.graph m (suc j)) label ∙ (find-filtered l (suc j) (out-Graph x.graph).edges ∙ (ap (find (to_port (suc j))) block ∙ edge.1)) in
         let wide = width-over x.graph (node_label n.0) (suc j) (port-filled x.graph (node_label n.0) (suc j) edge.0 into) in
         let fits : FitsNodeInput u x.graph n.0 role.0 k (suc j) e.sort =
-        subst (λ b. MatchBool b (FitsNodeInput u x.graph n.0 role.0 k (suc j) e.sort) _) (le-leb (suc j) (width x.graph (node_label n.0)) wide) role.2 in
+        subst (λ b. MatchBool b (FitsNodeInput u x.graph n.0 role.0 k (suc j) e.sort) (FitsOwnInput u c role.0 (out-Node n.0).subs (suc j - width x.graph (node_label n.0)) e.sort)) (le-leb (suc j) (width x.graph (node_label n.0)) wide) role.2 in
         let carries = node-input u x.graph n.0 role.0 k (suc j) e.sort (λ h. let m = first (arm-only c k (role.1 ∙ ap Some h)) in omega (arith, m)) fits in
         let sort : sort_at u.types (label_of p v.ty) ≡ Some e.sort = sym (ap (λ o. o >>= λ (z : Edge). sort_at u.types z.ty) into ∙ ap (sort_at u.types) edge.2) ∙ carries in
         let f = good-at ws j v right.0.0 right.1 at in

@@ -80,7 +80,7 @@ multiple (Some t) s e = ap sort_shows (same e)
 
 -- ---- labels
 
-kind-in : (es : List TypeEntry) (l : ℕ) → Option TypeKind
+abbrev pub kind-in : (es : List TypeEntry) (l : ℕ) → Option TypeKind
 kind-in es l = entry_at es l >>= λ (e : TypeEntry). kind_at e.code
 
 module _ (p : Program) where

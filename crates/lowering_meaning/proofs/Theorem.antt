@@ -141,7 +141,7 @@ module _ (p : Program) (u : Unit1) (fit : IsFitting p) (t : IsTranslated p u) (r
       initial = λ t ks c. turns-read N num S p.types p.names fit.headers p.functions plain_forms clauses t ks c;
     }
 
-    pub given-is-meant : (f : ℕ) (h : Header) → slice_get fit.headers f ≡ Some h → (args values : List Val) (steps : ℕ) → AreOf h.params args → IsGiven (λ n. plain_calls n p.functions f args) values steps → IsMeant p u f args values steps
+    pub given-is-meant : (f : ℕ) (h : Header) → slice_get fit.headers f ≡ Some h → (args values : List Val) (steps : ℕ) → AreOf h.params args → IsGiven (λ n. plain_calls n p.functions f args) values steps → IsMeant N (num f) args values steps
     given-is-meant f h there args values steps o g =
         let x = (calls_same p.functions f args values steps).0 g in
         let y = calls-drawn N num S p.types p.names fit.headers p.functions plain_forms fit.tree.fits forms sound sound-calls laws (stand plain_forms) x.0 f h there args values steps o x.1 in
