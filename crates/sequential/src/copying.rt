@@ -2,7 +2,7 @@
 ghost use Rattle.std.specs.Prelude.{◌≡◌, ◌∷◌, [], ◌++◌, IfOk, OnOk};
 ghost use Rattle.flow_value.specs.declared.value.Val.TheVariants as val;
 
-use flow_value::{Items, NoMemory, Seq, Val, copy};
+use flow_value::{Array, Items, NoMemory, Seq, Val, copy};
 use std::alloc::Global;
 
 /// Equal values, in the same order.
@@ -23,6 +23,7 @@ fn put_copy(alloc: Global, copies: &mut Vec<Val>, item: &Val) -> Result<(), NoMe
 {
     match item {
         Val::Int(n) => put_int(copies, *n),
+        Val::Arr(row) => put_row(alloc, copies, row),
         _ => put_any(alloc, copies, item),
     }
 }
@@ -47,4 +48,35 @@ fn put_any(alloc: Global, copies: &mut Vec<Val>, item: &Val) -> Result<(), NoMem
     let value = copy(alloc, item)?;
     copies.push(value)?;
     Ok(())
+}
+
+// ---- arrays among them
+
+#[inline(never)]
+fn put_row(alloc: Global, copies: &mut Vec<Val>, row: &Array) -> Result<(), NoMemory>
+    ensures { OnOk result (copies.new.items ≡ copies.old.items ++ val.Arr row.now ∷ []) }
+{
+    let items = copies_in_row(alloc, row.as_slice())?;
+    copies.push(Val::Arr(Array::made(row.lo(), items)))?;
+    Ok(())
+}
+
+fn copies_in_row(alloc: Global, items: &[Val]) -> Result<Items, NoMemory>
+    ensures { IfOk result (λ vs. vs ≡ items.now) }
+{
+    let mut copies = Vec::with_capacity(alloc, items.len())?;
+    for item in items {
+        put_in_row(alloc, &mut copies, item)?;
+    }
+    Ok(Seq::from_vec(copies))
+}
+
+#[inline(always)]
+fn put_in_row(alloc: Global, copies: &mut Vec<Val>, item: &Val) -> Result<(), NoMemory>
+    ensures { OnOk result (copies.new.items ≡ copies.old.items ++ item.now ∷ []) }
+{
+    match item {
+        Val::Int(n) => put_int(copies, *n),
+        _ => put_any(alloc, copies, item),
+    }
 }

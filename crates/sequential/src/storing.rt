@@ -1,6 +1,7 @@
 //! What is put into a cell.
 ghost use Rattle.std.specs.Prelude.{◌≡◌, ◌<◌, length, slice_set};
 
+use crate::giving::give_up;
 use run_cells::Cell;
 use std::mem;
 
@@ -16,10 +17,4 @@ pub fn put(cells: &mut Vec<Cell>, place: usize, cell: Cell)
             {}
         other => give_up(other),
     }
-}
-
-/// Gives up what a cell had.
-#[inline(never)]
-fn give_up(cell: Cell) {
-    let _given_up = cell;
 }

@@ -4,3 +4,4 @@ pub mod Numbers
 pub mod Putting
 pub mod Spreading
 pub mod Iterating
+pub mod Moving

@@ -5,6 +5,7 @@ ghost use Rattle.run_cells.specs.Held.{held, heap_of};
 ghost use Rattle.sequential_loops.specs.Laying.{IsLaid};
 
 use run_cells::Cell;
+use sequential::give_up;
 use std::mem;
 
 /// Puts what was brought into as many cells from one on.
@@ -39,13 +40,8 @@ fn let_go(cell: Cell) {
         Cell::Int(_) => {}
         Cell::Empty => {}
         Cell::Bool(_) => {}
-        other => let_any_go(other),
+        other => give_up(other),
     }
-}
-
-#[inline(never)]
-fn let_any_go(cell: Cell) {
-    let _any = cell;
 }
 
 /// What stands at a place, which is left empty, but for a scalar.

@@ -10,6 +10,7 @@ mod iterating;
 mod keeping;
 mod laying;
 mod lengths;
+mod moving;
 mod numbers;
 mod once;
 mod pushing;

@@ -1,6 +1,7 @@
-use Rattle.std.proofs.Common.{◌+◌, ◌<◌, length, ◌∙◌, ap, arith}
-use Rattle.std.proofs.lemmas.List.{length-set}
-use Rattle.run_cells.specs.Held.{held}
+use Rattle.std.proofs.Common.{◌+◌, ◌-◌, ◌<◌, List, drop, length, ◌∙◌, sym, ap, arith}
+use Rattle.run_store.specs.Stored as stored
+use Rattle.run_cells.specs.declared.cell.Cell.{Cell}
+use Rattle.run_cells.specs.Held.{held, heap_of}
 use Rattle.sequential.proofs.MoveSteps.{held-at, unload-more, same-place, same-behind}
 use Rattle.sequential.proofs.moving.unload.Goals as goal
 
@@ -16,9 +17,10 @@ loop-place-preserved c =
     let inside : c.args.from + l.place < length l.cells.items = omega (arith, lt, room, size) in
     let cell = c.taken_out-cell.result in
     record {
-      size = length-set l.cells.items (c.args.from + l.place) cell ∙ l.invariant.size;
+      size = c.put.ensures.size ∙ l.invariant.size;
       long = c.taken_out-cell.ensures.long ∙ l.invariant.long;
       others = c.taken_out-cell.ensures.others ∙ same-behind l.loaded.items c.args.loaded.now.items l.place l.invariant.others;
-      heap = λ hands rs e. l.invariant.heap hands rs e ∙ unload-more n l.place c.args.from hands rs cell l.cells.items lt inside
-          (ap held (c.taken_out-cell.ensures.value ∙ same-place l.loaded.items c.args.loaded.now.items l.place l.invariant.others) ∙ held-at c.args.loaded.now.items hands rs e l.place lt);
+      heap = λ hands rs e. l.invariant.heap hands rs e ∙ (unload-more n l.place c.args.from hands rs cell l.cells.items lt inside
+          (ap held (c.taken_out-cell.ensures.value ∙ same-place l.loaded.items c.args.loaded.now.items l.place l.invariant.others) ∙ held-at c.args.loaded.now.items hands rs e l.place lt)
+          ∙ ap (λ (xs : List Cell). stored.put_from stored.all_kept c.args.from (l.place + 1) (n - (l.place + 1)) (drop (l.place + 1) hands) rs (heap_of xs)) (sym c.put.ensures.cells));
     }
