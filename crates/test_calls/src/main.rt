@@ -3,7 +3,8 @@
 //! text. Behind the text there may stand pairs of a number and a piece, which the text goes on with so
 //! often. Prints the name, what the call printed and the status. A first word `!read` has the second
 //! read of the text fail, `!write` the second write of results, `!report` the first write of a
-//! refusal; then few bytes move at once. The stored run evaluates the programs of `examples/` and
+//! refusal; then few bytes move at once. A first word `!gate` calls a gate around each item, and prints
+//! behind the status how often it was called before and after one. The stored run evaluates the programs of `examples/` and
 //! small ones for each cause of a refusal, compiles some of them, has rows for words, tokens, syntax,
 //! scalars, folds, arrays, records, streams and value texts, and checks IF1 texts: units that are right, with and
 //! without marks, one for each fault, one cut after each byte, and deep ones. What it must print
@@ -14,10 +15,12 @@ ghost use Rattle.std.specs.Prelude.{◌<◌};
 
 use flow_io::{MemSink, MemSource};
 use flow_value::{NoMemory, Seq};
+use run_gate::{Gate, OpenGate};
 use sisal_top::{Status, sisal};
 use std::alloc::Global;
 use std::io;
 use std::io::{BufRead, BufReader};
+use std::sync::atomic::{AtomicU64, Ordering};
 
 /// The most bytes that move at once, where no call is planned to fail and where one is.
 const MANY: usize = 4096;
@@ -31,10 +34,32 @@ const FIRST: [u64; 1] = [0];
 
 const SECOND: [u64; 1] = [1];
 
+/// A gate that counts its calls by the first worker.
+#[derive(Drop)]
+struct Counting {
+    before: AtomicU64,
+    after: AtomicU64,
+}
+
+impl Gate for Counting {
+    fn before(&self, worker: u32) {
+        if worker == 0 {
+            self.before.fetch_add(1, Ordering::SeqCst);
+        }
+    }
+
+    fn after(&self, worker: u32) {
+        if worker == 0 {
+            self.after.fetch_add(1, Ordering::SeqCst);
+        }
+    }
+}
+
 /// The words of a call, and how its source and its sinks behave.
 #[derive(Clone, Copy)]
 struct Planned<'a> {
     words: &'a str,
+    gated: bool,
     most: usize,
     reads: &'a [u64],
     writes: &'a [u64],
@@ -48,6 +73,7 @@ fn plan_of(words: &str) -> Planned<'_>
     let (first, rest) = words.split_once('^').unwrap_or(("", ""));
     let plan = Planned {
         words: rest,
+        gated: false,
         most: FEW,
         reads: &NONE,
         writes: &NONE,
@@ -67,6 +93,11 @@ fn plan_of(words: &str) -> Planned<'_>
             reports: &FIRST,
             ..plan
         },
+        "!gate" => Planned {
+            gated: true,
+            most: MANY,
+            ..plan
+        },
         _ => Planned {
             words,
             most: MANY,
@@ -81,6 +112,7 @@ struct Ended {
     status: Status,
     out: MemSink,
     err: MemSink,
+    called: Option<(u64, u64)>,
 }
 
 /// The words between `^`.
@@ -127,8 +159,26 @@ fn call(alloc: Global, plan: Planned<'_>, row: &str) -> Result<Ended, NoMemory>
     let mut from = MemSource::new(bytes, plan.most, Seq::from_slice(alloc, plan.reads)?);
     let mut out = MemSink::new(alloc, plan.most, Seq::from_slice(alloc, plan.writes)?);
     let mut err = MemSink::new(alloc, MANY, Seq::from_slice(alloc, plan.reports)?);
-    let status = sisal(alloc, words.as_slice(), &mut from, &mut out, &mut err);
-    Ok(Ended { status, out, err })
+    let words = words.as_slice();
+    let (status, called) = if plan.gated {
+        let gate = Counting {
+            before: AtomicU64::new(0),
+            after: AtomicU64::new(0),
+        };
+        let status = sisal(alloc, words, &mut from, &mut out, &mut err, &gate);
+        let before = gate.before.load(Ordering::SeqCst);
+        let after = gate.after.load(Ordering::SeqCst);
+        (status, Some((before, after)))
+    } else {
+        let status = sisal(alloc, words, &mut from, &mut out, &mut err, &OpenGate);
+        (status, None)
+    };
+    Ok(Ended {
+        status,
+        out,
+        err,
+        called,
+    })
 }
 
 /// Bytes as text; what is printed is always text.
@@ -146,7 +196,11 @@ fn main(rt: HostRuntime) -> io::Result<()> {
             Ok(ended) => {
                 let out = shown(ended.out.bytes().as_slice());
                 let err = shown(ended.err.bytes().as_slice());
-                println!(rt; "{name}: {}", ended.status.code())?;
+                let code = ended.status.code();
+                match ended.called {
+                    None => println!(rt; "{name}: {code}")?,
+                    Some((before, after)) => println!(rt; "{name}: {code} {before} {after}")?,
+                }
                 print!(rt; "{out}{err}")?;
             }
             Err(NoMemory) => println!(rt; "{name}: no memory")?,
