@@ -47,9 +47,9 @@ pub fn begins_at(n: u64, workers: u32, place: u64) -> bool
     requires { 0 < workers }
     ensures { IsTrue result ↔ BeginsAt n workers place }
 {
-    let count = n.min(SLICES_PER_WORKER * u64::from(workers));
-    for k in 0..count {
-        if cut_point(n, count, k) == place {
+    let most = n.min(SLICES_PER_WORKER * u64::from(workers));
+    for slice in 0..most {
+        if cut_point(n, most, slice) == place {
             return true;
         }
     }

@@ -70,12 +70,7 @@ fn run_code<G: Gate>(
 
 /// Runs the entry of a unit on the words, within the limit of firings, by code that is made of the unit.
 /// The gate is called around each item.
-pub fn run<G: Gate>(
-    alloc: Global,
-    unit: Sound,
-    set: &RunSet,
-    gate: &G,
-) -> Result<Totals, Refusal>
+pub fn run<G: Gate>(alloc: Global, unit: Sound, set: &RunSet, gate: &G) -> Result<Totals, Refusal>
     ensures given { IfOk result (Gives unit set.now) }
     ensures refused { IfErr result (IsRefused unit set.now) }
 {

@@ -82,13 +82,7 @@ pub fn passed<G: Gate>(gate: &G, open: &mut Open, machine: &Machine, behind: Beh
 }
 
 #[inline(never)]
-fn reach<G: Gate>(
-    gate: &G,
-    open: &mut Open,
-    machine: &Machine,
-    code: &Code,
-    limit: u64,
-) -> Behind
+fn reach<G: Gate>(gate: &G, open: &mut Open, machine: &Machine, code: &Code, limit: u64) -> Behind
     requires { CanStep code.now machine.now }
 {
     let this = step_here(code, machine.pc);
@@ -159,8 +153,7 @@ fn begins_loop<G: Gate>(gate: &G, open: &mut Open, machine: &Machine, this: &Ste
     match this {
         // a loop whose body comes first counts its first turn directly behind its first values
         Step::Keep { begins, next, .. }
-            if *begins && *next as usize == machine.pc.saturating_add(1) =>
-        {
+            if *begins && *next as usize == machine.pc.saturating_add(1) => {
             *open = Open::Loop;
             Behind::Nothing
         }
@@ -206,7 +199,9 @@ fn iterates<G: Gate>(
 {
     match this {
         Step::Each {
-            multiples, many, ..
+            multiples,
+            many,
+            ..
         } => {
             let operands = operands_from(code, *multiples, *many);
             let cells = machine.cells.as_slice();
