@@ -1,6 +1,10 @@
--- In a typed program each clause of a `for initial` has one value, and so has each clause of a `for` with a mask.
-use Rattle.std.proofs.Common.{◌≡◌, ℕ, zero, suc, Bool, true, false, ◌&&◌, ◌||◌, List, [], ◌∷◌, ◌++◌, map, Option, Some, slice_get, length, refl, sym, ap, ◌∙◌}
-use Rattle.std.specs.Prelude.{nat_eq}
+-- In a typed program each clause of a `for initial` has one value, and so has each clause of a `for` with a mask; and no field of a
+-- record is replaced twice at once.
+use Rattle.std.proofs.Common.{◌≡◌, ℕ, zero, suc, Bool, true, false, ◌&&◌, ◌||◌, List, [], ◌∷◌, ◌++◌, map, Option, Some, None, slice_get, length, refl, sym, ap, subst, ◌∙◌}
+use Rattle.std.specs.Prelude.{nat_eq, if◌then◌else◌, Contains}
+use Rattle.std.proofs.lemmas.Bool.{eqb-true}
+use Rattle.if1_marks.proofs.Lists.{here, there}
+use Rattle.fitting_units.specs.Leaves.{AreNamesOnce}
 use Rattle.flow_value.specs.declared.ty.Ty.{Ty}
 use Rattle.flow_value.specs.declared.ty.Ty.TheVariants as ty
 use Rattle.flow_value.specs.declared.operation.Scalar1.TheVariants as one
@@ -14,6 +18,14 @@ use Rattle.sisal_tree.specs.declared.expr.Def.{Def}
 use Rattle.sisal_tree.specs.declared.expr.Arm.{Arm}
 use Rattle.sisal_tree.specs.declared.expr.Generator.{Generator}
 use Rattle.sisal_tree.specs.declared.expr.Clause.{Clause}
+use Rattle.sisal_tree.specs.declared.expr.Scalar.{Scalar}
+use Rattle.sisal_tree.specs.declared.expr.Scalar.TheVariants as scalar
+use Rattle.sisal_tree.specs.declared.expr.PrefixOperator.{PrefixOperator}
+use Rattle.sisal_tree.specs.declared.expr.PrefixOperator.TheVariants as prefix
+use Rattle.sisal_tree.specs.declared.expr.BinaryOperator.{BinaryOperator}
+use Rattle.sisal_tree.specs.declared.expr.BinaryOperator.TheVariants as binary
+use Rattle.typed_tree.specs.declared.built_in.BuiltIn.{BuiltIn}
+use Rattle.typed_tree.specs.declared.built_in.BuiltIn.TheVariants as call
 use Rattle.value_ops.specs.declared.operation.Operation.{Operation}
 use Rattle.value_ops.specs.declared.operation.Operation.TheVariants as op
 use Rattle.typed_tree.specs.declared.expr.TypedExpr.{TypedExpr}
@@ -27,17 +39,17 @@ use Rattle.typed_tree.specs.declared.expr.Turns.{Turns}
 use Rattle.typed_tree.specs.declared.expr.Source.{Source}
 use Rattle.typed_tree.specs.declared.expr.ClauseForm.{ClauseForm}
 use Rattle.typed_tree.specs.declared.program.Function.{Function}
-use Rattle.typed_tree.specs.Scopes.{Scope, define_all, targets, in_turn, renewals}
+use Rattle.typed_tree.specs.Scopes.{Scope, AreDistinct, define_all, targets, in_turn, renewals}
 use Rattle.typed_tree.specs.Types.{Member, AreNumbers}
 use Rattle.typed_tree.specs.Operations.{prefix_operation, binary_operation, convert_operation, built_in_operation}
 use Rattle.typed_tree.specs.Typing as rule
-use Rattle.typed_tree.specs.Typing.{Signature, Known, with, names_in, loop_of, named_arms, with_content, Folds, Types, AreTyped, Replaces, HasFields, Defines, Crosses, Generates, AreClauses, IsMask, AreArms, IsOtherwise}
+use Rattle.typed_tree.specs.Typing.{Signature, Known, Has, with, names_in, loop_of, named_arms, with_content, Folds, Types, AreTyped, Replaces, HasFields, Defines, Crosses, Generates, AreClauses, IsMask, AreArms, IsOtherwise}
 use Rattle.typed_tree.specs.Units as units
 use Rattle.typed_tree.specs.Units.{Declared, known, denotes, HasBody, IsFunctionOf, AreFunctionsOf}
 use Rattle.lowering.specs.Loops.{unless_places}
-use Rattle.lowering_meaning.specs.Coverage.{Coverage, all_ok, each_ok, counts, verdict, kind_covered, no_true, all_one, masks_alone, any_loops, is_plain_operation, plain_forms}
-use Rattle.lowering_meaning.specs.Laws.{AreLoopsCovered}
-use Rattle.lowering_meaning.proofs.Layers.{parts_covered, covered-is, count-is, and-true}
+use Rattle.lowering_meaning.specs.Coverage.{Coverage, all_ok, each_ok, counts, verdict, kind_covered, no_true, all_one, masks_alone, is_in, all_apart, is_plain_operation, plain_forms}
+use Rattle.lowering_meaning.specs.Laws.{AreTypedCovered}
+use Rattle.lowering_meaning.proofs.Layers.{parts_covered, covered-is, count-is}
 
 both : (a b : Bool) → a ≡ true → b ≡ true → (a && b) ≡ true
 both true b e f = f
@@ -61,6 +73,53 @@ counted forms spellings (n ∷ ns) (t ∷ tys) h = ap suc (counted forms spellin
 folds-open : (cs : List Clause) (tys : List Ty) (forms : List ClauseForm) (made : List Ty) → Folds cs tys forms made → no_true (unless_places forms) ≡ true
 folds-open _ _ _ _ rule.no_clause = refl
 folds-open _ _ _ _ (rule.a_clause l e m {cs = cs} {tys = tys} {made = made} {forms = forms} h d f) = folds-open cs tys forms made f
+
+-- ---- operations
+
+built-in-plain : (b : BuiltIn) → is_plain_operation (built_in_operation b) ≡ true
+built-in-plain call.Mod = refl
+built-in-plain call.Abs = refl
+built-in-plain call.Max = refl
+built-in-plain call.Min = refl
+built-in-plain call.ArrayFill = refl
+built-in-plain call.ArrayAddHigh = refl
+built-in-plain call.ArrayAddLow = refl
+built-in-plain call.ArrayRemoveHigh = refl
+built-in-plain call.ArrayRemoveLow = refl
+built-in-plain call.ArraySetLow = refl
+built-in-plain call.ArrayAdjust = refl
+built-in-plain call.ArrayLimitLow = refl
+built-in-plain call.ArrayLimitHigh = refl
+built-in-plain call.ArraySize = refl
+built-in-plain call.StreamAppend = refl
+built-in-plain call.StreamSize = refl
+built-in-plain call.StreamEmpty = refl
+built-in-plain call.StreamFirst = refl
+built-in-plain call.StreamRest = refl
+
+convert-plain : (c : Scalar) → is_plain_operation (convert_operation c) ≡ true
+convert-plain scalar.Integer = refl
+convert-plain scalar.Boolean = refl
+convert-plain scalar.Character = refl
+
+prefix-plain : (o : PrefixOperator) → is_plain_operation (prefix_operation o) ≡ true
+prefix-plain prefix.Negate = refl
+prefix-plain prefix.Not = refl
+
+binary-plain : (o : BinaryOperator) → is_plain_operation (binary_operation o) ≡ true
+binary-plain binary.Or = refl
+binary-plain binary.And = refl
+binary-plain binary.Equal = refl
+binary-plain binary.NotEqual = refl
+binary-plain binary.Less = refl
+binary-plain binary.LessEqual = refl
+binary-plain binary.Greater = refl
+binary-plain binary.GreaterEqual = refl
+binary-plain binary.Catenate = refl
+binary-plain binary.Plus = refl
+binary-plain binary.Minus = refl
+binary-plain binary.Times = refl
+binary-plain binary.Divide = refl
 
 module _ (k : Known) (denotes : Written → Ty → Type 0) where
   abbrev Numbers : List ℕ → List Ty → Type 0
@@ -110,224 +169,192 @@ module _ (k : Known) (denotes : Written → Ty → Type 0) where
   clauses-one c s _ _ _ _ (rule.a_clause l {a = a} {e = e} {t = t} {cs = cs} {forms = clauses} {ts = ts} {tys = tys} p h d (rule.a_mask {e = f} {t = u} m) r) =
       both _ _ (one-value c s e t a p) (both _ _ (one-value c s f u ty.Bool m) (clauses-one c s cs clauses ts tys r))
 
-  module _ (of : Operation → Bool) where
+  -- ---- fields that are replaced
+
+  abbrev name_in : Option Member → List ℕ
+  name_in None = []
+  name_in (Some m) = m.0
+
+  -- a name stands at one place, so places of distinct names are apart
+  placed-in : (x place : ℕ) (a : Ty) (s : Scope) (ms : List Member) (vs : List FieldValue) (places : List ℕ) (us : List TypedExpr) → AreNamesOnce k.spellings → Has k ms x place a → Replaces k denotes s ms vs places us
+      → (Contains (map (λ v. v.field.name) vs) x → ⊥) → is_in place places ≡ false
+  placed-in x place a s ms _ _ _ once h rule.no_field n = refl
+  placed-in x place a s ms _ _ _ once h (rule.a_field {n = m} {place = other} {a = b} {e = e} {vs = vs} {places = places} {us = us} i p q) n =
+      by (nat_eq other place) refl (placed-in x place a s ms vs places us once h q (λ c. n (there m.name (map (λ v. v.field.name) vs) x c)))
+    where
+      by : (b : Bool) → nat_eq other place ≡ b → is_in place places ≡ false → (if b then true else is_in place places) ≡ false
+      by false e r = r
+      by true e r =
+          let same : other ≡ place = eqb-true other place e in
+          let named : i.spelling ≡ h.spelling = ap name_in (sym i.member ∙ (ap (slice_get ms) same ∙ h.member)) in
+          let is : m.name ≡ x = once m.name x h.spelling (i.spelled ∙ ap Some named) h.spelled in
+          absurd (n (subst (Contains (m.name ∷ map (λ v. v.field.name) vs)) is (here m.name (map (λ v. v.field.name) vs))))
+
+  apart : (s : Scope) (ms : List Member) (vs : List FieldValue) (places : List ℕ) (us : List TypedExpr) → AreNamesOnce k.spellings → Replaces k denotes s ms vs places us → AreDistinct (map (λ v. v.field.name) vs) → all_apart places ≡ true
+  apart s ms _ _ _ once rule.no_field d = refl
+  apart s ms _ _ _ once (rule.a_field {n = n} {place = place} {a = a} {e = e} {vs = vs} {places = places} {us = us} i p q) d =
+      ap (λ b. if b then false else all_apart places) (placed-in n.name place a s ms vs places us once i q d.0) ∙ apart s ms vs places us once q d.1
+
+  module _ (once : AreNamesOnce k.spellings) where
     abbrev S : Coverage
-    S = record { operation = of; product = λ p ks. masks_alone p.clauses ks; initial = λ t ks. all_one ks }
+    S = plain_forms
 
-    abbrev L : Coverage
-    L = any_loops S
+    abbrev In : TypedExpr → Type 0
+    In t = (verdict S t).ok ≡ true
 
-    abbrev In : Coverage → TypedExpr → Type 0
-    In c t = (verdict c t).ok ≡ true
+    abbrev AreIn : List TypedExpr → Type 0
+    AreIn ts = all_ok (map (verdict S) ts) ≡ true
 
-    abbrev AreIn : Coverage → List TypedExpr → Type 0
-    AreIn c ts = all_ok (map (verdict c) ts) ≡ true
+    abbrev EachIn : List (List TypedExpr) → Type 0
+    EachIn us = each_ok (map (map (verdict S)) us) ≡ true
 
-    abbrev EachIn : Coverage → List (List TypedExpr) → Type 0
-    EachIn c us = each_ok (map (map (verdict c)) us) ≡ true
+    kind-in : (l : ℕ) (ns : List ℕ) (y : TypedKind) (x : TypedKind-F TypedKind TypedExpr) → y ≡ roll-TypedKind x → kind_covered S (parts_covered S x) ≡ true → In (with l ns y)
+    kind-in l ns y x e h = covered-is S l ns y x e ∙ h
 
-    kind-to : (l : ℕ) (ns : List ℕ) (y : TypedKind) (x : TypedKind-F TypedKind TypedExpr) → y ≡ roll-TypedKind x
-        → (kind_covered L (parts_covered L x) ≡ true → kind_covered S (parts_covered S x) ≡ true) → In L (with l ns y) → In S (with l ns y)
-    kind-to l ns y x e f h = covered-is S l ns y x e ∙ f (sym (covered-is L l ns y x e) ∙ h)
+    more-in : (t : TypedExpr) (ts : List TypedExpr) → In t → AreIn ts → AreIn (t ∷ ts)
+    more-in t ts f g = both (verdict S t).ok (all_ok (map (verdict S) ts)) f g
 
-    one-to : (t : TypedExpr) → (In L t → In S t) → AreIn L (t ∷ []) → AreIn S (t ∷ [])
-    one-to t f h =
-        let x = and-true (verdict L t).ok true h in
-        both (verdict S t).ok true (f x.0) refl
+    one-in : (t : TypedExpr) → In t → AreIn (t ∷ [])
+    one-in t f = more-in t [] f refl
 
-    more-to : (t : TypedExpr) (ts : List TypedExpr) → (In L t → In S t) → (AreIn L ts → AreIn S ts) → AreIn L (t ∷ ts) → AreIn S (t ∷ ts)
-    more-to t ts f g h =
-        let x = and-true (verdict L t).ok (all_ok (map (verdict L) ts)) h in
-        both (verdict S t).ok (all_ok (map (verdict S) ts)) (f x.0) (g x.1)
+    two-in : (t u : TypedExpr) → In t → In u → AreIn (t ∷ u ∷ [])
+    two-in t u f g = more-in t (u ∷ []) f (one-in u g)
 
-    two-to : (t u : TypedExpr) → (In L t → In S t) → (In L u → In S u) → AreIn L (t ∷ u ∷ []) → AreIn S (t ∷ u ∷ [])
-    two-to t u f g = more-to t (u ∷ []) f (one-to u g)
+    def-in : (ts : List TypedExpr) (us : List (List TypedExpr)) → AreIn ts → EachIn us → EachIn (ts ∷ us)
+    def-in ts us f g = both (all_ok (map (verdict S) ts)) (each_ok (map (map (verdict S)) us)) f g
 
-    def-to : (ts : List TypedExpr) (us : List (List TypedExpr)) → (AreIn L ts → AreIn S ts) → (EachIn L us → EachIn S us) → EachIn L (ts ∷ us) → EachIn S (ts ∷ us)
-    def-to ts us f g h =
-        let x = and-true (all_ok (map (verdict L) ts)) (each_ok (map (map (verdict L)) us)) h in
-        both (all_ok (map (verdict S) ts)) (each_ok (map (map (verdict S)) us)) (f x.0) (g x.1)
+    apply-in : (l : ℕ) (ns : List ℕ) (o : Operation) (ts : List TypedExpr) → is_plain_operation o ≡ true → AreIn ts → In (with l ns (typed.Apply o ts))
+    apply-in l ns o ts c f = kind-in l ns (typed.Apply o ts) (TypedKind-F.Apply o ts) (sym (typed.rolls-Apply o ts)) (both (is_plain_operation o) (all_ok (map (verdict S) ts)) c f)
 
-    none-to : AreIn L [] → AreIn S []
-    none-to h = refl
+    product-in : (l : ℕ) (ns : List ℕ) (p : Product) (bs : List TypedExpr) (us : List (List TypedExpr)) (ts : List TypedExpr) → masks_alone p.clauses (counts (map (verdict S) ts)) ≡ true → AreIn bs → EachIn us → AreIn ts → In (with l ns (typed.Product p bs us ts))
+    product-in l ns p bs us ts alone f g i = kind-in l ns (typed.Product p bs us ts) (TypedKind-F.Product p bs us ts) (sym (typed.rolls-Product p bs us ts)) (both _ _ alone (both _ _ f (both _ _ g i)))
 
-    apply-to : (l : ℕ) (ns : List ℕ) (o : Operation) (ts : List TypedExpr) → (AreIn L ts → AreIn S ts) → In L (with l ns (typed.Apply o ts)) → In S (with l ns (typed.Apply o ts))
-    apply-to l ns o ts f = kind-to l ns (typed.Apply o ts) (TypedKind-F.Apply o ts) (sym (typed.rolls-Apply o ts)) go
-      where
-        go : (of o && all_ok (map (verdict L) ts)) ≡ true → (of o && all_ok (map (verdict S) ts)) ≡ true
-        go h =
-            let x = and-true (of o) (all_ok (map (verdict L) ts)) h in
-            both (of o) (all_ok (map (verdict S) ts)) x.0 (f x.1)
+    let-in : (l : ℕ) (ns : List ℕ) (us : List (List TypedExpr)) (ts : List TypedExpr) → EachIn us → AreIn ts → In (with l ns (typed.Let us ts))
+    let-in l ns us ts f g = kind-in l ns (typed.Let us ts) (TypedKind-F.Let us ts) (sym (typed.rolls-Let us ts)) (both _ _ f g)
 
-    product-to : (l : ℕ) (ns : List ℕ) (p : Product) (bs : List TypedExpr) (us : List (List TypedExpr)) (ts : List TypedExpr) → masks_alone p.clauses (counts (map (verdict S) ts)) ≡ true
-        → (AreIn L bs → AreIn S bs) → (EachIn L us → EachIn S us) → (AreIn L ts → AreIn S ts) → In L (with l ns (typed.Product p bs us ts)) → In S (with l ns (typed.Product p bs us ts))
-    product-to l ns p bs us ts alone f g i = kind-to l ns (typed.Product p bs us ts) (TypedKind-F.Product p bs us ts) (sym (typed.rolls-Product p bs us ts)) go
-      where
-        go : (all_ok (map (verdict L) bs) && (each_ok (map (map (verdict L)) us) && all_ok (map (verdict L) ts))) ≡ true
-            → (masks_alone p.clauses (counts (map (verdict S) ts)) && (all_ok (map (verdict S) bs) && (each_ok (map (map (verdict S)) us) && all_ok (map (verdict S) ts)))) ≡ true
-        go h =
-            let x = and-true (all_ok (map (verdict L) bs)) (each_ok (map (map (verdict L)) us) && all_ok (map (verdict L) ts)) h in
-            let y = and-true (each_ok (map (map (verdict L)) us)) (all_ok (map (verdict L) ts)) x.1 in
-            both _ _ alone (both _ _ (f x.0) (both _ _ (g y.0) (i y.1)))
+    if-in : (l : ℕ) (ns : List ℕ) (cs ts us : List TypedExpr) → AreIn cs → AreIn ts → AreIn us → In (with l ns (typed.If cs ts us))
+    if-in l ns cs ts us f g i = kind-in l ns (typed.If cs ts us) (TypedKind-F.If cs ts us) (sym (typed.rolls-If cs ts us)) (both _ _ f (both _ _ g i))
 
-    let-to : (l : ℕ) (ns : List ℕ) (us : List (List TypedExpr)) (ts : List TypedExpr) → (EachIn L us → EachIn S us) → (AreIn L ts → AreIn S ts) → In L (with l ns (typed.Let us ts)) → In S (with l ns (typed.Let us ts))
-    let-to l ns us ts f g = kind-to l ns (typed.Let us ts) (TypedKind-F.Let us ts) (sym (typed.rolls-Let us ts)) go
-      where
-        go : (each_ok (map (map (verdict L)) us) && all_ok (map (verdict L) ts)) ≡ true → (each_ok (map (map (verdict S)) us) && all_ok (map (verdict S) ts)) ≡ true
-        go h =
-            let x = and-true (each_ok (map (map (verdict L)) us)) (all_ok (map (verdict L) ts)) h in
-            both _ _ (f x.0) (g x.1)
+    case-in : (l : ℕ) (ns : List ℕ) (c : Case) (ts : List TypedExpr) (us : List (List TypedExpr)) → AreIn ts → EachIn us → In (with l ns (typed.Case c ts us))
+    case-in l ns c ts us f g = kind-in l ns (typed.Case c ts us) (TypedKind-F.Case c ts us) (sym (typed.rolls-Case c ts us)) (both _ _ f g)
 
-    if-to : (l : ℕ) (ns : List ℕ) (cs ts us : List TypedExpr) → (AreIn L cs → AreIn S cs) → (AreIn L ts → AreIn S ts) → (AreIn L us → AreIn S us) → In L (with l ns (typed.If cs ts us)) → In S (with l ns (typed.If cs ts us))
-    if-to l ns cs ts us f g i = kind-to l ns (typed.If cs ts us) (TypedKind-F.If cs ts us) (sym (typed.rolls-If cs ts us)) go
-      where
-        go : (all_ok (map (verdict L) cs) && (all_ok (map (verdict L) ts) && all_ok (map (verdict L) us))) ≡ true
-            → (all_ok (map (verdict S) cs) && (all_ok (map (verdict S) ts) && all_ok (map (verdict S) us))) ≡ true
-        go h =
-            let x = and-true (all_ok (map (verdict L) cs)) (all_ok (map (verdict L) ts) && all_ok (map (verdict L) us)) h in
-            let y = and-true (all_ok (map (verdict L) ts)) (all_ok (map (verdict L) us)) x.1 in
-            both _ _ (f x.0) (both _ _ (g y.0) (i y.1))
-
-    case-to : (l : ℕ) (ns : List ℕ) (c : Case) (ts : List TypedExpr) (us : List (List TypedExpr)) → (AreIn L ts → AreIn S ts) → (EachIn L us → EachIn S us) → In L (with l ns (typed.Case c ts us)) → In S (with l ns (typed.Case c ts us))
-    case-to l ns c ts us f g = kind-to l ns (typed.Case c ts us) (TypedKind-F.Case c ts us) (sym (typed.rolls-Case c ts us)) go
-      where
-        go : (all_ok (map (verdict L) ts) && each_ok (map (map (verdict L)) us)) ≡ true → (all_ok (map (verdict S) ts) && each_ok (map (map (verdict S)) us)) ≡ true
-        go h =
-            let y = and-true (all_ok (map (verdict L) ts)) (each_ok (map (map (verdict L)) us)) h in
-            both _ _ (f y.0) (g y.1)
-
-    initial-to : (l : ℕ) (ns : List ℕ) (t : Turns) (us : List (List TypedExpr)) (tests : List TypedExpr) (vs : List (List TypedExpr)) (ts : List TypedExpr) → all_one (counts (map (verdict S) ts)) ≡ true
-        → (EachIn L us → EachIn S us) → (AreIn L tests → AreIn S tests) → (EachIn L vs → EachIn S vs) → (AreIn L ts → AreIn S ts) → In L (with l ns (typed.Initial t us tests vs ts)) → In S (with l ns (typed.Initial t us tests vs ts))
-    initial-to l ns t us tests vs ts alone f g i j = kind-to l ns (typed.Initial t us tests vs ts) (TypedKind-F.Initial t us tests vs ts) (sym (typed.rolls-Initial t us tests vs ts)) go
-      where
-        go : (each_ok (map (map (verdict L)) us) && (all_ok (map (verdict L) tests) && (each_ok (map (map (verdict L)) vs) && all_ok (map (verdict L) ts)))) ≡ true
-            → (all_one (counts (map (verdict S) ts)) && (each_ok (map (map (verdict S)) us) && (all_ok (map (verdict S) tests) && (each_ok (map (map (verdict S)) vs) && all_ok (map (verdict S) ts))))) ≡ true
-        go h =
-            let x = and-true (each_ok (map (map (verdict L)) us)) (all_ok (map (verdict L) tests) && (each_ok (map (map (verdict L)) vs) && all_ok (map (verdict L) ts))) h in
-            let y = and-true (all_ok (map (verdict L) tests)) (each_ok (map (map (verdict L)) vs) && all_ok (map (verdict L) ts)) x.1 in
-            let z = and-true (each_ok (map (map (verdict L)) vs)) (all_ok (map (verdict L) ts)) y.1 in
-            both _ _ alone (both _ _ (f x.0) (both _ _ (g y.0) (both _ _ (i z.0) (j z.1))))
+    initial-in : (l : ℕ) (ns : List ℕ) (t : Turns) (us : List (List TypedExpr)) (tests : List TypedExpr) (vs : List (List TypedExpr)) (ts : List TypedExpr) → all_one (counts (map (verdict S) ts)) ≡ true
+        → EachIn us → AreIn tests → EachIn vs → AreIn ts → In (with l ns (typed.Initial t us tests vs ts))
+    initial-in l ns t us tests vs ts alone f g i j = kind-in l ns (typed.Initial t us tests vs ts) (TypedKind-F.Initial t us tests vs ts) (sym (typed.rolls-Initial t us tests vs ts)) (both _ _ alone (both _ _ f (both _ _ g (both _ _ i j))))
 
     mutual
-      typed-to : (s : Scope) (e : Expr) (t : TypedExpr) (tys : List Ty) → Types k denotes s e t tys → In L t → In S t
-      typed-to s _ _ _ (rule.constant {l = l} {c = c} {ns = ns} n) = kind-to l ns (typed.Constant c) (TypedKind-F.Constant c) (sym (typed.rolls-Constant c)) (λ h. refl)
-      typed-to s _ _ _ (rule.name {l = l} {level = i} {ns = ns} h n) = kind-to l ns (typed.Value i) (TypedKind-F.Value i) (sym (typed.rolls-Value i)) (λ h. refl)
-      typed-to s _ _ _ (rule.old {l = l} {level = i} {ns = ns} h n) = kind-to l ns (typed.Value i) (TypedKind-F.Value i) (sym (typed.rolls-Value i)) (λ h. refl)
-      typed-to s _ _ tys (rule.group {l = l} {e = e} {t = t} {ns = ns} p n) =
-          kind-to l ns (typed.Group (t ∷ [])) (TypedKind-F.Group (t ∷ [])) (sym (typed.rolls-Group (t ∷ []))) (one-to t (typed-to s e t tys p))
-      typed-to s _ _ _ (rule.call {l = l} {n = i} {f = f} {es = es} {ts = ts} {ns = ns} h p n) =
-          kind-to l ns (typed.Call i ts) (TypedKind-F.Call i ts) (sym (typed.rolls-Call i ts)) (all-to s es ts f.params p)
-      typed-to s _ _ _ (rule.built_in {l = l} {b = b} {es = es} {ts = ts} {tys = tys} {ns = ns} h p g d n) = apply-to l ns (built_in_operation b) ts (all-to s es ts tys p)
-      typed-to s _ _ _ (rule.convert {l = l} {a = a} {c = c} {e = e} {t = t} {ns = ns} p h n) = apply-to l ns (convert_operation c) (t ∷ []) (one-to t (typed-to s e t (a ∷ []) p))
-      typed-to s _ _ _ (rule.error_of {l = l} {ns = ns} h n) = apply-to l ns op.Error [] none-to
-      typed-to s _ _ _ (rule.is_error {l = l} {a = a} {e = e} {t = t} {ns = ns} p n) = apply-to l ns (op.Unary one.IsError) (t ∷ []) (one-to t (typed-to s e t (a ∷ []) p))
-      typed-to s _ _ _ (rule.is_tag {l = l} {place = place} {ms = ms} {e = e} {t = t} {ns = ns} p h n) = apply-to l ns (op.IsTag place) (t ∷ []) (one-to t (typed-to s e t (ty.Uni ms ∷ []) p))
-      typed-to s _ _ tys (rule.prefix {l = l} {o = o} {e = e} {t = t} {ns = ns} p n) = apply-to l ns (prefix_operation o) (t ∷ []) (one-to t (typed-to s e t tys p))
-      typed-to s _ _ _ (rule.binary {l = l} {a = a} {o = o} {e = e} {f = f} {t = t} {u = u} {ns = ns} p q h n) =
-          apply-to l ns (binary_operation o) (t ∷ u ∷ []) (two-to t u (typed-to s e t (a ∷ []) p) (typed-to s f u (a ∷ []) q))
-      typed-to s _ _ _ (rule.select {l = l} {a = a} {e = e} {i = i} {t = t} {u = u} {ns = ns} p q n) =
-          apply-to l ns op.Element (t ∷ u ∷ []) (two-to t u (typed-to s e t (ty.Arr a ∷ []) p) (typed-to s i u (ty.Int ∷ []) q))
-      typed-to s _ _ _ (rule.update {l = l} {a = a} {e = e} {i = i} {f = f} {t = t} {u = u} {v = v} {ns = ns} p q r n) =
-          apply-to l ns op.Update (t ∷ u ∷ v ∷ []) (more-to t (u ∷ v ∷ []) (typed-to s e t (ty.Arr a ∷ []) p) (two-to u v (typed-to s i u (ty.Int ∷ []) q) (typed-to s f v (a ∷ []) r)))
-      typed-to s _ _ _ (rule.field {l = l} {place = place} {ms = ms} {e = e} {t = t} {ns = ns} p h n) = apply-to l ns (op.Field place) (t ∷ []) (one-to t (typed-to s e t (ty.Rec ms ∷ []) p))
-      typed-to s _ _ _ (rule.replace {l = l} {ms = ms} {e = e} {t = t} {vs = vs} {places = places} {us = us} {ns = ns} p q d n) =
-          apply-to l ns (op.Change places) (t ∷ us) (more-to t us (typed-to s e t (ty.Rec ms ∷ []) p) (replaced-to s ms vs places us q))
-      typed-to s _ _ _ (rule.empty_array {l = l} a {ns = ns} h n) = apply-to l ns op.EmptyArray [] none-to
-      typed-to s _ _ _ (rule.array {l = l} {a = a} {tys = tys} {low = low} {t = t} {es = es} {ts = ts} {ns = ns} p q same h d n) =
-          apply-to l ns op.Array (t ∷ ts) (more-to t ts (typed-to s low t (ty.Int ∷ []) p) (all-to s es ts (a ∷ tys) q))
-      typed-to s _ _ _ (rule.empty_stream {l = l} a {ns = ns} h n) = apply-to l ns op.Stream [] none-to
-      typed-to s _ _ _ (rule.stream {l = l} {a = a} {tys = tys} {es = es} {ts = ts} {ns = ns} q same h d n) = apply-to l ns op.Stream ts (all-to s es ts (a ∷ tys) q)
-      typed-to s _ _ _ (rule.a_record {l = l} {ms = ms} {vs = vs} {ts = ts} {ns = ns} p d h deep n) = apply-to l ns op.Record ts (fields-to s vs ts ms p)
-      typed-to s _ _ _ (rule.union {l = l} {place = place} {content = content} {e = e} {t = t} {ns = ns} h has p n) = apply-to l ns (op.Union place) (t ∷ []) (one-to t (typed-to s e t (content ∷ []) p))
-      typed-to s _ _ tys (rule.let_in {after = after} {l = l} {ds = ds} {us = us} {made = made} {es = es} {ts = ts} {ns = ns} p d q n) =
-          let-to l ns us ts (defs-to s ds us made after p) (all-to after es ts tys q)
-      typed-to s _ _ tys (rule.if_else {l = l} {c = c} {t = t} {es = es} {fs = fs} {ts = ts} {us = us} {ns = ns} p q r n) =
-          if-to l ns (t ∷ []) ts us (one-to t (typed-to s c t (ty.Bool ∷ []) p)) (all-to s es ts tys q) (all-to s fs us tys r)
-      typed-to s _ _ tys (rule.tag_case {l = l} {ms = ms} {x = x} {e = e} {t = t} {arms = arms} {typed_arms = us} {last = last} {tags = tags} {choices = choices} {ns = ns} {other = other} p q d all o c n) =
-          case-to l ns (record { named = named_arms x arms; choices = choices; others = length arms }) (t ∷ []) (us ++ last) (one-to t (typed-to s e t (ty.Uni ms ∷ []) p))
-          (arms-to s x ms tys arms us tags q last (last-to s tys other last o))
-      typed-to s _ _ tys (rule.for_product {l = l} {gs = gs} {ds = ds} {cs = cs} {t = t} p) = crossed-to s l gs ds cs t tys p
-      typed-to s _ _ tys (rule.for_initial {started = started} {turned = turned} {l = l} {first = begun} {later = later} {ns = ns} is_first is_until {test = test} {t = t} {ds = ds} {es = es} {us = us} {vs = vs} {cs = cs} {forms = clauses} {ts = ts} p d q r e keeps c n) =
-          initial-to l ns (record { is_first = is_first; is_until = is_until; renewed = renewals (loop_of s ds begun) s.height (targets es); clauses = clauses }) us (t ∷ []) vs ts
-          (clauses-one S started cs clauses ts tys c) (defs-to s ds us begun started p) (one-to t (typed-to started test t (ty.Bool ∷ []) q)) (defs-to (in_turn (loop_of s ds begun) (targets es) started) es vs later turned r)
-          (clauses-to started cs clauses ts tys c)
+      typed-in : (s : Scope) (e : Expr) (t : TypedExpr) (tys : List Ty) → Types k denotes s e t tys → In t
+      typed-in s _ _ _ (rule.constant {l = l} {c = c} {ns = ns} n) = kind-in l ns (typed.Constant c) (TypedKind-F.Constant c) (sym (typed.rolls-Constant c)) refl
+      typed-in s _ _ _ (rule.name {l = l} {level = i} {ns = ns} h n) = kind-in l ns (typed.Value i) (TypedKind-F.Value i) (sym (typed.rolls-Value i)) refl
+      typed-in s _ _ _ (rule.old {l = l} {level = i} {ns = ns} h n) = kind-in l ns (typed.Value i) (TypedKind-F.Value i) (sym (typed.rolls-Value i)) refl
+      typed-in s _ _ tys (rule.group {l = l} {e = e} {t = t} {ns = ns} p n) =
+          kind-in l ns (typed.Group (t ∷ [])) (TypedKind-F.Group (t ∷ [])) (sym (typed.rolls-Group (t ∷ []))) (one-in t (typed-in s e t tys p))
+      typed-in s _ _ _ (rule.call {l = l} {n = i} {f = f} {es = es} {ts = ts} {ns = ns} h p n) =
+          kind-in l ns (typed.Call i ts) (TypedKind-F.Call i ts) (sym (typed.rolls-Call i ts)) (all-in s es ts f.params p)
+      typed-in s _ _ _ (rule.built_in {l = l} {b = b} {es = es} {ts = ts} {tys = tys} {ns = ns} h p g d n) = apply-in l ns (built_in_operation b) ts (built-in-plain b) (all-in s es ts tys p)
+      typed-in s _ _ _ (rule.convert {l = l} {a = a} {c = c} {e = e} {t = t} {ns = ns} p h n) = apply-in l ns (convert_operation c) (t ∷ []) (convert-plain c) (one-in t (typed-in s e t (a ∷ []) p))
+      typed-in s _ _ _ (rule.error_of {l = l} {ns = ns} h n) = apply-in l ns op.Error [] refl refl
+      typed-in s _ _ _ (rule.is_error {l = l} {a = a} {e = e} {t = t} {ns = ns} p n) = apply-in l ns (op.Unary one.IsError) (t ∷ []) refl (one-in t (typed-in s e t (a ∷ []) p))
+      typed-in s _ _ _ (rule.is_tag {l = l} {place = place} {ms = ms} {e = e} {t = t} {ns = ns} p h n) = apply-in l ns (op.IsTag place) (t ∷ []) refl (one-in t (typed-in s e t (ty.Uni ms ∷ []) p))
+      typed-in s _ _ tys (rule.prefix {l = l} {o = o} {e = e} {t = t} {ns = ns} p n) = apply-in l ns (prefix_operation o) (t ∷ []) (prefix-plain o) (one-in t (typed-in s e t tys p))
+      typed-in s _ _ _ (rule.binary {l = l} {a = a} {o = o} {e = e} {f = f} {t = t} {u = u} {ns = ns} p q h n) =
+          apply-in l ns (binary_operation o) (t ∷ u ∷ []) (binary-plain o) (two-in t u (typed-in s e t (a ∷ []) p) (typed-in s f u (a ∷ []) q))
+      typed-in s _ _ _ (rule.select {l = l} {a = a} {e = e} {i = i} {t = t} {u = u} {ns = ns} p q n) =
+          apply-in l ns op.Element (t ∷ u ∷ []) refl (two-in t u (typed-in s e t (ty.Arr a ∷ []) p) (typed-in s i u (ty.Int ∷ []) q))
+      typed-in s _ _ _ (rule.update {l = l} {a = a} {e = e} {i = i} {f = f} {t = t} {u = u} {v = v} {ns = ns} p q r n) =
+          apply-in l ns op.Update (t ∷ u ∷ v ∷ []) refl (more-in t (u ∷ v ∷ []) (typed-in s e t (ty.Arr a ∷ []) p) (two-in u v (typed-in s i u (ty.Int ∷ []) q) (typed-in s f v (a ∷ []) r)))
+      typed-in s _ _ _ (rule.field {l = l} {place = place} {ms = ms} {e = e} {t = t} {ns = ns} p h n) = apply-in l ns (op.Field place) (t ∷ []) refl (one-in t (typed-in s e t (ty.Rec ms ∷ []) p))
+      typed-in s _ _ _ (rule.replace {l = l} {ms = ms} {e = e} {t = t} {vs = vs} {places = places} {us = us} {ns = ns} p q d n) =
+          apply-in l ns (op.Change places) (t ∷ us) (apart s ms vs places us once q d) (more-in t us (typed-in s e t (ty.Rec ms ∷ []) p) (replaced-in s ms vs places us q))
+      typed-in s _ _ _ (rule.empty_array {l = l} a {ns = ns} h n) = apply-in l ns op.EmptyArray [] refl refl
+      typed-in s _ _ _ (rule.array {l = l} {a = a} {tys = tys} {low = low} {t = t} {es = es} {ts = ts} {ns = ns} p q same h d n) =
+          apply-in l ns op.Array (t ∷ ts) refl (more-in t ts (typed-in s low t (ty.Int ∷ []) p) (all-in s es ts (a ∷ tys) q))
+      typed-in s _ _ _ (rule.empty_stream {l = l} a {ns = ns} h n) = apply-in l ns op.Stream [] refl refl
+      typed-in s _ _ _ (rule.stream {l = l} {a = a} {tys = tys} {es = es} {ts = ts} {ns = ns} q same h d n) = apply-in l ns op.Stream ts refl (all-in s es ts (a ∷ tys) q)
+      typed-in s _ _ _ (rule.a_record {l = l} {ms = ms} {vs = vs} {ts = ts} {ns = ns} p d h deep n) = apply-in l ns op.Record ts refl (fields-in s vs ts ms p)
+      typed-in s _ _ _ (rule.union {l = l} {place = place} {content = content} {e = e} {t = t} {ns = ns} h has p n) = apply-in l ns (op.Union place) (t ∷ []) refl (one-in t (typed-in s e t (content ∷ []) p))
+      typed-in s _ _ tys (rule.let_in {after = after} {l = l} {ds = ds} {us = us} {made = made} {es = es} {ts = ts} {ns = ns} p d q n) =
+          let-in l ns us ts (defs-in s ds us made after p) (all-in after es ts tys q)
+      typed-in s _ _ tys (rule.if_else {l = l} {c = c} {t = t} {es = es} {fs = fs} {ts = ts} {us = us} {ns = ns} p q r n) =
+          if-in l ns (t ∷ []) ts us (one-in t (typed-in s c t (ty.Bool ∷ []) p)) (all-in s es ts tys q) (all-in s fs us tys r)
+      typed-in s _ _ tys (rule.tag_case {l = l} {ms = ms} {x = x} {e = e} {t = t} {arms = arms} {typed_arms = us} {last = last} {tags = tags} {choices = choices} {ns = ns} {other = other} p q d all o c n) =
+          case-in l ns (record { named = named_arms x arms; choices = choices; others = length arms }) (t ∷ []) (us ++ last) (one-in t (typed-in s e t (ty.Uni ms ∷ []) p))
+          (arms-in s x ms tys arms us tags q last (last-in s tys other last o))
+      typed-in s _ _ tys (rule.for_product {l = l} {gs = gs} {ds = ds} {cs = cs} {t = t} p) = crossed-in s l gs ds cs t tys p
+      typed-in s _ _ tys (rule.for_initial {started = started} {turned = turned} {l = l} {first = begun} {later = later} {ns = ns} is_first is_until {test = test} {t = t} {ds = ds} {es = es} {us = us} {vs = vs} {cs = cs} {forms = clauses} {ts = ts} p d q r e keeps c n) =
+          initial-in l ns (record { is_first = is_first; is_until = is_until; renewed = renewals (loop_of s ds begun) s.height (targets es); clauses = clauses }) us (t ∷ []) vs ts
+          (clauses-one S started cs clauses ts tys c) (defs-in s ds us begun started p) (one-in t (typed-in started test t (ty.Bool ∷ []) q)) (defs-in (in_turn (loop_of s ds begun) (targets es) started) es vs later turned r)
+          (clauses-in started cs clauses ts tys c)
 
-      all-to : (s : Scope) (es : List Expr) (ts : List TypedExpr) (tys : List Ty) → AreTyped k denotes s es ts tys → AreIn L ts → AreIn S ts
-      all-to s _ _ _ rule.no_more h = refl
-      all-to s _ _ _ (rule.more {e = e} {t = t} {tys = tys} {others = others} {es = es} {ts = ts} p q) h = more-to t ts (typed-to s e t tys p) (all-to s es ts others q) h
+      all-in : (s : Scope) (es : List Expr) (ts : List TypedExpr) (tys : List Ty) → AreTyped k denotes s es ts tys → AreIn ts
+      all-in s _ _ _ rule.no_more = refl
+      all-in s _ _ _ (rule.more {e = e} {t = t} {tys = tys} {others = others} {es = es} {ts = ts} p q) = more-in t ts (typed-in s e t tys p) (all-in s es ts others q)
 
-      replaced-to : (s : Scope) (ms : List Member) (vs : List FieldValue) (places : List ℕ) (us : List TypedExpr) → Replaces k denotes s ms vs places us → AreIn L us → AreIn S us
-      replaced-to s ms _ _ _ rule.no_field h = refl
-      replaced-to s ms _ _ _ (rule.a_field {a = a} {e = e} {t = t} {vs = vs} {places = places} {us = us} i p q) h = more-to t us (typed-to s e t (a ∷ []) p) (replaced-to s ms vs places us q) h
+      replaced-in : (s : Scope) (ms : List Member) (vs : List FieldValue) (places : List ℕ) (us : List TypedExpr) → Replaces k denotes s ms vs places us → AreIn us
+      replaced-in s ms _ _ _ rule.no_field = refl
+      replaced-in s ms _ _ _ (rule.a_field {a = a} {e = e} {t = t} {vs = vs} {places = places} {us = us} i p q) = more-in t us (typed-in s e t (a ∷ []) p) (replaced-in s ms vs places us q)
 
-      fields-to : (s : Scope) (vs : List FieldValue) (ts : List TypedExpr) (ms : List Member) → HasFields k denotes s vs ts ms → AreIn L ts → AreIn S ts
-      fields-to s _ _ _ rule.no_member h = refl
-      fields-to s _ _ _ (rule.a_member {a = a} {e = e} {t = t} {vs = vs} {ts = ts} {ms = ms} i p q) h = more-to t ts (typed-to s e t (a ∷ []) p) (fields-to s vs ts ms q) h
+      fields-in : (s : Scope) (vs : List FieldValue) (ts : List TypedExpr) (ms : List Member) → HasFields k denotes s vs ts ms → AreIn ts
+      fields-in s _ _ _ rule.no_member = refl
+      fields-in s _ _ _ (rule.a_member {a = a} {e = e} {t = t} {vs = vs} {ts = ts} {ms = ms} i p q) = more-in t ts (typed-in s e t (a ∷ []) p) (fields-in s vs ts ms q)
 
-      defs-to : (s : Scope) (ds : List Def) (us : List (List TypedExpr)) (tys : List Ty) (after : Scope) → Defines k denotes s ds us tys after → EachIn L us → EachIn S us
-      defs-to s _ _ _ _ rule.no_def h = refl
-      defs-to s _ _ _ after (rule.a_def xs {es = es} {ts = ts} {tys = tys} {others = others} {ds = ds} {us = us} p t q) h =
-          def-to ts us (all-to s es ts tys p) (defs-to (define_all (names_in xs) tys s) ds us others after q) h
+      defs-in : (s : Scope) (ds : List Def) (us : List (List TypedExpr)) (tys : List Ty) (after : Scope) → Defines k denotes s ds us tys after → EachIn us
+      defs-in s _ _ _ _ rule.no_def = refl
+      defs-in s _ _ _ after (rule.a_def xs {es = es} {ts = ts} {tys = tys} {others = others} {ds = ds} {us = us} p t q) =
+          def-in ts us (all-in s es ts tys p) (defs-in (define_all (names_in xs) tys s) ds us others after q)
 
-      crossed-to : (s : Scope) (l : ℕ) (gs : List (List Generator)) (ds : List Def) (cs : List Clause) (t : TypedExpr) (tys : List Ty) → Crosses k denotes s l gs ds cs t tys → In L t → In S t
-      crossed-to s l _ ds cs _ tys (rule.one_group {inside = inside} {names = names} {ns = ns} {tys = us} {made = made} {g = g} {sources = sources} {bounds = bounds} {us = values} {forms = clauses} {ts = ts} p d q e c n) =
-          product-to l ns (record { sources = sources; clauses = clauses }) bounds values ts (second (no_true (unless_places clauses)) _ (clauses-one S inside cs clauses ts tys c))
-          (generated-to s g sources bounds names us p) (defs-to (define_all names us s) ds values made inside q) (clauses-to inside cs clauses ts tys c)
-      crossed-to s l _ ds cs _ tys (rule.a_group {names = names} {ns = ns} {tys = us} {inner = inner} {g = g} {gs = gs} {sources = sources} {bounds = bounds} {forms = clauses} {t = t} p d q f n) =
-          product-to l ns (record { sources = sources; clauses = clauses }) bounds [] (t ∷ []) (first (no_true (unless_places clauses)) _ (folds-open cs inner clauses tys f))
-          (generated-to s g sources bounds names us p) (λ h. refl) (one-to t (crossed-to (define_all names us s) l gs ds cs t inner q))
+      crossed-in : (s : Scope) (l : ℕ) (gs : List (List Generator)) (ds : List Def) (cs : List Clause) (t : TypedExpr) (tys : List Ty) → Crosses k denotes s l gs ds cs t tys → In t
+      crossed-in s l _ ds cs _ tys (rule.one_group {inside = inside} {names = names} {ns = ns} {tys = us} {made = made} {g = g} {sources = sources} {bounds = bounds} {us = values} {forms = clauses} {ts = ts} p d q e c n) =
+          product-in l ns (record { sources = sources; clauses = clauses }) bounds values ts (second (no_true (unless_places clauses)) _ (clauses-one S inside cs clauses ts tys c))
+          (generated-in s g sources bounds names us p) (defs-in (define_all names us s) ds values made inside q) (clauses-in inside cs clauses ts tys c)
+      crossed-in s l _ ds cs _ tys (rule.a_group {names = names} {ns = ns} {tys = us} {inner = inner} {g = g} {gs = gs} {sources = sources} {bounds = bounds} {forms = clauses} {t = t} p d q f n) =
+          product-in l ns (record { sources = sources; clauses = clauses }) bounds [] (t ∷ []) (first (no_true (unless_places clauses)) _ (folds-open cs inner clauses tys f))
+          (generated-in s g sources bounds names us p) refl (one-in t (crossed-in (define_all names us s) l gs ds cs t inner q))
 
-      generated-to : (s : Scope) (gs : List Generator) (sources : List Source) (bounds : List TypedExpr) (names : List ℕ) (tys : List Ty) → Generates k denotes s gs sources bounds names tys → AreIn L bounds → AreIn S bounds
-      generated-to s _ _ _ _ _ rule.no_generator h = refl
-      generated-to s _ _ _ _ _ (rule.range n {e = e} {f = f} {t = t} {u = u} {names = names} {tys = tys} {gs = gs} {sources = sources} {bounds = bounds} p q r) h =
-          more-to t (u ∷ bounds) (typed-to s e t (ty.Int ∷ []) p) (more-to u bounds (typed-to s f u (ty.Int ∷ []) q) (generated-to s gs sources bounds names tys r)) h
-      generated-to s _ _ _ _ _ (rule.elements n {a = a} {e = e} {t = t} {names = names} {tys = tys} {gs = gs} {sources = sources} {bounds = bounds} p q r) h =
-          more-to t bounds (typed-to s e t (a ∷ []) p) (generated-to s gs sources bounds names tys r) h
-      generated-to s _ _ _ _ _ (rule.indexed n {a = a} {e = e} {t = t} {names = names} {tys = tys} {gs = gs} {sources = sources} {bounds = bounds} p q r) h =
-          more-to t bounds (typed-to s e t (a ∷ []) p) (generated-to s gs sources bounds names tys r) h
+      generated-in : (s : Scope) (gs : List Generator) (sources : List Source) (bounds : List TypedExpr) (names : List ℕ) (tys : List Ty) → Generates k denotes s gs sources bounds names tys → AreIn bounds
+      generated-in s _ _ _ _ _ rule.no_generator = refl
+      generated-in s _ _ _ _ _ (rule.range n {e = e} {f = f} {t = t} {u = u} {names = names} {tys = tys} {gs = gs} {sources = sources} {bounds = bounds} p q r) =
+          more-in t (u ∷ bounds) (typed-in s e t (ty.Int ∷ []) p) (more-in u bounds (typed-in s f u (ty.Int ∷ []) q) (generated-in s gs sources bounds names tys r))
+      generated-in s _ _ _ _ _ (rule.elements n {a = a} {e = e} {t = t} {names = names} {tys = tys} {gs = gs} {sources = sources} {bounds = bounds} p q r) =
+          more-in t bounds (typed-in s e t (a ∷ []) p) (generated-in s gs sources bounds names tys r)
+      generated-in s _ _ _ _ _ (rule.indexed n {a = a} {e = e} {t = t} {names = names} {tys = tys} {gs = gs} {sources = sources} {bounds = bounds} p q r) =
+          more-in t bounds (typed-in s e t (a ∷ []) p) (generated-in s gs sources bounds names tys r)
 
-      clauses-to : (s : Scope) (cs : List Clause) (clauses : List ClauseForm) (ts : List TypedExpr) (tys : List Ty) → AreClauses k denotes s cs clauses ts tys → AreIn L ts → AreIn S ts
-      clauses-to s _ _ _ _ rule.no_clause h = refl
-      clauses-to s _ _ _ _ (rule.a_clause l {a = a} {e = e} {t = t} {cs = cs} {forms = clauses} {ts = ts} {tys = tys} p i d rule.no_mask r) h =
-          more-to t ts (typed-to s e t (a ∷ []) p) (clauses-to s cs clauses ts tys r) h
-      clauses-to s _ _ _ _ (rule.a_clause l {a = a} {e = e} {t = t} {cs = cs} {forms = clauses} {ts = ts} {tys = tys} p i d (rule.a_mask {e = f} {t = u} m) r) h =
-          more-to t (u ∷ ts) (typed-to s e t (a ∷ []) p) (more-to u ts (typed-to s f u (ty.Bool ∷ []) m) (clauses-to s cs clauses ts tys r)) h
+      clauses-in : (s : Scope) (cs : List Clause) (clauses : List ClauseForm) (ts : List TypedExpr) (tys : List Ty) → AreClauses k denotes s cs clauses ts tys → AreIn ts
+      clauses-in s _ _ _ _ rule.no_clause = refl
+      clauses-in s _ _ _ _ (rule.a_clause l {a = a} {e = e} {t = t} {cs = cs} {forms = clauses} {ts = ts} {tys = tys} p i d rule.no_mask r) =
+          more-in t ts (typed-in s e t (a ∷ []) p) (clauses-in s cs clauses ts tys r)
+      clauses-in s _ _ _ _ (rule.a_clause l {a = a} {e = e} {t = t} {cs = cs} {forms = clauses} {ts = ts} {tys = tys} p i d (rule.a_mask {e = f} {t = u} m) r) =
+          more-in t (u ∷ ts) (typed-in s e t (a ∷ []) p) (more-in u ts (typed-in s f u (ty.Bool ∷ []) m) (clauses-in s cs clauses ts tys r))
 
       -- arms before `otherwise`
-      arms-to : (s : Scope) (x : Option ℕ) (ms : List Member) (tys : List Ty) (arms : List Arm) (us : List (List TypedExpr)) (tags : List (List ℕ)) → AreArms k denotes s x ms tys arms us tags
-          → (last : List (List TypedExpr)) → (EachIn L last → EachIn S last) → EachIn L (us ++ last) → EachIn S (us ++ last)
-      arms-to s x ms tys _ _ _ rule.no_arm last f h = f h
-      arms-to s x ms tys _ _ _ (rule.an_arm l content names {es = es} {ts = ts} {arms = arms} {typed_arms = us} {tags = tags} o t p q) last f h =
-          def-to ts (us ++ last) (all-to (with_content x content s) es ts tys p) (arms-to s x ms tys arms us tags q last f) h
+      arms-in : (s : Scope) (x : Option ℕ) (ms : List Member) (tys : List Ty) (arms : List Arm) (us : List (List TypedExpr)) (tags : List (List ℕ)) → AreArms k denotes s x ms tys arms us tags
+          → (last : List (List TypedExpr)) → EachIn last → EachIn (us ++ last)
+      arms-in s x ms tys _ _ _ rule.no_arm last f = f
+      arms-in s x ms tys _ _ _ (rule.an_arm l content names {es = es} {ts = ts} {arms = arms} {typed_arms = us} {tags = tags} o t p q) last f =
+          def-in ts (us ++ last) (all-in (with_content x content s) es ts tys p) (arms-in s x ms tys arms us tags q last f)
 
-      last-to : (s : Scope) (tys : List Ty) (other : Option (List Expr)) (last : List (List TypedExpr)) → IsOtherwise k denotes s tys other last → EachIn L last → EachIn S last
-      last-to s tys _ _ rule.no_otherwise h = refl
-      last-to s tys _ _ (rule.otherwise {es = es} {ts = ts} p) h = def-to ts [] (all-to s es ts tys p) (λ h. refl) h
+      last-in : (s : Scope) (tys : List Ty) (other : Option (List Expr)) (last : List (List TypedExpr)) → IsOtherwise k denotes s tys other last → EachIn last
+      last-in s tys _ _ rule.no_otherwise = refl
+      last-in s tys _ _ (rule.otherwise {es = es} {ts = ts} p) = def-in ts [] (all-in s es ts tys p) refl
 
 -- ---- programs
 
-module _ (u : tree.Unit) (forms : List Form) (ds : List Declared) where
-  body-to : (d : Declared) (kind : FunKind) (o : Option (List TypedExpr)) → HasBody u (known u forms ds d.types) d.signature kind o → (es : List TypedExpr) → o ≡ Some es
-      → all_ok (map (verdict (any_loops plain_forms)) es) ≡ true → all_ok (map (verdict plain_forms) es) ≡ true
-  body-to d _ _ units.global es e h = absurd cc
-  body-to d _ _ (units.defined {es = exprs} {ts = ts} p) es e h = go (same e) h
+module _ (u : tree.Unit) (forms : List Form) (ds : List Declared) (once : AreNamesOnce u.tokens.names) where
+  body-in : (d : Declared) (kind : FunKind) (o : Option (List TypedExpr)) → HasBody u (known u forms ds d.types) d.signature kind o → (es : List TypedExpr) → o ≡ Some es → all_ok (map (verdict plain_forms) es) ≡ true
+  body-in d _ _ units.global es e = absurd cc
+  body-in d _ _ (units.defined {es = exprs} {ts = ts} p) es e = ap (λ x. all_ok (map (verdict plain_forms) x)) (sym (same e)) ∙ all-in (known u forms ds d.types) (denotes u d.types) once (units.parameters d.signature) exprs ts d.signature.results p
     where
       same : Some ts ≡ Some es → ts ≡ es
       same e = cc
 
-      go : ts ≡ es → all_ok (map (verdict (any_loops plain_forms)) es) ≡ true → all_ok (map (verdict plain_forms) es) ≡ true
-      go e h =
-          ap (λ x. all_ok (map (verdict plain_forms) x)) (sym e)
-          ∙ all-to (known u forms ds d.types) (denotes u d.types) is_plain_operation (units.parameters d.signature) exprs ts d.signature.results p (ap (λ x. all_ok (map (verdict (any_loops plain_forms)) x)) e ∙ h)
-
-  functions-to : (es : List Declared) (fs : List Function) → AreFunctionsOf u forms ds es fs → (i : ℕ) (f : Function) (b : List TypedExpr) → slice_get fs i ≡ Some f → f.body ≡ Some b
-      → all_ok (map (verdict (any_loops plain_forms)) b) ≡ true → all_ok (map (verdict plain_forms) b) ≡ true
-  functions-to _ _ units.no_function i f b e s h = absurd cc
-  functions-to _ _ (units.a_function {d = d} {f = g} {es = es} {fs = fs} p ps) zero f b e s h = body-to d d.function.kind g.body p.body b (ap (λ x. x.body) (same e) ∙ s) h
+  functions-in : (es : List Declared) (fs : List Function) → AreFunctionsOf u forms ds es fs → (i : ℕ) (f : Function) (b : List TypedExpr) → slice_get fs i ≡ Some f → f.body ≡ Some b → all_ok (map (verdict plain_forms) b) ≡ true
+  functions-in _ _ units.no_function i f b e s = absurd cc
+  functions-in _ _ (units.a_function {d = d} {f = g} {es = es} {fs = fs} p ps) zero f b e s = body-in d d.function.kind g.body p.body b (ap (λ x. x.body) (same e) ∙ s)
     where
       same : Some g ≡ Some f → g ≡ f
       same e = cc
-  functions-to _ _ (units.a_function {d = d} {f = g} {es = es} {fs = fs} p ps) (suc i) f b e s h = functions-to es fs ps i f b e s h
+  functions-in _ _ (units.a_function {d = d} {f = g} {es = es} {fs = fs} p ps) (suc i) f b e s = functions-in es fs ps i f b e s
 
-pub loops-covered : AreLoopsCovered
-loops-covered u p t c f d es e s = functions-to u p.types t.declared (units.given t.declared) p.functions t.functions f d es e s (c f d es e s)
+pub typed-covered : AreTypedCovered
+typed-covered u p once t f d es e s = functions-in u p.types t.declared once (units.given t.declared) p.functions t.functions f d es e s

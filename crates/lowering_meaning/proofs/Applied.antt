@@ -1,5 +1,5 @@
 -- What each operation gives that is covered.
-use Rattle.std.proofs.Common.{◌≡◌, ℕ, zero, suc, Bool, true, false, ◌+◌, ◌<◌, List, [], ◌∷◌, map, length, get_or, slice_get, Some, refl, ap, ◌∙◌, subst, arith, nat_eq, if◌then◌else◌}
+use Rattle.std.proofs.Common.{◌≡◌, ℕ, zero, suc, Bool, true, false, ◌+◌, ◌<◌, pos, List, [], ◌∷◌, ◌++◌, map, length, get_or, slice_get, Some, refl, ap, ◌∙◌, subst, arith, nat_eq, if◌then◌else◌}
 use Rattle.std.specs.Prelude.{drop}
 use Rattle.flow_value.specs.declared.value.Val.{Val}
 use Rattle.flow_value.specs.declared.ty.Ty.{Ty}
@@ -19,29 +19,31 @@ use Rattle.value_ops.specs.declared.operation.Operation.TheVariants as operation
 use Rattle.fitting_trees.specs.Fitting.{Row, AreFields}
 use Rattle.fitting_trees.specs.Fitting as is
 use Rattle.meaning.specs.Timed.{given}
-use Rattle.graph_meaning.specs.Carried.{Carried as Carrying, Value, Unfilled, vals}
+use Rattle.flow_value.specs.declared.value.Val.TheVariants as val
+use Rattle.sisal_tree.specs.declared.expr.Constant.TheVariants as constant
+use Rattle.graph_meaning.specs.Carried.{Carried as Carrying, Value, Unfilled, vals, filled_from}
 use Rattle.graph_meaning.specs.Plain.{fixed}
 use Rattle.lowering_meaning.proofs.Told.{Telling}
-use Rattle.graph_meaning.specs.NodeValues.{Shape, op}
+use Rattle.graph_meaning.specs.NodeValues.{Shape, op, union_of, built}
 use Rattle.graph_meaning.specs.NodeValues as shapes
 use Rattle.graph_meaning.specs.Demand.{Network}
 use Rattle.lowering.specs.declared.feed.Carried.{Carried}
 use Rattle.lowering.specs.declared.feed.Carried.TheVariants.{One, Many, Callee}
 use Rattle.lowering.specs.declared.feed.Wire.{Wire}
 use Rattle.lowering.specs.declared.graph.Action.TheVariants.{Row as RowAction}
-use Rattle.lowering.specs.Operations.{one, absent, wire_at, at_place, changed, row_lowered, field_lowered, reversed}
+use Rattle.lowering.specs.Operations.{one, absent, absents, wire_at, at_place, changed, row_lowered, field_lowered, reversed}
 use Rattle.lowering.specs.Choices.{applied}
 use Rattle.lowering_meaning.specs.Coverage.{is_plain_operation, all_apart}
 use Rattle.lowering_meaning.proofs.From.{always}
 use Rattle.lowering_meaning.proofs.Timed.{given-is}
-use Rattle.lowering_meaning.proofs.Sites.{Site, Carries, AllCarry, AllCarried, Placed, Done, made-done, as-carried}
+use Rattle.lowering_meaning.proofs.Sites.{Site, ShapeOf, Carries, AllCarry, AllCarried, Placed, Done, made-done, as-carried}
 use Rattle.lowering_meaning.proofs.Changes.{value_for, cell, cells, changed-alike}
-use Rattle.lowering_meaning.proofs.Wires.{AllWires, FromNames}
-use Rattle.lowering_meaning.proofs.Nodes.{row-made, row-done, values-of}
+use Rattle.lowering_meaning.proofs.Wires.{AllWires, both-wires, FromNames}
+use Rattle.lowering_meaning.proofs.Nodes.{row-made, row-done, row-seen, values-of}
 use Rattle.lowering_meaning.proofs.IsTags.{is-tag-drawn}
 use Rattle.lowering_meaning.proofs.Forms.{HasType, WiresOf, FreeOn, DrawnOn}
 use Rattle.lowering_meaning.proofs.Ifs.{node-from}
-use Rattle.lowering_meaning.proofs.Operations.{reversed-from, row-on, swapped-on, empty-on}
+use Rattle.lowering_meaning.proofs.Operations.{reversed-from, held-literal, row-on, shaped-on, swapped-on, empty-on}
 
 row-free : (o : Simple) (f : List Wire → List Wire) (t : ℕ) → ((env ws : List Wire) → AllWires (FromNames env) ws → AllWires (FromNames env) (f ws)) → FreeOn (λ env ws. row_lowered o (f ws) (t ∷ []))
 row-free o f t h env ws k q w = node-from env (RowAction o) (f ws) 1 (One t ∷ []) k q (h env ws w)
@@ -103,6 +105,67 @@ module _ (u : Network) (number : ℕ → ℕ) (shape : Telling) where
       fires s k q ws [] b d pl = absurd b
       fires s k q [] (r ∷ vs) b d pl = absurd d
 
+-- ---- unions
+
+absents-from : (env : List Wire) (n : ℕ) → AllWires (FromNames env) (absents n)
+absents-from env zero = tt
+absents-from env (suc n) = (tt, absents-from env n)
+
+-- ports that are not filled
+abbrev gaps : ℕ → List Carrying
+gaps zero = []
+gaps (suc n) = Unfilled ∷ gaps n
+
+filled-behind : (n tag : ℕ) (v : Val) → filled_from n (gaps tag ++ Value v ∷ []) ≡ (n + tag) ∷ []
+filled-behind n zero v = let e : n ≡ n + 0 = omega arith in ap (λ i. i ∷ []) e
+filled-behind n (suc tag) v = let e : suc n + tag ≡ n + suc tag = omega arith in filled-behind (suc n) tag v ∙ ap (λ i. i ∷ []) e
+
+vals-behind : (tag : ℕ) (v : Val) → vals (gaps tag ++ Value v ∷ []) ≡ v ∷ []
+vals-behind zero v = refl
+vals-behind (suc tag) v = vals-behind tag v
+
+-- the content of a union stands behind gaps
+built-union : (tag : ℕ) (v : Val) → Value (built shapes.Union (gaps tag ++ Value v ∷ [])) ∷ [] ≡ Value (val.Uni tag v) ∷ []
+built-union tag v =
+    let e : 0 + tag ≡ tag = omega arith in
+    ap (λ ts. Value (union_of ts (vals (gaps tag ++ Value v ∷ []))) ∷ []) (filled-behind 0 tag v ∙ ap (λ n. n ∷ []) e) ∙ ap (λ vs. Value (union_of (tag ∷ []) vs) ∷ []) (vals-behind tag v)
+
+module _ (u : Network) (number : ℕ → ℕ) (shape : Telling) (forms : List Form) (spellings : List (List ℕ)) where
+  -- a stream of the operands, whose lower bound is 1
+  stream-on : (γ tys : List Ty) (t : ℕ) → ShapeOf u number shape simple.ABuild t shapes.Stream
+      → DrawnOn u number shape forms spellings γ tys 0 7 (λ env ws. row_lowered simple.ABuild (one ∷ ws) (t ∷ [])) (λ names vs. given (op_value operation.Stream vs ∷ []))
+  stream-on γ tys t flat names vs rs j o b e = record {
+    limit = 1;
+    bound = omega arith;
+    draws = λ s k q env ws w1 w2 c d pl.
+        subst (λ xs. Done u number shape s k (row_lowered simple.ABuild (one ∷ ws) (t ∷ []) k q) xs 1) (given-is (op_value operation.Stream vs ∷ []) rs j e).0
+        (row-seen u number shape s k q simple.ABuild (one ∷ ws) t (Value (val.Int (pos 1)) ∷ map Value vs) (op_value operation.Stream vs)
+        (λ y. ap (λ x. op simple.ABuild x (Value (val.Int (pos 1)) ∷ map Value vs)) (flat s.graph k y) ∙ ap (λ xs. Value (op_value operation.Stream xs) ∷ []) (values-of vs))
+        pl ((λ _. held-literal u number shape s (constant.Integer (pos 1)) (val.Int (pos 1)) refl), as-carried u number shape s ws vs d));
+  }
+
+  gaps-carried : (s : Site) (n : ℕ) (ws : List Wire) (v : Val) → AllCarry u number shape s ws (v ∷ []) → AllCarried u number shape s (absents n ++ ws) (gaps n ++ Value v ∷ [])
+  gaps-carried s zero ws v a = as-carried u number shape s ws (v ∷ []) a
+  gaps-carried s (suc n) ws v a = (unfilled u number shape s, gaps-carried s n ws v a)
+
+  -- a union of its content
+  union-on : (γ : List Ty) (tag : ℕ) (a : Ty) (t : ℕ) → ShapeOf u number shape simple.RBuild t shapes.Union
+      → DrawnOn u number shape forms spellings γ (a ∷ []) 0 7 (λ env ws. row_lowered simple.RBuild (absents tag ++ ws) (t ∷ [])) (λ names vs. given (op_value (operation.Union tag) vs ∷ []))
+  union-on γ tag a t flat names vs rs j o b e = record {
+    limit = 1;
+    bound = omega arith;
+    draws = λ s k q env ws w1 w2 c d pl.
+        subst (λ xs. Done u number shape s k (row_lowered simple.RBuild (absents tag ++ ws) (t ∷ []) k q) xs 1) (given-is (op_value (operation.Union tag) vs ∷ []) rs j e).0 (fires s k q ws vs b d pl);
+  }
+    where
+      fires : (s : Site) (k q : ℕ) (ws : List Wire) (vs : List Val) → AreOf (a ∷ []) vs → AllCarry u number shape s ws vs → Placed u number shape s k q (row_lowered simple.RBuild (absents tag ++ ws) (t ∷ []) k q)
+          → Done u number shape s k (row_lowered simple.RBuild (absents tag ++ ws) (t ∷ []) k q) (op_value (operation.Union tag) vs ∷ []) 1
+      fires s k q ws [] b d pl = absurd b
+      fires s k q ws (v ∷ w ∷ vs) b d pl = absurd b.1
+      fires s k q ws (v ∷ []) b d pl =
+          row-seen u number shape s k q simple.RBuild (absents tag ++ ws) t (gaps tag ++ Value v ∷ []) (op_value (operation.Union tag) (v ∷ []))
+          (λ y. ap (λ x. op simple.RBuild x (gaps tag ++ Value v ∷ [])) (flat s.graph k y) ∙ built-union tag v) pl (gaps-carried s tag ws v d)
+
 count-at : (g : ℕ → Carrying) (a n i : ℕ) → i < n → get_or (map g (count_from a n)) i Unfilled ≡ g (a + i)
 count-at g a zero i h = absurd (omega (arith, h))
 count-at g a (suc n) zero h = ap g (omega arith)
@@ -111,7 +174,11 @@ count-at g a (suc n) (suc i) h = count-at g (suc a) n i (omega (arith, h)) ∙ a
 plain-free : (o : Simple) (t : ℕ) → FreeOn (λ env ws. row_lowered o ws (t ∷ []))
 plain-free o t = row-free o (λ ws. ws) t (λ env ws w. w)
 
-module _ (u : Network) (number : ℕ → ℕ) (shape : Telling) (forms : List Form) (spellings : List (List ℕ)) (arrays : (g l : ℕ) → shape.row g l simple.ABuild ≡ shapes.Plain) (records : (g l : ℕ) → shape.row g l simple.RBuild ≡ shapes.Plain)
+module _ (u : Network) (number : ℕ → ℕ) (shape : Telling) (forms : List Form) (spellings : List (List ℕ)) 
+    (arrays : (t : ℕ) (a : Ty) → IsNumber forms spellings t (ty.Arr a) → ShapeOf u number shape simple.ABuild t shapes.Plain)
+    (streams : (t : ℕ) (a : Ty) → IsNumber forms spellings t (ty.Stream a) → ShapeOf u number shape simple.ABuild t shapes.Stream)
+    (records : (t : ℕ) (ms : List Member) → IsNumber forms spellings t (ty.Rec ms) → ShapeOf u number shape simple.RBuild t shapes.Plain)
+    (unions : (t : ℕ) (ms : List Member) → IsNumber forms spellings t (ty.Uni ms) → ShapeOf u number shape simple.RBuild t shapes.Union)
     (elements : (n : ℕ) (ms : List Member) → In (One n) shape.lines → IsNumber forms spellings n (ty.Rec ms) → shape.elements (One n) ≡ shapes.Fields (length ms)) where
   abbrev Does : Operation → List Ty → List Ty → ℕ → Type 0
   Does o γ tys t = FreeOn (λ env ws. applied forms o ws (t ∷ [])) × DrawnOn u number shape forms spellings γ tys 0 7 (λ env ws. applied forms o ws (t ∷ [])) (λ names vs. given (op_value o vs ∷ []))
@@ -153,35 +220,36 @@ module _ (u : Network) (number : ℕ → ℕ) (shape : Telling) (forms : List Fo
               ∙ (count-at (λ i. Value (op_value (operation.Field i) (vals (map Value vs)))) 0 (length ms) f (slice_get_within ms f m there)
               ∙ (ap (λ i. Value (op_value (operation.Field i) (vals (map Value vs)))) y ∙ ap (λ ws. Value (op_value (operation.Field f) ws)) (values-of vs))))
 
-  pub operation-drawn : (o : Operation) → is_plain_operation o ≡ true → (γ tys : List Ty) (a : Ty) (t : ℕ) → Row o tys a → Does o γ tys t
-  operation-drawn (operation.Unary f) c γ tys a t r = (plain-free (simple.One f) t, row-on u number shape forms spellings γ tys (simple.One f) (operation.Unary f) t (λ s k vs. gives (operation.Unary f) vs))
-  operation-drawn (operation.Binary f) c γ tys a t r = (plain-free (simple.Two f) t, row-on u number shape forms spellings γ tys (simple.Two f) (operation.Binary f) t (λ s k vs. gives (operation.Binary f) vs))
-  operation-drawn (operation.Swapped _) c γ _ _ t (is.swapped f a h i) = (row-free (simple.Two f) reversed t (λ env ws w. reversed-from (FromNames env) ws w), swapped-on u number shape forms spellings γ a f t)
-  operation-drawn operation.Error c γ tys a t r = (plain-free simple.Error t, row-on u number shape forms spellings γ tys simple.Error operation.Error t (λ s k vs. gives operation.Error vs))
-  operation-drawn operation.Array c γ tys a t r =
-      (plain-free simple.ABuild t, row-on u number shape forms spellings γ tys simple.ABuild operation.Array t (λ s k vs. ap (λ x. op simple.ABuild x (map Value vs)) (arrays s.graph (suc k)) ∙ gives operation.Array vs))
-  operation-drawn operation.EmptyArray c γ _ _ t (is.empty_array a) = (row-free simple.ABuild (λ ws. one ∷ ws) t (λ env ws w. (tt, w)), empty-on u number shape forms spellings γ t arrays)
-  operation-drawn operation.Stream c γ tys a t r = absurd cc
-  operation-drawn operation.Fill c γ tys a t r = (plain-free simple.AFill t, row-on u number shape forms spellings γ tys simple.AFill operation.Fill t (λ s k vs. gives operation.Fill vs))
-  operation-drawn operation.Element c γ tys a t r = (plain-free simple.AElement t, row-on u number shape forms spellings γ tys simple.AElement operation.Element t (λ s k vs. gives operation.Element vs))
-  operation-drawn operation.Update c γ tys a t r = (plain-free simple.AReplace t, row-on u number shape forms spellings γ tys simple.AReplace operation.Update t (λ s k vs. gives operation.Update vs))
-  operation-drawn operation.AddHigh c γ tys a t r = (plain-free simple.AAddH t, row-on u number shape forms spellings γ tys simple.AAddH operation.AddHigh t (λ s k vs. gives operation.AddHigh vs))
-  operation-drawn operation.AddLow c γ tys a t r = (plain-free simple.AAddL t, row-on u number shape forms spellings γ tys simple.AAddL operation.AddLow t (λ s k vs. gives operation.AddLow vs))
-  operation-drawn operation.RemoveHigh c γ tys a t r = (plain-free simple.ARemH t, row-on u number shape forms spellings γ tys simple.ARemH operation.RemoveHigh t (λ s k vs. gives operation.RemoveHigh vs))
-  operation-drawn operation.RemoveLow c γ tys a t r = (plain-free simple.ARemL t, row-on u number shape forms spellings γ tys simple.ARemL operation.RemoveLow t (λ s k vs. gives operation.RemoveLow vs))
-  operation-drawn operation.SetLow c γ tys a t r = (plain-free simple.ASetL t, row-on u number shape forms spellings γ tys simple.ASetL operation.SetLow t (λ s k vs. gives operation.SetLow vs))
-  operation-drawn operation.Adjust c γ tys a t r = (plain-free simple.AAdjust t, row-on u number shape forms spellings γ tys simple.AAdjust operation.Adjust t (λ s k vs. gives operation.Adjust vs))
-  operation-drawn operation.LimitLow c γ tys a t r = (plain-free simple.ALimL t, row-on u number shape forms spellings γ tys simple.ALimL operation.LimitLow t (λ s k vs. gives operation.LimitLow vs))
-  operation-drawn operation.LimitHigh c γ tys a t r = (plain-free simple.ALimH t, row-on u number shape forms spellings γ tys simple.ALimH operation.LimitHigh t (λ s k vs. gives operation.LimitHigh vs))
-  operation-drawn operation.Size c γ tys a t r = (plain-free simple.ASize t, row-on u number shape forms spellings γ tys simple.ASize operation.Size t (λ s k vs. gives operation.Size vs))
-  operation-drawn operation.IsEmpty c γ tys a t r = (plain-free simple.AIsEmpty t, row-on u number shape forms spellings γ tys simple.AIsEmpty operation.IsEmpty t (λ s k vs. gives operation.IsEmpty vs))
-  operation-drawn operation.Catenate c γ tys a t r = (plain-free simple.ACatenate t, row-on u number shape forms spellings γ tys simple.ACatenate operation.Catenate t (λ s k vs. gives operation.Catenate vs))
-  operation-drawn operation.First c γ tys a t r = (plain-free simple.FirstValue t, row-on u number shape forms spellings γ tys simple.FirstValue operation.First t (λ s k vs. gives operation.First vs))
-  operation-drawn operation.Rest c γ tys a t r = (plain-free simple.RestValues t, row-on u number shape forms spellings γ tys simple.RestValues operation.Rest t (λ s k vs. gives operation.Rest vs))
-  operation-drawn operation.Record c γ tys a t r =
-      (plain-free simple.RBuild t, row-on u number shape forms spellings γ tys simple.RBuild operation.Record t (λ s k vs. ap (λ x. op simple.RBuild x (map Value vs)) (records s.graph (suc k)) ∙ gives operation.Record vs))
-  operation-drawn (operation.Union tag) c γ tys a t r = absurd cc
-  operation-drawn (operation.Field _) c γ _ _ t (is.field ms place m there) = ((λ env ws k q w. node-from env (RowAction simple.RElements) ws (suc place) (One t ∷ []) k q w), field-on γ ms place m t there)
-  operation-drawn (operation.Change _) c γ _ _ t (is.change ms place places tys h) =
+  pub operation-drawn : (o : Operation) → is_plain_operation o ≡ true → (γ tys : List Ty) (a : Ty) (t : ℕ) → IsNumber forms spellings t a → Row o tys a → Does o γ tys t
+  operation-drawn (operation.Unary f) c γ tys a t n r = (plain-free (simple.One f) t, row-on u number shape forms spellings γ tys (simple.One f) (operation.Unary f) t (λ s k vs. gives (operation.Unary f) vs))
+  operation-drawn (operation.Binary f) c γ tys a t n r = (plain-free (simple.Two f) t, row-on u number shape forms spellings γ tys (simple.Two f) (operation.Binary f) t (λ s k vs. gives (operation.Binary f) vs))
+  operation-drawn (operation.Swapped _) c γ _ _ t n (is.swapped f a h i) = (row-free (simple.Two f) reversed t (λ env ws w. reversed-from (FromNames env) ws w), swapped-on u number shape forms spellings γ a f t)
+  operation-drawn operation.Error c γ tys a t n r = (plain-free simple.Error t, row-on u number shape forms spellings γ tys simple.Error operation.Error t (λ s k vs. gives operation.Error vs))
+  operation-drawn operation.Array c γ _ _ t n (is.array a tys h) =
+      (plain-free simple.ABuild t, shaped-on u number shape forms spellings γ (ty.Int ∷ tys) simple.ABuild operation.Array t shapes.Plain (arrays t a n) (λ vs. gives operation.Array vs))
+  operation-drawn operation.EmptyArray c γ _ _ t n (is.empty_array a) = (row-free simple.ABuild (λ ws. one ∷ ws) t (λ env ws w. (tt, w)), empty-on u number shape forms spellings γ t (arrays t a n))
+  operation-drawn operation.Stream c γ _ _ t n (is.stream a tys h) = (row-free simple.ABuild (λ ws. one ∷ ws) t (λ env ws w. (tt, w)), stream-on u number shape forms spellings γ tys t (streams t a n))
+  operation-drawn operation.Fill c γ tys a t n r = (plain-free simple.AFill t, row-on u number shape forms spellings γ tys simple.AFill operation.Fill t (λ s k vs. gives operation.Fill vs))
+  operation-drawn operation.Element c γ tys a t n r = (plain-free simple.AElement t, row-on u number shape forms spellings γ tys simple.AElement operation.Element t (λ s k vs. gives operation.Element vs))
+  operation-drawn operation.Update c γ tys a t n r = (plain-free simple.AReplace t, row-on u number shape forms spellings γ tys simple.AReplace operation.Update t (λ s k vs. gives operation.Update vs))
+  operation-drawn operation.AddHigh c γ tys a t n r = (plain-free simple.AAddH t, row-on u number shape forms spellings γ tys simple.AAddH operation.AddHigh t (λ s k vs. gives operation.AddHigh vs))
+  operation-drawn operation.AddLow c γ tys a t n r = (plain-free simple.AAddL t, row-on u number shape forms spellings γ tys simple.AAddL operation.AddLow t (λ s k vs. gives operation.AddLow vs))
+  operation-drawn operation.RemoveHigh c γ tys a t n r = (plain-free simple.ARemH t, row-on u number shape forms spellings γ tys simple.ARemH operation.RemoveHigh t (λ s k vs. gives operation.RemoveHigh vs))
+  operation-drawn operation.RemoveLow c γ tys a t n r = (plain-free simple.ARemL t, row-on u number shape forms spellings γ tys simple.ARemL operation.RemoveLow t (λ s k vs. gives operation.RemoveLow vs))
+  operation-drawn operation.SetLow c γ tys a t n r = (plain-free simple.ASetL t, row-on u number shape forms spellings γ tys simple.ASetL operation.SetLow t (λ s k vs. gives operation.SetLow vs))
+  operation-drawn operation.Adjust c γ tys a t n r = (plain-free simple.AAdjust t, row-on u number shape forms spellings γ tys simple.AAdjust operation.Adjust t (λ s k vs. gives operation.Adjust vs))
+  operation-drawn operation.LimitLow c γ tys a t n r = (plain-free simple.ALimL t, row-on u number shape forms spellings γ tys simple.ALimL operation.LimitLow t (λ s k vs. gives operation.LimitLow vs))
+  operation-drawn operation.LimitHigh c γ tys a t n r = (plain-free simple.ALimH t, row-on u number shape forms spellings γ tys simple.ALimH operation.LimitHigh t (λ s k vs. gives operation.LimitHigh vs))
+  operation-drawn operation.Size c γ tys a t n r = (plain-free simple.ASize t, row-on u number shape forms spellings γ tys simple.ASize operation.Size t (λ s k vs. gives operation.Size vs))
+  operation-drawn operation.IsEmpty c γ tys a t n r = (plain-free simple.AIsEmpty t, row-on u number shape forms spellings γ tys simple.AIsEmpty operation.IsEmpty t (λ s k vs. gives operation.IsEmpty vs))
+  operation-drawn operation.Catenate c γ tys a t n r = (plain-free simple.ACatenate t, row-on u number shape forms spellings γ tys simple.ACatenate operation.Catenate t (λ s k vs. gives operation.Catenate vs))
+  operation-drawn operation.First c γ tys a t n r = (plain-free simple.FirstValue t, row-on u number shape forms spellings γ tys simple.FirstValue operation.First t (λ s k vs. gives operation.First vs))
+  operation-drawn operation.Rest c γ tys a t n r = (plain-free simple.RestValues t, row-on u number shape forms spellings γ tys simple.RestValues operation.Rest t (λ s k vs. gives operation.Rest vs))
+  operation-drawn operation.Record c γ _ _ t n (is.a_record ms l) =
+      (plain-free simple.RBuild t, shaped-on u number shape forms spellings γ (map (λ m. m.1) ms) simple.RBuild operation.Record t shapes.Plain (records t ms n) (λ vs. gives operation.Record vs))
+  operation-drawn (operation.Union _) c γ _ _ t n (is.union ms tag m e) =
+      (row-free simple.RBuild (λ ws. absents tag ++ ws) t (λ env ws w. both-wires (FromNames env) (absents tag) ws (absents-from env tag) w), union-on u number shape forms spellings γ tag m.1 t (unions t ms n))
+  operation-drawn (operation.Field _) c γ _ _ t n (is.field ms place m there) = ((λ env ws k q w. node-from env (RowAction simple.RElements) ws (suc place) (One t ∷ []) k q w), field-on γ ms place m t there)
+  operation-drawn (operation.Change _) c γ _ _ t n (is.change ms place places tys h) =
       (row-free simple.RReplace (replacing (place ∷ places)) t (replacing-from (place ∷ places)), change-on u number shape forms spellings γ ms (place ∷ places) tys t c h)
-  operation-drawn (operation.IsTag tag) c γ _ _ t (is.is_tag ms _ m e) = is-tag-drawn u number shape forms spellings tag t γ ms
+  operation-drawn (operation.IsTag tag) c γ _ _ t n (is.is_tag ms _ m e) = is-tag-drawn u number shape forms spellings tag t γ ms

@@ -210,7 +210,7 @@ module _ (u : Network) (number : ℕ → ℕ) (shape : Telling) (forms : List Fo
         let arms = map (nth (numbers q gs')) (arm_places ws) in
         let x = arm-here free s k q env ws names (val.Uni tag v) a b pl place g e in
         let t = type_at forms spellings ws in
-        let z = arm-at u number shape forms spellings c t contents sees s (inputs gs') hr.values v env names q (arms_in env ws) place g h hr.carry hr.seen.1 a x in
+        let z = arm-at u number shape forms spellings c t contents sees s (inputs gs') hr.values v env names q (arms_in env ws) place g h pl.told.0 hr.carry hr.seen.1 a x in
         let y = arm-gives u number shape forms spellings c t contents (γ ++ sees) g rs limit z (arm-wires u number shape forms spellings c t contents γ sees env place h typed w) d in
         case-done free s k q env ws names (val.Uni tag v) a b pl rs (limit + 0) l
         (subst (λ y. Goes u number shape f (Value (val.Uni tag v) ∷ ks) (form.next_of (form.arm_in arms (length ns) ks y)) (map Value rs) (limit + 0)) (sym (out_uni tag v))

@@ -97,7 +97,7 @@ module _ (u : Network) (number : ℕ → ℕ) (shape : Telling) (forms : List Fo
         let inner = cases.ms u number shape forms spellings c gs ns free s n q env ws names (val.Uni tag v) a b pl in
         let graphs = map (nth (numbers q inner)) places in
         let g = cases.arm-here u number shape forms spellings c gs ns free s n q env ws names (val.Uni tag v) a b pl place x.lowers x.lowered in
-        let z = arm-at u number shape forms spellings c type contents x.sees s (inputs inner) hr.values v env names q (cases.arms_in u number shape forms spellings c gs ns env ws) place x.lowers x.which hr.carry hr.seen.1 a g in
+        let z = arm-at u number shape forms spellings c type contents x.sees s (inputs inner) hr.values v env names q (cases.arms_in u number shape forms spellings c gs ns env ws) place x.lowers x.which pl.told.0 hr.carry hr.seen.1 a g in
         let f0 = tag-fires u number shape s n q (wire_at ws 0) inner places ns hr (val.Uni tag v) m cost (wire-carries u number shape s ws (val.Uni tag v) b) fire in
         let f1 : LaterFires u m F ins (form.next_of (form.enter_arm (length ns) v ks (slice_get graphs tag))) f0.0 = subst (λ y. LaterFires u m F ins (form.next_of (form.arm_in graphs (length ns) ks y)) f0.0) (out_uni tag v) f0.1 in
         let f2 : LaterFires u m F ins (form.Enter false g.at (Value v ∷ ks) form.Chosen) f0.0 =

@@ -13,7 +13,7 @@ use Rattle.typed_tree.specs.Types.{IsNumber}
 use Rattle.typed_rows.specs.Rows.{AreOf, Of}
 use Rattle.meaning.specs.Meaning.{with_content, arm_place}
 use Rattle.graph_meaning.specs.Carried.{Value, Unfilled}
-use Rattle.lowering_meaning.proofs.Told.{Telling}
+use Rattle.lowering_meaning.proofs.Told.{Telling, AreInner}
 use Rattle.graph_meaning.specs.Forms.{next_of, first}
 use Rattle.graph_meaning.specs.Forms as form
 use Rattle.graph_meaning.specs.Demand.{Network}
@@ -31,8 +31,8 @@ use Rattle.lowering.specs.Choices.{arms_from_tag, content_of, first_tag, arm_nam
 use Rattle.lowered_units.specs.Networks.{nth}
 use Rattle.lowering_meaning.proofs.From.{after, both}
 use Rattle.lowering_meaning.proofs.Wires.{AllWires, both-wires, left-wires, right-wires, weaker-wires, IsThere, ins-used, used-ins, FromNames, from-in, AreOwn, MadeFrom, AllFrom, inputs-in}
-use Rattle.lowering_meaning.proofs.Sites.{Site, Seen, Carries, AllCarry, Placed, IsAt, AreAt, vertices, values-held, Done, made-done, done-made, sources, carry-both}
-use Rattle.lowering_meaning.proofs.Inside.{inner, keys-carry, entered, Net, placed-inside, Gives, graph-gives, part-at, own-carry}
+use Rattle.lowering_meaning.proofs.Sites.{Site, SeenIn, Seen, Carries, AllCarry, Placed, IsAt, AreAt, vertices, values-held, Done, made-done, done-made, sources, carry-both}
+use Rattle.lowering_meaning.proofs.Inside.{inner, keys-carry, entered, Net, placed-inside, Gives, graph-gives, part-at, own-carry, seen-inside}
 use Rattle.lowering_meaning.proofs.Nodes.{node-made}
 use Rattle.lowering_meaning.proofs.Choices.{Goes}
 use Rattle.lowering_meaning.proofs.Inverse.{node-inside}
@@ -128,13 +128,13 @@ module _ (u : Network) (number : ℕ → ℕ) (shape : Telling) where
   pub record Around (s : Site) (w : Wire) (ms : List Lowered) : Type 0 where
     pub values : List Val
     pub carry : AllCarry u number shape s (inputs ms) values
-    pub seen : AllWires (Seen s) (w ∷ inputs ms)
+    pub seen : AllWires (Seen shape s) (w ∷ inputs ms)
 
   pub around : (s : Site) (k q : ℕ) (env : List Wire) (names : List Val) (w : Wire) (ms : List Lowered) (arms ts : List ℕ)
       → AllCarry u number shape s env names → Placed u number shape s k q (tag_case_on w ms arms ts k q) → AllFrom env ms → Around s w ms
   around s k q env names w ms arms ts a pl h =
       let x = keys-carry u number shape s env names a (inputs ms) (inputs-in env ms h) in
-      record { values = x.0; carry = x.1; seen = ins-used (Seen s) (Whole compound.TagCase (numbers q ms) arms 0 (length ts)) (w ∷ inputs ms) (left-wires _ _ [] pl.there) }
+      record { values = x.0; carry = x.1; seen = ins-used (Seen shape s) (Whole compound.TagCase (numbers q ms) arms 0 (length ts)) (w ∷ inputs ms) (left-wires _ _ [] pl.there) }
 
   abbrev pub the_form : ℕ → List Lowered → List ℕ → List ℕ → form.Form
   the_form q ms arms ts = form.TagCase (map (nth (numbers q ms)) arms) (length ts)
@@ -206,17 +206,18 @@ module _ (u : Network) (number : ℕ → ℕ) (shape : Telling) where
       pub net : Net u number shape (at_arm at ks kv v) (new_graph (g (arm_names forms c type i env)) at)
       pub placed : Placed u number shape (at_arm at ks kv v) 0 (suc at) (new_graph (g (arm_names forms c type i env)) at)
       pub carry : AllCarry u number shape (at_arm at ks kv v) (arm_names forms c type i env) (with_content c.named i v names)
-      pub ends : AllWires (IsThere ks) (new_graph (g (arm_names forms c type i env)) at).values
+      pub ends : AllWires (SeenIn shape at ks) (new_graph (g (arm_names forms c type i env)) at).values
 
     pub arm-at : (sees : List Ty) (s : Site) (ks : List Wire) (kv : List Val) (v : Val) (env : List Wire) (names : List Val) (q : ℕ) (fs : List Lowering) (i : ℕ) (g : Lowers) → Sees c.named contents i sees
-        → AllCarry u number shape s ks kv → AllWires (Seen s) ks → AllCarry u number shape s env names → (x : GraphAt ks 1 0 q fs i (g (arm_names forms c type i env))) → ArmAt ks kv v env names i g x.at
-    arm-at sees s ks kv v env names q fs i g h b t a x =
+        → AreInner shape 1 (numbers q (new_graphs q fs)) ks → AllCarry u number shape s ks kv → AllWires (Seen shape s) ks → AllCarry u number shape s env names → (x : GraphAt ks 1 0 q fs i (g (arm_names forms c type i env))) → ArmAt ks kv v env names i g x.at
+    arm-at sees s ks kv v env names q fs i g h told b t a x =
         let m = new_graph (g (arm_names forms c type i env)) x.at in
+        let w = seen-inside u number shape (numbers q (new_graphs q fs)) i x.at ks 1 0 m told x.is x.net x.there in
         record {
           net = x.net;
-          placed = placed-inside u number shape (at_arm x.at ks kv v) m x.net x.graphs (left-wires _ (used m.nodes) m.values x.there);
+          placed = placed-inside u number shape (at_arm x.at ks kv v) m x.net x.graphs (left-wires _ (used m.nodes) m.values w);
           carry = arm-carries sees x.at ks kv v env names i h (entered u number shape s x.at ks kv 1 0 (Value v ∷ map Value kv) b t (λ j l. let e : 1 + j ≡ suc j = omega arith in ap (λ n. get_or (Value v ∷ map Value kv) n Unfilled) e) env names a);
-          ends = right-wires _ (used m.nodes) m.values x.there;
+          ends = right-wires _ (used m.nodes) m.values w;
         }
 
     pub arm-gives : {ks : List Wire} {kv : List Val} {v : Val} {env : List Wire} {names : List Val} {i : ℕ} {at : ℕ} (γ : List Ty) (g : Lowers) (rs : List Val) (limit : ℕ) → ArmAt ks kv v env names i g at

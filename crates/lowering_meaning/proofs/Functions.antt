@@ -17,7 +17,7 @@ use Rattle.meaning.specs.Timed.{given, plus, andthen}
 use Rattle.meaning.specs.Words.{failed}
 use Rattle.meaning.specs.Meaning.{Gives as Means, all_of, results_of, function_gives, calls, meaning}
 use Rattle.graph_meaning.specs.Carried.{Value, Unfilled}
-use Rattle.lowering_meaning.proofs.Told.{Telling}
+use Rattle.lowering_meaning.proofs.Told.{Telling, AreInner}
 use Rattle.graph_meaning.specs.Demand.{Network}
 use Rattle.graph_meaning.specs.Plain.{NodesFire}
 use Rattle.lowering.specs.declared.feed.Feed.{Feed}
@@ -36,8 +36,8 @@ use Rattle.lowering.specs.Programs.{stub, bodies, function_lowered}
 use Rattle.lowering_meaning.specs.Coverage.{Coverage, AreCovered}
 use Rattle.lowering_meaning.proofs.Timed.{Yield, yield-given, yield-plus, yield-deeper}
 use Rattle.lowering_meaning.proofs.Wires.{AllWires, left-wires, right-wires, weaker-wires, In, IsThere, FromNames, MadeFrom}
-use Rattle.lowering_meaning.proofs.Sites.{Site, AllCarry, IsAt, AreAt, Done, as-values, done-made, done-more}
-use Rattle.lowering_meaning.proofs.Inside.{inner, nodes-are, placed-inside, Gives, graph-gives, own-carry}
+use Rattle.lowering_meaning.proofs.Sites.{Site, SeenIn, AllCarry, IsAt, AreAt, Done, as-values, done-made, done-more}
+use Rattle.lowering_meaning.proofs.Inside.{inner, nodes-are, placed-inside, Gives, graph-gives, own-carry, seen-inside}
 use Rattle.lowering_meaning.proofs.Forms.{ports-wired, Typed, of-length, Drawn, step-drawn, nil-drawn, cons-drawn}
 use Rattle.lowering_meaning.proofs.Ifs.{node-from}
 use Rattle.lowering_meaning.proofs.Nodes.{row-done}
@@ -149,8 +149,13 @@ module _ (u : Network) (number : ℕ → ℕ) (shape : Telling) (forms : List Fo
         (own-carry u number shape (at_function f vs) 0 (map One d.params) (map Value vs) (length-map d.params One ∙ numbers-length forms spellings d.params h.params n ∙ of-length h.params vs o ∙ sym (length-map vs Value))
         (λ i k. let y : 0 + 0 + i ≡ i = omega arith in ap (λ k. get_or (map Value vs) k Unfilled) y))
 
-    there-in : (f : ℕ) (d : Function) → MadeFrom (env_of d) (made f d) → AllWires (IsThere []) (uses (made f d))
-    there-in f d h = weaker-wires (FromNames (env_of d)) (IsThere []) (all-there 1 (map One d.params)) (uses (made f d)) h
+    nothing-inside : (q : ℕ) → AreInner shape 0 (q ∷ []) []
+    nothing-inside q i r j y x g n f e = absurd cc
+
+    there-in : (f : ℕ) (d : Function) → slice_get p f ≡ Some d → MadeFrom (env_of d) (made f d) → AllWires (SeenIn shape (number f) []) (uses (made f d))
+    there-in f d at h =
+        seen-inside u number shape (number f ∷ []) 0 (number f) [] 0 0 (made f d) (nothing-inside (number f)) refl (stand f d at).net
+        (weaker-wires (FromNames (env_of d)) (IsThere []) (all-there 1 (map One d.params)) (uses (made f d)) h)
 
     -- what the results of a function give on its arguments, its graph gives
     graph-drawn : (f : ℕ) (h : Header) (d : Function) (γ : List Ty) (slack : ℕ) (k : Means) (vs rs : List Val) (j : ℕ) → slice_get p f ≡ Some d → AreNumbers forms spellings d.params h.params → AreOf h.params vs
@@ -159,10 +164,10 @@ module _ (u : Network) (number : ℕ → ℕ) (shape : Telling) (forms : List Fo
         let s = at_function f vs in
         let m = made f d in
         let r = dr.runs vs rs j o e in
-        let w = there-in f d (dr.free (env_of d) 0 (suc (number f))) in
+        let w = there-in f d there (dr.free (env_of d) 0 (suc (number f))) in
         let at = stand f d there in
-        let done = r.draws s 0 (suc (number f)) (env_of d) (ports-wired forms spellings 0 1 d.params h.params n) (params-carry f h d vs n o) (placed-inside u number shape s m at.net at.graphs (left-wires (IsThere []) (used m.nodes) m.values w)) in
-        graph-gives u number shape s m (map Value rs) (8 * j) at.net (right-wires (IsThere []) (used m.nodes) m.values w) (done-made u number shape s 0 m rs (8 * j) (done-more u number shape s 0 m rs r.limit (8 * j) done (omega (arith, r.bound))))
+        let done = r.draws s 0 (suc (number f)) (env_of d) (ports-wired forms spellings 0 1 d.params h.params n) (params-carry f h d vs n o) (placed-inside u number shape s m at.net at.graphs (left-wires (SeenIn shape (number f) []) (used m.nodes) m.values w)) in
+        graph-gives u number shape s m (map Value rs) (8 * j) at.net (right-wires (SeenIn shape (number f) []) (used m.nodes) m.values w) (done-made u number shape s 0 m rs (8 * j) (done-more u number shape s 0 m rs r.limit (8 * j) done (omega (arith, r.bound))))
 
     pub calls-drawn : (n : ℕ) → CallsDrawn u number shape forms spellings hs p cover n
     calls-drawn zero f h there vs rs j o e = absurd cc
@@ -207,7 +212,7 @@ module _ (u : Network) (number : ℕ → ℕ) (shape : Telling) (forms : List Fo
               ap (λ b. all_lowered (bodies forms b d.results)) eb ∙ ap (λ gs. all_lowered gs) (bodies-are forms es) in
               let dr = trees.all-drawn u number shape forms spellings hs p cover sound sound-calls laws 0 (calls-drawn 0) h.params es h.results body (covers f d es at eb) in
               let free : MadeFrom (env_of d) m1 = subst (λ (g : Lowers). MadeFrom (env_of d) (g (env_of d) 0 (suc (number f)))) (sym same) (dr.free (env_of d) 0 (suc (number f))) in
-              let pl = placed-inside u number shape s m1 here.net here.graphs (left-wires (IsThere []) (used m1.nodes) m1.values (there-in f d free)) in
+              let pl = placed-inside u number shape s m1 here.net here.graphs (left-wires (SeenIn shape (number f) []) (used m1.nodes) m1.values (there-in f d at free)) in
               let fires = subst (λ ns. NodesFire u m (number f) (map Value args) ns c) (nodes-are u number shape s m1 here.net) fire in
               let read = subst (λ (g : Lowers). Reads u number shape forms spellings m h.params g args (λ j. all_of (map (meaning j p) es) args)) (sym same)
               (reading.all-read u number shape forms spellings hs p cover sound sound-calls laws reads calls-drawn h.params es h.results body (covers f d es at eb) m r args o) in

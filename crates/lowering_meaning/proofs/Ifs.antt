@@ -148,14 +148,14 @@ module _ (ts us vs : List Lowers) (ns : List ℕ) where
       there = used-there u number shape (graphs q env)
 
       pub test-part-is : Part u number shape q ks here.values env names [] [] (m0 q env)
-      test-part-is = part u number shape s q ks here.values env names [] [] (m0 q env) (m1 q env ∷ m2 q env ∷ []) a here.carry here.seen refl P0 (left-wires _ (uses (m0 q env)) _ there)
+      test-part-is = part u number shape s q ks here.values env names [] [] (m0 q env) (m1 q env ∷ m2 q env ∷ []) (numbers q (graphs q env)) 0 pl.told.0 refl a here.carry here.seen refl P0 (left-wires _ (uses (m0 q env)) _ there)
 
       pub other-part-is : Part u number shape (q + size (m0 q env)) ks here.values env names [] [] (m1 q env)
-      other-part-is = part u number shape s (q + size (m0 q env)) ks here.values env names [] [] (m1 q env) (m2 q env ∷ []) a here.carry here.seen refl P1
+      other-part-is = part u number shape s (q + size (m0 q env)) ks here.values env names [] [] (m1 q env) (m2 q env ∷ []) (numbers q (graphs q env)) 1 pl.told.0 refl a here.carry here.seen refl P1
           (left-wires _ (uses (m1 q env)) _ (right-wires _ (uses (m0 q env)) _ there))
 
       pub arm-part-is : Part u number shape (q + size (m0 q env) + size (m1 q env)) ks here.values env names [] [] (m2 q env)
-      arm-part-is = part u number shape s (q + size (m0 q env) + size (m1 q env)) ks here.values env names [] [] (m2 q env) [] a here.carry here.seen refl P2
+      arm-part-is = part u number shape s (q + size (m0 q env) + size (m1 q env)) ks here.values env names [] [] (m2 q env) [] (numbers q (graphs q env)) 2 pl.told.0 refl a here.carry here.seen refl P2
           (left-wires _ (uses (m2 q env)) _ (right-wires _ (uses (m1 q env)) _ (right-wires _ (uses (m0 q env)) _ there)))
 
       gives-as : (g : ℕ) (rs : List Carried) (limit : ℕ) → Gives u number shape g (ins ++ []) rs limit → Gives u number shape g ins rs limit

@@ -28,11 +28,11 @@ use Rattle.lowering.specs.Operations.{wire_at}
 use Rattle.lowering.specs.Choices.{tag_count, two_arms, truth, is_tag_lowered}
 use Rattle.lowered_units.specs.Networks.{nth, constant_value}
 use Rattle.lowering_meaning.proofs.From.{always}
-use Rattle.lowering_meaning.proofs.Told.{Telling}
+use Rattle.lowering_meaning.proofs.Told.{Telling, AreInner}
 use Rattle.lowering_meaning.proofs.Timed.{given-is}
 use Rattle.lowering_meaning.proofs.Wires.{AllFrom}
 use Rattle.lowering_meaning.proofs.Sites.{Site, AllCarry, Placed, Done, made-only}
-use Rattle.lowering_meaning.proofs.Inside.{Gives, graph-gives}
+use Rattle.lowering_meaning.proofs.Inside.{Gives, graph-gives, seen-inside}
 use Rattle.lowering_meaning.proofs.Parts.{used-there}
 use Rattle.lowering_meaning.proofs.Choices.{Goes, goes-leave, goes-enter}
 use Rattle.lowering_meaning.proofs.Forms.{FreeOn, RunsOn, DrawnOn}
@@ -84,11 +84,12 @@ truths-own forms env q =
     (no-own env m (tt, tt), (no-own env (new_graph (truth forms constant.False) (q + size m)) (tt, tt), tt))
 
 module _ (u : Network) (number : ℕ → ℕ) (shape : Telling) (forms : List Form) (spellings : List (List ℕ)) (tag n : ℕ) where
-  truth-gives : (ks : List Wire) (kv : List Val) (v : Val) (q : ℕ) (fs : List Lowering) (i : ℕ) (c : Constant) (x : GraphAt u number shape ks 1 0 q fs i (truth forms c)) → Gives u number shape x.at (Value v ∷ map Value kv) (Value (constant_value c) ∷ []) 0
-  truth-gives ks kv v q fs i c x =
+  truth-gives : (ks : List Wire) (kv : List Val) (v : Val) (q : ℕ) (fs : List Lowering) (i : ℕ) (c : Constant) → AreInner shape 1 (numbers q (new_graphs q fs)) ks → (x : GraphAt u number shape ks 1 0 q fs i (truth forms c)) → Gives u number shape x.at (Value v ∷ map Value kv) (Value (constant_value c) ∷ []) 0
+  truth-gives ks kv v q fs i c told x =
       let site = at_arm u number shape x.at ks kv v in
       let m = new_graph (truth forms c) x.at in
-      graph-gives u number shape site m (Value (constant_value c) ∷ []) 0 x.net x.there (made-only u number shape site 0 m (Value (constant_value c) ∷ []) refl ((λ h. always _ (λ d. fixed d site.graph site.ins (Value (constant_value c)))), tt))
+      let w = seen-inside u number shape (numbers q (new_graphs q fs)) i x.at ks 1 0 m told x.is x.net x.there in
+      graph-gives u number shape site m (Value (constant_value c) ∷ []) 0 x.net w (made-only u number shape site 0 m (Value (constant_value c) ∷ []) refl ((λ h. always _ (λ d. fixed d site.graph site.ins (Value (constant_value c)))), tt))
 
   abbrev the_test : List Wire → Lowering
   the_test ws = is_tag_lowered forms tag ws (n ∷ [])
@@ -136,7 +137,7 @@ module _ (u : Network) (number : ℕ → ℕ) (shape : Telling) (forms : List Fo
       let arms = map (nth (numbers q gs)) (places ws) in
       let r = Value (constant_value (truth_of b)) ∷ [] in
       let x = truth-here s k q env ws names (val.Uni t v) a c pl (place_of b) (truth forms (truth_of b)) (truth-at forms b) in
-      let y = truth-gives (inputs gs) hr.values v q (truths forms) (place_of b) (truth_of b) x in
+      let y = truth-gives (inputs gs) hr.values v q (truths forms) (place_of b) (truth_of b) pl.told.0 x in
       test-done s k q env ws names (val.Uni t v) a c pl (constant_value (truth_of b)) 0
       (subst (λ y. Goes u number shape f (Value (val.Uni t v) ∷ ks) (form.next_of (form.arm_in arms 1 ks y)) (Value (constant_value (truth_of b)) ∷ []) 0) (sym (out_uni t v))
       (subst (λ o. Goes u number shape f (Value (val.Uni t v) ∷ ks) (form.next_of (form.enter_arm 1 v ks o)) (Value (constant_value (truth_of b)) ∷ []) 0) (sym (graph-for (numbers q gs) (places ws) t (place_of b) x.at e x.is))

@@ -10,6 +10,8 @@ use Rattle.graph_meaning.specs.Demand.{Source, Kind, Plain, Network, at_label}
 use Rattle.graph_meaning.specs.Demand as demand
 use Rattle.graph_meaning.specs.Plain.{output, Outputs, simple as simple_outputs, whole as whole_outputs, NodesFire, no_node, a_node as node_fires, InnerFires, of_simple, of_whole, enters_deeper, of_deeper, leaves, of_leaving}
 use Rattle.graph_meaning.specs.Plain as plain
+use Rattle.lowering.specs.Feeds.{wire}
+use Rattle.lowering.specs.declared.feed.Feed.TheVariants.{Port}
 use Rattle.lowering.specs.declared.feed.Carried as wired
 use Rattle.lowering.specs.declared.feed.Carried.TheVariants.{One}
 use Rattle.lowering.specs.declared.feed.Wire.{Wire}
@@ -75,8 +77,8 @@ module _ (u : Network) (number : ℕ → ℕ) (shape : Telling) where
       }
 
   -- what fills the ports of a node that stands there is seen
-  pub seen-ins : (s : Site) (act : Action) (ins : List Wire) (k q port : ℕ) (ts : List wired.Carried) → Placed u number shape s k q (a_node act ins port ts k q) → AllWires (Seen s) ins
-  seen-ins s act ins k q port ts pl = ins-used (Seen s) act ins (left-wires _ _ [] pl.there)
+  pub seen-ins : (s : Site) (act : Action) (ins : List Wire) (k q port : ℕ) (ts : List wired.Carried) → Placed u number shape s k q (a_node act ins port ts k q) → AllWires (Seen shape s) ins
+  seen-ins s act ins k q port ts pl = ins-used (Seen shape s) act ins (left-wires _ _ [] pl.there)
 
   -- a node of a row
   pub row-made : (s : Site) (k q j : ℕ) (o : Simple) (ws : List Wire) (ts : List wired.Carried) (cs ds : List Carried)
@@ -97,6 +99,28 @@ module _ (u : Network) (number : ℕ → ℕ) (shape : Telling) where
   row-done s k q o ws t cs v is pl a =
       made-done u number shape s k (row_lowered o ws (t ∷ []) k q) (v ∷ []) 1
       (row-made s k q 0 o ws (One t ∷ []) cs (Value v ∷ []) pl a refl (λ i n. let y : 0 + i ≡ i = omega arith in ap (λ x. get_or (op o (shape.row s.graph (suc k) o) cs) x Unfilled) y ∙ ap (λ rs. get_or rs i Unfilled) is))
+
+  -- the same, where what its shape tells is asked of an output that is used
+  pub row-seen : (s : Site) (k q : ℕ) (o : Simple) (ws : List Wire) (t : ℕ) (cs : List Carried) (v : Val)
+      → (Seen shape s (wire (Port 0 (suc k) 1) (One t)) → op o (shape.row s.graph (suc k) o) cs ≡ Value v ∷ [])
+      → Placed u number shape s k q (row_lowered o ws (t ∷ []) k q) → AllCarried u number shape s ws cs
+      → Done u number shape s k (row_lowered o ws (t ∷ []) k q) (v ∷ []) 1
+  row-seen s k q o ws t cs v is pl a =
+      let held = all-held u number shape s ws cs (seen-ins s (Row o) ws k q 1 (One t ∷ []) pl) a in
+      let x = vertex u number shape s k (node (Row o) ws) in
+      let outs = op o (shape.row s.graph (suc k) o) cs in
+      record {
+        cost = 1 + (0 + 0);
+        fires = always _ (λ m. node_fires m s.graph s.ins x [] 0 0 (of_simple m s.graph s.ins o (shape.row s.graph (suc k) o) (sources s ws)) (no_node m s.graph s.ins));
+        bound = omega arith;
+        held = (
+          (λ seen. after _ _ held (λ m h.
+          let y : suc 0 - 1 ≡ 0 = omega arith in
+          subst (plain.Carries u m s.graph s.ins (demand.Port (suc k) 1)) (ap (λ n. get_or outs n Unfilled) y ∙ ap (λ rs. get_or rs 0 Unfilled) (is seen))
+          (output m s.graph s.ins k 1 x cs outs pl.nodes.0 h (simple_outputs m o (shape.row s.graph (suc k) o) cs)))),
+          tt,
+        );
+      }
 
   -- a call, by what its graph gives
   pub call-done : (s : Site) (k q f : ℕ) (ws : List Wire) (ts : List ℕ) (vs rs : List Val) (limit : ℕ)

@@ -38,9 +38,9 @@ use Rattle.lowered_units.specs.Networks.{constant_value as lowered_value}
 use Rattle.lowering_meaning.proofs.From.{always}
 use Rattle.lowering_meaning.proofs.Timed.{given-is}
 use Rattle.lowering_meaning.proofs.Wires.{AllWires, both-wires, In, FromNames, from-in}
-use Rattle.lowering_meaning.proofs.Sites.{Site, Held, AllCarry, AllCarried, Placed, Done, done-only, as-carried}
+use Rattle.lowering_meaning.proofs.Sites.{Site, ShapeOf, Held, AllCarry, AllCarried, Placed, Done, done-only, as-carried}
 use Rattle.lowering_meaning.proofs.Inside.{Gives}
-use Rattle.lowering_meaning.proofs.Nodes.{row-done, call-done, carry-at, values-of}
+use Rattle.lowering_meaning.proofs.Nodes.{row-done, row-seen, call-done, carry-at, values-of}
 use Rattle.lowering_meaning.proofs.Forms.{Typed, of-length, Drawn, DrawnOn}
 use Rattle.lowering_meaning.proofs.Ifs.{node-from}
 
@@ -123,6 +123,17 @@ module _ (u : Network) (number : ℕ → ℕ) (shape : Telling) (forms : List Fo
         (row-done u number shape s k q o ws t (map Value vs) (op_value f vs) (is s k vs) pl (as-carried u number shape s ws vs d));
   }
 
+  -- the same, by the shape of an output that is used
+  pub shaped-on : (γ tys : List Ty) (o : Simple) (f : Operation) (t : ℕ) (x : Shape) → ShapeOf u number shape o t x → ((vs : List Val) → op o x (map Value vs) ≡ Value (op_value f vs) ∷ [])
+      → DrawnOn u number shape forms spellings γ tys 0 7 (λ env ws. row_lowered o ws (t ∷ [])) (λ names vs. given (op_value f vs ∷ []))
+  shaped-on γ tys o f t x flat is names vs rs j a b h = record {
+    limit = 1;
+    bound = omega arith;
+    draws = λ s k q env ws w1 w2 c d pl.
+        subst (λ xs. Done u number shape s k (row_lowered o ws (t ∷ []) k q) xs 1) (given-is (op_value f vs ∷ []) rs j h).0
+        (row-seen u number shape s k q o ws t (map Value vs) (op_value f vs) (λ y. ap (λ x. op o x (map Value vs)) (flat s.graph k y) ∙ is vs) pl (as-carried u number shape s ws vs d));
+  }
+
   -- the value of a row that gives an operation on its operands
   gives-is : (f : Operation) (vs : List Val) → Value (op_value f (vals (map Value vs))) ∷ [] ≡ Value (op_value f vs) ∷ []
   gives-is f vs = ap (λ ws. Value (op_value f ws) ∷ []) (values-of vs)
@@ -142,17 +153,17 @@ module _ (u : Network) (number : ℕ → ℕ) (shape : Telling) (forms : List Fo
       two s k q (x ∷ y ∷ z ∷ ws) (v ∷ w ∷ []) b d pl = absurd d.1.1
 
   -- an array without elements
-  pub empty-on : (γ : List Ty) (t : ℕ) → ((g l : ℕ) → shape.row g l simple.ABuild ≡ shapes.Plain) → DrawnOn u number shape forms spellings γ [] 0 7 (λ env ws. row_lowered simple.ABuild (one ∷ ws) (t ∷ [])) (λ names vs. given (op_value operation.EmptyArray vs ∷ []))
+  pub empty-on : (γ : List Ty) (t : ℕ) → ShapeOf u number shape simple.ABuild t shapes.Plain → DrawnOn u number shape forms spellings γ [] 0 7 (λ env ws. row_lowered simple.ABuild (one ∷ ws) (t ∷ [])) (λ names vs. given (op_value operation.EmptyArray vs ∷ []))
   empty-on γ t flat names vs rs j o b h = record { limit = 1; bound = omega arith; draws = λ s k q env ws w1 w2 c d pl. subst (λ xs. Done u number shape s k (row_lowered simple.ABuild (one ∷ ws) (t ∷ []) k q) xs 1) (given-is (op_value operation.EmptyArray vs ∷ []) rs j h).0 (none s k q ws vs b d pl) }
     where
       none : (s : Site) (k q : ℕ) (ws : List Wire) (vs : List Val) → AreOf [] vs → AllCarry u number shape s ws vs → Placed u number shape s k q (row_lowered simple.ABuild (one ∷ ws) (t ∷ []) k q)
           → Done u number shape s k (row_lowered simple.ABuild (one ∷ ws) (t ∷ []) k q) (op_value operation.EmptyArray vs ∷ []) 1
       none s k q [] [] b d pl =
-          row-done u number shape s k q simple.ABuild (one ∷ []) t (Value (val.Int (pos 1)) ∷ []) (op_value operation.EmptyArray []) (ap (λ x. op simple.ABuild x (Value (val.Int (pos 1)) ∷ [])) (flat s.graph (suc k))) pl ((λ _. held-literal u number shape s (constant.Integer (pos 1)) (val.Int (pos 1)) refl), tt)
+          row-seen u number shape s k q simple.ABuild (one ∷ []) t (Value (val.Int (pos 1)) ∷ []) (op_value operation.EmptyArray []) (λ y. ap (λ x. op simple.ABuild x (Value (val.Int (pos 1)) ∷ [])) (flat s.graph k y)) pl ((λ _. held-literal u number shape s (constant.Integer (pos 1)) (val.Int (pos 1)) refl), tt)
       none s k q (w ∷ ws) [] b d pl = absurd d
       none s k q ws (v ∷ vs) b d pl = absurd b
 
-  text-drawn : (γ : List Ty) (cs : List ℕ) (t : ℕ) → ((g l : ℕ) → shape.row g l simple.ABuild ≡ shapes.Plain) → Drawn u number shape forms spellings γ 0 7 (λ env. constant_lowered (constant.Quoted cs) (t ∷ [])) (λ names. given (constant_value (constant.Quoted cs) ∷ []))
+  text-drawn : (γ : List Ty) (cs : List ℕ) (t : ℕ) → ShapeOf u number shape simple.ABuild t shapes.Plain → Drawn u number shape forms spellings γ 0 7 (λ env. constant_lowered (constant.Quoted cs) (t ∷ [])) (λ names. given (constant_value (constant.Quoted cs) ∷ []))
   text-drawn γ cs t flat = record {
     free = λ env k q. node-from env (Row simple.ABuild) (one ∷ map (λ c. wire (Literal (constant.Letter c)) (One character)) cs) 1 (One t ∷ []) k q (tt, letters-from env cs);
     runs = λ names vs i o h. record {
@@ -161,16 +172,16 @@ module _ (u : Network) (number : ℕ → ℕ) (shape : Telling) (forms : List Fo
       draws = λ s k q env w a pl.
           let ws = one ∷ map (λ c. wire (Literal (constant.Letter c)) (One character)) cs in
           subst (λ xs. Done u number shape s k (row_lowered simple.ABuild ws (t ∷ []) k q) xs 1) (given-is (constant_value (constant.Quoted cs) ∷ []) vs i h).0
-          (row-done u number shape s k q simple.ABuild ws t (Value (val.Int (pos 1)) ∷ map Value (map val.Char cs)) (constant_value (constant.Quoted cs))
-          (ap (λ x. op simple.ABuild x (Value (val.Int (pos 1)) ∷ map Value (map val.Char cs))) (flat s.graph (suc k)) ∙ ap (λ xs. Value (op_value operation.Array (val.Int (pos 1) ∷ xs)) ∷ []) (values-of (map val.Char cs)))
+          (row-seen u number shape s k q simple.ABuild ws t (Value (val.Int (pos 1)) ∷ map Value (map val.Char cs)) (constant_value (constant.Quoted cs))
+          (λ y. ap (λ x. op simple.ABuild x (Value (val.Int (pos 1)) ∷ map Value (map val.Char cs))) (flat s.graph k y) ∙ ap (λ xs. Value (op_value operation.Array (val.Int (pos 1) ∷ xs)) ∷ []) (values-of (map val.Char cs)))
           pl ((λ _. held-literal u number shape s (constant.Integer (pos 1)) (val.Int (pos 1)) refl), letters-carried u number shape s cs));
     };
   }
 
-  pub constant-drawn : (γ : List Ty) (c : Constant) (t : ℕ) → ((g l : ℕ) → shape.row g l simple.ABuild ≡ shapes.Plain) → Drawn u number shape forms spellings γ 0 7 (λ env. constant_lowered c (t ∷ [])) (λ names. given (constant_value c ∷ []))
+  pub constant-drawn : (γ : List Ty) (c : Constant) (t : ℕ) → ((cs : List ℕ) → c ≡ constant.Quoted cs → ShapeOf u number shape simple.ABuild t shapes.Plain) → Drawn u number shape forms spellings γ 0 7 (λ env. constant_lowered c (t ∷ [])) (λ names. given (constant_value c ∷ []))
   constant-drawn γ (constant.Integer n) t flat = literal-drawn γ (constant.Integer n) t refl
   constant-drawn γ (constant.Letter n) t flat = literal-drawn γ (constant.Letter n) t refl
-  constant-drawn γ (constant.Quoted cs) t flat = text-drawn γ cs t flat
+  constant-drawn γ (constant.Quoted cs) t flat = text-drawn γ cs t (flat cs refl)
   constant-drawn γ constant.True t flat = literal-drawn γ constant.True t refl
   constant-drawn γ constant.False t flat = literal-drawn γ constant.False t refl
   constant-drawn γ constant.Nil t flat = literal-drawn γ constant.Nil t refl

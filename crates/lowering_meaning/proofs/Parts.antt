@@ -1,10 +1,10 @@
 -- A compound node and the graphs inside of it.
-use Rattle.std.proofs.Common.{◌≡◌, ℕ, zero, suc, ◌+◌, ◌<◌, List, [], ◌∷◌, ◌++◌, map, length, get_or, refl, sym, ap, ◌∙◌, subst, arith}
+use Rattle.std.proofs.Common.{◌≡◌, ℕ, zero, suc, ◌+◌, ◌<◌, List, [], ◌∷◌, ◌++◌, map, length, get_or, slice_get, Some, refl, sym, ap, ◌∙◌, subst, arith}
 use Rattle.std.proofs.lemmas.List.{length-map}
 use Rattle.flow_value.specs.declared.value.Val.{Val}
 use Rattle.if1_graph.specs.declared.op.Compound.{Compound}
 use Rattle.graph_meaning.specs.Carried.{Carried, Value, Unfilled}
-use Rattle.lowering_meaning.proofs.Told.{Telling}
+use Rattle.lowering_meaning.proofs.Told.{Telling, AreInner}
 use Rattle.graph_meaning.specs.Forms.{Form, next_of, first}
 use Rattle.graph_meaning.specs.Demand.{Network}
 use Rattle.graph_meaning.specs.Plain.{whole as whole_outputs, of_whole, NodesFire, LaterFires}
@@ -20,8 +20,8 @@ use Rattle.lowering.specs.Loops.{own_inputs}
 use Rattle.lowered_units.specs.Networks.{form_of}
 use Rattle.lowering_meaning.proofs.From.{after, both}
 use Rattle.lowering_meaning.proofs.Wires.{AllWires, left-wires, right-wires, IsThere, ins-used, uses-there, AllFrom, inputs-in}
-use Rattle.lowering_meaning.proofs.Sites.{Site, Seen, AllCarry, AllCarried, Placed, vertices, values-held, Made, Done, made-done, carry-length, sources}
-use Rattle.lowering_meaning.proofs.Inside.{inner, keys-carry, entered, Net, nodes-are, placed-inside, Gives, graph-gives, PartAt, own-carry}
+use Rattle.lowering_meaning.proofs.Sites.{Site, SeenIn, Seen, AllCarry, AllCarried, Placed, vertices, values-held, Made, Done, made-done, carry-length, sources}
+use Rattle.lowering_meaning.proofs.Inside.{inner, keys-carry, entered, Net, nodes-are, placed-inside, Gives, graph-gives, PartAt, own-carry, seen-inside}
 use Rattle.lowering_meaning.proofs.Nodes.{node-made}
 use Rattle.lowering_meaning.proofs.Choices.{Goes}
 use Rattle.lowering_meaning.proofs.Inverse.{node-inside}
@@ -55,12 +55,14 @@ module _ (u : Network) (number : ℕ → ℕ) (shape : Telling) where
     pub own : AllCarried u number shape (at_part q ks kv cs) (own_inputs 1 tys) cs
     pub placed : Placed u number shape (at_part q ks kv cs) 0 (suc q) m
     pub net : Net u number shape (at_part q ks kv cs) m
-    pub ends : AllWires (IsThere ks) m.values
+    pub ends : AllWires (SeenIn shape q ks) m.values
 
-  pub part : (s : Site) (q : ℕ) (ks : List Wire) (kv : List Val) (env : List Wire) (names : List Val) (tys : List wired.Carried) (cs : List Carried) (m : Lowered) (ms : List Lowered)
-      → AllCarry u number shape s env names → AllCarry u number shape s ks kv → AllWires (Seen s) ks → length tys ≡ length cs
+  pub part : (s : Site) (q : ℕ) (ks : List Wire) (kv : List Val) (env : List Wire) (names : List Val) (tys : List wired.Carried) (cs : List Carried) (m : Lowered) (ms : List Lowered) (gs : List ℕ) (i : ℕ)
+      → AreInner shape 0 gs ks → slice_get gs i ≡ Some q
+      → AllCarry u number shape s env names → AllCarry u number shape s ks kv → AllWires (Seen shape s) ks → length tys ≡ length cs
       → PartAt u number shape q ks 0 (length ks) m ms → AllWires (IsThere ks) (uses m) → Part q ks kv env names tys cs m
-  part s q ks kv env names tys cs m ms a b t l at w =
+  part s q ks kv env names tys cs m ms gs i told g a b t l at there =
+      let w = seen-inside u number shape gs i q ks 0 (length ks) m told g at.net there in
       let ins = map Value kv ++ cs in
       let site = at_part q ks kv cs in
       record {
@@ -85,13 +87,13 @@ module _ (u : Network) (number : ℕ → ℕ) (shape : Telling) where
   pub record Around (s : Site) (ms : List Lowered) : Type 0 where
     pub values : List Val
     pub carry : AllCarry u number shape s (inputs ms) values
-    pub seen : AllWires (Seen s) (inputs ms)
+    pub seen : AllWires (Seen shape s) (inputs ms)
 
   pub around : (s : Site) (k q : ℕ) (env : List Wire) (names : List Val) (c : Compound) (ms : List Lowered) (arms : List ℕ) (given : ℕ) (ts : List ℕ)
       → AllCarry u number shape s env names → Placed u number shape s k q (whole c ms arms given ts k q) → AllFrom env ms → Around s ms
   around s k q env names c ms arms given ts a pl h =
       let x = keys-carry u number shape s env names a (inputs ms) (inputs-in env ms h) in
-      record { values = x.0; carry = x.1; seen = ins-used (Seen s) (Whole c (numbers q ms) arms given (length ts)) (inputs ms) (left-wires _ _ [] pl.there) }
+      record { values = x.0; carry = x.1; seen = ins-used (Seen shape s) (Whole c (numbers q ms) arms given (length ts)) (inputs ms) (left-wires _ _ [] pl.there) }
 
   -- what is used inside is there
   pub used-there : (ms : List Lowered) → AllWires (IsThere (inputs ms)) (all_uses ms)

@@ -41,7 +41,7 @@ use Rattle.lowering.specs.declared.feed.Carried.TheVariants.{One}
 use Rattle.lowering.specs.declared.feed.Wire.{Wire}
 use Rattle.lowering.specs.Feeds.{into}
 use Rattle.lowering.specs.declared.graph.Lowered.{Lowered}
-use Rattle.lowering.specs.Graphs.{Lowering, uses, inputs, new_graph, size}
+use Rattle.lowering.specs.Graphs.{Lowering, uses, inputs, numbers, new_graph, size}
 use Rattle.lowering.specs.Operations.{Lowers, one, integer, all_lowered, body_lowered, wire_at}
 use Rattle.lowering.specs.Choices.{is_array, type_of}
 use Rattle.lowering.specs.Loops.{Phrase, own_inputs, many, single, types, clauses_lowered, unless_places, Wired, Limit, generators_lowered, bound_of, returns_lowered, product_lowered}
@@ -275,7 +275,7 @@ module _ (forms : List Form) (spellings : List (List ℕ)) (q : Product) (ds : L
       there = used-there u number shape (graphs j env ws)
 
       generator-part : Part u number shape j ks here.values ws vs [] [] n0
-      generator-part = part u number shape s j ks here.values ws vs [] [] n0 (n1 ∷ n2 ∷ []) b here.carry here.seen refl P0 (left-wires _ (uses n0) _ there)
+      generator-part = part u number shape s j ks here.values ws vs [] [] n0 (n1 ∷ n2 ∷ []) (numbers j (graphs j env ws)) 0 pl.told.0 refl b here.carry here.seen refl P0 (left-wires _ (uses n0) _ there)
 
       -- the graph of the generators
       generator-made : Made u number shape (at_part u number shape j ks here.values []) 0 n0 (generated q.sources vs) (length q.sources)
@@ -293,7 +293,7 @@ module _ (forms : List Form) (spellings : List (List ℕ)) (q : Product) (ds : L
 
       pub body-part : (i : ℕ) → Part u number shape (g1 j env ws) ks here.values env names (map single (types n0.values)) (map Value (names_at q.sources vs i)) n1
       body-part i =
-          part u number shape s (g1 j env ws) ks here.values env names (map single (types n0.values)) (map Value (names_at q.sources vs i)) n1 (n2 ∷ []) a here.carry here.seen
+          part u number shape s (g1 j env ws) ks here.values env names (map single (types n0.values)) (map Value (names_at q.sources vs i)) n1 (n2 ∷ []) (numbers j (graphs j env ws)) 1 pl.told.0 refl a here.carry here.seen
           (length-map (types n0.values) single ∙ (length-map n0.values _ ∙ (generators-wide forms q.sources tys xs goes (map into ws) 0 (suc j) ∙ (of-length xs (names_at q.sources vs i) (names-typed i) ∙ sym (length-map (names_at q.sources vs i) Value)))))
           P1 (left-wires _ (uses n1) _ (right-wires _ (uses n0) _ there))
 
@@ -310,7 +310,7 @@ module _ (forms : List Form) (spellings : List (List ℕ)) (q : Product) (ds : L
       -- ---- what the node gives
 
       module _ (δ row made : List Ty) (kd : List (List Means)) (kc : List Means) (oγ : AreOf γ names) (clauses : AreMade q.clauses row made) (wide-is : wide ≡ length row)
-          (drawn : Drawn u number shape forms spellings (γ ++ xs) 0 0 the_body (noted_body bs kd kc)) (typed : Typed (γ ++ xs) (body_of kd kc) row) (ns-are : length ns ≡ length made) (shaped : AreShaped u number shape q.clauses) where
+          (drawn : Drawn u number shape forms spellings (γ ++ xs) 0 0 the_body (noted_body bs kd kc)) (typed : Typed (γ ++ xs) (body_of kd kc) row) (ns-are : length ns ≡ length made) (shaped : AreShaped u number shape q.clauses ns) where
         abbrev pub body : Means
         body = body_of kd kc
 
@@ -339,7 +339,7 @@ module _ (forms : List Form) (spellings : List (List ℕ)) (q : Product) (ds : L
             t = at_part u number shape (g2 j env ws) ks here.values cs
 
             around : AllCarry u number shape t (map into ws) vs
-            around = (part u number shape s (g2 j env ws) ks here.values ws vs (map (λ c. One 0) cs) cs n2 [] b here.carry here.seen (length-map cs _) P2 (left-wires _ (uses n2) _ (right-wires _ (uses n1) _ (right-wires _ (uses n0) _ there)))).carry
+            around = (part u number shape s (g2 j env ws) ks here.values ws vs (map (λ c. One 0) cs) cs n2 [] (numbers j (graphs j env ws)) 2 pl.told.0 refl b here.carry here.seen (length-map cs _) P2 (left-wires _ (uses n2) _ (right-wires _ (uses n1) _ (right-wires _ (uses n0) _ there)))).carry
 
             an-array : (is : Bool) (y : Wire) (v : Val) (l : ℤ) → is ≡ true → Carries u number shape t y (Value v) → op_value operation.LimitLow (v ∷ []) ≡ val.Int l → IsBound u number shape t (if is then Limit y else Wired one) l
             an-array true y v l e a h = (v, a, h)
@@ -383,7 +383,7 @@ module _ (forms : List Form) (spellings : List (List ℕ)) (q : Product) (ds : L
             let w-is : w ≡ spans q.clauses = wb (map into env ++ own1 j env ws) 0 (suc (g1 j env ws)) ∙ (wide-is ∙ counts.0) in
             let long = gave-wide n n rs g in
             let t = at_part u number shape (g2 j env ws) ks here.values (gen ++ cols) in
-            let p = part u number shape s (g2 j env ws) ks here.values ws vs (map (λ c. One 0) (gen ++ cols)) (gen ++ cols) n2 [] b here.carry here.seen (length-map (gen ++ cols) _) P2 (left-wires _ (uses n2) _ (right-wires _ (uses n1) _ (right-wires _ (uses n0) _ there))) in
+            let p = part u number shape s (g2 j env ws) ks here.values ws vs (map (λ c. One 0) (gen ++ cols)) (gen ++ cols) n2 [] (numbers j (graphs j env ws)) 2 pl.told.0 refl b here.carry here.seen (length-map (gen ++ cols) _) P2 (left-wires _ (uses n2) _ (right-wires _ (uses n1) _ (right-wires _ (uses n0) _ there))) in
             let l : length (map many (types n1.values)) ≡ length cols =
             length-map (types n1.values) many ∙ (length-map n1.values _ ∙ sym (columns-length w (map (shown q.clauses) rs) (shown-wide q.clauses w rs (subst (λ k. AreWide k rs) (sym w-is) long)))) in
             let held : AllCarried u number shape t (own2 j env ws) cols =
@@ -423,7 +423,7 @@ module _ (forms : List Form) (spellings : List (List ℕ)) (q : Product) (ds : L
 module _ (u : Network) (number : ℕ → ℕ) (shape : Telling) (forms : List Form) (spellings : List (List ℕ)) (hs : List Header) (p : List Function) (cover : Coverage) where
   -- what is asked of the shapes of the nodes of clauses
   abbrev pub ShapesAre : Type 0
-  ShapesAre = (cs : List ClauseForm) (row made : List Ty) (ns : List ℕ) → AreMade cs row made → AreNumbers forms spellings ns made → AreShaped u number shape cs
+  ShapesAre = (cs : List ClauseForm) (row made : List Ty) (ns : List ℕ) → AreMade cs row made → AreNumbers forms spellings ns made → AreShaped u number shape cs ns
 
   pub product-drawn : ShapesAre → IsNumber forms spellings integer ty.Int → (q : Product) (arity : List ℕ) → masks_alone q.clauses arity ≡ true → ProductDrawn u number shape forms spellings hs p cover q arity
   product-drawn shapes int q arity alone γ tys xs δ row made ns bs ds gs kb kd ks goes clauses num eb tb wb dd td wd eg tg og tot n call =

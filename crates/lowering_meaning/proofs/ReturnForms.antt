@@ -16,7 +16,7 @@ use Rattle.lowering_meaning.proofs.Told.{Telling}
 use Rattle.graph_meaning.specs.NodeValues.{op, fold_of}
 use Rattle.graph_meaning.specs.Demand.{Network, Fixed}
 use Rattle.graph_meaning.specs.Plain.{fixed}
-use Rattle.lowering.specs.declared.feed.Feed.TheVariants.{Named}
+use Rattle.lowering.specs.declared.feed.Feed.TheVariants.{Named, Port}
 use Rattle.lowering.specs.declared.feed.Carried.TheVariants.{One}
 use Rattle.lowering.specs.declared.feed.Wire.{Wire}
 use Rattle.lowering.specs.Feeds.{wire}
@@ -29,8 +29,8 @@ use Rattle.loop_columns.specs.Clauses.{folds_of, fold_row, IsShaped}
 use Rattle.loop_columns.proofs.FoldNodes.{fold-nodes}
 use Rattle.lowering_meaning.proofs.From.{always}
 use Rattle.lowering_meaning.proofs.Wires.{AllWires, both-wires, FromNames, MadeFrom}
-use Rattle.lowering_meaning.proofs.Sites.{Site, Held, Carries, AllCarried, Placed, Done, done-only, done-both, done-more, carry-both, placed-left, placed-right}
-use Rattle.lowering_meaning.proofs.Nodes.{row-done}
+use Rattle.lowering_meaning.proofs.Sites.{Site, Shows, Held, Carries, AllCarried, Placed, Done, done-only, done-both, done-more, carry-both, placed-left, placed-right}
+use Rattle.lowering_meaning.proofs.Nodes.{row-done, row-seen}
 use Rattle.lowering_meaning.proofs.Forms.{from-both, values-from}
 use Rattle.lowering_meaning.proofs.Ifs.{node-from}
 use Rattle.lowering_meaning.proofs.Operations.{held-literal}
@@ -85,49 +85,54 @@ module _ (u : Network) (number : ℕ → ℕ) (shape : Telling) where
   AnyArray (c ∷ cs) = (c.folding ≡ folding.Array) ⊎ AnyArray cs
 
   -- the shapes of the nodes of clauses
-  abbrev pub AreShaped : List ClauseForm → Type 0
-  AreShaped [] = Unit {0}
-  AreShaped (c ∷ cs) = ((g l : ℕ) → IsShaped c.folding (shape.row g l (fold_row c.folding c.direction))) × AreShaped cs
+  -- the node of a clause that makes this type, where it is used
+  abbrev pub FoldShaped : Folding → Direction → ℕ → Type 0
+  FoldShaped f d t = (g n : ℕ) → Shows shape.shows (shape.used g) (Port 0 (suc n) 1) (One t) → IsShaped f (shape.row g (suc n) (fold_row f d))
+
+  abbrev pub AreShaped : List ClauseForm → List ℕ → Type 0
+  AreShaped [] ts = Unit {0}
+  AreShaped (c ∷ cs) [] = Unit {0}
+  AreShaped (c ∷ cs) (t ∷ ts) = FoldShaped c.folding c.direction t × AreShaped cs ts
 
   named : (s : Site) (t : List ℕ) → Held u number shape s (Fixed (Name t)) (Name t)
   named s t = always _ (λ d. fixed d s.graph s.ins (Name t))
 
   -- a reduction, by what its node gives
   reduce-done : (s : Site) (k q : ℕ) (f : Folding) (d : Direction) (ms : List Wire) (t : ℕ) (cs : List Carried) (l : ℤ)
-      → op (simple.Reduce (grouping_of d)) (shape.row s.graph (suc k) (simple.Reduce (grouping_of d))) (Name (reducer_name f) ∷ cs) ≡ Value (fold_of f l cs) ∷ []
+      → (Shows shape.shows (shape.used s.graph) (Port 0 (suc k) 1) (One t) → op (simple.Reduce (grouping_of d)) (shape.row s.graph (suc k) (simple.Reduce (grouping_of d))) (Name (reducer_name f) ∷ cs) ≡ Value (fold_of f l cs) ∷ [])
       → AllCarried u number shape s ms cs → Placed u number shape s k q (row_lowered (simple.Reduce (grouping_of d)) (wire (Named (reducer_name f)) (One integer) ∷ ms) (t ∷ []) k q)
       → Done u number shape s k (row_lowered (simple.Reduce (grouping_of d)) (wire (Named (reducer_name f)) (One integer) ∷ ms) (t ∷ []) k q) (fold_of f l cs ∷ []) 2
   reduce-done s k q f d ms t cs l e a pl =
       let ws = wire (Named (reducer_name f)) (One integer) ∷ ms in
       done-more u number shape s k (row_lowered (simple.Reduce (grouping_of d)) ws (t ∷ []) k q) (fold_of f l cs ∷ []) 1 2
-      (row-done u number shape s k q (simple.Reduce (grouping_of d)) ws t (Name (reducer_name f) ∷ cs) (fold_of f l cs) e pl ((λ _. named s (reducer_name f)), a)) (omega arith)
+      (row-seen u number shape s k q (simple.Reduce (grouping_of d)) ws t (Name (reducer_name f) ∷ cs) (fold_of f l cs) e pl ((λ _. named s (reducer_name f)), a)) (omega arith)
 
-  fold-done : (s : Site) (k q : ℕ) (b : Bound) (f : Folding) (d : Direction) (ms : List Wire) (t : ℕ) (cs : List Carried) (l : ℤ) → (f ≡ folding.Array → IsBound s b l) → ((g n : ℕ) → IsShaped f (shape.row g n (fold_row f d)))
+  fold-done : (s : Site) (k q : ℕ) (b : Bound) (f : Folding) (d : Direction) (ms : List Wire) (t : ℕ) (cs : List Carried) (l : ℤ) → (f ≡ folding.Array → IsBound s b l) → FoldShaped f d t
       → AllCarried u number shape s ms cs → Placed u number shape s k q (fold_lowered b f d ms t k q) → Done u number shape s k (fold_lowered b f d ms t k q) (fold_of f l cs ∷ []) 2
   fold-done s k q (Wired w) folding.Array d ms t cs l b h a pl =
       let m = row_lowered simple.AGather (w ∷ ms) (t ∷ []) k q in
-      done-more u number shape s k m (fold_of folding.Array l cs ∷ []) 1 2 (row-done u number shape s k q simple.AGather (w ∷ ms) t (Value (val.Int l) ∷ cs) (fold_of folding.Array l cs) (fold-nodes folding.Array d (shape.row s.graph (suc k) simple.AGather) l cs (h s.graph (suc k))) pl (b refl, a)) (omega arith)
+      done-more u number shape s k m (fold_of folding.Array l cs ∷ []) 1 2 (row-seen u number shape s k q simple.AGather (w ∷ ms) t (Value (val.Int l) ∷ cs) (fold_of folding.Array l cs) (λ y. fold-nodes folding.Array d (shape.row s.graph (suc k) simple.AGather) l cs (h s.graph k y)) pl (b refl, a)) (omega arith)
   fold-done s k q (Limit w) folding.Array d ms t cs l b h a pl =
       let m = row_lowered simple.ALimL (w ∷ []) (integer ∷ []) k q in
       let n = row_lowered simple.AGather (wire_at m.values 0 ∷ ms) (t ∷ []) (k + length m.nodes) (q + length m.graphs) in
       let x = row-done u number shape s k q simple.ALimL (w ∷ []) integer (Value (b refl).0 ∷ []) (val.Int l) (ap (λ v. Value v ∷ []) (b refl).2) (placed-left u number shape s k q m n pl) ((b refl).1, tt) in
-      let y = row-done u number shape s (k + length m.nodes) (q + length m.graphs) simple.AGather (wire_at m.values 0 ∷ ms) t (Value (val.Int l) ∷ cs) (fold_of folding.Array l cs)
-      (fold-nodes folding.Array d (shape.row s.graph (suc (k + length m.nodes)) simple.AGather) l cs (h s.graph (suc (k + length m.nodes)))) (placed-right u number shape s k q m n pl) (x.held.0, a) in
+      let y = row-seen u number shape s (k + length m.nodes) (q + length m.graphs) simple.AGather (wire_at m.values 0 ∷ ms) t (Value (val.Int l) ∷ cs) (fold_of folding.Array l cs)
+      (λ y. fold-nodes folding.Array d (shape.row s.graph (suc (k + length m.nodes)) simple.AGather) l cs (h s.graph (k + length m.nodes) y)) (placed-right u number shape s k q m n pl) (x.held.0, a) in
       done-both u number shape s k m n (val.Int l ∷ []) (fold_of folding.Array l cs ∷ []) 1 1 x y
   fold-done s k q b folding.Stream d ms t cs l _ h a pl =
       let m = row_lowered simple.AGather (one ∷ ms) (t ∷ []) k q in
       done-more u number shape s k m (fold_of folding.Stream l cs ∷ []) 1 2
-      (row-done u number shape s k q simple.AGather (one ∷ ms) t (Value (val.Int (pos 1)) ∷ cs) (fold_of folding.Stream l cs) (fold-nodes folding.Stream d (shape.row s.graph (suc k) simple.AGather) l cs (h s.graph (suc k))) pl
+      (row-seen u number shape s k q simple.AGather (one ∷ ms) t (Value (val.Int (pos 1)) ∷ cs) (fold_of folding.Stream l cs) (λ y. fold-nodes folding.Stream d (shape.row s.graph (suc k) simple.AGather) l cs (h s.graph k y)) pl
       ((λ _. held-literal u number shape s (constant.Integer (pos 1)) (val.Int (pos 1)) refl), a)) (omega arith)
   fold-done s k q b folding.Last d ms t cs l _ h a pl =
       let m = row_lowered simple.FinalValue ms (t ∷ []) k q in
-      done-more u number shape s k m (fold_of folding.Last l cs ∷ []) 1 2 (row-done u number shape s k q simple.FinalValue ms t cs (fold_of folding.Last l cs) (fold-nodes folding.Last d (shape.row s.graph (suc k) simple.FinalValue) l cs (h s.graph (suc k))) pl a) (omega arith)
-  fold-done s k q b folding.Sum d ms t cs l _ h a pl = reduce-done s k q folding.Sum d ms t cs l (fold-nodes folding.Sum d (shape.row s.graph (suc k) (simple.Reduce (grouping_of d))) l cs (h s.graph (suc k))) a pl
-  fold-done s k q b folding.Product d ms t cs l _ h a pl = reduce-done s k q folding.Product d ms t cs l (fold-nodes folding.Product d (shape.row s.graph (suc k) (simple.Reduce (grouping_of d))) l cs (h s.graph (suc k))) a pl
-  fold-done s k q b folding.Least d ms t cs l _ h a pl = reduce-done s k q folding.Least d ms t cs l (fold-nodes folding.Least d (shape.row s.graph (suc k) (simple.Reduce (grouping_of d))) l cs (h s.graph (suc k))) a pl
-  fold-done s k q b folding.Greatest d ms t cs l _ h a pl = reduce-done s k q folding.Greatest d ms t cs l (fold-nodes folding.Greatest d (shape.row s.graph (suc k) (simple.Reduce (grouping_of d))) l cs (h s.graph (suc k))) a pl
-  fold-done s k q b folding.CatenateArrays d ms t cs l _ h a pl = reduce-done s k q folding.CatenateArrays d ms t cs l (fold-nodes folding.CatenateArrays d (shape.row s.graph (suc k) (simple.Reduce (grouping_of d))) l cs (h s.graph (suc k))) a pl
-  fold-done s k q b folding.CatenateStreams d ms t cs l _ h a pl = reduce-done s k q folding.CatenateStreams d ms t cs l (fold-nodes folding.CatenateStreams d (shape.row s.graph (suc k) (simple.Reduce (grouping_of d))) l cs (h s.graph (suc k))) a pl
+      done-more u number shape s k m (fold_of folding.Last l cs ∷ []) 1 2 (row-done u number shape s k q simple.FinalValue ms t cs (fold_of folding.Last l cs) (fold-nodes folding.Last d (shape.row s.graph (suc k) simple.FinalValue) l cs tt) pl a) (omega arith)
+  fold-done s k q b folding.Sum d ms t cs l _ h a pl = reduce-done s k q folding.Sum d ms t cs l (λ y. fold-nodes folding.Sum d (shape.row s.graph (suc k) (simple.Reduce (grouping_of d))) l cs (h s.graph k y)) a pl
+  fold-done s k q b folding.Product d ms t cs l _ h a pl = reduce-done s k q folding.Product d ms t cs l (λ y. fold-nodes folding.Product d (shape.row s.graph (suc k) (simple.Reduce (grouping_of d))) l cs (h s.graph k y)) a pl
+  fold-done s k q b folding.Least d ms t cs l _ h a pl = reduce-done s k q folding.Least d ms t cs l (λ y. fold-nodes folding.Least d (shape.row s.graph (suc k) (simple.Reduce (grouping_of d))) l cs (h s.graph k y)) a pl
+  fold-done s k q b folding.Greatest d ms t cs l _ h a pl = reduce-done s k q folding.Greatest d ms t cs l (λ y. fold-nodes folding.Greatest d (shape.row s.graph (suc k) (simple.Reduce (grouping_of d))) l cs (h s.graph k y)) a pl
+  fold-done s k q b folding.CatenateArrays d ms t cs l _ h a pl = reduce-done s k q folding.CatenateArrays d ms t cs l (λ y. fold-nodes folding.CatenateArrays d (shape.row s.graph (suc k) (simple.Reduce (grouping_of d))) l cs (h s.graph k y)) a pl
+  fold-done s k q b folding.CatenateStreams d ms t cs l _ h a pl = reduce-done s k q folding.CatenateStreams d ms t cs l (λ y. fold-nodes folding.CatenateStreams d (shape.row s.graph (suc k) (simple.Reduce (grouping_of d))) l cs (h s.graph k y)) a pl
 
   first-carried : (s : Site) (ws : List Wire) (cs : List Carried) (n : ℕ) → AllCarried u number shape s ws cs → AllCarried u number shape s (take_up n ws) (take n cs)
   first-carried s ws cs zero a = tt
@@ -143,7 +148,7 @@ module _ (u : Network) (number : ℕ → ℕ) (shape : Telling) where
   other-carried s [] (c ∷ cs) (suc n) a = absurd a
   other-carried s (w ∷ ws) [] (suc n) a = absurd a
 
-  pub returns-done : (s : Site) (k q : ℕ) (b : Bound) (cs : List ClauseForm) (ms : List Wire) (ts : List ℕ) (ds : List Carried) (l : ℤ) → length ts ≡ length cs → (AnyArray cs → IsBound s b l) → AreShaped cs
+  pub returns-done : (s : Site) (k q : ℕ) (b : Bound) (cs : List ClauseForm) (ms : List Wire) (ts : List ℕ) (ds : List Carried) (l : ℤ) → length ts ≡ length cs → (AnyArray cs → IsBound s b l) → AreShaped cs ts
       → AllCarried u number shape s ms ds → Placed u number shape s k q (returns_lowered b cs ms ts k q) → Done u number shape s k (returns_lowered b cs ms ts k q) (folds_of cs l ds) (8 * length cs)
   returns-done s k q b [] ms ts ds l e bd h a pl = done-more u number shape s k (returns_lowered b [] ms ts k q) [] 0 (8 * 0) (done-only u number shape s k (returns_lowered b [] ms ts k q) [] refl tt) (omega arith)
   returns-done s k q b (c ∷ cs) ms [] ds l e bd h a pl = absurd (omega (arith, e))

@@ -1,61 +1,83 @@
--- The shapes of the nodes of clauses, where no type is a stream.
-use Rattle.std.proofs.Common.{◌≡◌, ℕ, List, [], ◌∷◌, sym, ap, subst}
+-- The shapes of the nodes of a ready unit of a program, by the types of the program.
+use Rattle.std.proofs.Common.{◌≡◌, ℕ, suc, List, [], ◌∷◌, sym, ap, ◌∙◌}
 use Rattle.flow_value.specs.declared.ty.Ty.{Ty}
 use Rattle.flow_value.specs.declared.ty.Ty.TheVariants as ty
-use Rattle.flow_value.specs.declared.ty.Ty.TheOpen.{Ty-F}
 use Rattle.flow_value.specs.declared.ty.Ty.TheViews.{out-Ty}
+use Rattle.if1_graph.specs.declared.graph.Unit1.{Unit1}
 use Rattle.if1_graph.specs.declared.op.Simple.TheVariants as simple
-use Rattle.if1_graph.specs.declared.op.Grouping.{Grouping}
+use Rattle.if1_graph.specs.Ready.{IsReady}
 use Rattle.loop_folds.specs.declared.folding.Folding.{Folding}
-use Rattle.type_table.specs.declared.form.Form.{Form}
 use Rattle.typed_tree.specs.declared.expr.ClauseForm.{ClauseForm}
-use Rattle.typed_tree.specs.Types.{IsNumber, AreNumbers}
+use Rattle.typed_tree.specs.declared.program.Program.{Program}
+use Rattle.typed_tree.specs.Types.{Member, IsNumber, AreNumbers}
 use Rattle.typed_tree.specs.Types as number
 use Rattle.fitting_trees.specs.Fitting.{Makes, AreMade}
 use Rattle.fitting_trees.specs.Fitting as is
 use Rattle.sisal_tree.specs.declared.expr.Direction.{Direction}
-use Rattle.lowering_meaning.proofs.Told.{Telling}
-use Rattle.graph_meaning.specs.NodeValues.{Shape, gathering, catenation}
+use Rattle.graph_meaning.specs.NodeValues.{gathering, catenation}
 use Rattle.graph_meaning.specs.NodeValues as shapes
 use Rattle.graph_meaning.specs.Demand.{Network}
+use Rattle.graph_meaning.specs.Networks.{network}
+use Rattle.lowering.specs.declared.feed.Carried.TheVariants.{One}
 use Rattle.lowering.specs.Loops.{grouping_of}
+use Rattle.lowering.specs.Programs.{number_of}
+use Rattle.lowered_units.specs.Fitting.{IsFitting}
+use Rattle.lowered_units.specs.Units.{IsTranslated}
 use Rattle.lowered_units.proofs.BuiltTrees.{out-bool, out-char, out-int, out-null, out-array, out-stream, out-record, out-union}
-use Rattle.loop_columns.specs.Clauses.{fold_row, IsShaped}
-use Rattle.lowering_meaning.specs.Coverage.{Streams, HasNo, IsNot}
-use Rattle.lowering_meaning.proofs.ReturnForms.{AreShaped}
+use Rattle.lowered_units.proofs.Nested.{AreNested}
+use Rattle.lowering_meaning.proofs.Told.{Telling}
+use Rattle.lowering_meaning.proofs.Sites.{ShapeOf}
+use Rattle.lowering_meaning.proofs.ReturnForms.{FoldShaped, AreShaped}
+use Rattle.lowering_meaning.proofs.Showings.{form_shows, carried_shows, type_shows, stream_by, union_by}
+use Rattle.lowering_meaning.proofs.Shaped.{telling, row-told}
 
-module _ (u : Network) (num : ℕ → ℕ) (shape : Telling) (forms : List Form) (spellings : List (List ℕ)) (plain : HasNo Streams forms)
-    (gathers : (g l : ℕ) → shape.row g l simple.AGather ≡ shapes.Plain) (reduces : (g l : ℕ) (r : Grouping) → shape.row g l (simple.Reduce r) ≡ shapes.Plain) where
-  -- no type is a stream
-  abbrev NotStream : Ty-F Ty → Type 0
-  NotStream (Ty-F.Stream t) = ⊥
-  NotStream _ = Unit {0}
+module _ (p : Program) (u : Unit1) (fit : IsFitting p) (t : IsTranslated p u) (nests : AreNested u) (ready : IsReady u) where
+  abbrev N : Network
+  N = network u
 
-  no-stream : (n : ℕ) (t : Ty) → IsNumber forms spellings n t → NotStream (out-Ty t)
-  no-stream n _ (number.boolean e) = subst NotStream (sym out-bool) tt
-  no-stream n _ (number.character e) = subst NotStream (sym out-char) tt
-  no-stream n _ (number.integer e) = subst NotStream (sym out-int) tt
-  no-stream n _ (number.null e) = subst NotStream (sym out-null) tt
-  no-stream n _ (number.array {t = t} e h) = subst NotStream (sym (out-array t)) tt
-  no-stream n _ (number.stream e h) = absurd (subst (IsNot Streams) e (plain n))
-  no-stream n _ (number.a_record {fs = fs} e h) = subst NotStream (sym (out-record fs)) tt
-  no-stream n _ (number.a_union {fs = fs} e h) = subst NotStream (sym (out-union fs)) tt
+  abbrev num : ℕ → ℕ
+  num = number_of p
 
-  stream-is : (t : Ty) → NotStream (out-Ty (ty.Stream t)) → ⊥
-  stream-is t h = subst NotStream (out-stream t) h
+  abbrev S : Telling
+  S = telling p u
 
-  folding-shaped : (n : ℕ) (f : Folding) (d : Direction) (a b : Ty) → Makes f a b → IsNumber forms spellings n b → (g l : ℕ) → IsShaped f (shape.row g l (fold_row f d))
-  folding-shaped n _ d _ _ (is.makes_array a) h g l = ap gathering (gathers g l)
-  folding-shaped n _ d _ _ (is.makes_stream a) h g l = absurd (stream-is a (no-stream n (ty.Stream a) h))
-  folding-shaped n _ d _ _ (is.makes_last a) h g l = tt
-  folding-shaped n _ d _ _ is.makes_sum h g l = tt
-  folding-shaped n _ d _ _ is.makes_product h g l = tt
-  folding-shaped n _ d _ _ is.makes_least h g l = tt
-  folding-shaped n _ d _ _ is.makes_greatest h g l = tt
-  folding-shaped n _ d _ _ (is.makes_arrays a) h g l = ap catenation (reduces g l (grouping_of d))
-  folding-shaped n _ d _ _ (is.makes_streams a) h g l = absurd (stream-is a (no-stream n (ty.Stream a) h))
+  -- the number of a type shows what the type is
+  number-shows : (n : ℕ) (a : Ty) → IsNumber p.types p.names n a → carried_shows p.types (One n) ≡ type_shows (out-Ty a)
+  number-shows n _ (number.boolean e) = ap form_shows e ∙ sym (ap type_shows out-bool)
+  number-shows n _ (number.character e) = ap form_shows e ∙ sym (ap type_shows out-char)
+  number-shows n _ (number.integer e) = ap form_shows e ∙ sym (ap type_shows out-int)
+  number-shows n _ (number.null e) = ap form_shows e ∙ sym (ap type_shows out-null)
+  number-shows n _ (number.array {t = a} e h) = ap form_shows e ∙ sym (ap type_shows (out-array a))
+  number-shows n _ (number.stream {t = a} e h) = ap form_shows e ∙ sym (ap type_shows (out-stream a))
+  number-shows n _ (number.a_record {fs = fs} e h) = ap form_shows e ∙ sym (ap type_shows (out-record fs))
+  number-shows n _ (number.a_union {fs = fs} e h) = ap form_shows e ∙ sym (ap type_shows (out-union fs))
 
-  pub clauses-shaped : (cs : List ClauseForm) (row made : List Ty) (ns : List ℕ) → AreMade cs row made → AreNumbers forms spellings ns made → AreShaped u num shape cs
+  pub arrays-shaped : (n : ℕ) (a : Ty) → IsNumber p.types p.names n (ty.Arr a) → ShapeOf N num S simple.ABuild n shapes.Plain
+  arrays-shaped n a h g k s = (row-told p u fit t nests ready g k (One n) s).arrays ∙ ap stream_by (number-shows n (ty.Arr a) h ∙ ap type_shows (out-array a))
+
+  pub streams-shaped : (n : ℕ) (a : Ty) → IsNumber p.types p.names n (ty.Stream a) → ShapeOf N num S simple.ABuild n shapes.Stream
+  streams-shaped n a h g k s = (row-told p u fit t nests ready g k (One n) s).arrays ∙ ap stream_by (number-shows n (ty.Stream a) h ∙ ap type_shows (out-stream a))
+
+  pub records-shaped : (n : ℕ) (ms : List Member) → IsNumber p.types p.names n (ty.Rec ms) → ShapeOf N num S simple.RBuild n shapes.Plain
+  records-shaped n ms h g k s = (row-told p u fit t nests ready g k (One n) s).records ∙ ap union_by (number-shows n (ty.Rec ms) h ∙ ap type_shows (out-record ms))
+
+  pub unions-shaped : (n : ℕ) (ms : List Member) → IsNumber p.types p.names n (ty.Uni ms) → ShapeOf N num S simple.RBuild n shapes.Union
+  unions-shaped n ms h g k s = (row-told p u fit t nests ready g k (One n) s).records ∙ ap union_by (number-shows n (ty.Uni ms) h ∙ ap type_shows (out-union ms))
+
+  folding-shaped : (n : ℕ) (f : Folding) (d : Direction) (a b : Ty) → Makes f a b → IsNumber p.types p.names n b → FoldShaped N num S f d n
+  folding-shaped n _ d _ _ (is.makes_array a) h g k s = ap gathering ((row-told p u fit t nests ready g k (One n) s).gathers ∙ ap stream_by (number-shows n (ty.Arr a) h ∙ ap type_shows (out-array a)))
+  folding-shaped n _ d _ _ (is.makes_stream a) h g k s = ap gathering ((row-told p u fit t nests ready g k (One n) s).gathers ∙ ap stream_by (number-shows n (ty.Stream a) h ∙ ap type_shows (out-stream a)))
+  folding-shaped n _ d _ _ (is.makes_last a) h g k s = tt
+  folding-shaped n _ d _ _ is.makes_sum h g k s = tt
+  folding-shaped n _ d _ _ is.makes_product h g k s = tt
+  folding-shaped n _ d _ _ is.makes_least h g k s = tt
+  folding-shaped n _ d _ _ is.makes_greatest h g k s = tt
+  folding-shaped n _ d _ _ (is.makes_arrays a) h g k s =
+      ap catenation ((row-told p u fit t nests ready g k (One n) s).reduces (grouping_of d) ∙ ap stream_by (number-shows n (ty.Arr a) h ∙ ap type_shows (out-array a)))
+  folding-shaped n _ d _ _ (is.makes_streams a) h g k s =
+      ap catenation ((row-told p u fit t nests ready g k (One n) s).reduces (grouping_of d) ∙ ap stream_by (number-shows n (ty.Stream a) h ∙ ap type_shows (out-stream a)))
+
+  pub clauses-shaped : (cs : List ClauseForm) (row made : List Ty) (ns : List ℕ) → AreMade cs row made → AreNumbers p.types p.names ns made → AreShaped N num S cs ns
   clauses-shaped _ _ _ ns is.no_clause h = tt
   clauses-shaped _ _ _ (n ∷ ns) (is.unmasked {c = c} {cs = cs} {a = a} {b = b} {tys = tys} {made = made} e m k) h = (folding-shaped n c.folding c.direction a b m h.0, clauses-shaped cs tys made ns k h.1)
   clauses-shaped _ _ _ (n ∷ ns) (is.masked {c = c} {cs = cs} {a = a} {b = b} {tys = tys} {made = made} e m k) h = (folding-shaped n c.folding c.direction a b m h.0, clauses-shaped cs tys made ns k h.1)

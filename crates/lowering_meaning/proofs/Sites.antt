@@ -1,12 +1,17 @@
 -- Where a phrase stands in a network: what its wires carry and its nodes fire, from some depth on.
-use Rattle.std.proofs.Common.{◌≡◌, ℕ, suc, ◌+◌, ◌≤◌, List, [], ◌∷◌, ◌++◌, map, length, refl, sym, ap, ◌∙◌, subst, arith, Some}
+use Rattle.std.proofs.Common.{◌≡◌, ℕ, suc, ◌+◌, ◌≤◌, zero, List, [], ◌∷◌, ◌++◌, map, length, refl, sym, ap, ◌∙◌, subst, arith, Some}
 use Rattle.flow_value.specs.declared.value.Val.{Val}
 use Rattle.graph_meaning.specs.Carried.{Carried, Value}
-use Rattle.lowering_meaning.proofs.Told.{Telling, AreTold, told-left, told-right}
+use Rattle.lowering_meaning.proofs.Told.{Showing, Telling, AreTold, told-left, told-right}
 use Rattle.graph_meaning.specs.Demand.{Source, Vertex, Network, at_label}
 use Rattle.graph_meaning.specs.Plain.{CarryAll, no_port, port, NodesFire, no_node, a_node, InnerFires}
 use Rattle.graph_meaning.specs.Plain as plain
+use Rattle.if1_graph.specs.declared.op.Simple.{Simple}
+use Rattle.graph_meaning.specs.NodeValues.{Shape}
 use Rattle.lowering.specs.declared.feed.Feed.{Feed}
+use Rattle.lowering.specs.declared.feed.Feed.TheVariants.{Port}
+use Rattle.lowering.specs.declared.feed.Carried as wired
+use Rattle.lowering.specs.declared.feed.Carried.TheVariants.{One}
 use Rattle.lowering.specs.declared.feed.Wire.{Wire}
 use Rattle.lowering.specs.declared.graph.LoweredNode.{LoweredNode}
 use Rattle.lowering.specs.declared.graph.LoweredGraph.{LoweredGraph}
@@ -14,7 +19,7 @@ use Rattle.lowering.specs.declared.graph.Lowered.{Lowered}
 use Rattle.lowering.specs.Graphs.{joined, resolved, used}
 use Rattle.lowered_units.specs.Networks.{source_of, kind_of, net_of}
 use Rattle.lowering_meaning.proofs.From.{From, always, after, both}
-use Rattle.lowering_meaning.proofs.Wires.{AllWires, left-wires, right-wires, IsThere, used-apart}
+use Rattle.lowering_meaning.proofs.Wires.{AllWires, left-wires, right-wires, In, used-apart}
 
 -- A graph of the network with its inputs: the node around has these inputs, so many inputs stand before them, and so many before
 -- the graph's own.
@@ -32,9 +37,24 @@ at_site s f = source_of (resolved s.keys s.first s.own f)
 abbrev pub sources : Site → List Wire → List Source
 sources s ws = map (λ w. at_site s w.feed) ws
 
--- a wire of a graph around is one of the inputs
-abbrev pub Seen : Site → Wire → Type 0
-Seen s w = IsThere s.keys w
+-- ---- what is used
+
+-- one of these has this feed, and shows the same type
+abbrev pub Shows : (wired.Carried → Showing) → List Wire → Feed → wired.Carried → Type 0
+Shows shows ws f t = (x : Wire) × In x ws × (x.feed ≡ f) × (shows x.ty ≡ shows t)
+
+-- a port of a graph around is one of the inputs, and that of a node is used
+abbrev pub is_seen : (wired.Carried → Showing) → (keys used : List Wire) → Feed → wired.Carried → Type 0
+is_seen shows ks us (Port (suc up) n p) t = Shows shows ks (Port up n p) t
+is_seen shows ks us (Port zero (suc n) p) t = Shows shows us (Port 0 (suc n) p) t
+is_seen shows ks us f t = Unit {0}
+
+-- in a graph of this number with these inputs
+abbrev pub SeenIn : Telling → ℕ → List Wire → Wire → Type 0
+SeenIn shape q ks w = is_seen shape.shows ks (shape.used q) w.feed w.ty
+
+abbrev pub Seen : Telling → Site → Wire → Type 0
+Seen shape s w = SeenIn shape s.graph s.keys w
 
 module _ (u : Network) (number : ℕ → ℕ) (shape : Telling) where
   abbrev pub Held : Site → Source → Carried → Type 0
@@ -62,9 +82,13 @@ module _ (u : Network) (number : ℕ → ℕ) (shape : Telling) where
   abbrev pub StandsAt : Site → ℕ → List LoweredNode → Type 0
   StandsAt s n vs = StandIn (u s.graph).nodes s n vs
 
-  -- a graph of the network is this one, and its nodes have the shapes of their wires
+  -- a graph of the network is this one, its nodes have the shapes of their wires, and this is what it uses
   abbrev pub IsAt : ℕ → LoweredGraph → Type 0
-  IsAt q d = (u q ≡ net_of (shape.row q) number d) × AreTold shape q 0 d.nodes
+  IsAt q d = (u q ≡ net_of (shape.row q) number d) × AreTold shape q 0 d.nodes × (shape.used q ≡ used d.nodes ++ d.results)
+
+  -- where the output of a row that makes this type is used, the row has this shape
+  abbrev pub ShapeOf : Simple → ℕ → Shape → Type 0
+  ShapeOf o t x = (g n : ℕ) → Shows shape.shows (shape.used g) (Port 0 (suc n) 1) (One t) → shape.row g (suc n) o ≡ x
 
   -- graphs of the network from a number on are these
   abbrev pub AreAt : ℕ → List LoweredGraph → Type 0
@@ -76,11 +100,11 @@ module _ (u : Network) (number : ℕ → ℕ) (shape : Telling) where
     pub nodes : StandsAt s n m.nodes
     pub graphs : AreAt q m.graphs
     pub told : AreTold shape s.graph n m.nodes
-    pub there : AllWires (Seen s) (used m.nodes)
+    pub there : AllWires (Seen shape s) (used m.nodes)
 
-  -- a wire carries this, if it is there
+  -- a wire carries this, if it is used
   abbrev pub Carries : Site → Wire → Carried → Type 0
-  Carries s w c = Seen s w → Held s (at_site s w.feed) c
+  Carries s w c = Seen shape s w → Held s (at_site s w.feed) c
 
   abbrev pub AllCarried : Site → List Wire → List Carried → Type 0
   AllCarried s [] [] = Unit {0}
@@ -128,14 +152,14 @@ module _ (u : Network) (number : ℕ → ℕ) (shape : Telling) where
   carry-length s (w ∷ ws) [] a = absurd a
 
   -- the sources of wires that are all there
-  pub all-held : (s : Site) (ws : List Wire) (cs : List Carried) → AllWires (Seen s) ws → AllCarried s ws cs → HeldAll s (sources s ws) cs
+  pub all-held : (s : Site) (ws : List Wire) (cs : List Carried) → AllWires (Seen shape s) ws → AllCarried s ws cs → HeldAll s (sources s ws) cs
   all-held s [] [] t a = always _ (λ m. no_port m s.graph s.ins)
   all-held s (w ∷ ws) (c ∷ cs) t a =
       after _ _ (both _ _ (a.0 t.0) (all-held s ws cs t.1 a.1)) (λ m h. port m s.graph s.ins (at_site s w.feed) (sources s ws) c cs h.0 h.1)
   all-held s [] (c ∷ cs) t a = absurd a
   all-held s (w ∷ ws) [] t a = absurd a
 
-  pub values-held : (s : Site) (ws : List Wire) (vs : List Val) → AllWires (Seen s) ws → AllCarry s ws vs → HeldAll s (sources s ws) (map Value vs)
+  pub values-held : (s : Site) (ws : List Wire) (vs : List Val) → AllWires (Seen shape s) ws → AllCarry s ws vs → HeldAll s (sources s ws) (map Value vs)
   values-held s ws vs t a = all-held s ws (map Value vs) t (as-carried s ws vs a)
 
   -- ---- nodes behind nodes

@@ -47,7 +47,6 @@ use Rattle.lowered_units.proofs.Entries.{length-new}
 use Rattle.lowered_units.proofs.Heads.{In, in-left}
 use Rattle.lowering_meaning.proofs.Layers.{and-true}
 use Rattle.lowering_meaning.proofs.LowTables.{IsLow, low-at, table-low}
-use Rattle.lowering_meaning.proofs.Shaped.{telling}
 
 -- ---- entries
 
@@ -133,7 +132,7 @@ module _ (p : Program) where
   pub at-entry : (later : Table) (l : ℕ) (e : Entry) → (h : HasEntry later l e) → entry_at (E later) l ≡ Some (as_type p (suc h.place) h.entry)
   at-entry later l e h = ap (entry_at (E later)) h.is ∙ (entry-is p later h.place ∙ ap (option_map (as_type p (suc h.place))) h.there)
 
-  kind-there : (d : ℕ) (later : Table) (l : ℕ) (e : Entry) → (h : HasEntry later l e) → bare (suc d) later l ≡ ty_of without_names (bare d later) (E later) (as_type p (suc h.place) h.entry) (kind_at e.code)
+  pub kind-there : (d : ℕ) (later : Table) (l : ℕ) (e : Entry) → (h : HasEntry later l e) → bare (suc d) later l ≡ ty_of without_names (bare d later) (E later) (as_type p (suc h.place) h.entry) (kind_at e.code)
   kind-there d later l e h =
       ap (λ o. o >>= λ (x : TypeEntry). ty_of without_names (bare d later) (E later) x (kind_at x.code)) (at-entry later l e h)
       ∙ ap (λ c. ty_of without_names (bare d later) (E later) (as_type p (suc h.place) h.entry) (kind_at c)) h.code
@@ -374,7 +373,7 @@ module _ (p : Program) where
   after-headers (f ∷ fs) ns ts = after-headers fs ns (function_label p.types p.names f ts).table
 
   -- what a line of the program carries stands in its table
-  program-stays : (c : Carried) → In c (graph_lines (functions_lowered p)) → (line_label c (table p)).table ≡ table p
+  pub program-stays : (c : Carried) → In c (graph_lines (functions_lowered p)) → (line_label c (table p)).table ≡ table p
   program-stays c i =
       let headers = with_needs (map (header_need p) p.functions) basics in
       let bodies = body_needs p p.functions (functions_lowered p) in
@@ -382,7 +381,8 @@ module _ (p : Program) where
       (subst (Grows (with_needs bodies headers)) (sym (after-headers p.functions bodies basics)) (grows-none (with_needs bodies headers))) c i
 
   -- a record that a line carries tells its fields
-  pub elements-are : (u : Unit1) → IsFitting p → IsTranslated p u → (n : ℕ) (fs : List Member) → In (One n) (telling p u).lines → IsNumber p.types p.names n (ty.Rec fs) → (telling p u).elements (One n) ≡ shapes.Fields (length fs)
+  pub elements-are : (u : Unit1) → IsFitting p → IsTranslated p u → (n : ℕ) (fs : List Member) → In (One n) (graph_lines (functions_lowered p)) → IsNumber p.types p.names n (ty.Rec fs)
+      → fields_shape (fields_of (sort_at u.types (label_of p (One n)))) ≡ shapes.Fields (length fs)
   elements-are u fit t n fs i k =
       ap (λ es. fields_shape (fields_of (sort_at es (label_of p (One n))))) t.types
       ∙ fields-at p fit.types n fs k (table p) (table p) (table-low p) (table-begins p) (subst (λ es. Grows es (table p)) (sym (program-stays (One n) i)) (grows-none (table p)))

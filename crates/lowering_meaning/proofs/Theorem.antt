@@ -1,12 +1,9 @@
 -- The functions of a translated program.
 use Rattle.std.proofs.Common.{◌≡◌, ℕ, zero, suc, ◌+◌, List, [], ◌∷◌, map, slice_get, get_or, Some, refl, sym, ap, ◌∙◌, subst, arith, ◌⊎◌, inl, inr}
-use Rattle.std.specs.Prelude.{find, ◌==◌}
 use Rattle.flow_value.specs.declared.value.Val.{Val}
 use Rattle.flow_value.specs.declared.ty.Ty.{Ty}
 use Rattle.if1_graph.specs.declared.graph.Unit1.{Unit1}
-use Rattle.if1_graph.specs.declared.op.Grouping.{Grouping}
-use Rattle.if1_graph.specs.declared.op.Simple.TheVariants as simple
-use Rattle.if1_graph.specs.Units.{places, number_of as place_number}
+use Rattle.if1_graph.specs.Ready.{IsReady}
 use Rattle.typed_tree.specs.declared.expr.TypedExpr.{TypedExpr}
 use Rattle.typed_tree.specs.declared.program.Function.{Function}
 use Rattle.typed_tree.specs.declared.program.Program.{Program}
@@ -23,34 +20,31 @@ use Rattle.meaning_laws.specs.Laws.{IsGiven}
 use Rattle.meaning_laws.proofs.Agree.{same, calls_same}
 use Rattle.graph_meaning.specs.Carried.{Value}
 use Rattle.lowering_meaning.proofs.Told.{Telling}
-use Rattle.graph_meaning.specs.NodeValues.{Shape}
-use Rattle.graph_meaning.specs.NodeValues as shape
 use Rattle.graph_meaning.specs.Demand.{Network}
 use Rattle.graph_meaning.specs.Networks.{network}
 use Rattle.graph_meaning.specs.Plain.{Costs}
 use Rattle.lowering.specs.declared.graph.LoweredGraph.{LoweredGraph}
 use Rattle.lowering.specs.Graphs.{Lowering, closed, closed_graphs, new_graph, new_graphs, numbers, size}
 use Rattle.lowering.specs.Programs.{function_lowered, graphs, graph_at, number_of}
-use Rattle.lowering.specs.Types.{Table, table}
 use Rattle.lowered_units.specs.Fitting.{IsFitting}
-use Rattle.lowered_units.specs.Units.{IsTranslated, entries_from}
+use Rattle.lowered_units.specs.Units.{IsTranslated}
 use Rattle.lowered_units.proofs.Programs.{basics as basic_types}
+use Rattle.lowered_units.proofs.Nested.{AreNested}
 use Rattle.lowered_units.proofs.NestedTrees.{is-nested}
 use Rattle.lowered_units.proofs.Running.{runs-as-lowered}
-use Rattle.lowering_meaning.specs.Coverage.{Coverage, plain_forms, Kind, Streams, Unions, HasNo}
-use Rattle.lowering_meaning.specs.Laws.{BuildsNoUnion, IsPlain, IsMeant, AreValuesKept, AreCostsThere}
+use Rattle.lowering_meaning.specs.Coverage.{Coverage, AreCovered, plain_forms}
+use Rattle.lowering_meaning.specs.Laws.{IsMeant, AreValuesKept, AreCostsThere}
 use Rattle.lowering_meaning.proofs.Sites.{IsAt, AreAt}
 use Rattle.lowering_meaning.proofs.Inside.{part-at}
 use Rattle.lowering_meaning.proofs.Forms.{Typed}
 use Rattle.lowering_meaning.proofs.Trees.{FormsDrawn}
 use Rattle.lowering_meaning.proofs.TreeReads.{FormsRead}
 use Rattle.lowering_meaning.proofs.Functions.{FunctionAt, calls-drawn, calls-read}
-use Rattle.lowering_meaning.proofs.PlainTypes.{ArePlain, arrays-plain, records-plain, gathers-plain, reduces-plain}
-use Rattle.lowering_meaning.proofs.Shapes.{clauses-shaped}
+use Rattle.lowering_meaning.proofs.Readied.{graph_uses}
+use Rattle.lowering_meaning.proofs.Shapes.{arrays-shaped, streams-shaped, records-shaped, unions-shaped, clauses-shaped}
 use Rattle.lowering_meaning.proofs.Products.{ShapesAre, product-drawn}
 use Rattle.lowering_meaning.proofs.ProductReads.{product-read}
 use Rattle.lowering_meaning.proofs.TurnLaws.{turns-drawn, turns-read}
-use Rattle.lowering_meaning.proofs.PlainTables.{AllPlain, table-plain}
 use Rattle.lowering_meaning.proofs.Applied.{operation-drawn}
 use Rattle.lowering_meaning.proofs.Shaped.{telling, are-told}
 use Rattle.lowering_meaning.proofs.Sorts.{elements-are}
@@ -88,11 +82,7 @@ slice-map f (y ∷ xs) zero x e = go e
     go e = cc
 slice-map f (y ∷ xs) (suc i) x e = slice-map f xs i x e
 
-entries-plain : (k : Kind) (p : Program) (l : ℕ) (es : Table) → AllPlain k es → ArePlain k (entries_from p l es)
-entries-plain k p l [] h = tt
-entries-plain k p l (e ∷ es) h = (h.0, entries-plain k p (suc l) es h.1)
-
-module _ (p : Program) (u : Unit1) (fit : IsFitting p) (t : IsTranslated p u) where
+module _ (p : Program) (u : Unit1) (fit : IsFitting p) (t : IsTranslated p u) (ready : IsReady u) where
   abbrev N : Network
   N = network u
 
@@ -106,7 +96,7 @@ module _ (p : Program) (u : Unit1) (fit : IsFitting p) (t : IsTranslated p u) wh
   stand cover f d e =
       let all = all-at N num S 1 (graphs p) (λ i j x s n.
       let there = ap (graph_at p) (one-more i j n) ∙ s in
-      (runs-as-lowered p u fit t (is-nested p u fit t) j x there, are-told p u fit t (is-nested p u fit t) j x there)) in
+      (runs-as-lowered p u fit t (is-nested p u fit t) j x there, are-told p u fit t (is-nested p u fit t) ready j x there, ap graph_uses there)) in
       let s = function-at N num S 1 (map (function_lowered p.types) p.functions) all f (function_lowered p.types d) (slice-map (function_lowered p.types) p.functions f d e) in
       record { net = s.net; graphs = s.graphs }
     where
@@ -123,39 +113,24 @@ module _ (p : Program) (u : Unit1) (fit : IsFitting p) (t : IsTranslated p u) wh
       let x = (calls_same p.functions f names vs i).1 (n, eq) in
       calls_typed p.types p.names fit.headers p.functions fit.tree f h there x.0 names (vs, i) o x.1
 
-  module _ (plain : IsPlain p u) where
-    entries : (k : Kind) → HasNo k p.types → ArePlain k u.types
-    entries k h = subst (ArePlain k) (sym t.types) (entries-plain k p 1 (table p) (table-plain k p h))
-
-    types : ArePlain Streams u.types
-    types = entries Streams plain.types
-
-    records : (g l : ℕ) → S.row g l simple.RBuild ≡ shape.Plain
-    records g l = by plain.unions
-      where
-        by : HasNo Unions p.types ⊎ BuildsNoUnion u → S.row g l simple.RBuild ≡ shape.Plain
-        by (inl h) = records-plain u (entries Unions h) (find (λ p. place_number p == g) (places u)) l
-        by (inr h) = h g l
+  module _ (forms : AreCovered plain_forms p.functions) where
+    nests : AreNested u
+    nests = is-nested p u fit t
 
     -- integers have their number in every table
     int : IsNumber p.types p.names integer ty.Int
     int = number.integer (basic_types p fit).integers
 
-    gathers : (g l : ℕ) → S.row g l simple.AGather ≡ shape.Plain
-    gathers g l = gathers-plain u types (find (λ p. place_number p == g) (places u)) l
-
-    reduces : (g l : ℕ) (r : Grouping) → S.row g l (simple.Reduce r) ≡ shape.Plain
-    reduces g l r = reduces-plain u types (find (λ p. place_number p == g) (places u)) l r
-
     clauses : ShapesAre N num S p.types p.names fit.headers p.functions plain_forms
-    clauses = clauses-shaped N num S p.types p.names plain.types gathers reduces
+    clauses = clauses-shaped p u fit t nests ready
 
     laws : FormsDrawn N num S p.types p.names fit.headers p.functions plain_forms
     laws =
-        let arrays : (g l : ℕ) → S.row g l simple.ABuild ≡ shape.Plain = λ g l. arrays-plain u types (find (λ p. place_number p == g) (places u)) l in
+        let arrays = arrays-shaped p u fit t nests ready in
         record {
           arrays = arrays;
-          operation = λ o c γ tys a n r. operation-drawn N num S p.types p.names arrays records (λ n ms i k. elements-are p u fit t n ms i k) o c γ tys a n r;
+          operation = λ o c γ tys a n k r.
+              operation-drawn N num S p.types p.names arrays (streams-shaped p u fit t nests ready) (records-shaped p u fit t nests ready) (unions-shaped p u fit t nests ready) (λ n ms i k. elements-are p u fit t n ms i k) o c γ tys a n k r;
           product = λ q ks c. product-drawn N num S p.types p.names fit.headers p.functions plain_forms clauses int q ks c;
           initial = λ t ks c. turns-drawn N num S p.types p.names fit.headers p.functions plain_forms clauses t ks c;
         }
@@ -166,10 +141,10 @@ module _ (p : Program) (u : Unit1) (fit : IsFitting p) (t : IsTranslated p u) wh
       initial = λ t ks c. turns-read N num S p.types p.names fit.headers p.functions plain_forms clauses t ks c;
     }
 
-    pub given-is-meant : (f : ℕ) (h : Header) → slice_get fit.headers f ≡ Some h → (args values : List Val) (steps : ℕ) → AreOf h.params args → IsGiven (λ n. plain_calls n p.functions f args) values steps → IsMeant p u f args values steps
+    pub given-is-meant : (f : ℕ) (h : Header) → slice_get fit.headers f ≡ Some h → (args values : List Val) (steps : ℕ) → AreOf h.params args → IsGiven (λ n. plain_calls n p.functions f args) values steps → IsMeant N (num f) args values steps
     given-is-meant f h there args values steps o g =
         let x = (calls_same p.functions f args values steps).0 g in
-        let y = calls-drawn N num S p.types p.names fit.headers p.functions plain_forms fit.tree.fits plain.forms sound sound-calls laws (stand plain_forms) x.0 f h there args values steps o x.1 in
+        let y = calls-drawn N num S p.types p.names fit.headers p.functions plain_forms fit.tree.fits forms sound sound-calls laws (stand plain_forms) x.0 f h there args values steps o x.1 in
         record {
           cost = y.cost;
           depth = y.fires.least + y.means.least;
@@ -181,11 +156,11 @@ module _ (p : Program) (u : Unit1) (fit : IsFitting p) (t : IsTranslated p u) wh
     pub costed-is-given : (f : ℕ) (h : Header) → slice_get fit.headers f ≡ Some h → (args : List Val) (depth cost : ℕ) → AreOf h.params args → Costs N depth (num f) (map Value args) cost
         → (values : List Val) × (steps : ℕ) × IsGiven (λ n. plain_calls n p.functions f args) values steps
     costed-is-given f h there args depth cost o c =
-        let y = calls-read N num S p.types p.names fit.headers p.functions plain_forms fit.tree.fits plain.forms sound sound-calls laws (stand plain_forms) reads depth f h there args cost o c in
+        let y = calls-read N num S p.types p.names fit.headers p.functions plain_forms fit.tree.fits forms sound sound-calls laws (stand plain_forms) reads depth f h there args cost o c in
         (y.value, y.steps, (calls_same p.functions f args y.value y.steps).1 (y.from.least, y.from.holds y.from.least (omega arith)))
 
 pub values-kept : AreValuesKept
-values-kept p u f args values steps plain c g = given-is-meant p u c.fits c.unit plain f c.header c.there args values steps c.typed g
+values-kept p u f args values steps c g = given-is-meant p u c.fits c.unit c.ready c.forms f c.header c.there args values steps c.typed g
 
 pub costs-there : AreCostsThere
-costs-there p u f args depth cost plain c k = costed-is-given p u c.fits c.unit plain f c.header c.there args depth cost c.typed k
+costs-there p u f args depth cost c k = costed-is-given p u c.fits c.unit c.ready c.forms f c.header c.there args depth cost c.typed k

@@ -18,7 +18,7 @@ use Rattle.typed_tree.specs.declared.expr.Product.{Product}
 use Rattle.typed_tree.specs.declared.expr.Turns.{Turns}
 use Rattle.typed_tree.specs.declared.program.Function.{Function}
 use Rattle.typed_tree.specs.Typing.{with}
-use Rattle.typed_tree.specs.Types.{AreNumbers, constant_type}
+use Rattle.typed_tree.specs.Types.{IsNumber, AreNumbers, constant_type}
 use Rattle.fitting_trees.specs.Fitting.{Row, Goes, AreMade, Renews, TagsFit, Header, Fits, AllFit, DefsFit, ArmsFit}
 use Rattle.fitting_trees.specs.Fitting as is
 use Rattle.typed_rows.specs.Rows.{AreOf}
@@ -40,6 +40,8 @@ use Rattle.lowering.specs.Loops.{Phrase}
 use Rattle.lowering.specs.Phrases.{each, kind_lowered, phrase, lowers}
 use Rattle.lowering_meaning.specs.Coverage.{Coverage, all_ok, each_ok, counts, total, kind_covered, verdict}
 use Rattle.lowering_meaning.proofs.Layers.{parts_meant, meaning-is, parts_lowered, lowers-is, name-is, parts_covered, covered-is, count-is, and-true}
+use Rattle.sisal_tree.specs.declared.expr.Constant.TheVariants as constant
+use Rattle.lowering_meaning.proofs.Sites.{ShapeOf}
 use Rattle.lowering_meaning.proofs.Inside.{Gives}
 use Rattle.lowering_meaning.proofs.Forms.{Wired, Typed, nil-typed, cons-typed, nil-defs-typed, cons-defs-typed, FreeOn, Drawn, drawn-as, step-drawn, nil-drawn, cons-drawn, DrawnOn, then-drawn, nil-defs-drawn, cons-defs-drawn, body-drawn, less-drawn}
 use Rattle.lowering_meaning.proofs.Ifs.{node-from, if-drawn}
@@ -117,7 +119,7 @@ module _ (u : Network) (number : ℕ → ℕ) (shape : Telling) (forms : List Fo
   CallsDrawn n = (f : ℕ) (h : Header) → slice_get hs f ≡ Some h → (vs rs : List Val) (j : ℕ) → AreOf h.params vs → calls n p f vs ≡ Some (rs, j) → Gives u number shape (number f) (map Value vs) (map Value rs) (8 * j)
 
   abbrev pub OperationDrawn : Operation → Type 0
-  OperationDrawn o = (γ tys : List Ty) (a : Ty) (t : ℕ) → Row o tys a
+  OperationDrawn o = (γ tys : List Ty) (a : Ty) (t : ℕ) → IsNumber forms spellings t a → Row o tys a
       → FreeOn (λ env ws. applied forms o ws (t ∷ [])) × DrawnOn u number shape forms spellings γ tys 0 7 (λ env ws. applied forms o ws (t ∷ [])) (λ names vs. given (op_value o vs ∷ []))
 
   -- a loop over generators, where its bounds, definitions and clauses are drawn
@@ -141,7 +143,7 @@ module _ (u : Network) (number : ℕ → ℕ) (shape : Telling) (forms : List Fo
 
   -- what is asked of the forms that are covered
   pub record FormsDrawn : Type 0 where
-    pub arrays : (g l : ℕ) → shape.row g l simple.ABuild ≡ shapes.Plain
+    pub arrays : (t : ℕ) (a : Ty) → IsNumber forms spellings t (ty.Arr a) → ShapeOf u number shape simple.ABuild t shapes.Plain
     pub operation : (o : Operation) → cover.operation o ≡ true → OperationDrawn o
     pub product : (q : Product) (arity : List ℕ) → cover.product q arity ≡ true → ProductDrawn q arity
     pub initial : (t : Turns) (arity : List ℕ) → cover.initial t arity ≡ true → InitialDrawn t arity
@@ -215,7 +217,8 @@ module _ (u : Network) (number : ℕ → ℕ) (shape : Telling) (forms : List Fo
         expr-drawn γ _ _ (is.a_constant {l = l} {ns = ns} {c = c} lit num) v =
             let t = one-number forms spellings ns (constant_type c) num in
             seen γ l ns (typed.Constant c) (TypedKind-F.Constant c) (sym (typed.rolls-Constant c))
-            (subst (λ ns. Drawn u number shape forms spellings γ 0 7 (λ env. constant_lowered c ns) (λ names. given (constant_value c ∷ []))) (sym t.1) (constant-drawn u number shape forms spellings γ c t.0 laws.arrays))
+            (subst (λ ns. Drawn u number shape forms spellings γ 0 7 (λ env. constant_lowered c ns) (λ names. given (constant_value c ∷ []))) (sym t.1) (constant-drawn u number shape forms spellings γ c t.0
+            (λ cs e. laws.arrays t.0 ty.Char (subst (λ c. IsNumber forms spellings t.0 (constant_type c)) e (subst (λ ns. AreNumbers forms spellings ns (constant_type c ∷ [])) t.1 num).0))))
         expr-drawn γ _ _ (is.a_value {l = l} {level = x} {ns = ns} {a = a} there num) v =
             seen γ l ns (typed.Value x) (TypedKind-F.Value x) (sym (typed.rolls-Value x)) (value-drawn u number shape forms spellings γ x a there)
         expr-drawn γ _ tys (is.group {l = l} {ns = ns} {ts = ts} h num) v =
@@ -233,7 +236,7 @@ module _ (u : Network) (number : ℕ → ℕ) (shape : Telling) (forms : List Fo
             let e = sym (typed.rolls-Apply o ts) in
             let c = and-true _ _ (covered l ns (typed.Apply o ts) (TypedKind-F.Apply o ts) e v) in
             let t = one-number forms spellings ns a num in
-            let w = laws.operation o c.0 γ tys a t.0 r in
+            let w = laws.operation o c.0 γ tys a t.0 (subst (λ ns. AreNumbers forms spellings ns (a ∷ [])) t.1 num).0 r in
             seen γ l ns (typed.Apply o ts) (TypedKind-F.Apply o ts) e
             (subst (λ ns. Drawn u number shape forms spellings γ 0 7 (λ env. graphs.andthen (all_lowered (several ts) env) (λ ws. applied forms o ws ns)) (λ names. andthen (all_of (means n ts) names) (λ vs. given (op_value o vs ∷ [])))) (sym t.1)
             (then-drawn u number shape forms spellings γ tys (length (map (phrase forms) ts)) 0 7 (all_lowered (several ts)) (all_of (means n ts)) (λ env ws. applied forms o ws (t.0 ∷ [])) (λ names vs. given (op_value o vs ∷ []))

@@ -17,15 +17,15 @@ use Rattle.typed_tree.specs.declared.expr.Turns.{Turns}
 use Rattle.typed_rows.proofs.Rows.{and_two}
 use Rattle.meaning.specs.Meaning as source
 use Rattle.graph_meaning.specs.Carried.{Carried, Value, Unfilled}
-use Rattle.lowering_meaning.proofs.Told.{Telling}
+use Rattle.lowering_meaning.proofs.Told.{Telling, AreInner, IsTold}
 use Rattle.graph_meaning.specs.Demand.{Network}
 use Rattle.lowering.specs.declared.feed.Carried as wired
 use Rattle.lowering.specs.declared.feed.Carried.TheVariants.{One}
 use Rattle.lowering.specs.declared.feed.Wire.{Wire}
 use Rattle.lowering.specs.Feeds.{into}
-use Rattle.lowering.specs.declared.graph.Action.TheVariants.{Row}
+use Rattle.lowering.specs.declared.graph.Action.TheVariants.{Row, Whole}
 use Rattle.lowering.specs.declared.graph.Lowered.{Lowered}
-use Rattle.lowering.specs.Graphs.{Lowering, only, joined, ports, uses, inputs, new_graph, size, whole}
+use Rattle.lowering.specs.Graphs.{Lowering, only, joined, ports, uses, inputs, numbers, new_graph, size, whole}
 use Rattle.lowering.specs.Graphs as made
 use Rattle.lowering.specs.Operations.{Lowers, boolean, integer, one, all_lowered, defs_lowered, wire_at, row_lowered}
 use Rattle.lowering.specs.Loops.{Phrase, own_inputs, many, types, take_up, unless_places, Wired, returns_lowered, loop_kind, loop_name, extra, extras, place_of, collected, renew, test_lowered, row_of_turn, initial_lowered}
@@ -120,6 +120,11 @@ module _ (u : Network) (number : ℕ → ℕ) (shape : Telling) where
       let x = d s k q (around ++ ls) we (carry-both u number shape s around names ls l a b) (placed-left u number shape s k q m r pl) in
       let y = done-only u number shape s (k + length m.nodes) r (l ++ more) refl (carry-both u number shape s ls l m.values more b x.held) in
       done-more u number shape s k (joined m r) (l ++ more) (limit + 0) limit (done-both u number shape s k m r more (l ++ more) limit 0 x y) (omega arith)
+
+-- a loop of turns is no TagCase
+loop-told : (shape : Telling) (is_first : Bool) (g l : ℕ) (gs arms : List ℕ) (given outs : ℕ) (ks : List Wire) → IsTold shape g l (Whole (loop_kind is_first) gs arms given outs) ks → AreInner shape 0 gs ks
+loop-told shape true g l gs arms given outs ks h = h
+loop-told shape false g l gs arms given outs ks h = h
 
 -- what a row uses
 row-from : (env : List Wire) (es : List Lowers) (around ls : List Wire) (k q : ℕ) → Free (all_lowered es) → AllWires (FromNames env) around → AllWires (FromNames env) ls → MadeFrom env (row_of_turn es around ls k q)
@@ -259,19 +264,22 @@ module _ (t : Turns) (fs : List (List Lowers)) (ts : List Lowers) (ds : List (Li
     abbrev there : AllWires (IsThere ks) (uses (i0 q env) ++ (uses (x0 q env) ++ (uses (b0 q env) ++ (uses (r0 q env) ++ []))))
     there = used-there u number shape (graphs q env)
 
+    told : AreInner shape 0 (numbers q (graphs q env)) ks
+    told = loop-told shape t.is_first s.graph (suc k) (numbers q (graphs q env)) (arms q env) 0 (length ns) ks pl.told.0
+
     pub initial-part : Part u number shape q ks here.values env names [] [] (i0 q env)
-    initial-part = part u number shape s q ks here.values env names [] [] (i0 q env) (x0 q env ∷ b0 q env ∷ r0 q env ∷ []) a here.carry here.seen refl P0 (left-wires _ (uses (i0 q env)) _ there)
+    initial-part = part u number shape s q ks here.values env names [] [] (i0 q env) (x0 q env ∷ b0 q env ∷ r0 q env ∷ []) (numbers q (graphs q env)) 0 told refl a here.carry here.seen refl P0 (left-wires _ (uses (i0 q env)) _ there)
 
     pub test-part : (ts' : List wired.Carried) (cs : List Carried) → length ts' ≡ length cs → Part u number shape (gt q env) ks here.values env names ts' cs (x0 q env)
-    test-part ts' cs l = part u number shape s (gt q env) ks here.values env names ts' cs (x0 q env) (b0 q env ∷ r0 q env ∷ []) a here.carry here.seen l P1
+    test-part ts' cs l = part u number shape s (gt q env) ks here.values env names ts' cs (x0 q env) (b0 q env ∷ r0 q env ∷ []) (numbers q (graphs q env)) 1 told refl a here.carry here.seen l P1
         (left-wires _ (uses (x0 q env)) _ (right-wires _ (uses (i0 q env)) _ there))
 
     pub turn-part : (ts' : List wired.Carried) (cs : List Carried) → length ts' ≡ length cs → Part u number shape (gb q env) ks here.values env names ts' cs (b0 q env)
-    turn-part ts' cs l = part u number shape s (gb q env) ks here.values env names ts' cs (b0 q env) (r0 q env ∷ []) a here.carry here.seen l P2
+    turn-part ts' cs l = part u number shape s (gb q env) ks here.values env names ts' cs (b0 q env) (r0 q env ∷ []) (numbers q (graphs q env)) 2 told refl a here.carry here.seen l P2
         (left-wires _ (uses (b0 q env)) _ (right-wires _ (uses (x0 q env)) _ (right-wires _ (uses (i0 q env)) _ there)))
 
     pub returns-part : (ts' : List wired.Carried) (cs : List Carried) → length ts' ≡ length cs → Part u number shape (gr q env) ks here.values env names ts' cs (r0 q env)
-    returns-part ts' cs l = part u number shape s (gr q env) ks here.values env names ts' cs (r0 q env) [] a here.carry here.seen l P3
+    returns-part ts' cs l = part u number shape s (gr q env) ks here.values env names ts' cs (r0 q env) [] (numbers q (graphs q env)) 3 told refl a here.carry here.seen l P3
         (left-wires _ (uses (r0 q env)) _ (right-wires _ (uses (b0 q env)) _ (right-wires _ (uses (x0 q env)) _ (right-wires _ (uses (i0 q env)) _ there))))
 
     pub around-many : length env ≡ length names
@@ -435,7 +443,7 @@ module _ (t : Turns) (fs : List (List Lowers)) (ts : List Lowers) (ds : List (Li
 
     -- ---- the returns
 
-    pub returns-give : (cs : List Carried) → AreShaped u number shape t.clauses → length ns ≡ length t.clauses → length (i0 q env).values ≡ length cs → AreBelow (length cs) (places q env)
+    pub returns-give : (cs : List Carried) → AreShaped u number shape t.clauses ns → length ns ≡ length t.clauses → length (i0 q env).values ≡ length cs → AreBelow (length cs) (places q env)
         → GraphGives u (gr q env) (ins ++ cs) (map Value (folds_of t.clauses (pos 1) (map (λ x. get_or cs x Unfilled) (places q env)))) (8 * length t.clauses)
     returns-give cs sh l w b =
         let x = length-map (types (i0 q env).values) many in

@@ -61,7 +61,7 @@ module _ (u : Network) (number : ℕ → ℕ) (shape : Telling) (forms : List Fo
 
   pub turns-drawn : ShapesAre u number shape forms spellings hs p cover → (t : Turns) (arity : List ℕ) → all_one arity ≡ true → InitialDrawn u number shape forms spellings hs p cover t arity
   turns-drawn shapes t arity ones γ loop later row results ns fs ts ds gs kf kt kd ks ren am num df tf wf et tt' dd td wd eg tg eo tot n call =
-      initial-drawn u number shape forms spellings hs p cover t arity (one-each arity ones ∙ tot ∙ spans-are t.clauses row results am) ones (shapes t.clauses row results ns am num) γ loop later row results ns fs ts ds gs ren am
+      initial-drawn u number shape forms spellings hs p cover t arity (one-each arity ones ∙ tot ∙ spans-are t.clauses row results am) ones γ loop later row results ns (shapes t.clauses row results ns am num) fs ts ds gs ren am
       (numbers-length forms spellings ns results num) kf kt kd ks df tf wf et tt' dd td wd eg tg eo (named-phrases (γ ++ loop) gs ks arity eo) n
 
   pub turns-read : ShapesAre u number shape forms spellings hs p cover → (t : Turns) (arity : List ℕ) → all_one arity ≡ true → InitialRead u number shape forms spellings hs p cover t arity

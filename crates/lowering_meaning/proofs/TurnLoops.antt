@@ -215,8 +215,8 @@ module _ (u : Network) (number : ℕ → ℕ) (shape : Telling) (forms : List Fo
   rows-of γ loop gs ks cs eo one nm c e names o (l ∷ ls) (r ∷ rows) h g =
       (sym (of-length loop l h.0) ∙ e, row-named (γ ++ loop) gs ks cs eo one nm (names ++ l) r g.0.0 (of-both γ loop names l o h.0) g.0.1, rows-of γ loop gs ks cs eo one nm c e names o ls rows h.1 g.1)
 
-  module _ (t : Turns) (arity : List ℕ) (long : length arity ≡ spans t.clauses) (ones : all_one arity ≡ true) (shaped : AreShaped u number shape t.clauses)
-      (γ loop later row results : List Ty) (ns : List ℕ) (fs : List (List Phrase)) (ts : List Phrase) (ds : List (List Phrase)) (gs : List Phrase)
+  module _ (t : Turns) (arity : List ℕ) (long : length arity ≡ spans t.clauses) (ones : all_one arity ≡ true)
+      (γ loop later row results : List Ty) (ns : List ℕ) (shaped : AreShaped u number shape t.clauses ns) (fs : List (List Phrase)) (ts : List Phrase) (ds : List (List Phrase)) (gs : List Phrase)
       (ren : Renews loop t.renewed later) (am : AreMade t.clauses row results) (many : length ns ≡ length results) where
     abbrev pub flags : List Bool
     flags = unless_places t.clauses

@@ -181,13 +181,13 @@ module _ (u : Network) (number : ℕ → ℕ) (shape : Telling) (forms : List Fo
           let w = names-draw y in
           count-is t F T D gs ns u number shape forms spellings γ loop later s k q env names a pl ff ft fd fe we wf wd ren y.value w.0 w.1 ∙ sym (of-length loop (drop (length names) y.value) (names-typed y))
 
-      module _ (long : length arity ≡ spans t.clauses) (ones : all_one arity ≡ true) (shaped : AreShaped u number shape t.clauses) (am : AreMade t.clauses row results) (many : length ns ≡ length results)
+      module _ (long : length arity ≡ spans t.clauses) (ones : all_one arity ≡ true) (shaped : AreShaped u number shape t.clauses ns) (am : AreMade t.clauses row results) (many : length ns ≡ length results)
           (et : (j : ℕ) → EachDrawn u number shape forms spellings hs pr cover (γ ++ loop) ts (kt j)) (tt' : TypedAll u number shape forms spellings (γ ++ loop) (λ j. all_of (kt j)) (ty.Bool ∷ []))
           (td : TypedAll u number shape forms spellings (γ ++ loop) (λ j. defined (kd j)) ((γ ++ loop) ++ later))
           (eg : (j : ℕ) → EachDrawn u number shape forms spellings hs pr cover (γ ++ loop) gs (ks j)) (tg : TypedAll u number shape forms spellings (γ ++ loop) (λ j. all_of (ks j)) row) (eo : (j : ℕ) → EachOf u number shape forms spellings hs pr cover (γ ++ loop) gs (ks j) arity)
           (cnt : turns.count t F T D gs ns q env ≡ length loop) where
         abbrev besides : List Val → List Val
-        besides = loops.besides u number shape forms spellings hs pr cover t arity long ones shaped γ loop later row results ns fs ts ds gs ren am many (kf 0) (kt 0) (kd 0) (ks 0) (df 0) (tf 0) wf (et 0) (tt' 0) (dd 0) (td 0) wd (eg 0) (tg 0) (eo 0) (nm 0) ff ft fd fe s k q env names o we a pl cnt
+        besides = loops.besides u number shape forms spellings hs pr cover t arity long ones γ loop later row results ns shaped fs ts ds gs ren am many (kf 0) (kt 0) (kd 0) (ks 0) (df 0) (tf 0) wf (et 0) (tt' 0) (dd 0) (td 0) wd (eg 0) (tg 0) (eo 0) (nm 0) ff ft fd fe s k q env names o we a pl cnt
 
         -- a row, behind what stands before it
         row-read : (d : ℕ) → d ≤ m → (st : Site) (n r c : ℕ) (around ls : List Wire) (l : List Val) → AreOf loop l → WiresOf forms spellings (γ ++ loop) (around ++ ls) → AllCarry u number shape st around names → AllCarry u number shape st ls l
@@ -210,7 +210,7 @@ module _ (u : Network) (number : ℕ → ℕ) (shape : Telling) (forms : List Fo
             let z = row-read d le site0 (0 + length defs0.nodes) (suc q + length defs0.graphs) g.0 (map into env) (turns.loop_names t F T D gs ns q env) l ol (turns.first-wired t F T D gs ns u number shape forms spellings γ loop later s k q env names a pl ff ft fd fe we wf wd ren) p.carry
             (loop-names-carry t F T D gs ns u number shape forms spellings γ loop later s k q env names a pl ff ft fd fe we wf wd ren y.value w.0 w.1) (placed-right u number shape site0 0 (suc q) defs0 row0 p.placed) g.1 in
             let j = z.from.least in
-            let h = loops.initial-is u number shape forms spellings hs pr cover t arity long ones shaped γ loop later row results ns fs ts ds gs ren am many (kf j) (kt j) (kd j) (ks j) (df j) (tf j) wf (et j) (tt' j) (dd j) (td j) wd (eg j) (tg j) (eo j) (nm j) ff ft fd fe s k q env names o we a pl cnt
+            let h = loops.initial-is u number shape forms spellings hs pr cover t arity long ones γ loop later row results ns shaped fs ts ds gs ren am many (kf j) (kt j) (kd j) (ks j) (df j) (tf j) wf (et j) (tt' j) (dd j) (td j) wd (eg j) (tg j) (eo j) (nm j) ff ft fd fe s k q env names o we a pl cnt
             y.value w.0 w.1 ol z.value z.steps (z.from.holds j (omega arith)) in
             record { named = as-yields (λ j. defined (kf j) names) y; row = as-yields (λ j. all_of (ks j) (names ++ l)) z; typed = ol; means = h.means }
 
@@ -240,7 +240,7 @@ module _ (u : Network) (number : ℕ → ℕ) (shape : Telling) (forms : List Fo
             let y = all-read d (γ ++ loop) ts kt (rt d le) (names ++ l) on st 0 (suc gt) (turns.inside_names t F T D gs ns q env) h.1.0 (turns.inside-wired t F T D gs ns u number shape forms spellings γ loop later s k q env names a pl ff ft fd fe we wf wd ren)
             (turns.names-inside t F T D gs ns u number shape forms spellings γ loop later s k q env names a pl ff ft fd fe we wf wd ren gt l (besides row') x0 e p) h.0 h.1.1 in
             let j = y.from.least in
-            let w = loops.test-is u number shape forms spellings hs pr cover t arity long ones shaped γ loop later row results ns fs ts ds gs ren am many (kf j) (kt j) (kd j) (ks j) (df j) (tf j) wf (et j) (tt' j) (dd j) (td j) wd (eg j) (tg j) (eo j) (nm j) ff ft fd fe s k q env names o we a pl cnt
+            let w = loops.test-is u number shape forms spellings hs pr cover t arity long ones γ loop later row results ns shaped fs ts ds gs ren am many (kf j) (kt j) (kd j) (ks j) (df j) (tf j) wf (et j) (tt' j) (dd j) (td j) wd (eg j) (tg j) (eo j) (nm j) ff ft fd fe s k q env names o we a pl cnt
             l row' y.value y.steps ol (y.from.holds j (omega arith)) in
             record { test = as-yields (λ j. all_of (kt j) (names ++ l)) y; value = w.0; says = w.1; means = w.2.means }
 
@@ -268,13 +268,13 @@ module _ (u : Network) (number : ℕ → ℕ) (shape : Telling) (forms : List Fo
             let turned_at : (j : ℕ) → i ≤ j → turned t (kd j) names l ≡ Some (next, y.steps + 0) =
             λ j h. ap (λ o. andthen o (λ all. given (source.renew t.renewed (drop (length (names ++ l)) all) l))) (y.from.holds j h) in
             let w = (dd i).runs (names ++ l) y.value y.steps on first_given in
-            let onext = loops.next-is u number shape forms spellings hs pr cover t arity long ones shaped γ loop later row results ns fs ts ds gs ren am many (kf i) (kt i) (kd i) (ks i) (df i) (tf i) wf (et i) (tt' i) (dd i) (td i) wd (eg i) (tg i) (eo i) (nm i) ff ft fd fe s k q env names o we a pl cnt
+            let onext = loops.next-is u number shape forms spellings hs pr cover t arity long ones γ loop later row results ns shaped fs ts ds gs ren am many (kf i) (kt i) (kd i) (ks i) (df i) (tf i) wf (et i) (tt' i) (dd i) (td i) wd (eg i) (tg i) (eo i) (nm i) ff ft fd fe s k q env names o we a pl cnt
             l next (y.steps + 0) ol (turned_at i (omega arith)) in
             let cs = turn-carries t F T D gs ns u number shape forms spellings γ loop later s k q env names a pl ff ft fd fe we wf wd ren l (besides row') y.value next w.limit e w.draws refl in
             let z = row-read d le st (0 + length x.nodes) (suc gb + length x.graphs) g2.0 (take_up (length env) inside) (renew t.renewed (drop (length inside) x.values) (drop (length env) inside)) next onext (turns.turn-wired t F T D gs ns u number shape forms spellings γ loop later s k q env names a pl ff ft fd fe we wf wd ren) cs.0 cs.1
             (placed-right u number shape st 0 (suc gb) x r p.placed) g2.1 in
             let j = i + z.from.least in
-            let h = loops.turn-is u number shape forms spellings hs pr cover t arity long ones shaped γ loop later row results ns fs ts ds gs ren am many (kf j) (kt j) (kd j) (ks j) (df j) (tf j) wf (et j) (tt' j) (dd j) (td j) wd (eg j) (tg j) (eo j) (nm j) ff ft fd fe s k q env names o we a pl cnt
+            let h = loops.turn-is u number shape forms spellings hs pr cover t arity long ones γ loop later row results ns shaped fs ts ds gs ren am many (kf j) (kt j) (kd j) (ks j) (df j) (tf j) wf (et j) (tt' j) (dd j) (td j) wd (eg j) (tg j) (eo j) (nm j) ff ft fd fe s k q env names o we a pl cnt
             l row' next z.value (y.steps + 0) z.steps ol (turned_at j (omega arith)) (z.from.holds j (omega arith)) in
             record {
               next_names = record { value = next; steps = y.steps + 0; from = record { least = i; holds = turned_at } };

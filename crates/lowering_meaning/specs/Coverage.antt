@@ -92,43 +92,13 @@ abbrev pub all_apart : List ℕ → Bool
 all_apart [] = true
 all_apart (x ∷ xs) = if is_in x xs then false else all_apart xs
 
--- loops of any phrases
-abbrev pub any_loops : Coverage → Coverage
-any_loops c = record { operation = c.operation; product = λ p ks. true; initial = λ t ks. true }
-
 -- ---- the forms of the laws
 
--- every operation but a union of a content, and a stream of its elements; a record changes a field at most once
+-- a record changes a field at most once
 abbrev pub is_plain_operation : Operation → Bool
-is_plain_operation op.Stream = false
-is_plain_operation (op.Union tag) = false
 is_plain_operation (op.Change places) = all_apart places
 is_plain_operation _ = true
 
--- each phrase of the clauses of a `for initial` has one value
+-- every form, where each phrase of the clauses of a `for initial` has one value, and of a `for` with a mask of `unless`
 abbrev pub plain_forms : Coverage
 plain_forms = record { operation = is_plain_operation; product = λ p ks. masks_alone p.clauses ks; initial = λ t ks. all_one ks }
-
--- ---- types
-
--- types that a program may be without
-pub data Kind : Type 0 where
-  Streams : Kind
-  Unions : Kind
-
-abbrev pub MayBeStream : Kind → Type 0
-MayBeStream Streams = ⊥
-MayBeStream Unions = Unit {0}
-
-abbrev pub MayBeUnion : Kind → Type 0
-MayBeUnion Streams = Unit {0}
-MayBeUnion Unions = ⊥
-
-abbrev pub IsNot : Kind → Option Form → Type 0
-IsNot k (Some (form.Stream t)) = MayBeStream k
-IsNot k (Some (form.Union ms)) = MayBeUnion k
-IsNot k _ = Unit {0}
-
--- no type of the table is of this kind
-abbrev pub HasNo : Kind → List Form → Type 0
-HasNo k forms = (t : ℕ) → IsNot k (slice_get forms t)

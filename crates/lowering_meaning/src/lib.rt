@@ -7,5 +7,6 @@
 mod laws;
 
 pub use laws::{
-    costs_come_where_values_do, typed_loops_are_covered, values_are_those_of_the_source,
+    costs_come_where_values_do, runs_give_what_the_source_gives, sources_that_give_values_are_run,
+    typed_programs_are_covered, values_are_those_of_the_source,
 };
