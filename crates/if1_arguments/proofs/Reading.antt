@@ -10,7 +10,7 @@ use Rattle.if1_graph.specs.declared.kind.TypeKind.{TypeKind}
 use Rattle.if1_graph.specs.declared.kind.TypeKind.TheVariants as kind
 use Rattle.if1_graph.specs.Kinds.{kind_at}
 use Rattle.if1_graph.specs.Tables.{◌>>=◌}
-use Rattle.if1_graph.specs.Types.{Member, Sort, Plain, entry_at, is_tuple, members, with_names, without_names, most_deep, ty_of, ty_within, ty_at, bare_at, tuple_at, sort_of, sort_at, params_of, params_at}
+use Rattle.if1_graph.specs.Types.{Member, Sort, Plain, Many, Function, entry_at, is_tuple, members, with_names, without_names, most_deep, ty_of, ty_within, ty_at, bare_at, tuple_at, sort_of, sort_at, params_of, params_at}
 use Rattle.if1_types.specs.declared.forms.ListForm.{ListForm}
 use Rattle.if1_types.specs.declared.forms.ListForm.TheVariants as list
 use Rattle.if1_types.specs.declared.forms.SortForm.{SortForm}
@@ -115,10 +115,10 @@ module _ (ks : List Key) (keys : HasKeys ks) where
     by_form n t Ty-F.Null e s = let h = key_of n 3 leaf leaf (ty_tree t) s (tree_is t Ty-F.Null e) in ap form_of (form_is n 3 leaf leaf h)
     by_form n t (Ty-F.Arr u) e s =
         let h = key_of n 4 (ty_tree u) leaf (ty_tree t) s (tree_is t (Ty-F.Arr u) e) in
-        (h.key.1, (ap form_of (form_is n 4 (ty_tree u) leaf h), like h.key.1 u h.parts.first))
+        (h.key.1, ap form_of (form_is n 4 (ty_tree u) leaf h), like h.key.1 u h.parts.first)
     by_form n t (Ty-F.Stream u) e s =
         let h = key_of n 5 (ty_tree u) leaf (ty_tree t) s (tree_is t (Ty-F.Stream u) e) in
-        (h.key.1, (ap form_of (form_is n 5 (ty_tree u) leaf h), like h.key.1 u h.parts.first))
+        (h.key.1, ap form_of (form_is n 5 (ty_tree u) leaf h), like h.key.1 u h.parts.first)
     by_form n t (Ty-F.Rec fs) e s =
         let h = key_of n 6 (list_tree fs) leaf (ty_tree t) s (tree_is t (Ty-F.Rec fs) e) in
         let is = form_is n 6 (list_tree fs) leaf h in
@@ -148,11 +148,20 @@ module _ (ts : List TypeEntry) (s : Sorts) (n : IsNumbering ts s) (keys : HasKey
       by None h = cc
       by (Some e) h = plain l t e (kind_at e.code) u h b
 
+  one_type : (t u : Ty) → Plain t ≡ Plain u → t ≡ u
+  one_type t u e = cc
+
+  no_multiple : (t u : Ty) → Plain t ≡ Many u → ⊥
+  no_multiple t u e = cc
+
+  no_function : (t : Ty) (args rs : List Ty) → Plain t ≡ Function args rs → ⊥
+  no_function t args rs e = cc
+
   value_is : (f : SortForm) (u : Ty) → IsSortForm s.shapes (Plain u) f → IsTy s.shapes (value_by f) u
   value_is sort.Nothing u h = absurd h
-  value_is (sort.Value k) u h = let e : u ≡ h.0 = cc in subst (IsTy s.shapes k) (sym e) h.1.1
-  value_is (sort.Multiple k) u h = cc
-  value_is (sort.Function a r) u h = cc
+  value_is (sort.Value k) u h = subst (IsTy s.shapes k) (sym (one_type u h.0 h.1)) h.2
+  value_is (sort.Multiple k) u h = absurd (no_multiple u h.0 h.1)
+  value_is (sort.Function a r) u h = absurd (no_function u h.0 h.1 h.2)
 
   label_stands : (l : ℕ) (t : Ty) → ty_at ts l ≡ Some t → StandsFor (numbered s.shapes) (type_at s l) t
   label_stands l t h = by (bare_at ts l) refl (sym (ap (option_map ty_tree) h) ∙ one_tree with_names without_names most_deep ts l)
@@ -216,7 +225,7 @@ module _ (ts : List TypeEntry) (s : Sorts) (n : IsNumbering ts s) (keys : HasKey
   tupled tys l None e h = cc
   tupled tys l (Some ms) e h =
       let r = labelled (length ts) l ms e in
-      (r.labels, (r.is, subst (StandForAll (numbered s.shapes) (map (type_at s) r.labels)) (same_Some (map (λ m. m.1) ms) tys h) r.stand))
+      (r.labels, r.is, subst (StandForAll (numbered s.shapes) (map (type_at s) r.labels)) (same_Some (map (λ m. m.1) ms) tys h) r.stand)
 
   of_kind : (tys : List Ty) (e : TypeEntry) (k : Option TypeKind) → params_of ts e k ≡ Some tys → (labels : List ℕ) × (labels_by ts e k ≡ Some labels) × StandForAll (numbered s.shapes) (map (type_at s) labels) tys
   of_kind tys e (Some kind.Function) h = tupled tys e.first (members without_names (ty_at ts) is_tuple ts (length ts) e.first) refl h
@@ -229,7 +238,7 @@ module _ (ts : List TypeEntry) (s : Sorts) (n : IsNumbering ts s) (keys : HasKey
       by None at h = cc
       by (Some e) at h =
           let r = of_kind tys e (kind_at e.code) h in
-          record { labels = r.0; is = ap (λ o. o >>= λ e. labels_by ts e (kind_at e.code)) at ∙ r.1.0; stand = r.1.1 }
+          record { labels = r.0; is = ap (λ o. o >>= λ e. labels_by ts e (kind_at e.code)) at ∙ r.1; stand = r.2 }
 
   numbers_are : (labels : List ℕ) → map (λ p. p.ty) (map (parameter s) labels) ≡ map (type_at s) labels
   numbers_are [] = refl

@@ -47,8 +47,8 @@ module _ (forms : List Form) (names : List (List ℕ)) where
   like (suc k) n _ (character e) = subst (HasForm (numbered forms) (IsLike (numbered forms) k) n) (sym out-char) (ap form_of e)
   like (suc k) n _ (integer e) = subst (HasForm (numbered forms) (IsLike (numbered forms) k) n) (sym out-int) (ap form_of e)
   like (suc k) n _ (null e) = subst (HasForm (numbered forms) (IsLike (numbered forms) k) n) (sym out-null) (ap form_of e)
-  like (suc k) n _ (array {m = m} {t = t} e p) = subst (HasForm (numbered forms) (IsLike (numbered forms) k) n) (sym (out-array t)) (m, (ap form_of e, like k m t p))
-  like (suc k) n _ (stream {m = m} {t = t} e p) = subst (HasForm (numbered forms) (IsLike (numbered forms) k) n) (sym (out-stream t)) (m, (ap form_of e, like k m t p))
+  like (suc k) n _ (array {m = m} {t = t} e p) = subst (HasForm (numbered forms) (IsLike (numbered forms) k) n) (sym (out-array t)) (m, ap form_of e, like k m t p)
+  like (suc k) n _ (stream {m = m} {t = t} e p) = subst (HasForm (numbered forms) (IsLike (numbered forms) k) n) (sym (out-stream t)) (m, ap form_of e, like k m t p)
   like (suc k) n _ (a_record {ms = ms} {fs = fs} e p) =
       subst (HasForm (numbered forms) (IsLike (numbered forms) k) n) (sym (out-record fs))
       (ap form_of e, subst (λ l. AreLike (IsLike (numbered forms) k) l fs) (sym (ap (λ o. map (λ m. m.ty) (members_if o)) e)) (members_like k (like k) ms fs p))

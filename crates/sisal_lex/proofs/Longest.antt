@@ -1,7 +1,8 @@
 -- What is taken at the head of a text is a token, and nothing longer is one.
 use Rattle.std.proofs.Common.{◌≡◌, ◌<◌, ◌≤◌, ◌+◌, ◌⊎◌, inl, inr, ℕ, zero, suc, Bool, true, false, not, ◌&&◌, ◌||◌, cond, nat_eq, nat_le, List, [], ◌∷◌, ◌++◌, length, take, drop, map, Option, Some, None, option_map, refl, sym, ap, subst, ◌∙◌, append_assoc, arith}
 use Rattle.std.specs.List.{list_all, prefix_len}
-use Rattle.std.specs.Char.{is_ascii_alphabetic, is_ascii_digit, is_in_range, to_ascii_lowercase}
+use Rattle.std.specs.Char.{is_ascii_alphabetic, is_ascii_digit, to_ascii_lowercase}
+use Rattle.std.specs.Int.{is_in_range}
 use Rattle.std.proofs.Common.{ℤ}
 use Rattle.std.proofs.lemmas.Option.{same_Some}
 use Rattle.std.proofs.lemmas.List.{length-take-le, length-append}
@@ -76,26 +77,26 @@ number_token b s d (sign x e) = absurd (never (is_ascii_digit b) (no_other b s x
 record Quoted (s : List ℕ) : Type 0 where
   code : ℕ
   inside : List ℕ
-  item : IsItem 39 code inside
+  spelled : IsItem 39 code inside
   is : s ≡ inside ++ 39 ∷ []
 
 quoted_token : (s : List ℕ) → IsToken (39 ∷ s) → Quoted s
 quoted_token s (word c t e p q) = let x : false ≡ true = ap is_ascii_alphabetic (heads e) ∙ p in cc
 quoted_token s (number c t e p q) = let x : false ≡ true = ap is_ascii_digit (heads e) ∙ p in cc
-quoted_token s (character_token code i it e) = record { code = code; inside = i; item = it; is = tails e }
+quoted_token s (character_token code i it e) = record { code = code; inside = i; spelled = it; is = tails e }
 quoted_token s (text t are e) = let x : 39 ≡ 34 = heads e in absurd (omega (arith, x))
 quoted_token s (sign x e) = absurd (never (nat_eq 39 39) (no_other 39 s x e).quote refl)
 
 record Text (s : List ℕ) : Type 0 where
   inside : List ℕ
-  items : AreItems inside
+  spelled : AreItems inside
   is : s ≡ inside ++ 34 ∷ []
 
 text_token : (s : List ℕ) → IsToken (34 ∷ s) → Text s
 text_token s (word c t e p q) = let x : false ≡ true = ap is_ascii_alphabetic (heads e) ∙ p in cc
 text_token s (number c t e p q) = let x : false ≡ true = ap is_ascii_digit (heads e) ∙ p in cc
 text_token s (character_token code i it e) = let x : 34 ≡ 39 = heads e in absurd (omega (arith, x))
-text_token s (text t are e) = record { inside = t; items = are; is = tails e }
+text_token s (text t are e) = record { inside = t; spelled = are; is = tails e }
 text_token s (sign x e) = absurd (never (nat_eq 34 34) (no_other 34 s x e).quotes refl)
 
 -- no letter, digit or quote
@@ -141,7 +142,7 @@ going_on n s i c e = split_at n s ∙ (ap (λ t. t ++ drop n s) e ∙ append_ass
 characters : (s : List ℕ) (one : Item) → character s ≡ Some one → IsLongest 39 s one.bytes
 characters s one e = record {
   within = subst (λ k. k ≤ length s) (sym h.size) (subst (λ s. length h.inside + 1 ≤ length s) (sym h.is) (piece_length h.inside h.rest 39));
-  token = character_token h.code h.inside h.item (ap (λ t. 39 ∷ t) (ap (λ k. take k s) h.size ∙ (ap (take (length h.inside + 1)) h.is ∙ piece_taken h.inside h.rest 39)));
+  token = character_token h.code h.inside h.spelled (ap (λ t. 39 ∷ t) (ap (λ k. take k s) h.size ∙ (ap (take (length h.inside + 1)) h.is ∙ piece_taken h.inside h.rest 39)));
   longest = λ n more within t. longer n more within (quoted_token (take n s) t);
 }
   where
@@ -149,8 +150,8 @@ characters s one e = record {
 
     longer : (n : ℕ) → one.bytes < n → n ≤ length s → Quoted (take n s) → ⊥
     longer n more within q =
-        let mine : item 39 s ≡ Some (record { code = h.code; bytes = length h.inside }) = ap (item 39) h.is ∙ item_found 39 h.code h.inside (39 ∷ h.rest) h.item in
-        let its : item 39 s ≡ Some (record { code = q.code; bytes = length q.inside }) = ap (item 39) (going_on n s q.inside 39 q.is) ∙ item_found 39 q.code q.inside (39 ∷ drop n s) q.item in
+        let mine : item 39 s ≡ Some (record { code = h.code; bytes = length h.inside }) = ap (item 39) h.is ∙ item_found 39 h.code h.inside (39 ∷ h.rest) h.spelled in
+        let its : item 39 s ≡ Some (record { code = q.code; bytes = length q.inside }) = ap (item 39) (going_on n s q.inside 39 q.is) ∙ item_found 39 q.code q.inside (39 ∷ drop n s) q.spelled in
         let same : length h.inside ≡ length q.inside = same_Some (length h.inside) (length q.inside) (ap (option_map (λ (i : Item). i.bytes)) (sym mine ∙ its)) in
         let size = piece_size n s q.inside 39 within q.is in
         let z = h.size in
@@ -159,7 +160,7 @@ characters s one e = record {
 texts : (s : List ℕ) (t : Codes) → items s 0 ≡ Some t → IsLongest 34 s t.bytes
 texts s t e = record {
   within = subst (λ k. k ≤ length s) (sym h.size) (subst (λ s. length h.inside + 1 ≤ length s) (sym h.is) (piece_length h.inside h.rest 34));
-  token = text h.inside h.items (ap (λ t. 34 ∷ t) (ap (λ k. take k s) h.size ∙ (ap (take (length h.inside + 1)) h.is ∙ piece_taken h.inside h.rest 34)));
+  token = text h.inside h.spelled (ap (λ t. 34 ∷ t) (ap (λ k. take k s) h.size ∙ (ap (take (length h.inside + 1)) h.is ∙ piece_taken h.inside h.rest 34)));
   longest = λ n more within k. longer n more within (text_token (take n s) k);
 }
   where
@@ -168,7 +169,7 @@ texts s t e = record {
     longer : (n : ℕ) → t.bytes < n → n ≤ length s → Text (take n s) → ⊥
     longer n more within q =
         let its : option_map (λ (t : Codes). t.bytes) (items s 0) ≡ Some (length q.inside + 1) =
-            ap (λ s. option_map (λ (t : Codes). t.bytes) (items s 0)) (going_on n s q.inside 34 q.is) ∙ items_found q.inside (drop n s) q.items in
+            ap (λ s. option_map (λ (t : Codes). t.bytes) (items s 0)) (going_on n s q.inside 34 q.is) ∙ items_found q.inside (drop n s) q.spelled in
         let same : t.bytes ≡ length q.inside + 1 = same_Some t.bytes (length q.inside + 1) (sym (ap (option_map (λ (t : Codes). t.bytes)) e) ∙ its) in
         let size = piece_size n s q.inside 34 within q.is in
         omega (arith, more, same, size)

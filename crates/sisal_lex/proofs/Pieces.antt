@@ -1,5 +1,5 @@
 -- Items, texts and signs at the head of a text.
-use Rattle.std.proofs.Common.{◌≡◌, ◌<◌, ◌≤◌, ◌+◌, ◌-◌, ◌⊎◌, inl, inr, ℕ, zero, suc, Bool, true, false, not, ◌&&◌, ◌||◌, cond, nat_eq, nat_le, List, [], ◌∷◌, ◌++◌, length, take, drop, Option, Some, None, slice_get, option_map, refl, sym, ap, subst, ◌∙◌, append_assoc, arith}
+use Rattle.std.proofs.Common.{◌≡◌, ◌<◌, ◌≤◌, ◌+◌, ◌-◌, ◌⊎◌, inl, inr, ℕ, zero, suc, Bool, true, false, not, ◌&&◌, ◌||◌, cond, nat_eq, nat_le, List, [], ◌∷◌, ◌++◌, length, take, drop, Option, Some, None, slice_get, option_map, bytes_eq, if◌then◌else◌, refl, sym, ap, subst, ◌∙◌, append_assoc, arith}
 use Rattle.std.specs.List.{list_all, prefix_len}
 use Rattle.std.specs.Char.{is_ascii_alphabetic, is_ascii_digit}
 use Rattle.std.proofs.lemmas.Option.{same_Some}
@@ -28,27 +28,26 @@ either_true false b e = inr e
 
 pub row_passes : (p : ℕ → Bool) (xs : List ℕ) → list_all p (take (prefix_len p xs) xs) ≡ true
 row_passes p [] = refl
-row_passes p (x ∷ xs) = by (p x) refl
+row_passes p (x ∷ xs) = by (row_passes p xs) (p x) refl
   where
     one : 1 + prefix_len p xs ≡ suc (prefix_len p xs)
     one = omega arith
 
-    by : (b : Bool) → p x ≡ b → list_all p (take (cond b (1 + prefix_len p xs) 0) (x ∷ xs)) ≡ true
-    by true e = ap (λ k. list_all p (take k (x ∷ xs))) one ∙ (ap (λ b. b && list_all p (take (prefix_len p xs) xs)) e ∙ row_passes p xs)
-    by false e = refl
+    by : list_all p (take (prefix_len p xs) xs) ≡ true → (b : Bool) → p x ≡ b → list_all p (take (cond b (1 + prefix_len p xs) 0) (x ∷ xs)) ≡ true
+    by rest true e = ap (λ k. list_all p (take k (x ∷ xs))) one ∙ (ap (λ b. b && list_all p (take (prefix_len p xs) xs)) e ∙ rest)
+    by rest false e = refl
+
+one_longer : (b : Bool) (n k : ℕ) → b ≡ true → n ≤ k → suc n ≤ cond b (1 + k) 0
+one_longer true n k e h = omega (arith, h)
+one_longer false n k e h = cc
 
 pub row_short : (p : ℕ → Bool) (xs : List ℕ) (n : ℕ) → n ≤ length xs → list_all p (take n xs) ≡ true → n ≤ prefix_len p xs
 row_short p [] zero h e = omega arith
 row_short p [] (suc n) h e = absurd (omega (arith, h))
 row_short p (x ∷ xs) zero h e = omega arith
-row_short p (x ∷ xs) (suc n) h e = by (p x) refl
-  where
-    split : (p x ≡ true) × (list_all p (take n xs) ≡ true)
-    split = both_true (p x) (list_all p (take n xs)) e
-
-    by : (b : Bool) → p x ≡ b → suc n ≤ cond b (1 + prefix_len p xs) 0
-    by true is = let more = row_short p xs n (omega (arith, h)) split.1 in omega (arith, more)
-    by false is = let x : true ≡ false = sym split.0 ∙ is in cc
+row_short p (x ∷ xs) (suc n) h e =
+    let split = both_true (p x) (list_all p (take n xs)) e in
+    one_longer (p x) n (prefix_len p xs) split.0 (row_short p xs n (omega (arith, h)) split.1)
 
 -- ---- one piece at the head of a text
 
@@ -151,13 +150,13 @@ item_found quote code i rest (digits h l is e) =
 not_closed : (code : ℕ) (i rest : List ℕ) → IsItem 34 code i → (b : ℕ) × (s : List ℕ) × (i ++ rest ≡ b ∷ s) × (nat_eq b 34 ≡ false)
 not_closed code i rest (itself other is e) =
     let no : not (nat_eq code 34) ≡ true = (both_true (nat_le 32 code && nat_le code 126) (not (nat_eq code 34)) is).1 in
-    (code, (rest, (ap (λ i. i ++ rest) e, opposite (nat_eq code 34) no)))
+    (code, rest, ap (λ i. i ++ rest) e, opposite (nat_eq code 34) no)
   where
     opposite : (c : Bool) → not c ≡ true → c ≡ false
     opposite true e = cc
     opposite false e = refl
-not_closed code i rest (letter b other is e) = (92, (b ∷ rest, (ap (λ i. i ++ rest) e, refl)))
-not_closed code i rest (digits h l is e) = (92, (120 ∷ h ∷ l ∷ rest, (ap (λ i. i ++ rest) e, refl)))
+not_closed code i rest (letter b other is e) = (92, b ∷ rest, ap (λ i. i ++ rest) e, refl)
+not_closed code i rest (digits h l is e) = (92, 120 ∷ h ∷ l ∷ rest, ap (λ i. i ++ rest) e, refl)
 
 some_bytes : (code : ℕ) (i : List ℕ) → IsItem 34 code i → 1 ≤ length i
 some_bytes code i (itself other is e) = subst (λ i. 1 ≤ length i) (sym e) (omega arith)
@@ -168,10 +167,10 @@ some_bytes code i (digits h l is e) = subst (λ i. 1 ≤ length i) (sym e) (omeg
 step : (code : ℕ) (i rest : List ℕ) → IsItem 34 code i → items (i ++ rest) 0 ≡ grown (code ∷ []) (length i) (items rest 0)
 step code i rest one =
     let h = not_closed code i rest one in
-    let found : item 34 (h.0 ∷ h.1.0) ≡ Some (record { code = code; bytes = length i }) = ap (item 34) (sym h.1.1.0) ∙ item_found 34 code i rest one in
-    ap (λ s. items s 0) h.1.1.0
-    ∙ (first_item h.0 h.1.0 (record { code = code; bytes = length i }) h.1.1.1 found (some_bytes code i one)
-    ∙ ap (λ s. grown (code ∷ []) (length i) (items s 0)) (ap (drop (length i)) (sym h.1.1.0) ∙ dropped i rest))
+    let found : item 34 (h.0 ∷ h.1) ≡ Some (record { code = code; bytes = length i }) = ap (item 34) (sym h.2) ∙ item_found 34 code i rest one in
+    ap (λ s. items s 0) h.2
+    ∙ (first_item h.0 h.1 (record { code = code; bytes = length i }) h.3 found (some_bytes code i one)
+    ∙ ap (λ s. grown (code ∷ []) (length i) (items s 0)) (ap (drop (length i)) (sym h.2) ∙ dropped i rest))
 
 -- the bytes of a text with more bytes before it
 more_bytes : (cs : List ℕ) (n : ℕ) (o : Option Codes) (k : ℕ) → option_map (λ t. t.bytes) o ≡ Some k → option_map (λ t. t.bytes) (grown cs n o) ≡ Some (n + k)
@@ -191,27 +190,27 @@ pub record HasText (s : List ℕ) (bytes : ℕ) : Type 0 where
   pub inside : List ℕ
   pub rest : List ℕ
   pub is : s ≡ inside ++ 34 ∷ rest
-  pub items : AreItems inside
+  pub spelled : AreItems inside
   pub size : bytes ≡ length inside + 1
 
 pub text_starts : (n : ℕ) (s : List ℕ) (t : Codes) → length s ≤ n → items s 0 ≡ Some t → HasText s t.bytes
 text_starts n [] t h e = cc
 text_starts zero (b ∷ s) t h e = absurd (omega (arith, h))
-text_starts (suc n) (b ∷ s) t h e = by (nat_eq b 34) refl e
+text_starts (suc n) (b ∷ s) t h e = by (text_starts n) (nat_eq b 34) refl e
   where
     closed : nat_eq b 34 ≡ true → Some (record { codes = []; bytes = 1 }) ≡ Some t → HasText (b ∷ s) t.bytes
     closed is e =
         let made : Codes = record { codes = []; bytes = 1 } in
         let same : made ≡ t = same_Some made t e in
         let quote : b ≡ 34 = omega (arith, is) in
-        record { inside = []; rest = s; is = ap (λ b. b ∷ s) quote; items = no_item; size = sym (ap (λ (t : Codes). t.bytes) same) }
+        record { inside = []; rest = s; is = ap (λ b. b ∷ s) quote; spelled = no_item; size = sym (ap (λ (t : Codes). t.bytes) same) }
 
-    behind : (one : Item) (w : StartsWith 34 (b ∷ s) one) → (o : Option Codes) → items w.rest 0 ≡ o → grown (one.code ∷ []) (length w.bytes) o ≡ Some t → HasText (b ∷ s) t.bytes
-    behind one w None is e = cc
-    behind one w (Some u) is e =
+    behind : ((s : List ℕ) (t : Codes) → length s ≤ n → items s 0 ≡ Some t → HasText s t.bytes) → (one : Item) (w : StartsWith 34 (b ∷ s) one) → (o : Option Codes) → items w.rest 0 ≡ o → grown (one.code ∷ []) (length w.bytes) o ≡ Some t → HasText (b ∷ s) t.bytes
+    behind later one w None is e = cc
+    behind later one w (Some u) is e =
         let some = some_bytes one.code w.bytes w.spelled in
         let both : length (b ∷ s) ≡ length w.bytes + length w.rest = ap length w.is ∙ length-append w.bytes w.rest in
-        let more = text_starts n w.rest u (omega (arith, h, some, both)) is in
+        let more = later w.rest u (omega (arith, h, some, both)) is in
         let made : Codes = record { codes = one.code ∷ u.codes; bytes = length w.bytes + u.bytes } in
         let same : length w.bytes + u.bytes ≡ t.bytes = ap (λ (t : Codes). t.bytes) (same_Some made t e) in
         let sum = length-append w.bytes more.inside in
@@ -219,19 +218,19 @@ text_starts (suc n) (b ∷ s) t h e = by (nat_eq b 34) refl e
           inside = w.bytes ++ more.inside;
           rest = more.rest;
           is = w.is ∙ (ap (λ r. w.bytes ++ r) more.is ∙ sym (append_assoc w.bytes more.inside (34 ∷ more.rest)));
-          items = more_items one.code w.bytes more.inside w.spelled more.items;
+          spelled = more_items one.code w.bytes more.inside w.spelled more.spelled;
           size = let m = more.size in omega (arith, same, m, sum);
         }
 
-    open_yet : (o : Option Item) → item 34 (b ∷ s) ≡ o → then_items o (items s) ≡ Some t → items (b ∷ s) 0 ≡ Some t → HasText (b ∷ s) t.bytes
-    open_yet None is e all = cc
-    open_yet (Some one) is e all =
+    open_yet : ((s : List ℕ) (t : Codes) → length s ≤ n → items s 0 ≡ Some t → HasText s t.bytes) → (o : Option Item) → item 34 (b ∷ s) ≡ o → then_items o (items s) ≡ Some t → items (b ∷ s) 0 ≡ Some t → HasText (b ∷ s) t.bytes
+    open_yet later None is e all = cc
+    open_yet later (Some one) is e all =
         let w = item_starts 34 (b ∷ s) one is in
-        behind one w (items w.rest 0) refl (sym (step one.code w.bytes w.rest w.spelled) ∙ (ap (λ s. items s 0) (sym w.is) ∙ all))
+        behind later one w (items w.rest 0) refl (sym (step one.code w.bytes w.rest w.spelled) ∙ (ap (λ s. items s 0) (sym w.is) ∙ all))
 
-    by : (c : Bool) → nat_eq b 34 ≡ c → cond c (Some (record { codes = []; bytes = 1 })) (then_items (item 34 (b ∷ s)) (items s)) ≡ Some t → HasText (b ∷ s) t.bytes
-    by true is e = closed is e
-    by false is e' = open_yet (item 34 (b ∷ s)) refl e' e
+    by : ((s : List ℕ) (t : Codes) → length s ≤ n → items s 0 ≡ Some t → HasText s t.bytes) → (c : Bool) → nat_eq b 34 ≡ c → cond c (Some (record { codes = []; bytes = 1 })) (then_items (item 34 (b ∷ s)) (items s)) ≡ Some t → HasText (b ∷ s) t.bytes
+    by later true is all = closed is all
+    by later false is all = open_yet later (item 34 (b ∷ s)) refl all e
 
 -- ---- characters
 
@@ -240,7 +239,7 @@ pub record HasCharacter (s : List ℕ) (bytes : ℕ) : Type 0 where
   pub inside : List ℕ
   pub rest : List ℕ
   pub is : s ≡ inside ++ 39 ∷ rest
-  pub item : IsItem 39 code inside
+  pub spelled : IsItem 39 code inside
   pub size : bytes ≡ length inside + 1
 
 pub character_starts : (s : List ℕ) (one : Item) → character s ≡ Some one → HasCharacter s one.bytes
@@ -260,7 +259,7 @@ character_starts s one e = by (item 39 s) refl e
           inside = w.bytes;
           rest = r.0;
           is = w.is ∙ (ap (λ t. w.bytes ++ t) r.1 ∙ ap (λ b. w.bytes ++ b ∷ r.0) quote);
-          item = w.spelled;
+          spelled = w.spelled;
           size = omega (arith, same, z);
         }
 
@@ -285,14 +284,13 @@ signs_are_so = refl
 
 among : (t : List ℕ) (rows : List (List ℕ × Sign)) (x : Sign) → list_all (λ r. is_like_sign r.0) rows ≡ true → beside t rows ≡ Some x → is_like_sign t ≡ true
 among t [] x all e = cc
-among t (row ∷ rows) x all e = by (bytes_eq row.0 t) refl e
+among t (row ∷ rows) x all e =
+    let split = both_true (is_like_sign row.0) (list_all (λ r. is_like_sign r.0) rows) all in
+    by split.0 (among t rows x split.1) (bytes_eq row.0 t) refl e
   where
-    split : (is_like_sign row.0 ≡ true) × (list_all (λ r. is_like_sign r.0) rows ≡ true)
-    split = both_true (is_like_sign row.0) (list_all (λ r. is_like_sign r.0) rows) all
-
-    by : (c : Bool) → bytes_eq row.0 t ≡ c → cond c (Some row.1) (beside t rows) ≡ Some x → is_like_sign t ≡ true
-    by true is e = ap is_like_sign (sym ((bytes_eq-Decides row.0 t).0 is)) ∙ split.0
-    by false is e = among t rows x split.1 e
+    by : is_like_sign row.0 ≡ true → (beside t rows ≡ Some x → is_like_sign t ≡ true) → (c : Bool) → bytes_eq row.0 t ≡ c → cond c (Some row.1) (beside t rows) ≡ Some x → is_like_sign t ≡ true
+    by here rest true is e = ap is_like_sign (sym ((bytes_eq-Decides row.0 t).0 is)) ∙ here
+    by here rest false is e = rest e
 
 pub sign_is_so : (t : List ℕ) (x : Sign) → beside t signs ≡ Some x → is_like_sign t ≡ true
 sign_is_so t x e = among t signs x signs_are_so e

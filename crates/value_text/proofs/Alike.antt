@@ -77,8 +77,8 @@ text_alike ts like below n Ty-F.Int s h = ap (λ f. text_by below f s) h
 text_alike ts like below n Ty-F.Bool s h = ap (λ f. text_by below f s) h
 text_alike ts like below n Ty-F.Char s h = ap (λ f. text_by below f s) h
 text_alike ts like below n Ty-F.Null s h = ap (λ f. text_by below f s) h
-text_alike ts like below n (Ty-F.Arr e) s h = ap (λ f. text_by below f s) h.1.0
-text_alike ts like below n (Ty-F.Stream e) s h = ap (λ f. text_by below f s) h.1.0
+text_alike ts like below n (Ty-F.Arr e) s h = ap (λ f. text_by below f s) h.1
+text_alike ts like below n (Ty-F.Stream e) s h = ap (λ f. text_by below f s) h.1
 text_alike ts like below n (Ty-F.Rec fs) s h = ap (λ f. text_by below f s) h.0
 text_alike ts like below n (Ty-F.Uni fs) s h = ap (λ f. text_by below f s) h.0
 
@@ -89,11 +89,11 @@ form_alike ts like p q same texts below n Ty-F.Bool s h = ap (λ f. form_by ts b
 form_alike ts like p q same texts below n Ty-F.Char s h = ap (λ f. form_by ts below p n f s) h
 form_alike ts like p q same texts below n Ty-F.Null s h = ap (λ f. form_by ts below p n f s) h
 form_alike ts like p q same texts below n (Ty-F.Arr e) s h =
-    let is : form_by ts below p n (ts.form n) s ≡ or_else (array_in (p h.0) s) (text_by below (ts.form h.0) s) = ap (λ f. form_by ts below p n f s) h.1.0 in
-    is ∙ λ j. or_else (array_in (same h.0 e h.1.1 j) s) (texts h.0 e below s h.1.1 j)
+    let is : form_by ts below p n (ts.form n) s ≡ or_else (array_in (p h.0) s) (text_by below (ts.form h.0) s) = ap (λ f. form_by ts below p n f s) h.1 in
+    is ∙ λ j. or_else (array_in (same h.0 e h.2 j) s) (texts h.0 e below s h.2 j)
 form_alike ts like p q same texts below n (Ty-F.Stream e) s h =
-    let is : form_by ts below p n (ts.form n) s ≡ stream_in (p h.0) s = ap (λ f. form_by ts below p n f s) h.1.0 in
-    is ∙ λ j. stream_in (same h.0 e h.1.1 j) s
+    let is : form_by ts below p n (ts.form n) s ≡ stream_in (p h.0) s = ap (λ f. form_by ts below p n f s) h.1 in
+    is ∙ λ j. stream_in (same h.0 e h.2 j) s
 form_alike ts like p q same texts below n (Ty-F.Rec fs) s h =
     let is : form_by ts below p n (ts.form n) s ≡ record_by p (ts.members n) s = ap (λ f. form_by ts below p n f s) h.0 in
     is ∙ record_alike like p q same (ts.members n) fs s h.1
@@ -102,7 +102,7 @@ form_alike ts like p q same texts below n (Ty-F.Uni fs) s h =
     is ∙ union_alike like p q same (ts.members n) fs s h.1
 
 part_alike : (ts : Numbered) (k n : ℕ) (t : Ty) → IsLike ts (suc k) n t → part_by ts k n ≡ part_in k t
-part_alike ts zero n t h = refl
+part_alike ts zero n t h = λ j s. None
 part_alike ts (suc k) n t h =
     let texts : (m : ℕ) (e : Ty) (below : ℕ) (s : List ℕ) → IsLike ts (suc k) m e → text_by below (ts.form m) s ≡ text_at below (out-Ty e) s =
         λ m e below s l. text_alike ts (IsLike ts k) below m (out-Ty e) s l in

@@ -32,8 +32,8 @@ formed_is ts like n Ty-F.Int h = (0, h)
 formed_is ts like n Ty-F.Bool h = (0, h)
 formed_is ts like n Ty-F.Char h = (0, h)
 formed_is ts like n Ty-F.Null h = (0, h)
-formed_is ts like n (Ty-F.Arr e) h = (h.0, h.1.0)
-formed_is ts like n (Ty-F.Stream e) h = (h.0, h.1.0)
+formed_is ts like n (Ty-F.Arr e) h = (h.0, h.1)
+formed_is ts like n (Ty-F.Stream e) h = (h.0, h.1)
 formed_is ts like n (Ty-F.Rec fs) h = (0, h.0)
 formed_is ts like n (Ty-F.Uni fs) h = (0, h.0)
 
@@ -115,10 +115,10 @@ module _ (ts : Numbered) (like lower lowest : ℕ → Ty → Type 0) (forms : (n
   text_form n Ty-F.Char h = ap (is_text_type ts) h
   text_form n Ty-F.Null h = ap (is_text_type ts) h
   text_form n (Ty-F.Arr e) h =
-      let f = formed_is ts lowest h.0 (out-Ty e) (deeper h.0 e h.1.1) in
-      let is : is_text_type ts (ts.form n) ≡ is_character (ts.form h.0) = ap (is_text_type ts) h.1.0 in
+      let f = formed_is ts lowest h.0 (out-Ty e) (deeper h.0 e h.2) in
+      let is : is_text_type ts (ts.form n) ≡ is_character (ts.form h.0) = ap (is_text_type ts) h.1 in
       is ∙ (ap is_character f.1 ∙ characters f.0 (out-Ty e))
-  text_form n (Ty-F.Stream e) h = ap (is_text_type ts) h.1.0
+  text_form n (Ty-F.Stream e) h = ap (is_text_type ts) h.1
   text_form n (Ty-F.Rec fs) h = ap (is_text_type ts) h.0
   text_form n (Ty-F.Uni fs) h = ap (is_text_type ts) h.0
 
@@ -135,8 +135,8 @@ module _ (ts : Numbered) (like lower lowest : ℕ → Ty → Type 0) (forms : (n
   element_form n Ty-F.Bool h = subst (λ f. LikeIf lower (element_by f) None) (sym h) tt
   element_form n Ty-F.Char h = subst (λ f. LikeIf lower (element_by f) None) (sym h) tt
   element_form n Ty-F.Null h = subst (λ f. LikeIf lower (element_by f) None) (sym h) tt
-  element_form n (Ty-F.Arr e) h = subst (λ f. LikeIf lower (element_by f) (Some e)) (sym h.1.0) h.1.1
-  element_form n (Ty-F.Stream e) h = subst (λ f. LikeIf lower (element_by f) None) (sym h.1.0) tt
+  element_form n (Ty-F.Arr e) h = subst (λ f. LikeIf lower (element_by f) (Some e)) (sym h.1) h.2
+  element_form n (Ty-F.Stream e) h = subst (λ f. LikeIf lower (element_by f) None) (sym h.1) tt
   element_form n (Ty-F.Rec fs) h = subst (λ f. LikeIf lower (element_by f) None) (sym h.0) tt
   element_form n (Ty-F.Uni fs) h = subst (λ f. LikeIf lower (element_by f) None) (sym h.0) tt
 
@@ -151,8 +151,8 @@ module _ (ts : Numbered) (like lower lowest : ℕ → Ty → Type 0) (forms : (n
   item_form n Ty-F.Bool h = subst (λ f. LikeIf lower (item_by f) None) (sym h) tt
   item_form n Ty-F.Char h = subst (λ f. LikeIf lower (item_by f) None) (sym h) tt
   item_form n Ty-F.Null h = subst (λ f. LikeIf lower (item_by f) None) (sym h) tt
-  item_form n (Ty-F.Arr e) h = subst (λ f. LikeIf lower (item_by f) None) (sym h.1.0) tt
-  item_form n (Ty-F.Stream e) h = subst (λ f. LikeIf lower (item_by f) (Some e)) (sym h.1.0) h.1.1
+  item_form n (Ty-F.Arr e) h = subst (λ f. LikeIf lower (item_by f) None) (sym h.1) tt
+  item_form n (Ty-F.Stream e) h = subst (λ f. LikeIf lower (item_by f) (Some e)) (sym h.1) h.2
   item_form n (Ty-F.Rec fs) h = subst (λ f. LikeIf lower (item_by f) None) (sym h.0) tt
   item_form n (Ty-F.Uni fs) h = subst (λ f. LikeIf lower (item_by f) None) (sym h.0) tt
 
@@ -167,8 +167,8 @@ module _ (ts : Numbered) (like lower lowest : ℕ → Ty → Type 0) (forms : (n
   fields_form n Ty-F.Bool h = subst (λ f. AreLike lower (fields_by ts n f) []) (sym h) tt
   fields_form n Ty-F.Char h = subst (λ f. AreLike lower (fields_by ts n f) []) (sym h) tt
   fields_form n Ty-F.Null h = subst (λ f. AreLike lower (fields_by ts n f) []) (sym h) tt
-  fields_form n (Ty-F.Arr e) h = subst (λ f. AreLike lower (fields_by ts n f) []) (sym h.1.0) tt
-  fields_form n (Ty-F.Stream e) h = subst (λ f. AreLike lower (fields_by ts n f) []) (sym h.1.0) tt
+  fields_form n (Ty-F.Arr e) h = subst (λ f. AreLike lower (fields_by ts n f) []) (sym h.1) tt
+  fields_form n (Ty-F.Stream e) h = subst (λ f. AreLike lower (fields_by ts n f) []) (sym h.1) tt
   fields_form n (Ty-F.Rec fs) h = subst (λ f. AreLike lower (fields_by ts n f) fs) (sym h.0) h.1
   fields_form n (Ty-F.Uni fs) h = subst (λ f. AreLike lower (fields_by ts n f) []) (sym h.0) tt
 
@@ -183,8 +183,8 @@ module _ (ts : Numbered) (like lower lowest : ℕ → Ty → Type 0) (forms : (n
   record_form n count Ty-F.Bool h = ap (is_record_type ts n count) h
   record_form n count Ty-F.Char h = ap (is_record_type ts n count) h
   record_form n count Ty-F.Null h = ap (is_record_type ts n count) h
-  record_form n count (Ty-F.Arr e) h = ap (is_record_type ts n count) h.1.0
-  record_form n count (Ty-F.Stream e) h = ap (is_record_type ts n count) h.1.0
+  record_form n count (Ty-F.Arr e) h = ap (is_record_type ts n count) h.1
+  record_form n count (Ty-F.Stream e) h = ap (is_record_type ts n count) h.1
   record_form n count (Ty-F.Rec fs) h = ap (is_record_type ts n count) h.0 ∙ ap (λ k. k == count) (lengths lower (ts.members n) fs h.1)
   record_form n count (Ty-F.Uni fs) h = ap (is_record_type ts n count) h.0
 
@@ -203,8 +203,8 @@ module _ (ts : Numbered) (like lower lowest : ℕ → Ty → Type 0) (forms : (n
   content_form n k Ty-F.Bool h = subst (λ f. LikeIf lower (content_by_form ts n k f) None) (sym h) tt
   content_form n k Ty-F.Char h = subst (λ f. LikeIf lower (content_by_form ts n k f) None) (sym h) tt
   content_form n k Ty-F.Null h = subst (λ f. LikeIf lower (content_by_form ts n k f) None) (sym h) tt
-  content_form n k (Ty-F.Arr e) h = subst (λ f. LikeIf lower (content_by_form ts n k f) None) (sym h.1.0) tt
-  content_form n k (Ty-F.Stream e) h = subst (λ f. LikeIf lower (content_by_form ts n k f) None) (sym h.1.0) tt
+  content_form n k (Ty-F.Arr e) h = subst (λ f. LikeIf lower (content_by_form ts n k f) None) (sym h.1) tt
+  content_form n k (Ty-F.Stream e) h = subst (λ f. LikeIf lower (content_by_form ts n k f) None) (sym h.1) tt
   content_form n k (Ty-F.Rec fs) h = subst (λ f. LikeIf lower (content_by_form ts n k f) None) (sym h.0) tt
   content_form n k (Ty-F.Uni fs) h =
       subst (λ f. LikeIf lower (content_by_form ts n k f) (tag_type fs k)) (sym h.0) (tag_alike (nat_lt k (2 ^ 32)) (ts.members n) fs k h.1)
@@ -298,7 +298,7 @@ module _ (ts : Numbered) (like lower lowest : ℕ → Ty → Type 0) (forms : (n
         (scalar_alike n t (c ∷ s) h j)))))
 
 pub look_alike : (ts : Numbered) (k : ℕ) (n : Option ℕ) (t : Option Ty) → LikeIf (IsLike ts (suc k)) n t → look_by ts k n ≡ look k t
-look_alike ts zero n t h = refl
+look_alike ts zero n t h = λ j s. None
 look_alike ts (suc k) n t h =
     λ j s. or_else (error_look s)
     (front_alike ts (IsLike ts (suc (suc k))) (IsLike ts (suc k)) (IsLike ts k) (λ m u l. l) (λ m u l. l) (look_by ts k) (look k) (look_alike ts k) k n t s h j)

@@ -1,6 +1,9 @@
 -- What the look at a whole text beside a number says of its fault.
 use Rattle.std.proofs.Common.{◌≡◌, ℕ, ◌-◌, List, length, Option, Some, None, sym, ap, ◌∙◌}
 use Rattle.std.specs.Option.{unwrap_or}
+use Rattle.std.specs.Prelude.{Result, Err}
+use Rattle.flow_value.specs.declared.value.Val.{Val}
+use Rattle.value_text.specs.declared.fault.ValueFault.{ValueFault}
 use Rattle.flow_value.specs.declared.ty.Ty.{Ty}
 use Rattle.value_text.specs.Tokens.{past_blanks}
 use Rattle.value_text.specs.Forms.{IsValueText}
@@ -23,3 +26,6 @@ pub wrong_shape_by : (ts : Numbered) (n : ℕ) (bytes : List ℕ) (found : Optio
     → (ty : Ty) → StandsFor ts n ty → MisfitAt bytes ty (length bytes - unwrap_or found 0)
 wrong_shape_by ts n bytes found rest v unread e ty h =
     wrong_shape bytes ty found rest v (sym (text_alike_by ts n ty bytes h) ∙ unread) (seen ts n ty bytes (Some (found, rest)) h e)
+
+pub same_fault : (e f : ValueFault) → ◌≡◌ {A = Result Val ValueFault} (Err e) (Err f) → e ≡ f
+same_fault e f h = cc
