@@ -63,8 +63,8 @@ module _ (n m : Naming) (p q : ℕ → Option Ty) (same : (l : ℕ) → option_m
 -- the type of a label has one tree, whatever names there are
 pub one_tree : (n m : Naming) (depth : ℕ) (ts : List TypeEntry) (l : ℕ) → option_map ty_tree (ty_within n depth ts l) ≡ option_map ty_tree (ty_within m depth ts l)
 one_tree n m zero ts l = refl
-one_tree n m (suc depth) ts l = by (entry_at ts l)
+one_tree n m (suc depth) ts l = by (one_tree n m depth ts) (entry_at ts l)
   where
-    by : (o : Option TypeEntry) → option_map ty_tree (o >>= λ e. ty_of n (ty_within n depth ts) ts e (kind_at e.code)) ≡ option_map ty_tree (o >>= λ e. ty_of m (ty_within m depth ts) ts e (kind_at e.code))
-    by None = refl
-    by (Some e) = of_kind n m (ty_within n depth ts) (ty_within m depth ts) (one_tree n m depth ts) ts e (kind_at e.code)
+    by : ((l : ℕ) → option_map ty_tree (ty_within n depth ts l) ≡ option_map ty_tree (ty_within m depth ts l)) → (o : Option TypeEntry) → option_map ty_tree (o >>= λ e. ty_of n (ty_within n depth ts) ts e (kind_at e.code)) ≡ option_map ty_tree (o >>= λ e. ty_of m (ty_within m depth ts) ts e (kind_at e.code))
+    by below None = refl
+    by below (Some e) = of_kind n m (ty_within n depth ts) (ty_within m depth ts) below ts e (kind_at e.code)

@@ -26,7 +26,7 @@ use Rattle.if1_types.specs.Skips.{first_in, rest_in, members_at, members_by, mem
 use Rattle.if1_types.specs.Numbering.{IsNumbering}
 use Rattle.if1_arguments.specs.Numbered.{form_of, list_of, first_types, types_in, numbered}
 use Rattle.if1_arguments.specs.Arguments.{AreArgumentsOf}
-use Rattle.if1_types.specs.Parameters.{member_labels, labels_by, param_labels, value_by, type_at, parameter, params_at as labelled}
+use Rattle.if1_types.specs.Parameters.{member_labels, labels_by, param_labels, value_by, type_at, parameter, params_at as numbered_params}
 use Rattle.if1_types.specs.declared.parameters.Parameter.{Parameter}
 use Rattle.if1_types.proofs.Skipping.{HasKeys, no_member}
 use Rattle.if1_types.proofs.Views.{Parts, parts_of, tree_is}
@@ -35,12 +35,22 @@ use Rattle.if1_arguments.proofs.Bare.{one_tree}
 -- ---- lists
 
 module _ (ks : List Key) (told : AreCountedBy ks) where
+  abbrev by_first : ℕ → ListForm → List ℕ
+  by_first c list.End = []
+  by_first c (list.Member k r) = k ∷ first_types ks c r
+
+  is_first : (c l : ℕ) → first_types ks (suc c) l ≡ by_first c (list_form_at ks l)
+  is_first c l = by (list_form_at ks l)
+    where
+      by : (f : ListForm) → (elim f [ list.End ↦ [] | list.Member k r ↦ k ∷ first_types ks c r ]) ≡ by_first c f
+      by list.End = refl
+      by (list.Member k r) = refl
+
   counted : (c l : ℕ) → members_at ks l ≡ c → length (first_types ks c l) ≡ c
   counted zero l e = refl
-  counted (suc c) l e = by (list_form_at ks l) (told l) (counted c)
+  counted (suc c) l e = ap length (is_first c l) ∙ by (list_form_at ks l) (told l) (counted c)
     where
-      by : (f : ListForm) → members_at ks l ≡ members_by ks f → ((r : ℕ) → members_at ks r ≡ c → length (first_types ks c r) ≡ c)
-          → length (elim f [ list.End ↦ [] | list.Member k r ↦ k ∷ first_types ks c r ]) ≡ suc c
+      by : (f : ListForm) → members_at ks l ≡ members_by ks f → ((r : ℕ) → members_at ks r ≡ c → length (first_types ks c r) ≡ c) → length (by_first c f) ≡ suc c
       by (list.Member k r) is more = ap suc (more r (omega (arith, is, e)))
       by list.End is more = absurd (omega (arith, is, e))
 
@@ -51,16 +61,16 @@ module _ (ks : List Key) (told : AreCountedBy ks) where
   member_of f zero = first_in f
   member_of f (suc i) = rest_in f >>= λ rest. member_at ks rest i
 
-  by_form : (l i : ℕ) → member_of (list_form_at ks l) i ≡ member_at ks l i
-  by_form l zero = refl
-  by_form l (suc i) = refl
+  member_is : (l i : ℕ) → member_of (list_form_at ks l) i ≡ member_at ks l i
+  member_is l zero = refl
+  member_is l (suc i) = refl
 
   found : (c l i : ℕ) → members_at ks l ≡ c → slice_get (first_types ks c l) i ≡ member_at ks l i
   found zero l i e = sym (no_member ks told l i (omega (arith, e)))
-  found (suc c) l i e = by (list_form_at ks l) (told l) i (found c) ∙ by_form l i
+  found (suc c) l i e = ap (λ ns. slice_get ns i) (is_first c l) ∙ (by (list_form_at ks l) (told l) i (found c) ∙ member_is l i)
     where
       by : (f : ListForm) → members_at ks l ≡ members_by ks f → (i : ℕ) → ((r i : ℕ) → members_at ks r ≡ c → slice_get (first_types ks c r) i ≡ member_at ks r i)
-          → slice_get (elim f [ list.End ↦ [] | list.Member k r ↦ k ∷ first_types ks c r ]) i ≡ member_of f i
+          → slice_get (by_first c f) i ≡ member_of f i
       by (list.Member k r) is zero more = refl
       by (list.Member k r) is (suc i) more = more r i (omega (arith, is, e))
       by list.End is i more = absurd (omega (arith, is, e))
@@ -244,13 +254,13 @@ module _ (ts : List TypeEntry) (s : Sorts) (n : IsNumbering ts s) (keys : HasKey
   numbers_are [] = refl
   numbers_are (l ∷ labels) = ap (λ ns. type_at s l ∷ ns) (numbers_are labels)
 
-  pub parameters_stand : (tys : List Ty) (l : ℕ) (ps : List Parameter) → params_at ts l ≡ Some tys → Some ps ≡ labelled ts s l → StandForAll (numbered s.shapes) (map (λ p. p.ty) ps) tys
+  pub parameters_stand : (tys : List Ty) (l : ℕ) (ps : List Parameter) → params_at ts l ≡ Some tys → Some ps ≡ numbered_params ts s l → StandForAll (numbered s.shapes) (map (λ p. p.ty) ps) tys
   parameters_stand tys l ps h e =
       let r = has_labels tys l h in
       let same : ps ≡ map (parameter s) r.labels = same_Some ps (map (parameter s) r.labels) (e ∙ ap (option_map (λ ls. map (parameter s) ls)) r.is) in
       subst (λ ns. StandForAll (numbered s.shapes) ns tys) (sym (ap (map (λ p. p.ty)) same ∙ numbers_are r.labels)) r.stand
 
-  pub parameters_there : (tys : List Ty) (l : ℕ) → params_at ts l ≡ Some tys → None ≡ labelled ts s l → ⊥
+  pub parameters_there : (tys : List Ty) (l : ℕ) → params_at ts l ≡ Some tys → None ≡ numbered_params ts s l → ⊥
   parameters_there tys l h e =
       let r = has_labels tys l h in
       let x : None ≡ Some (map (parameter s) r.labels) = e ∙ ap (option_map (λ ls. map (parameter s) ls)) r.is in

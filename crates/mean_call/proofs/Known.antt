@@ -1,6 +1,7 @@
 -- The numbers that are known are those that stand for types.
 use Rattle.std.proofs.Common.{◌≡◌, ◌<◌, ◌≤◌, ℕ, zero, suc, ◌+◌, Bool, true, false, ◌&&◌, nat_lt, List, [], ◌∷◌, ◌++◌, All, map, drop, length, Option, Some, None, slice_get, slice_index_or, refl, sym, ap, subst, ◌∙◌, append_assoc, arith}
 use Rattle.std.specs.List.{list_all}
+use Rattle.std.proofs.lemmas.Bool.{ltb-true, ltb-false}
 use Rattle.flow_value.specs.declared.ty.Ty.{Ty}
 use Rattle.flow_value.specs.declared.ty.Ty.TheVariants as ty
 use Rattle.type_table.specs.declared.form.Form.{Form}
@@ -30,11 +31,22 @@ abbrev Spelled : List (List ℕ) → ℕ → Bool → Type 0
 Spelled names x true = (name : List ℕ) × (slice_get names x ≡ Some name)
 Spelled names x false = slice_get names x ≡ None
 
+name_there : (names : List (List ℕ)) (x : ℕ) → x < length names → (name : List ℕ) × (slice_get names x ≡ Some name)
+name_there [] x h = absurd (omega (arith, h))
+name_there (n ∷ names) zero h = (n, refl)
+name_there (n ∷ names) (suc x) h = name_there names x (omega (arith, h))
+
+no_name : (names : List (List ℕ)) (x : ℕ) → length names ≤ x → slice_get names x ≡ None
+no_name [] x h = refl
+no_name (n ∷ names) zero h = absurd (omega (arith, h))
+no_name (n ∷ names) (suc x) h = no_name names x (omega (arith, h))
+
 spelled : (names : List (List ℕ)) (x : ℕ) → Spelled names x (nat_lt x (length names))
-spelled [] zero = refl
-spelled [] (suc x) = refl
-spelled (n ∷ names) zero = (n, refl)
-spelled (n ∷ names) (suc x) = spelled names x
+spelled names x = by (nat_lt x (length names)) refl
+  where
+    by : (c : Bool) → nat_lt x (length names) ≡ c → Spelled names x c
+    by true e = name_there names x (ltb-true x (length names) e)
+    by false e = no_name names x (ltb-false x (length names) e)
 
 none_spelled : (name : List ℕ) → None ≡ Some name → ⊥
 none_spelled name e = cc
@@ -132,8 +144,8 @@ module _ (forms : List Form) (names : List (List ℕ)) (table : IsTable forms) w
           (subst (Told forms names (length known)) (sym (at_end known b)) (form_told forms names (length known) known f e (table.well.after_parts (length known) f e) h))
 
       by : (c : Bool) → nat_lt m (length known) ≡ c → Told forms names m (is_known (known ++ b ∷ []) m)
-      by true lt = subst (Told forms names m) (sym (before_end known b m (omega (arith, lt)))) (h m (omega (arith, lt)))
-      by false ge = last (omega (arith, ge, within, one_longer known b))
+      by true lt = let less = ltb-true m (length known) lt in subst (Told forms names m) (sym (before_end known b m less)) (h m less)
+      by false ge = let more = ltb-false m (length known) ge in let longer = one_longer known b in last (omega (arith, more, within, longer))
 
   told_all : (front rest : List Form) (known : List Bool) → length known ≡ length front → forms ≡ front ++ rest → AreToldAll known → AreToldAll (known_onto (length names) known rest) × (length (known_onto (length names) known rest) ≡ length forms)
   told_all front [] known same is h = (h, same ∙ sym (ap length (is ∙ none front)))
@@ -155,10 +167,12 @@ module _ (forms : List Form) (names : List (List ℕ)) (table : IsTable forms) w
       all = told_all [] forms [] refl refl (λ m within. absurd (omega (arith, within)))
 
       by : (c : Bool) → nat_lt n (length forms) ≡ c → Told forms names n (is_known (known_types (length names) forms) n)
-      by true lt = all.0 n (omega (arith, lt, all.1))
+      by true lt = let less = ltb-true n (length forms) lt in let as_long = all.1 in all.0 n (omega (arith, less, as_long))
       by false ge =
-          subst (Told forms names n) (sym (behind_end (known_types (length names) forms) n (omega (arith, ge, all.1))))
-          (no_form forms names n (none_past forms n (omega (arith, ge))))
+          let more = ltb-false n (length forms) ge in
+          let as_long = all.1 in
+          subst (Told forms names n) (sym (behind_end (known_types (length names) forms) n (omega (arith, more, as_long))))
+          (no_form forms names n (none_past forms n more))
 
   abbrev ToldNumbers : List ℕ → Bool → Type 0
   ToldNumbers ns true = (ts : List Ty) × AreNumbers forms names ns ts

@@ -4,6 +4,7 @@ use Rattle.std.specs.List.{list_all, prefix_len}
 use Rattle.std.specs.Char.{is_ascii_alphabetic, is_ascii_digit, to_ascii_lowercase}
 use Rattle.std.specs.Int.{is_in_range}
 use Rattle.std.proofs.Common.{ℤ}
+use Rattle.std.proofs.lemmas.Bool.{eqb-true, leb-true}
 use Rattle.std.proofs.lemmas.Option.{same_Some}
 use Rattle.std.proofs.lemmas.List.{length-take-le, length-append}
 use Rattle.std.proofs.lemmas.List.Sums.{prefix_len-le-length}
@@ -21,7 +22,7 @@ use Rattle.sisal_lex.specs.declared.quotes.Item.{Item}
 use Rattle.sisal_lex.specs.declared.quotes.Codes.{Codes}
 use Rattle.sisal_lex.specs.declared.token.Kind.TheVariants as kind
 use Rattle.sisal_lex.specs.declared.token.Sign.{Sign}
-use Rattle.sisal_lex.proofs.Pieces.{both_true, either_true, row_passes, row_short, piece_taken, piece_length, whole_length, split_at, item_found, items_found, text_starts, character_starts, is_like_sign, sign_is_so}
+use Rattle.sisal_lex.proofs.Pieces.{both_true, either_true, row_passes, row_short, piece_taken, piece_length, whole_length, split_at, item_found, items_found, HasText, text_starts, HasCharacter, character_starts, is_like_sign, sign_is_so}
 
 heads : {b c : ℕ} {s t : List ℕ} → b ∷ s ≡ c ∷ t → b ≡ c
 heads e = cc
@@ -31,12 +32,14 @@ tails e = cc
 
 -- no letter is a digit
 apart : (b : ℕ) → is_ascii_alphabetic b ≡ true → is_ascii_digit b ≡ true → ⊥
-apart b a d =
-    let digit = both_true (nat_le 48 b) (nat_le b 57) d in
-    elim (either_true (is_in_range 65 90 b) (is_in_range 97 122 b) a) [
-      | inl large ↦ let x = both_true (nat_le 65 b) (nat_le b 90) large in omega (arith, digit.1, x.0)
-      | inr small ↦ let x = both_true (nat_le 97 b) (nat_le b 122) small in omega (arith, digit.1, x.0)
-    ]
+apart b a d = by (either_true (is_in_range 65 90 b) (is_in_range 97 122 b) a)
+  where
+    digit : b ≤ 57
+    digit = leb-true b 57 (both_true (nat_le 48 b) (nat_le b 57) d).1
+
+    by : (is_in_range 65 90 b ≡ true) ⊎ (is_in_range 97 122 b ≡ true) → ⊥
+    by (inl large) = let x = leb-true 65 b (both_true (nat_le 65 b) (nat_le b 90) large).0 in let y = digit in omega (arith, x, y)
+    by (inr small) = let x = leb-true 97 b (both_true (nat_le 97 b) (nat_le b 122) small).0 in let y = digit in omega (arith, x, y)
 
 -- what the first byte of a sign is not
 record NoOther (b : ℕ) (s : List ℕ) : Type 0 where
@@ -139,15 +142,13 @@ piece_size n s i c h e = sym (length-take-le n s h) ∙ (ap length e ∙ whole_l
 going_on : (n : ℕ) (s i : List ℕ) (c : ℕ) → take n s ≡ i ++ c ∷ [] → s ≡ i ++ c ∷ drop n s
 going_on n s i c e = split_at n s ∙ (ap (λ t. t ++ drop n s) e ∙ append_assoc i (c ∷ []) (drop n s))
 
-characters : (s : List ℕ) (one : Item) → character s ≡ Some one → IsLongest 39 s one.bytes
-characters s one e = record {
+characters_of : (s : List ℕ) (one : Item) → HasCharacter s one.bytes → IsLongest 39 s one.bytes
+characters_of s one h = record {
   within = subst (λ k. k ≤ length s) (sym h.size) (subst (λ s. length h.inside + 1 ≤ length s) (sym h.is) (piece_length h.inside h.rest 39));
   token = character_token h.code h.inside h.spelled (ap (λ t. 39 ∷ t) (ap (λ k. take k s) h.size ∙ (ap (take (length h.inside + 1)) h.is ∙ piece_taken h.inside h.rest 39)));
   longest = λ n more within t. longer n more within (quoted_token (take n s) t);
 }
   where
-    h = character_starts s one e
-
     longer : (n : ℕ) → one.bytes < n → n ≤ length s → Quoted (take n s) → ⊥
     longer n more within q =
         let mine : item 39 s ≡ Some (record { code = h.code; bytes = length h.inside }) = ap (item 39) h.is ∙ item_found 39 h.code h.inside (39 ∷ h.rest) h.spelled in
@@ -157,15 +158,16 @@ characters s one e = record {
         let z = h.size in
         omega (arith, more, same, size, z)
 
-texts : (s : List ℕ) (t : Codes) → items s 0 ≡ Some t → IsLongest 34 s t.bytes
-texts s t e = record {
+characters : (s : List ℕ) (one : Item) → character s ≡ Some one → IsLongest 39 s one.bytes
+characters s one e = characters_of s one (character_starts s one e)
+
+texts_of : (s : List ℕ) (t : Codes) → items s 0 ≡ Some t → HasText s t.bytes → IsLongest 34 s t.bytes
+texts_of s t e h = record {
   within = subst (λ k. k ≤ length s) (sym h.size) (subst (λ s. length h.inside + 1 ≤ length s) (sym h.is) (piece_length h.inside h.rest 34));
   token = text h.inside h.spelled (ap (λ t. 34 ∷ t) (ap (λ k. take k s) h.size ∙ (ap (take (length h.inside + 1)) h.is ∙ piece_taken h.inside h.rest 34)));
   longest = λ n more within k. longer n more within (text_token (take n s) k);
 }
   where
-    h = text_starts (length s) s t (omega arith) e
-
     longer : (n : ℕ) → t.bytes < n → n ≤ length s → Text (take n s) → ⊥
     longer n more within q =
         let its : option_map (λ (t : Codes). t.bytes) (items s 0) ≡ Some (length q.inside + 1) =
@@ -174,6 +176,9 @@ texts s t e = record {
         let size = piece_size n s q.inside 34 within q.is in
         omega (arith, more, same, size)
 
+texts : (s : List ℕ) (t : Codes) → items s 0 ≡ Some t → IsLongest 34 s t.bytes
+texts s t e = texts_of s t e (text_starts (length s) s t (omega arith) e)
+
 long_signs : (b : ℕ) (s : List ℕ) (x : Sign) → IsOther b → long_sign b s ≡ Some x → IsLongest b s 1
 long_signs b [] x o e = cc
 long_signs b (c ∷ s) x o e = record {
@@ -181,7 +186,7 @@ long_signs b (c ∷ s) x o e = record {
   token = sign x e;
   longest = λ n more within t.
       let y = sign_token b (take n (c ∷ s)) o t in
-      let short = (no_other b (take n (c ∷ s)) y.0 y.1).short in
+      let short = leb-true (length (take n (c ∷ s))) 1 (no_other b (take n (c ∷ s)) y.0 y.1).short in
       let size = length-take-le n (c ∷ s) within in
       omega (arith, short, size, more);
 }
@@ -194,7 +199,7 @@ short_signs b s x o none e = record { within = omega arith; token = sign x e; lo
     longer (c ∷ s) none zero more within y = omega (arith, more)
     longer (c ∷ s) none (suc zero) more within y = let x : None ≡ Some y.0 = sym none ∙ y.1 in cc
     longer (c ∷ s) none (suc (suc n)) more within y =
-        let short = (no_other b (take (suc (suc n)) (c ∷ s)) y.0 y.1).short in
+        let short = leb-true (length (take (suc (suc n)) (c ∷ s))) 1 (no_other b (take (suc (suc n)) (c ∷ s)) y.0 y.1).short in
         let size = length-take-le (suc (suc n)) (c ∷ s) within in
         omega (arith, short, size)
 
@@ -224,7 +229,7 @@ are_longest line b s x more e = blank (is_blank b) refl e
       where
         by : (o : Option Codes) → items s 0 ≡ o → elim o [ Some t ↦ head.Found (lexeme.Plain (kind.Quoted t.codes)) t.bytes | None ↦ head.Fault (fault.OpenText line) ] ≡ head.Found x more → IsLongest b s more
         by None at e = cc
-        by (Some t) at e = let quote : b ≡ 34 = omega (arith, is) in subst (λ b. IsLongest b s more) (sym quote) (subst (IsLongest 34 s) (found_more e) (texts s t at))
+        by (Some t) at e = let quote : b ≡ 34 = eqb-true b 34 is in subst (λ b. IsLongest b s more) (sym quote) (subst (IsLongest 34 s) (found_more e) (texts s t at))
 
     quote : is_ascii_alphabetic b ≡ false → is_ascii_digit b ≡ false → (c : Bool) → nat_eq b 39 ≡ c → cond c (character_at line s) (cond (nat_eq b 34) (text_at line s) (sign_at line b s)) ≡ head.Found x more → IsLongest b s more
     quote l d false is e = quotes l d is (nat_eq b 34) refl e
@@ -232,7 +237,7 @@ are_longest line b s x more e = blank (is_blank b) refl e
       where
         by : (o : Option Item) → character s ≡ o → elim o [ Some t ↦ head.Found (lexeme.Plain (kind.Letter t.code)) t.bytes | None ↦ head.Fault (fault.OpenText line) ] ≡ head.Found x more → IsLongest b s more
         by None at e = cc
-        by (Some t) at e = let mark : b ≡ 39 = omega (arith, is) in subst (λ b. IsLongest b s more) (sym mark) (subst (IsLongest 39 s) (found_more e) (characters s t at))
+        by (Some t) at e = let mark : b ≡ 39 = eqb-true b 39 is in subst (λ b. IsLongest b s more) (sym mark) (subst (IsLongest 39 s) (found_more e) (characters s t at))
 
     digits : is_ascii_alphabetic b ≡ false → (c : Bool) → is_ascii_digit b ≡ c → cond c (number_at line b s) (cond (nat_eq b 39) (character_at line s) (cond (nat_eq b 34) (text_at line s) (sign_at line b s))) ≡ head.Found x more → IsLongest b s more
     digits l false is e = quote l is (nat_eq b 39) refl e

@@ -2,6 +2,7 @@
 use Rattle.std.proofs.Common.{◌≡◌, ◌<◌, ◌≤◌, ◌+◌, ◌-◌, ◌⊎◌, inl, inr, ℕ, zero, suc, Bool, true, false, not, ◌&&◌, ◌||◌, cond, nat_eq, nat_le, List, [], ◌∷◌, ◌++◌, length, take, drop, Option, Some, None, slice_get, option_map, bytes_eq, if◌then◌else◌, refl, sym, ap, subst, ◌∙◌, append_assoc, arith}
 use Rattle.std.specs.List.{list_all, prefix_len}
 use Rattle.std.specs.Char.{is_ascii_alphabetic, is_ascii_digit}
+use Rattle.std.proofs.lemmas.Bool.{eqb-true}
 use Rattle.std.proofs.lemmas.Option.{same_Some}
 use Rattle.std.proofs.lemmas.List.{length-append}
 use Rattle.std.proofs.lemmas.Slice.Eq.{bytes_eq-Decides}
@@ -112,7 +113,7 @@ escape_starts quote [] one e = cc
 escape_starts quote (b ∷ s) one e = by (nat_eq b 120) refl e
   where
     by : (c : Bool) → nat_eq b 120 ≡ c → cond c (hex_item s) (option_map (λ code. record { code = code; bytes = 2 }) (escaped b)) ≡ Some one → StartsWith quote (92 ∷ b ∷ s) one
-    by true is e = let x : b ≡ 120 = omega (arith, is) in subst (λ b. StartsWith quote (92 ∷ b ∷ s) one) (sym x) (hex_starts quote s one e)
+    by true is e = let x : b ≡ 120 = eqb-true b 120 is in subst (λ b. StartsWith quote (92 ∷ b ∷ s) one) (sym x) (hex_starts quote s one e)
     by false is e = letter_starts quote b s one is (escaped b) refl e
 
 pub item_starts : (quote : ℕ) (s : List ℕ) (one : Item) → item quote s ≡ Some one → StartsWith quote s one
@@ -127,7 +128,7 @@ item_starts quote (b ∷ s) one e = by (nat_eq b 92) refl e
         subst (StartsWith quote (b ∷ s)) same (record { bytes = b ∷ []; rest = s; is = refl; spelled = itself other is refl; size = refl })
 
     by : (c : Bool) → nat_eq b 92 ≡ c → cond c (escape s) (cond (nat_le 32 b && nat_le b 126 && not (nat_eq b quote)) (Some (record { code = b; bytes = 1 })) None) ≡ Some one → StartsWith quote (b ∷ s) one
-    by true is e = let x : b ≡ 92 = omega (arith, is) in subst (λ b. StartsWith quote (b ∷ s) one) (sym x) (escape_starts quote s one e)
+    by true is e = let x : b ≡ 92 = eqb-true b 92 is in subst (λ b. StartsWith quote (b ∷ s) one) (sym x) (escape_starts quote s one e)
     by false is e = plain (nat_le 32 b && nat_le b 126 && not (nat_eq b quote)) refl is e
 
 -- an item at the head of a text is found
@@ -202,7 +203,7 @@ text_starts (suc n) (b ∷ s) t h e = by (text_starts n) (nat_eq b 34) refl e
     closed is e =
         let made : Codes = record { codes = []; bytes = 1 } in
         let same : made ≡ t = same_Some made t e in
-        let quote : b ≡ 34 = omega (arith, is) in
+        let quote : b ≡ 34 = eqb-true b 34 is in
         record { inside = []; rest = s; is = ap (λ b. b ∷ s) quote; spelled = no_item; size = sym (ap (λ (t : Codes). t.bytes) same) }
 
     behind : ((s : List ℕ) (t : Codes) → length s ≤ n → items s 0 ≡ Some t → HasText s t.bytes) → (one : Item) (w : StartsWith 34 (b ∷ s) one) → (o : Option Codes) → items w.rest 0 ≡ o → grown (one.code ∷ []) (length w.bytes) o ≡ Some t → HasText (b ∷ s) t.bytes
@@ -252,7 +253,7 @@ character_starts s one e = by (item 39 s) refl e
         let same : i.bytes + 1 ≡ one.bytes = ap (λ (t : Item). t.bytes) (same_Some made one e) in
         let there : slice_get (w.bytes ++ w.rest) (length w.bytes) ≡ Some b = ap (λ t. slice_get t (length w.bytes)) (sym w.is) ∙ (ap (slice_get s) w.size ∙ at) in
         let r = behind_is w.bytes w.rest b there in
-        let quote : b ≡ 39 = omega (arith, is) in
+        let quote : b ≡ 39 = eqb-true b 39 is in
         let z = w.size in
         record {
           code = i.code;
