@@ -1,3 +1,6 @@
 pub mod Standing
+pub mod Known
+pub mod Like
 pub mod Reading
 pub mod One
+pub mod Calls

@@ -39,7 +39,7 @@ drop_more b s zero h = absurd (omega arith)
 drop_more b s (suc k) h = let e : suc k - 1 ≡ k = omega arith in ap (λ n. drop n s) e
 
 -- an item at the head of a text, and what comes after it
-first_item : (b : ℕ) (s : List ℕ) (one : Item) → nat_eq b 34 ≡ false → item 34 (b ∷ s) ≡ Some one → 1 ≤ one.bytes
+pub first_item : (b : ℕ) (s : List ℕ) (one : Item) → nat_eq b 34 ≡ false → item 34 (b ∷ s) ≡ Some one → 1 ≤ one.bytes
     → items (b ∷ s) 0 ≡ grown (one.code ∷ []) one.bytes (items (drop one.bytes (b ∷ s)) 0)
 first_item b s one other is some =
     let k = one.bytes - 1 in

@@ -4,3 +4,5 @@ pub mod Numbers
 pub mod Lines
 pub mod Turns
 pub mod Kept
+mod Pieces
+mod Longest

@@ -5,3 +5,4 @@ pub mod Names
 pub mod Heads
 pub mod Tokens
 pub mod Sound
+pub mod Spelling

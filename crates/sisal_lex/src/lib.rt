@@ -3,6 +3,7 @@
 
 mod fault;
 mod head;
+mod laws;
 mod lexer;
 mod names;
 mod quotes;
@@ -12,5 +13,6 @@ mod token;
 mod words;
 
 pub use fault::LexFault;
+pub use laws::tokens_are_longest;
 pub use lexer::lex;
 pub use token::{Kind, Sign, Token, Tokens, Word};

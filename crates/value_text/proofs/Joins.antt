@@ -14,7 +14,7 @@ abbrev pub joined_looks : ℕ → Option ℕ → Option LookParts → Option Loo
 joined_looks k w None = None
 joined_looks k w (Some p) = Some ((k + p.0.0, or_else w p.0.1), p.1)
 
-one_less : (n k : ℕ) → k < n → n - k ≡ suc (n - (k + 1))
+pub one_less : (n k : ℕ) → k < n → n - k ≡ suc (n - (k + 1))
 one_less n k h = omega arith
 
 counted_more : (k : ℕ) (o : Option (ℕ × List ℕ)) → counted k (one_more o) ≡ counted (k + 1) o
@@ -29,7 +29,7 @@ or_else_three : (a b c : Option ℕ) → or_else a (or_else b c) ≡ or_else (or
 or_else_three None b c = refl
 or_else_three (Some x) b c = refl
 
-joined_more : (k : ℕ) (w v : Option ℕ) (o : Option LookParts) → joined_looks k w (with_look v o) ≡ joined_looks (k + 1) (or_else w v) o
+pub joined_more : (k : ℕ) (w v : Option ℕ) (o : Option LookParts) → joined_looks k w (with_look v o) ≡ joined_looks (k + 1) (or_else w v) o
 joined_more k w v None = refl
 joined_more k w v (Some p) =
     let e : k + (p.0.0 + 1) ≡ k + 1 + p.0.0 = omega arith in

@@ -15,3 +15,7 @@ pub mod Looks
 pub mod Fits
 pub mod Verdict
 pub mod Spelled
+pub mod JoinsBy
+pub mod Alike
+pub mod LooksAlike
+pub mod VerdictBy

@@ -281,7 +281,7 @@ fn text_of(
 }
 
 #[tactic(auto, unfolding(crate::specs::Reading::text_in))]
-fn quoted(
+pub(crate) fn quoted(
     alloc: Global,
     below: usize,
     text: &[u8],

@@ -11,7 +11,7 @@ use crate::token::{front, item, sign, skip};
 use flow_value::{MOST_ELEMENTS, Name, Ty, array_fits, item_at};
 
 /// What is left of the text from the leftmost misfit on, and the place behind the part.
-type Look = (Option<usize>, usize);
+pub(crate) type Look = (Option<usize>, usize);
 
 /// How many bytes there are from a place on.
 fn left(text: &[u8], at: usize) -> usize
@@ -20,7 +20,7 @@ fn left(text: &[u8], at: usize) -> usize
     text.len().saturating_sub(at)
 }
 
-fn unless_own(own: bool, text: &[u8], at: usize, inside: Option<usize>) -> Option<usize>
+pub(crate) fn unless_own(own: bool, text: &[u8], at: usize, inside: Option<usize>) -> Option<usize>
     ensures { result ≡ unless_own own (length (drop at text.now)) inside }
 {
     if own { inside } else { Some(left(text, at)) }
@@ -185,7 +185,7 @@ fn type_at<'a>(ty: Option<&'a Ty>, fields: &'a [(Name, Ty)], place: usize) -> Op
 }
 
 /// The first of two misfits.
-fn first(misfit: Option<usize>, later: Option<usize>) -> Option<usize>
+pub(crate) fn first(misfit: Option<usize>, later: Option<usize>) -> Option<usize>
     ensures { result ≡ or_else misfit later }
 {
     match misfit {
@@ -213,7 +213,7 @@ fn scalar(ty: Option<&Ty>, text: &[u8], at: usize) -> Option<Look>
 
 /// How many items a text has up to its quote, if they are at most so many.
 #[tactic(auto, unfolding(crate::specs::Surveying::items_look))]
-fn items(most: usize, text: &[u8], from: usize) -> Option<(usize, usize)>
+pub(crate) fn items(most: usize, text: &[u8], from: usize) -> Option<(usize, usize)>
     ensures { items_look most (drop from text.now) ≡ placed text.now result }
 {
     let mut at = from;
@@ -362,7 +362,7 @@ fn record(ty: Option<&Ty>, below: usize, text: &[u8], at: usize) -> Option<Look>
 }
 
 /// A tag's number of 64 signed bits.
-fn narrow_tag(n: u64) -> Option<u64>
+pub(crate) fn narrow_tag(n: u64) -> Option<u64>
     ensures { result ≡ narrow_tag n }
 {
     if n < 9223372036854775808 {
