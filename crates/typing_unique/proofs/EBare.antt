@@ -31,15 +31,15 @@ use Rattle.typed_tree.specs.Typing.{Signature, Known, IsFunction, Has, IsTag, ta
 use Rattle.typing_unique.specs.Fair.{AreOnce, AreProper, IsFair}
 use Rattle.typing_unique.specs.Inverted.{at_table, IsProperScope}
 use Rattle.typing_unique.specs.Bare.{bare, bare_kind, bares, bare_lists}
-use Rattle.typing_unique.specs.InvertedTree.{HasTree, IsNameTree, IsGroupTree, IsCallTree, IsConvertTree, IsIsErrorTree, IsIsTagTree, IsPrefixTree, IsBinaryTree, IsSelectTree, IsUpdateTree, IsFieldTree, IsReplaceTree, IsArrayTree, IsStreamTree, IsRecordTree, IsUnionTree, IsLetTree, IsIfTree, IsTagCaseTree, IsInitialTree, IsFirstTree, IsNewFieldTree, IsChangedTree, IsDefinitionTree, IsBodyTree, IsInnerLoopTree, IsCrossedTree, IsRangeTree, IsElementsTree, IsClauseTree, IsArmTree, IsTestedTree}
+use Rattle.typing_unique.specs.InvertedTree.{HasTree, IsNameTree, IsGroupTree, IsCallTree, IsConvertTree, IsIsErrorTree, IsIsTagTree, IsPrefixTree, IsBinaryTree, IsSelectTree, IsUpdateTree, IsFieldTree, IsReplaceTree, IsArrayTree, IsStreamTree, IsRecordTree, IsUnionTree, IsLetTree, IsIfTree, IsTagCaseTree, IsInitialTree, IsFirstTree, IsNewFieldTree, IsChangedTree, IsDefinitionTree, IsBodyTree, IsInsideTree, IsInnerLoopTree, IsCrossedTree, IsRangeTree, IsElementsTree, IsClauseTree, IsArmTree, IsTestedTree}
 use Rattle.typing_unique.proofs.EViews.{out_constant, out_name, out_old, out_group, out_call, out_convert, out_error_of, out_is_error, out_is_tag, out_prefix, out_binary, out_select, out_update, out_field, out_replace, out_empty_array, out_stream, out_a_record, out_union, out_let, out_if}
-use Rattle.typing_unique.proofs.ETreeViews.{view, view_array, view_case, view_product, view_initial, first_of, fields_of, changed_of, definitions_of, view_definitions, crossed_of, inner_of, generated_of, view_generators, clauses_of, view_clauses, arms_of, view_arms, mask_of}
+use Rattle.typing_unique.proofs.ETreeViews.{view, view_array, view_case, view_product, view_initial, first_of, fields_of, changed_of, definitions_of, view_definitions, crossed_of, generated_of, view_generators, clauses_of, view_clauses, arms_of, view_arms, mask_of}
 use Rattle.typing_unique.proofs.ETypes.{same_record, same_union, same_first, record_proper, union_proper, content_proper, one_place}
 use Rattle.typing_unique.proofs.EScopes.{defined_proper, content_defined, turn_proper}
 use Rattle.typing_unique.proofs.EProper.{the_one, first_tag, no_names_of, proper, all_proper, definitions_proper, generated_proper}
 use Rattle.typing_unique.proofs.EOne.{one_call, one_content, one_type, all_one, definitions_one, crossed_one, generated_one}
 use Rattle.typing_unique.proofs.EParts.{tags_are}
-use Rattle.typing_unique.proofs.EInverted.{has_in, function_in, built_in_in, tags_in}
+use Rattle.typing_unique.proofs.EInverted.{some_group, has_in, function_in, built_in_in, tags_in}
 use Rattle.typing_unique.proofs.ETreeParts.{one_forms, one_choices}
 use Rattle.typing_unique.proofs.EBareParts.{same_bare, more, single, pair, more_lists, both, both_lists, group, call, apply, let_in, choice, tags_case, product, initial}
 
@@ -80,6 +80,13 @@ module _ (k : Known) (f1 f2 : List Form) (denotes : Written → Ty → Type 0) (
   choices_one tags others ms ns is js e f once p q =
       one_choices k ms once (tags_from 0 tags) is js (choices_in f1 ms (tags_from 0 tags) is p.each)
       (choices_in f2 ms (tags_from 0 tags) js (subst (λ m. Chooses (at_table k f2) tags m js) (sym f) (subst (λ z. Chooses (at_table k f2) z ns js) (sym e) q)).each)
+
+  -- the loop behind a group before others
+  inner_in : (s : Scope) (l : ℕ) (gs : List (List Generator)) (ds : List Def) (cs : List Clause) (t : TypedExpr) (inner : List Ty) → Crosses (at_table k f1) denotes s l gs ds cs t inner
+      → (r : Scope) (sources : List Source) (bounds : List TypedExpr) (u : TypedExpr) (tys : List Ty)
+      → IsInsideTree (at_table k f2) denotes r l gs ds cs sources bounds u tys → IsInnerLoopTree (at_table k f2) denotes r l gs ds cs sources bounds u tys
+  inner_in s l [] ds cs t inner p r sources bounds u tys i = absurd (some_group (at_table k f1) denotes s l [] ds cs t inner p)
+  inner_in s l (h ∷ gs) ds cs t inner p r sources bounds u tys i = i
 
   mutual
     pub one_shape : (s : Scope) (e : Expr) (t : TypedExpr) (tys : List Ty) → Types (at_table k f1) denotes s e t tys → IsProperScope s
@@ -314,7 +321,7 @@ module _ (k : Known) (f1 f2 : List Form) (denotes : Written → Ty → Type 0) (
         let named = generated_one k f1 f2 denotes misnames fair s g sources bounds names made p sc v.sources v.bounds v.names v.made v.generates in
         let over = generated_shapes s g sources bounds names made p sc v.sources v.bounds v.names v.made v.generates in
         let w : IsInnerLoopTree (at_table k f2) denotes (define_all v.names v.made s) l gs ds cs v.sources v.bounds u others =
-        inner_of (at_table k f2) denotes (define_all names made s) l gs ds cs t inner r (define_all v.names v.made s) v.sources v.bounds u others v.inside in
+        inner_in (define_all names made s) l gs ds cs t inner r (define_all v.names v.made s) v.sources v.bounds u others v.inside in
         let loop : IsInnerLoopTree (at_table k f2) denotes (define_all names made s) l gs ds cs v.sources v.bounds u others =
         subst (λ m. IsInnerLoopTree (at_table k f2) denotes (define_all names m s) l gs ds cs v.sources v.bounds u others) (sym named.1)
         (subst (λ x. IsInnerLoopTree (at_table k f2) denotes (define_all x v.made s) l gs ds cs v.sources v.bounds u others) (sym named.0) w) in

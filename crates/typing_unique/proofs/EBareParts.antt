@@ -115,10 +115,10 @@ product p q bs cs ds gs es fs h b d e =
     (ap (λ z. TypedKind-F.Product z (bares bs) (bare_lists ds) (bares es)) h ∙ ap (λ z. TypedKind-F.Product q z (bare_lists ds) (bares es)) b
     ∙ ap (λ z. TypedKind-F.Product q (bares cs) z (bares es)) d ∙ ap (λ z. TypedKind-F.Product q (bares cs) (bare_lists gs) z) e)
 
-pub initial : (t u : Turns) (as bs : List (List TypedExpr)) (ts us : List TypedExpr) (ds gs : List (List TypedExpr)) (es fs : List TypedExpr) → t ≡ u → bare_lists as ≡ bare_lists bs → bares ts ≡ bares us
-    → bare_lists ds ≡ bare_lists gs → bares es ≡ bares fs → bare_kind (node.Initial t as ts ds es) ≡ bare_kind (node.Initial u bs us gs fs)
-initial t u as bs ts us ds gs es fs h a c d e =
-    alike (node.Initial t as ts ds es) (node.Initial u bs us gs fs) (TypedKind-F.Initial t as ts ds es) (TypedKind-F.Initial u bs us gs fs) (node.rolls-Initial t as ts ds es) (node.rolls-Initial u bs us gs fs)
-    (ap (λ z. TypedKind-F.Initial z (bare_lists as) (bares ts) (bare_lists ds) (bares es)) h ∙ ap (λ z. TypedKind-F.Initial u z (bares ts) (bare_lists ds) (bares es)) a
-    ∙ ap (λ z. TypedKind-F.Initial u (bare_lists bs) z (bare_lists ds) (bares es)) c ∙ ap (λ z. TypedKind-F.Initial u (bare_lists bs) (bares us) z (bares es)) d
-    ∙ ap (λ z. TypedKind-F.Initial u (bare_lists bs) (bares us) (bare_lists gs) z) e)
+pub initial : (t u : Turns) (ks ls : List (List TypedExpr)) (ts us : List TypedExpr) (ds gs : List (List TypedExpr)) (es fs : List TypedExpr) → t ≡ u → bare_lists ks ≡ bare_lists ls → bares ts ≡ bares us
+    → bare_lists ds ≡ bare_lists gs → bares es ≡ bares fs → bare_kind (node.Initial t ks ts ds es) ≡ bare_kind (node.Initial u ls us gs fs)
+initial t u ks ls ts us ds gs es fs h a c d e =
+    alike (node.Initial t ks ts ds es) (node.Initial u ls us gs fs) (TypedKind-F.Initial t ks ts ds es) (TypedKind-F.Initial u ls us gs fs) (node.rolls-Initial t ks ts ds es) (node.rolls-Initial u ls us gs fs)
+    (ap (λ z. TypedKind-F.Initial z (bare_lists ks) (bares ts) (bare_lists ds) (bares es)) h ∙ ap (λ z. TypedKind-F.Initial u z (bares ts) (bare_lists ds) (bares es)) a
+    ∙ ap (λ z. TypedKind-F.Initial u (bare_lists ls) z (bare_lists ds) (bares es)) c ∙ ap (λ z. TypedKind-F.Initial u (bare_lists ls) (bares us) z (bares es)) d
+    ∙ ap (λ z. TypedKind-F.Initial u (bare_lists ls) (bares us) (bare_lists gs) z) e)
