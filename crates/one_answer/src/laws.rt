@@ -2,13 +2,14 @@
 ghost use Rattle.one_answer.specs.Laws.{AreGraphsOnce, CompleteLaw, IsRunOnce, OneAnswerLaw};
 
 use compile_call::a_program_has_one_text;
+use if1_marks::no_marks_are_sound;
+use if1_read::accepted_has_no_fault;
 use lowered_units::a_program_is_one_unit;
-use mean_call::one_call;
 use one_meaning::{a_program_answers_once, typed_trees_answer_alike, words_are_read_or_refused};
 use run_call::{no_run_passes_the_limit, words_have_one_run};
+use run_words::words_have_one_meaning;
 use sisal_grammar::one_unit;
 use typing_unique::a_unit_that_breaks_a_rule_is_no_program;
-use run_words::words_have_one_meaning;
 
 /// A unit of graphs has one answer to the words of `run`.
 pub fn a_run_answers_once()
@@ -38,6 +39,8 @@ pub fn words_and_texts_have_one_answer()
     a_unit_that_breaks_a_rule_is_no_program();
     a_program_answers_once();
     typed_trees_answer_alike();
+    accepted_has_no_fault();
+    no_marks_are_sound();
     a_run_answers_once();
 }
 

@@ -124,3 +124,11 @@ fault_told text f e n = by (nat_lt 4194304 (length text)) e
     by : (b : Bool) → (if b then Err fault.TooLong else named (lexed text 1 0)) ≡ Err f → ⊥
     by true e = cc
     by false e = subst HasLine n (named_lined (lexed text 1 0) f (lexed_lined text 1 0) e)
+
+-- a text that is too long has no tokens
+pub tokens_long : (text : List ℕ) → 4194304 < length text → tokens_of text ≡ Err fault.TooLong
+tokens_long text l = by (nat_lt 4194304 (length text)) refl
+  where
+    by : (b : Bool) → nat_lt 4194304 (length text) ≡ b → (if b then Err fault.TooLong else named (lexed text 1 0)) ≡ Err fault.TooLong
+    by true e = refl
+    by false e = let few = not_above 4194304 (length text) e in absurd (omega (arith, few, l))
