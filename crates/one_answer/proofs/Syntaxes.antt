@@ -29,14 +29,17 @@ use Rattle.one_answer.specs.Alike.{AreAlike, same, depths}
 pub alike_if : (s t : Status) → s ≡ t → AreAlike s t
 alike_if s t e = subst (AreAlike s) e same
 
-same_fault : (e f : LexFault) → (r : Result Tokens LexFault) → r ≡ Err e → r ≡ Err f → e ≡ f
-same_fault e f r a b = let c : (Err e : Result Tokens LexFault) ≡ Err f = sym a ∙ b in cc
+same_fault : (e f : LexFault) (r : Result Tokens LexFault) → r ≡ Err e → r ≡ Err f → e ≡ f
+same_fault e f (Ok t) a b = cc
+same_fault e f (Err g) a b = let p : g ≡ e = cc in let q : g ≡ f = cc in sym p ∙ q
 
-pub same_tokens : (s t : Tokens) → (r : Result Tokens LexFault) → r ≡ Ok s → r ≡ Ok t → s ≡ t
-same_tokens s t r a b = let c : (Ok s : Result Tokens LexFault) ≡ Ok t = sym a ∙ b in cc
+pub same_tokens : (s t : Tokens) (r : Result Tokens LexFault) → r ≡ Ok s → r ≡ Ok t → s ≡ t
+same_tokens s t (Err g) a b = cc
+same_tokens s t (Ok x) a b = let p : x ≡ s = cc in let q : x ≡ t = cc in sym p ∙ q
 
-pub no_tokens : (e : LexFault) (t : Tokens) → (r : Result Tokens LexFault) → r ≡ Err e → r ≡ Ok t → ⊥
-no_tokens e t r a b = let c : (Err e : Result Tokens LexFault) ≡ Ok t = sym a ∙ b in cc
+pub no_tokens : (e : LexFault) (t : Tokens) (r : Result Tokens LexFault) → r ≡ Err e → r ≡ Ok t → ⊥
+no_tokens e t (Ok x) a b = cc
+no_tokens e t (Err g) a b = cc
 
 -- ---- the first bad token
 

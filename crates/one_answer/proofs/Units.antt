@@ -71,19 +71,9 @@ named_one text n m k j p q = by (p.first m j q.fault) (q.first n k p.fault)
 
 -- ---- marks
 
--- where the first fault of marks stands
-record Spot : Type 0 where
-  graph : ℕ
-  node : ℕ
-  port : ℕ
-  reader : ℕ
-
-marks_of : Spot → UnitFault
-marks_of s = unit.Marks s.graph s.node s.port s.reader
-
 holds_there : {A : Type 0} (P : A → Type 0) (xs : List A) (x : A) → All (λ y. ¬ P y) xs → IsFirst P xs x → ⊥
 holds_there P xs x none f =
-    All-contains (λ y. ¬ P y) xs x none (subst (λ l. Contains l x) (sym f.is) (Contains-append_right f.before (x ∷ f.after) x (0, refl))) f.holds
+    All-contains (λ y. ¬ P y) xs x none (subst (λ l. Contains l x) (sym f.is) (Contains-append_right f.before (x ∷ f.after) x (0, omega arith, refl))) f.holds
 
 list_one : (u : Unit1) (g n p r h m o s : ℕ) → IsListFault u g n p r → IsListFault u h m o s → unit.Marks g n p r ≡ unit.Marks h m o s
 list_one u g n p r h m o s a b =
