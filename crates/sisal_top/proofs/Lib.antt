@@ -1,4 +1,5 @@
 pub mod Fronts
+pub mod Lengths
 pub mod Lexed
 pub mod Refusing
 pub mod Writes

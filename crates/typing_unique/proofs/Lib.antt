@@ -24,3 +24,6 @@ pub mod ENone
 pub mod ELaws
 pub mod UBodies
 pub mod UTree
+pub mod EBareParts
+pub mod EBare
+pub mod UBare

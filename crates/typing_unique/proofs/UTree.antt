@@ -18,7 +18,7 @@ use Rattle.typing_unique.proofs.UBodies.{parameters_proper}
 use Rattle.typing_unique.proofs.ETreeParts.{numbers_one}
 use Rattle.typing_unique.proofs.ETree.{all_trees}
 
-same_function : (f g : Function) → f.line ≡ g.line → f.name ≡ g.name → f.parameters ≡ g.parameters → f.params ≡ g.params → f.results ≡ g.results → f.body ≡ g.body → f ≡ g
+pub same_function : (f g : Function) → f.line ≡ g.line → f.name ≡ g.name → f.parameters ≡ g.parameters → f.params ≡ g.params → f.results ≡ g.results → f.body ≡ g.body → f ≡ g
 same_function f g a b c d e h =
     made (λ z. record { line = z; name = f.name; parameters = f.parameters; params = f.params; results = f.results; body = f.body }) f.line g.line a
     ∙ made (λ z. record { line = g.line; name = z; parameters = f.parameters; params = f.params; results = f.results; body = f.body }) f.name g.name b
@@ -30,7 +30,7 @@ same_function f g a b c d e h =
     made : {A : Type 0} (f : A → Function) (x y : A) → x ≡ y → f x ≡ f y
     made f x y e = ap f e
 
-same_parts : (p q : Program) → p.names ≡ q.names → p.types ≡ q.types → p.functions ≡ q.functions → p.defines ≡ q.defines → p ≡ q
+pub same_parts : (p q : Program) → p.names ≡ q.names → p.types ≡ q.types → p.functions ≡ q.functions → p.defines ≡ q.defines → p ≡ q
 same_parts p q a b c d =
     made (λ z. record { names = z; types = p.types; functions = p.functions; defines = p.defines }) p.names q.names a
     ∙ made (λ z. record { names = q.names; types = z; functions = p.functions; defines = p.defines }) p.types q.types b

@@ -1,5 +1,6 @@
 pub mod Fair
 pub mod UnitLaws
 pub mod Inverted
+pub mod Bare
 pub mod InvertedTree
 pub mod ExprLaws

@@ -1,4 +1,5 @@
 //! The laws on written types and whole units.
+ghost use Rattle.typing_unique.specs.Bare.{OneShapeLaw};
 ghost use Rattle.typing_unique.specs.UnitLaws.{OneDenotedLaw, NoneDenotedLaw, OneDeclaredLaw, OneTypingLaw, NoProgramLaw, OneTreeLaw};
 
 /// Tokens begin with one written type at most, and it denotes one type.
@@ -29,4 +30,10 @@ pub fn a_unit_that_breaks_a_rule_is_no_program()
 /// Over one table, in which each type has one number, a unit has one typed tree.
 pub fn a_unit_is_one_typed_tree()
     ensures { OneTreeLaw }
+{}
+
+/// Two typed trees of one unit, over any two tables of types, are one tree but for the numbers of
+/// types.
+pub fn typed_trees_have_one_shape()
+    ensures { OneShapeLaw }
 {}

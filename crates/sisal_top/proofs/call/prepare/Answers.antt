@@ -17,3 +17,6 @@ returns-clause-read g c = λ run.
 
 pub returns-clause-unread : goal.returns-clause-unread
 returns-clause-unread g c = λ none. c.perform.ensures.unread (λ reads. none (c.in_ok-command.command, c.in_ok-command.ensures.command, reads))
+
+pub returns-clause-unfailed : goal.returns-clause-unfailed
+returns-clause-unfailed g c = λ none. c.perform.ensures.unfailed (λ reads. none (c.in_ok-command.command, c.in_ok-command.ensures.command, reads))

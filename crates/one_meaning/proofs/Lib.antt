@@ -1,0 +1,4 @@
+pub mod Bared
+pub mod Words
+pub mod Moved
+pub mod Once
