@@ -1,5 +1,4 @@
-use Rattle.std.proofs.Common.{rules, Fits, w64, ◌+◌, ◌-◌, length, slice_set, subst, refl, sym, ap, ◌∙◌, arith}
-use Rattle.run_cells.specs.declared.cell.Cell.TheVariants as cell
+use Rattle.std.proofs.Common.{rules, Fits, w64, ◌+◌, ◌-◌, length, subst, refl, sym, ap, arith}
 use Rattle.step_code.specs.declared.step.Step.TheVariants as step
 use Rattle.step_code.specs.Reading.{listed}
 use Rattle.sequential.specs.Loading.{AreInside}
