@@ -2,7 +2,9 @@
 //! of a part, a turn, a leaving, and a slice of a ForAll that stands in no other slice. A step does one of
 //! them, but the entry of a compound node goes from its count up to its copies, or to its tag, a slice over
 //! all its iterations, and some steps stand between items.
-ghost use Rattle.std.specs.Prelude.{◌-◌, ◌≤◌, length};
+ghost use Rattle.std.specs.Prelude.{◌-◌, ◌+◌, ◌≤◌, length};
+ghost use Rattle.step_code.specs.Reading.{listed};
+ghost use Rattle.sequential.specs.Loading.{AreInside};
 ghost use Rattle.sequential_run.specs.Ready.{IsReady};
 ghost use Rattle.sequential_run.specs.Whole.{CanStep};
 
@@ -195,7 +197,6 @@ fn iterates<G: Gate>(
     this: &Step,
 ) -> Behind
     requires ready { IsReady code.now (length machine.now.cells.items - machine.now.base) this.now }
-    requires block { machine.now.base ≤ length machine.now.cells.items }
 {
     match this {
         Step::Each {
@@ -203,13 +204,20 @@ fn iterates<G: Gate>(
             many,
             ..
         } => {
-            let operands = operands_from(code, *multiples, *many);
-            let cells = machine.cells.as_slice();
-            let places = first_places(code, cells, machine.base, operands) as u64;
+            let places = each_places(machine, code, *multiples, *many);
             turns(gate, open, slices, places)
         }
         _ => Behind::Nothing,
     }
+}
+
+/// How many places the first of these multiples has.
+fn each_places(machine: &Machine, code: &Code, multiples: u32, many: u32) -> u64
+    requires listed { multiples + many ≤ length code.now.operands }
+    requires inside { AreInside code.now (length machine.now.cells.items - machine.now.base) (listed code.now multiples many) }
+{
+    let operands = operands_from(code, multiples, many);
+    first_places(code, machine.cells.as_slice(), machine.base, operands) as u64
 }
 
 /// The next of so many iterations, or the returns behind the last one.

@@ -5,7 +5,7 @@ use Rattle.sequential_run.proofs.More.{ready-more}
 use Rattle.sequential_run.proofs.items.reach.Goals as goal
 
 pub iterates-requires-clause-ready : goal.iterates-requires-clause-ready
-iterates-requires-clause-ready g c =
+iterates-requires-clause-ready g c = λ κs h.
     let m = c.args.machine.now in
     let code = c.args.code.now in
     let can = c.requires in
@@ -13,8 +13,3 @@ iterates-requires-clause-ready g c =
     let block = can.stands.block in
     let wide : B.room m.pc ≤ length m.cells.items - m.base = omega (arith, block) in
     subst (IsReady code (length m.cells.items - m.base)) (sym c.step_here-this.ensures) (ready-more code (B.room m.pc) (length m.cells.items - m.base) wide (step_at code m.pc) (can.whole.ready m.pc can.stands.there))
-
-pub iterates-requires-clause-block : goal.iterates-requires-clause-block
-iterates-requires-clause-block g c =
-    let block = c.requires.stands.block in
-    omega (arith, block)

@@ -6,10 +6,10 @@ use Rattle.sequential_run.proofs.Entering.{entered-stands, one-list, totals-are}
 use Rattle.sequential_run.proofs.totals.run_function.Goals as goal
 
 pub run-requires-clause-can : goal.run-requires-clause-can
-run-requires-clause-can g c = entered-stands c.args.code.now c.args.entry c.args.room c.in_ok-machine.machine c.requires.can c.in_ok-machine.ensures.block
+run-requires-clause-can g c = λ κs h. entered-stands c.args.code.now c.args.entry c.args.room c.in_ok-machine.machine c.requires.can c.in_ok-machine.ensures.block
 
 pub run-requires-clause-begun : goal.run-requires-clause-begun
-run-requires-clause-begun g c =
+run-requires-clause-begun g c = λ κs h.
     let b = c.requires.begun in
     (entered_at c.args.entry b.0, record { at = c.in_ok-machine.ensures.at b.0 b.1; decided = b.2; lends = b.3 })
 

@@ -9,7 +9,7 @@ use Rattle.unit_code.proofs.Recorded.{can-enter, fault-is, run-is, totals-are}
 use Rattle.unit_code.proofs.runs.run_unit.Goals as goal
 
 pub run_function-requires-clause-can : goal.run_function-requires-clause-can
-run_function-requires-clause-can g c =
+run_function-requires-clause-can g c = λ κs h.
     let a = c.args in
     let code = a.code.now in
     let entry = c.number_at-entry.ensures ∙ ap (λ es. table_of es a.function) c.as_slice.ensures in
@@ -18,7 +18,7 @@ run_function-requires-clause-can g c =
     subst (λ n. CanEnter code.code n c.number_at-room.result) (sym entry) (subst (λ n. CanEnter code.code (table_of code.entries a.function) n) (sym room) can)
 
 pub run_function-requires-clause-begun : goal.run_function-requires-clause-begun
-run_function-requires-clause-begun g c =
+run_function-requires-clause-begun g c = λ κs h.
     let a = c.args in
     let code = a.code.now in
     let entry = c.number_at-entry.ensures ∙ ap (λ es. table_of es a.function) c.as_slice.ensures in
