@@ -174,7 +174,7 @@ count-at g a (suc n) (suc i) h = count-at g (suc a) n i (omega (arith, h)) ∙ a
 plain-free : (o : Simple) (t : ℕ) → FreeOn (λ env ws. row_lowered o ws (t ∷ []))
 plain-free o t = row-free o (λ ws. ws) t (λ env ws w. w)
 
-module _ (u : Network) (number : ℕ → ℕ) (shape : Telling) (forms : List Form) (spellings : List (List ℕ)) 
+module _ (u : Network) (number : ℕ → ℕ) (shape : Telling) (forms : List Form) (spellings : List (List ℕ))
     (arrays : (t : ℕ) (a : Ty) → IsNumber forms spellings t (ty.Arr a) → ShapeOf u number shape simple.ABuild t shapes.Plain)
     (streams : (t : ℕ) (a : Ty) → IsNumber forms spellings t (ty.Stream a) → ShapeOf u number shape simple.ABuild t shapes.Stream)
     (records : (t : ℕ) (ms : List Member) → IsNumber forms spellings t (ty.Rec ms) → ShapeOf u number shape simple.RBuild t shapes.Plain)

@@ -115,9 +115,9 @@ module _ (u : Network) (number : ℕ → ℕ) (shape : Telling) where
         bound = omega arith;
         held = (
           (λ seen. after _ _ held (λ m h.
-          let y : suc 0 - 1 ≡ 0 = omega arith in
-          subst (plain.Carries u m s.graph s.ins (demand.Port (suc k) 1)) (ap (λ n. get_or outs n Unfilled) y ∙ ap (λ rs. get_or rs 0 Unfilled) (is seen))
-          (output m s.graph s.ins k 1 x cs outs pl.nodes.0 h (simple_outputs m o (shape.row s.graph (suc k) o) cs)))),
+              let y : suc 0 - 1 ≡ 0 = omega arith in
+              subst (plain.Carries u m s.graph s.ins (demand.Port (suc k) 1)) (ap (λ n. get_or outs n Unfilled) y ∙ ap (λ rs. get_or rs 0 Unfilled) (is seen))
+              (output m s.graph s.ins k 1 x cs outs pl.nodes.0 h (simple_outputs m o (shape.row s.graph (suc k) o) cs)))),
           tt,
         );
       }

@@ -1,10 +1,9 @@
 -- In a ready unit of a program the edges from one output show the same, and a graph inside of a node shows of the node's inputs what the
 -- node shows.
-use Rattle.std.proofs.Common.{◌≡◌, ℕ, zero, suc, ◌+◌, ◌-◌, ◌<◌, ◌≤◌, inl, inr, ◌⊎◌, Bool, true, false, ◌&&◌, List, [], ◌∷◌, ◌++◌, map, length, slice_get, Option, Some, None, Contains, refl, sym, ap, subst, ◌∙◌, arith, ◌==◌}
-use Rattle.std.specs.Prelude.{All, find, filter, MatchOption, MatchBool, nat_le}
+use Rattle.std.proofs.Common.{◌≡◌, ℕ, zero, suc, ◌+◌, ◌-◌, ◌≤◌, inl, inr, true, ◌&&◌, List, [], ◌∷◌, ◌++◌, map, slice_get, Option, Some, None, Contains, refl, sym, ap, subst, ◌∙◌, arith, ◌==◌}
+use Rattle.std.specs.Prelude.{All, find, filter, MatchOption, MatchBool}
 use Rattle.std.proofs.lemmas.Bool.{eq-eqb, le-leb}
-use Rattle.std.proofs.lemmas.List.Elements.{All-head, All-tail}
-use Rattle.std.proofs.lemmas.Option.{slice_get_within}
+use Rattle.std.proofs.lemmas.List.Elements.{All-head}
 use Rattle.if1_graph.specs.declared.graph.Edge.{Edge}
 use Rattle.if1_graph.specs.declared.graph.Graph.{Graph}
 use Rattle.if1_graph.specs.declared.graph.Graph.TheViews.{out-Graph}
@@ -23,7 +22,7 @@ use Rattle.if1_graph.specs.Ready.{IsReady}
 use Rattle.if1_graph.specs.Tables.{◌>>=◌}
 use Rattle.if1_graph.specs.Types.{Sort, sort_at}
 use Rattle.if1_graph.specs.Typing.{kind_of, IsFunctionName, IsGiven, AgreesWith, FitsNodeInput, FitsOwnInput, FitsPartInput}
-use Rattle.if1_graph.specs.Units.{label_of as node_label, edge_into, width, most_levels, Home, Inside, Place, places, number_of as place_number}
+use Rattle.if1_graph.specs.Units.{label_of as node_label, edge_into, width, most_levels, Inside, Place, places, number_of as place_number}
 use Rattle.if1_marks.proofs.Lists.{here, there, here-or-there, in-none, in-filter}
 use Rattle.graph_meaning.specs.Networks.{first_type}
 use Rattle.typed_tree.specs.declared.program.Program.{Program}
@@ -40,10 +39,10 @@ use Rattle.lowering.specs.Programs.{functions_lowered, graphs, graph_at}
 use Rattle.lowering.specs.Types.{label_of}
 use Rattle.lowered_units.specs.Fitting.{IsFitting}
 use Rattle.lowered_units.specs.Listed.{ListedNode, Listing, NodeListing, first_number, all_of, listing, node_listing}
-use Rattle.lowered_units.specs.Units.{compound_code, listed_node, listed_nodes, node_edges, edges_into, edges_of, IsTranslated}
+use Rattle.lowered_units.specs.Units.{compound_code, listed_node, listed_nodes, edges_of, IsTranslated}
 use Rattle.lowered_units.proofs.Blocks.{to_node, to_port, find-filtered, edges-at}
 use Rattle.lowered_units.proofs.Built.{IsValueType, IsGap, IsGoodFeed, AreGood}
-use Rattle.lowered_units.proofs.Entries.{whole_listing, IsEntry, entry}
+use Rattle.lowered_units.proofs.Entries.{whole_listing, entry}
 use Rattle.lowered_units.proofs.Heads.{In, Within, listing-is, Lie, unit-lies, all-within}
 use Rattle.lowered_units.proofs.Lined.{WiresIn, NodesIn, IsGraphIn, GraphsIn, program-lined}
 use Rattle.lowered_units.proofs.OneUnit.{head_of, nodes_in, node-listing-at}

@@ -1,11 +1,10 @@
 -- The unit with the marks that are made, which is the one that runs, means what the source does.
-use Rattle.std.proofs.Common.{◌≡◌, ℕ, suc, ◌*◌, ◌≤◌, List, [], ◌∷◌, map, refl, sym, ap, ◌∙◌, subst}
+use Rattle.std.proofs.Common.{◌≡◌, ℕ, ◌*◌, ◌≤◌, List, [], ◌∷◌, map, refl, sym, ap, ◌∙◌, subst}
 use Rattle.flow_value.specs.declared.value.Val.{Val}
 use Rattle.if1_graph.specs.declared.graph.Unit1.{Unit1}
-use Rattle.if1_marks.specs.Alike.{AreAlike}
 use Rattle.marks_made.specs.Units.{marks_of}
 use Rattle.typed_tree.specs.declared.program.Program.{Program}
-use Rattle.graph_meaning.specs.Carried.{Carried, Value, val_of}
+use Rattle.graph_meaning.specs.Carried.{Value, val_of}
 use Rattle.graph_meaning.specs.Networks.{network}
 use Rattle.graph_meaning.proofs.PlainValues.{one-meaning}
 use Rattle.graph_meaning.proofs.SumsOnce.{cost-one}

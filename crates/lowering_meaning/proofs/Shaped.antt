@@ -1,5 +1,5 @@
 -- In a translated unit the node of a record's fields has the shape that the type of its wire tells.
-use Rattle.std.proofs.Common.{◌≡◌, ℕ, zero, suc, ◌+◌, ◌≤◌, inl, inr, Option, None, List, [], ◌∷◌, ◌++◌, map, slice_get, Some, refl, sym, ap, subst, ◌∙◌, arith}
+use Rattle.std.proofs.Common.{◌≡◌, ℕ, suc, ◌+◌, ◌≤◌, inl, inr, Option, None, List, [], ◌∷◌, ◌++◌, map, slice_get, Some, refl, sym, ap, subst, ◌∙◌, arith}
 use Rattle.std.specs.Prelude.{find, filter, ◌==◌}
 use Rattle.if1_graph.specs.declared.graph.Edge.{Edge}
 use Rattle.if1_graph.specs.declared.graph.Graph.TheViews.{out-Graph}
@@ -30,11 +30,11 @@ use Rattle.lowering.specs.Types.{label_of}
 use Rattle.lowered_units.specs.Fitting.{IsFitting}
 use Rattle.lowered_units.specs.Listed.{ListedGraph, all_of}
 use Rattle.lowered_units.specs.Networks.{shape_in, shapes}
-use Rattle.lowered_units.specs.Units.{edge_if, origin_of, node_edges, edges_of, IsTranslated}
+use Rattle.lowered_units.specs.Units.{edge_if, origin_of, node_edges, IsTranslated}
 use Rattle.lowered_units.proofs.Blocks.{to_node, to_port, find-filtered, edges-at}
 use Rattle.lowered_units.proofs.Built.{IsGap, IsGoodFeed, IsGood, AreFilled, Fills, fills_row, fills_reduction, fills_call}
-use Rattle.lowered_units.proofs.Entries.{whole_listing, IsEntry, entry, numbered}
-use Rattle.lowered_units.proofs.Heads.{In, listing-is, Lie, unit-heads, unit-lies, all-within, find-place}
+use Rattle.lowered_units.proofs.Entries.{whole_listing, IsEntry, numbered}
+use Rattle.lowered_units.proofs.Heads.{In, Lie, unit-heads, unit-lies, all-within, find-place}
 use Rattle.lowered_units.proofs.OneUnit.{head_of}
 use Rattle.lowered_units.proofs.Lined.{WiresIn, NodesIn}
 use Rattle.lowered_units.proofs.Nested.{AreNested}

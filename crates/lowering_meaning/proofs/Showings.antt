@@ -1,5 +1,5 @@
 -- What the labels of a translated unit show: a stream, a union or another type, as the type of the program is.
-use Rattle.std.proofs.Common.{◌≡◌, ℕ, zero, suc, List, [], ◌∷◌, length, Option, Some, None, slice_get, refl, sym, ap, subst, ◌∙◌, arith, inl, inr}
+use Rattle.std.proofs.Common.{◌≡◌, ℕ, suc, List, [], ◌∷◌, Option, Some, None, slice_get, refl, sym, ap, subst, ◌∙◌, arith, inl, inr}
 use Rattle.std.specs.Prelude.{cond}
 use Rattle.std.proofs.lemmas.Bool.Decides.{eqb_tells}
 use Rattle.flow_value.specs.declared.ty.Ty.{Ty}
@@ -36,7 +36,7 @@ use Rattle.lowered_units.proofs.BuiltTrees.{out-bool, out-char, out-int, out-nul
 use Rattle.lowered_units.proofs.Canonical.{as_type}
 use Rattle.lowered_units.proofs.Heads.{In}
 use Rattle.lowering_meaning.proofs.Told.{Showing, AStream, AUnion, Another}
-use Rattle.lowering_meaning.proofs.Sorts.{HasEntry, entered, E, within, bare, at-entry, kind-there, program-stays}
+use Rattle.lowering_meaning.proofs.Sorts.{HasEntry, entered, E, within, at-entry, kind-there, program-stays}
 
 -- ---- what is shown
 
