@@ -115,7 +115,7 @@ module _ (ks : List Key) (keys : HasKeys ks) where
         let m : members_at ks l ≡ suc (members_in (list_tree fs)) = ap members_in s.is in
         let less : members_at ks h.key.2 ≡ c = ap members_in h.parts.second.is ∙ (omega (arith, m, e)) in
         let is : first_types ks (suc c) l ≡ h.key.1 ∷ first_types ks c h.key.2 =
-            ap (λ o. elim o [ list.End ↦ [] | list.Member k r ↦ k ∷ first_types ks c r ]) (list_is l (ty_tree f.1) (list_tree fs) h) in
+        ap (λ o. elim o [ list.End ↦ [] | list.Member k r ↦ k ∷ first_types ks c r ]) (list_is l (ty_tree f.1) (list_tree fs) h) in
         subst (λ ns. AreLike (IsLike (numbered ks) levels) ns (f ∷ fs)) (sym is) (like h.key.1 f.1 h.parts.first, first_like c h.key.2 fs less h.parts.second)
 
     by_form : (n : ℕ) (t : Ty) (o : Ty-F Ty) → out-Ty t ≡ o → Stands (trees_in ks) n (ty_tree t) → HasForm (numbered ks) (IsLike (numbered ks) levels) n o

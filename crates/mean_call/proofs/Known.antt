@@ -156,7 +156,7 @@ module _ (forms : List Form) (names : List (List ℕ)) (table : IsTable forms) w
   told_all front (f ∷ rest) known same is h =
       let e : slice_get forms (length known) ≡ Some f = ap (λ l. slice_get l (length known)) is ∙ (ap (λ k. slice_get (front ++ f ∷ rest) k) same ∙ there front f rest) in
       let longer : length (known ++ is_known_form (length names) known f ∷ []) ≡ length (front ++ f ∷ []) =
-          one_longer known (is_known_form (length names) known f) ∙ (ap suc same ∙ sym (form_longer front f)) in
+      one_longer known (is_known_form (length names) known f) ∙ (ap suc same ∙ sym (form_longer front f)) in
       told_all (front ++ f ∷ []) rest (known ++ is_known_form (length names) known f ∷ []) longer (is ∙ sym (append_assoc front (f ∷ []) rest)) (told_next known f e h)
 
   -- a number is known exactly where it stands for a type

@@ -171,7 +171,7 @@ texts_of s t e h = record {
     longer : (n : ℕ) → t.bytes < n → n ≤ length s → Text (take n s) → ⊥
     longer n more within q =
         let its : option_map (λ (t : Codes). t.bytes) (items s 0) ≡ Some (length q.inside + 1) =
-            ap (λ s. option_map (λ (t : Codes). t.bytes) (items s 0)) (going_on n s q.inside 34 q.is) ∙ items_found q.inside (drop n s) q.spelled in
+        ap (λ s. option_map (λ (t : Codes). t.bytes) (items s 0)) (going_on n s q.inside 34 q.is) ∙ items_found q.inside (drop n s) q.spelled in
         let same : t.bytes ≡ length q.inside + 1 = same_Some t.bytes (length q.inside + 1) (sym (ap (option_map (λ (t : Codes). t.bytes)) e) ∙ its) in
         let size = piece_size n s q.inside 34 within q.is in
         omega (arith, more, same, size)

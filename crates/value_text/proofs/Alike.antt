@@ -57,7 +57,7 @@ record_alike : (like : ℕ → Ty → Type 0) (p : ℕ → Reader) (q : Ty → R
 unfolding record_by record_in
 record_alike like p q same ns fs s h =
     λ j. cond (is_few (lengths like ns fs h j))
-        (sign_in 60 s >>= (λ a. members_alike like p q same ns fs a h j >>= λ r. with_rest (val.Rec r.0) (sign_in 62 (past_blanks r.1)))) None
+    (sign_in 60 s >>= (λ a. members_alike like p q same ns fs a h j >>= λ r. with_rest (val.Rec r.0) (sign_in 62 (past_blanks r.1)))) None
 
 content_alike : (like : ℕ → Ty → Type 0) (p : ℕ → Reader) (q : Ty → Reader) → AreSame like p q → (n : ℕ) (ns : List ℕ) (fs : List (List ℕ × Ty)) (i : ℕ) (s : List ℕ) → AreLike like ns fs → content_by p n (slice_get ns i) s ≡ content_in q n (slice_get fs i) s
 content_alike like p q same n [] [] i s h = refl
@@ -105,7 +105,7 @@ part_alike : (ts : Numbered) (k n : ℕ) (t : Ty) → IsLike ts (suc k) n t → 
 part_alike ts zero n t h = λ j s. None
 part_alike ts (suc k) n t h =
     let texts : (m : ℕ) (e : Ty) (below : ℕ) (s : List ℕ) → IsLike ts (suc k) m e → text_by below (ts.form m) s ≡ text_at below (out-Ty e) s =
-        λ m e below s l. text_alike ts (IsLike ts k) below m (out-Ty e) s l in
+    λ m e below s l. text_alike ts (IsLike ts k) below m (out-Ty e) s l in
     λ j s. or_else (form_alike ts (IsLike ts (suc k)) (part_by ts k) (part_in k) (part_alike ts k) texts k n (out-Ty t) s h j) (error_in s)
 
 pub text_alike_by : (ts : Numbered) (n : ℕ) (t : Ty) (text : List ℕ) → StandsFor ts n t → text_value_by text ts n ≡ text_value text t

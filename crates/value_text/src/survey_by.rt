@@ -382,7 +382,10 @@ fn record<T: NumberedTypes>(
         text,
         skip(text, open),
     )?;
-    Some((unless_own(is_record(types, number, count), text, at, inside), end))
+    Some((
+        unless_own(is_record(types, number, count), text, at, inside),
+        end,
+    ))
 }
 
 #[cycle(survey)]
@@ -398,7 +401,16 @@ fn union<T: NumberedTypes>(
 {
     let (n, behind) = tag(text, at)?;
     let n = narrow_tag(n)?;
-    let (inside, last) = survey_by(types, content_of(types, number, n), below, text, skip(text, behind))?;
+    let (inside, last) = survey_by(
+        types,
+        content_of(types, number, n),
+        below,
+        text,
+        skip(text, behind),
+    )?;
     let end = sign(text, skip(text, last), b')')?;
-    Some((unless_own(is_union(types, number, n), text, at, inside), end))
+    Some((
+        unless_own(is_union(types, number, n), text, at, inside),
+        end,
+    ))
 }
