@@ -1,7 +1,5 @@
 -- Words that are read from left to right.
-use Rattle.std.proofs.Common.{◌≡◌, ◌<◌, ℕ, zero, suc, ◌+◌, List, [], ◌∷◌, ◌++◌, drop, drop-cons, add-one, length, get_or, refl, sym, ap, subst, ◌∙◌, append_assoc, arith}
-use Rattle.std.specs.Prelude.{Result, Ok, Err, IfOk, IfErr}
-use Rattle.value_text.specs.Numbered.{Numbered, StandsFor, StandForAll}
+use Rattle.std.proofs.Common.{◌≡◌, ◌<◌, ℕ, zero, suc, ◌+◌, List, [], ◌∷◌, ◌++◌, drop, drop-cons, add-one, length, get_or, sym, ap, subst, ◌∙◌, append_assoc, arith}
 use Rattle.std.proofs.lemmas.List.{append-nil}
 use Rattle.flow_value.specs.declared.ty.Ty.{Ty}
 use Rattle.flow_value.specs.declared.value.Val.{Val}
@@ -64,33 +62,3 @@ misread words types (refusal.Argument argument.Entry) same p = absurd p
 misread words types (refusal.Argument (argument.Count a b)) same p = absurd p
 misread words types (refusal.Unlinked name) same p = absurd p
 misread words types refusal.TurnLimit same p = absurd p
-
--- ---- types by number
-
--- numbers and the types for which they stand are as many
-pub as_many : (ts : Numbered) (ns : List ℕ) (types : List Ty) → StandForAll ts ns types → length ns ≡ length types
-as_many ts [] [] h = refl
-as_many ts [] (t ∷ types) h = absurd h
-as_many ts (n ∷ ns) [] h = absurd h
-as_many ts (n ∷ ns) (t ∷ types) h = ap suc (as_many ts ns types h.1)
-
--- the type at a place, for which the number there stands
-pub record IsAt (ts : Numbered) (types : List Ty) (i n : ℕ) : Type 0 where
-  pub type : Ty
-  pub is : type ≡ get_or types i type
-  pub stands : StandsFor ts n type
-
-pub stands_at : (ts : Numbered) (ns : List ℕ) (types : List Ty) (i n : ℕ) → StandForAll ts ns types → i < length ns → n ≡ get_or ns i n → IsAt ts types i n
-stands_at ts [] types i n h within is = absurd (omega (arith, within))
-stands_at ts (m ∷ ns) [] i n h within is = absurd h
-stands_at ts (m ∷ ns) (t ∷ types) zero n h within is = record { type = t; is = refl; stands = subst (λ k. StandsFor ts k t) (sym is) h.0 }
-stands_at ts (m ∷ ns) (t ∷ types) (suc i) n h within is =
-    let more = stands_at ts ns types i n h.1 (omega (arith, within)) is in
-    record { type = more.type; is = more.is; stands = more.stands }
-
--- the first word of a program's call that is refused
-pub word_refusal : {A : Type 0} (r : Result A Refusal) (P : Refusal → Type 0) (e : Refusal) → r ≡ Err e → IfErr r P → P e
-word_refusal r P e is h = subst (λ (x : Result A Refusal). IfErr x P) is h
-
-pub word_value : {A : Type 0} (r : Result A Refusal) (P : A → Type 0) (v : A) → r ≡ Ok v → IfOk r P → P v
-word_value r P v is h = subst (λ (x : Result A Refusal). IfOk x P) is h

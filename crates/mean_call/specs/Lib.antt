@@ -1,4 +1,3 @@
-pub mod Table
-pub mod Known
+pub mod Trees
 pub mod Words
 pub mod Calls

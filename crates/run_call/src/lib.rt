@@ -3,6 +3,7 @@
 #![tactic(auto)]
 
 mod call;
+mod entry;
 mod laws;
 mod texts;
 
