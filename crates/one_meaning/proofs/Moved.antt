@@ -81,7 +81,7 @@ record HaveTypes (names : List (List ℕ)) (forms others : List Form) (ns ms : L
 
 types_there : (names : List (List ℕ)) (forms others : List Form) (o r : Option Function) → AreThere names forms others o r → HaveTypes names forms others (params_if o) (params_if r)
 types_there names forms others _ _ neither = record { types = []; one = tt; other = tt }
-types_there names forms others _ _ (each p) = record { types = p.params.0; one = p.params.1.0; other = p.params.1.1 }
+types_there names forms others _ _ (each p) = record { types = p.params.0; one = p.params.1; other = p.params.2 }
 
 module _ (shape : OneShapeLaw) (typing : OneTypingLaw) (meaning : IsOneMeaning) (u : tree.Unit) (p q : Program) (once : AreSpelledOnce u.tokens.names) (s : IsTyped u p) (t : IsTyped u q) where
   same_shape : bare_program p ≡ bare_program q
