@@ -79,7 +79,9 @@ list_one : (u : Unit1) (g n p r h m o s : ℕ) → IsListFault u g n p r → IsL
 list_one u g n p r h m o s a b =
     let place : a.place ≡ b.place = first_one HasWrongEntry (places u) a.place b.place a.first b.first in
     let moved : IsFirst (IsWrong b.place.graph) (entries (out-Graph b.place.graph).nodes) (n, r) = subst (λ (x : Place). IsFirst (IsWrong x.graph) (entries (out-Graph x.graph).nodes) (n, r)) place a.entry in
-    let pair : (n, r) ≡ (m, s) = first_one (IsWrong b.place.graph) (entries (out-Graph b.place.graph).nodes) (n, r) (m, s) moved b.entry in
+    let x : ℕ × ℕ = (n, r) in
+    let y : ℕ × ℕ = (m, s) in
+    let pair : x ≡ y = first_one (IsWrong b.place.graph) (entries (out-Graph b.place.graph).nodes) x y moved b.entry in
     ap (λ i. unit.Marks i n p r) (sym a.number ∙ ap number_of place ∙ b.number)
     ∙ ap (λ (x : ℕ × ℕ). unit.Marks h x.0 p x.1) pair
     ∙ ap (λ i. unit.Marks h m i s) (a.no_port ∙ sym b.no_port)
