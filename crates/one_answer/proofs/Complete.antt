@@ -11,8 +11,8 @@ module _ (one : OneAnswerLaw) where
   done : (words : List (List ℕ)) (bytes printed : List ℕ) (before after : Option (List ℕ)) → ¬ AskForGraphs words → IsOneUnit bytes → Gives words bytes (Ok printed)
       → Answers words bytes status.Done before after → AddsOn before printed after
   done words bytes printed before after n u g a =
-      let e : a.0 ≡ printed = one words bytes (Ok a.0) (Ok printed) n u a.1.0 g tt tt in
-      subst (λ (bs : List ℕ). AddsOn before bs after) e a.1.1
+      let e : a.0 ≡ printed = one words bytes (Ok a.0) (Ok printed) n u a.1 g tt tt in
+      subst (λ (bs : List ℕ). AddsOn before bs after) e a.2
 
   pub complete : CompleteLaw
   complete words bytes printed status.Done before after n u g a x y = inl (refl, done words bytes printed before after n u g a)

@@ -1,5 +1,5 @@
 -- A unit without marks of its own has neither taking edges nor ordering lists.
-use Rattle.std.proofs.Common.{◌≡◌, ◌∙◌, ℕ, zero, suc, Bool, true, false, ◌||◌, List, [], ◌∷◌, ◌++◌, map, length, All, nat_lt, refl, sym, ap}
+use Rattle.std.proofs.Common.{◌≡◌, ◌≤◌, ◌∙◌, arith, ℕ, zero, suc, Bool, true, false, ◌||◌, List, [], ◌∷◌, ◌++◌, map, length, All, nat_lt, refl, sym, ap}
 use Rattle.std.specs.List.{list_any, flat_map}
 use Rattle.std.proofs.lemmas.List.Elements.{All-nil, All-cons, All-append, All-weaker}
 use Rattle.if1_graph.specs.declared.graph.Edge.{Edge}
@@ -30,9 +30,12 @@ none_of : {A : Type 0} (p : A → Bool) (xs : List A) → list_any p xs ≡ fals
 none_of p [] e = All-nil (λ x. p x ≡ false)
 none_of p (x ∷ xs) e = All-cons (λ x. p x ≡ false) x xs (or_left (p x) (list_any p xs) e) (none_of p xs (or_right (p x) (list_any p xs) e))
 
+not_above : (n m : ℕ) → nat_lt n m ≡ false → m ≤ n
+not_above n m e = grind (arith, e)
+
 no_label : (ls : List ℕ) → is_some_label ls ≡ false → ls ≡ []
 no_label [] e = refl
-no_label (l ∷ ls) e = cc
+no_label (l ∷ ls) e = let few = not_above 0 (length (l ∷ ls)) e in absurd (omega (arith, few))
 
 pub record IsClean (p : Place) : Type 0 where
   pub takers : All (λ e. e.takes ≡ false) (out-Graph p.graph).edges

@@ -69,20 +69,20 @@ data WordsReply (words : List (List ℕ)) (bytes : List ℕ) : Result (List ℕ)
   asked : (c : Command) (r : Result (List ℕ) Status) → IsCommand words c → Replies c bytes r → WordsReply words bytes r
 
 words_reply : (words : List (List ℕ)) (bytes : List ℕ) (r : Result (List ℕ) Status) → Gives words bytes r → Tells r → WordsReply words bytes r
-words_reply words bytes (Ok out) p t = asked p.0 (Ok out) p.1.0 p.1.1
-words_reply words bytes (Err status.Done) p t = asked p.0 (Err status.Done) p.1.0 p.1.1
+words_reply words bytes (Ok out) p t = asked p.0 (Ok out) p.1 p.2
+words_reply words bytes (Err status.Done) p t = asked p.0 (Err status.Done) p.1 p.2
 words_reply words bytes (Err (status.Usage f)) p t = wrong f p
-words_reply words bytes (Err status.ReadFault) p t = asked p.0 (Err status.ReadFault) p.1.0 p.1.1
-words_reply words bytes (Err status.WriteFault) p t = asked p.0 (Err status.WriteFault) p.1.0 p.1.1
+words_reply words bytes (Err status.ReadFault) p t = asked p.0 (Err status.ReadFault) p.1 p.2
+words_reply words bytes (Err status.WriteFault) p t = asked p.0 (Err status.WriteFault) p.1 p.2
 words_reply words bytes (Err status.NoMemory) p t = absurd t
-words_reply words bytes (Err (status.Syntax f)) p t = asked p.0 (Err (status.Syntax f)) p.1.0 p.1.1
-words_reply words bytes (Err (status.Typing rule line)) p t = asked p.0 (Err (status.Typing rule line)) p.1.0 p.1.1
-words_reply words bytes (Err (status.If1 f)) p t = asked p.0 (Err (status.If1 f)) p.1.0 p.1.1
-words_reply words bytes (Err (status.Argument f)) p t = asked p.0 (Err (status.Argument f)) p.1.0 p.1.1
-words_reply words bytes (Err status.TurnLimit) p t = asked p.0 (Err status.TurnLimit) p.1.0 p.1.1
-words_reply words bytes (Err status.TooLong) p t = asked p.0 (Err status.TooLong) p.1.0 p.1.1
-words_reply words bytes (Err status.Later) p t = asked p.0 (Err status.Later) p.1.0 p.1.1
-words_reply words bytes (Err (status.Unlinked name)) p t = asked p.0 (Err (status.Unlinked name)) p.1.0 p.1.1
+words_reply words bytes (Err (status.Syntax f)) p t = asked p.0 (Err (status.Syntax f)) p.1 p.2
+words_reply words bytes (Err (status.Typing rule line)) p t = asked p.0 (Err (status.Typing rule line)) p.1 p.2
+words_reply words bytes (Err (status.If1 f)) p t = asked p.0 (Err (status.If1 f)) p.1 p.2
+words_reply words bytes (Err (status.Argument f)) p t = asked p.0 (Err (status.Argument f)) p.1 p.2
+words_reply words bytes (Err status.TurnLimit) p t = asked p.0 (Err status.TurnLimit) p.1 p.2
+words_reply words bytes (Err status.TooLong) p t = asked p.0 (Err status.TooLong) p.1 p.2
+words_reply words bytes (Err status.Later) p t = asked p.0 (Err status.Later) p.1 p.2
+words_reply words bytes (Err (status.Unlinked name)) p t = asked p.0 (Err (status.Unlinked name)) p.1 p.2
 
 module _ (grammar : (tokens : List Placed) (o p : Outline) → Spells unit tokens o → Spells unit tokens p → o ≡ p)
     (no_program : NoProgramLaw) (moved : AreAnswersMoved) (program : IsProgramOnce) (accepted : AcceptedHasNoFault) (unmarked : IsUnmarkedSound) (runs : IsRunOnce) where
@@ -105,15 +105,15 @@ module _ (grammar : (tokens : List Placed) (o p : Outline) → Spells unit token
   replies_one (command.Gen k) bytes r s n one p q t w =
       let x = gen_ok k bytes r p t in
       let y = gen_ok k bytes s q w in
-      both_ok r s x.0 y.0 x.1.0 y.1.0 (x.1.1 ∙ sym y.1.1)
+      both_ok r s x.0 y.0 x.1 y.1 (x.2 ∙ sym y.2)
   replies_one command.Help bytes r s n one p q t w =
       let x = help_ok bytes r p t in
       let y = help_ok bytes s q w in
-      both_ok r s x.0 y.0 x.1.0 y.1.0 (x.1.1 ∙ sym y.1.1)
+      both_ok r s x.0 y.0 x.1 y.1 (x.2 ∙ sym y.2)
   replies_one command.Version bytes r s n one p q t w =
       let x = version_ok bytes r p t in
       let y = version_ok bytes s q w in
-      both_ok r s x.0 y.0 x.1.0 y.1.0 (x.1.1 ∙ sym y.1.1)
+      both_ok r s x.0 y.0 x.1 y.1 (x.2 ∙ sym y.2)
 
   module _ (one_command : (words : List (List ℕ)) (a b : Command) → IsCommand words a → IsCommand words b → a ≡ b)
       (one_fault : (words : List (List ℕ)) (a b : WordFault) → HasFault words a → HasFault words b → a ≡ b)
@@ -124,7 +124,7 @@ module _ (grammar : (tokens : List Placed) (o p : Outline) → Spells unit token
     words_one words bytes _ _ n one (wrong f p) (asked c s is q) t w = absurd (not_both words c (word_fault f) is p)
     words_one words bytes _ _ n one (asked c r is p) (wrong g q) t w = absurd (not_both words c (word_fault g) is q)
     words_one words bytes _ _ n one (asked c r is p) (asked d s at q) t w =
-        replies_one d bytes r s (λ m. n (d, (at, m))) one (subst (λ x. Replies x bytes r) (one_command words c d is at) p) q t w
+        replies_one d bytes r s (λ m. n (d, at, m)) one (subst (λ x. Replies x bytes r) (one_command words c d is at) p) q t w
 
     pub answers_one : OneAnswerLaw
     answers_one words bytes r s n one p q t w = words_one words bytes r s n one (words_reply words bytes r p t) (words_reply words bytes s q w) t w

@@ -86,20 +86,20 @@ bad_one ts (syntax.TooDeep l) (syntax.TooDeep k) p q = depths
 -- bytes are refused for one fault
 pub refused_one : (bytes : List ℕ) (f g : SyntaxFault) → IsRefused bytes f → IsRefused bytes g → AreAlike (status.Syntax f) (status.Syntax g)
 refused_one bytes f g (inl p) (inl q) =
-    let e : p.0 ≡ q.0 = same_fault p.0 q.0 (tokens_of bytes) p.1.0 q.1.0 in
-    alike_if (status.Syntax f) (status.Syntax g) (sym p.1.1 ∙ ap of_lexer e ∙ q.1.1)
-refused_one bytes f g (inl p) (inr q) = absurd (no_tokens p.0 q.0 (tokens_of bytes) p.1.0 q.1.0)
-refused_one bytes f g (inr p) (inl q) = absurd (no_tokens q.0 p.0 (tokens_of bytes) q.1.0 p.1.0)
+    let e : p.0 ≡ q.0 = same_fault p.0 q.0 (tokens_of bytes) p.1 q.1 in
+    alike_if (status.Syntax f) (status.Syntax g) (sym p.2 ∙ ap of_lexer e ∙ q.2)
+refused_one bytes f g (inl p) (inr q) = absurd (no_tokens p.0 q.0 (tokens_of bytes) p.1 q.1)
+refused_one bytes f g (inr p) (inl q) = absurd (no_tokens q.0 p.0 (tokens_of bytes) q.1 p.1)
 refused_one bytes f g (inr p) (inr q) =
-    let e : p.0 ≡ q.0 = same_tokens p.0 q.0 (tokens_of bytes) p.1.0 q.1.0 in
-    bad_one q.0.list f g (subst (λ (t : Tokens). IsBadUnit t.list f) e p.1.1) q.1.1
+    let e : p.0 ≡ q.0 = same_tokens p.0 q.0 (tokens_of bytes) p.1 q.1 in
+    bad_one q.0.list f g (subst (λ (t : Tokens). IsBadUnit t.list f) e p.2) q.2
 
 -- bytes that are too long have no such fault, and are no unit
 pub long_refused : (bytes : List ℕ) (f : SyntaxFault) → most_bytes < length bytes → IsRefused bytes f → ⊥
 long_refused bytes f l (inl p) =
-    let e : p.0 ≡ lexer.TooLong = same_fault p.0 lexer.TooLong (tokens_of bytes) p.1.0 (tokens_long bytes l) in
-    let c : status.TooLong ≡ status.Syntax f = sym (ap of_lexer e) ∙ p.1.1 in cc
-long_refused bytes f l (inr p) = no_tokens lexer.TooLong p.0 (tokens_of bytes) (tokens_long bytes l) p.1.0
+    let e : p.0 ≡ lexer.TooLong = same_fault p.0 lexer.TooLong (tokens_of bytes) p.1 (tokens_long bytes l) in
+    let c : status.TooLong ≡ status.Syntax f = sym (ap of_lexer e) ∙ p.2 in cc
+long_refused bytes f l (inr p) = no_tokens lexer.TooLong p.0 (tokens_of bytes) (tokens_long bytes l) p.1
 
 pub long_unit : (bytes : List ℕ) (u : tree.Unit) → most_bytes < length bytes → IsUnitOf bytes u → ⊥
 long_unit bytes u l p = no_tokens lexer.TooLong u.tokens (tokens_of bytes) (tokens_long bytes l) p.lexed
@@ -119,10 +119,10 @@ module _ (one : (tokens : List Placed) (o p : Outline) → Spells unit tokens o 
       omega (arith, deep, shallow)
 
   pub unit_refused : (bytes : List ℕ) (u : tree.Unit) (f : SyntaxFault) → IsUnitOf bytes u → IsRefused bytes f → ⊥
-  unit_refused bytes u f p (inl q) = no_tokens q.0 u.tokens (tokens_of bytes) q.1.0 p.lexed
+  unit_refused bytes u f p (inl q) = no_tokens q.0 u.tokens (tokens_of bytes) q.1 p.lexed
   unit_refused bytes u f p (inr q) =
-      let e : q.0 ≡ u.tokens = same_tokens q.0 u.tokens (tokens_of bytes) q.1.0 p.lexed in
-      bad_unit bytes u f p (subst (λ (t : Tokens). IsBadUnit t.list f) e q.1.1)
+      let e : q.0 ≡ u.tokens = same_tokens q.0 u.tokens (tokens_of bytes) q.1 p.lexed in
+      bad_unit bytes u f p (subst (λ (t : Tokens). IsBadUnit t.list f) e q.2)
 
   made : Tokens → Outline → tree.Unit
   made t o = record { tokens = t; defines = o.defines; items = o.items }

@@ -79,7 +79,9 @@ list_one : (u : Unit1) (g n p r h m o s : ℕ) → IsListFault u g n p r → IsL
 list_one u g n p r h m o s a b =
     let place : a.place ≡ b.place = first_one HasWrongEntry (places u) a.place b.place a.first b.first in
     let moved : IsFirst (IsWrong b.place.graph) (entries (out-Graph b.place.graph).nodes) (n, r) = subst (λ (x : Place). IsFirst (IsWrong x.graph) (entries (out-Graph x.graph).nodes) (n, r)) place a.entry in
-    let pair : (n, r) ≡ (m, s) = first_one (IsWrong b.place.graph) (entries (out-Graph b.place.graph).nodes) (n, r) (m, s) moved b.entry in
+    let x : ℕ × ℕ = (n, r) in
+    let y : ℕ × ℕ = (m, s) in
+    let pair : x ≡ y = first_one (IsWrong b.place.graph) (entries (out-Graph b.place.graph).nodes) x y moved b.entry in
     ap (λ i. unit.Marks i n p r) (sym a.number ∙ ap number_of place ∙ b.number)
     ∙ ap (λ (x : ℕ × ℕ). unit.Marks h x.0 p x.1) pair
     ∙ ap (λ i. unit.Marks h m i s) (a.no_port ∙ sym b.no_port)
@@ -110,11 +112,11 @@ marks_one u g n p r h m o s (inr a) (inr b) = taker_one u g n p r h m o s a b
 -- a rule that holds at each end is broken at none
 not_broken : (u : Unit1) (rule : Place → ℕ → Type 0) (g n : ℕ) → AtEachEnd u rule → IsBroken u rule g n → ⊥
 not_broken u rule g n h b =
-    b.1.1.1.1 (All-contains (rule b.0) (ends b.0.graph) n (All-contains (λ p. All (rule p) (ends p.graph)) (places u) b.0 h b.1.0) b.1.1.1.0)
+    b.4 (All-contains (rule b.0) (ends b.0.graph) n (All-contains (λ p. All (rule p) (ends p.graph)) (places u) b.0 h b.1) b.3)
 
 no_cycle : (u : Unit1) (g n : ℕ) → IsAcyclic u → IsOnCycle u g n → ⊥
 no_cycle u g n h b =
-    (All-contains (IsOrdered b.0) (ends b.0.graph) n (All-contains (λ p. All (IsOrdered p) (ends p.graph)) (places u) b.0 h b.1.0) b.1.1.1.0) b.1.1.1.1
+    All-contains (IsOrdered b.0) (ends b.0.graph) n (All-contains (λ p. All (IsOrdered p) (ends p.graph)) (places u) b.0 h b.1) b.3 b.4
 
 -- ---- a unit
 
@@ -165,7 +167,7 @@ stage text (unit.Unknown l) p = a_line l Unknown refl p
 stage text (unit.Real l) p = a_line l Real refl p
 stage text (unit.TooMany l) p = a_line l TooMany refl p
 stage text unit.Unclosed p = unclosed refl p
-stage text (unit.Cycle g n) p = a_unit p.unit p.read (a_cycle p.refused.0 p.refused.1.0 p.refused.1.1)
+stage text (unit.Cycle g n) p = a_unit p.unit p.read (a_cycle p.refused.0 p.refused.1 p.refused.2)
 stage text (unit.Ports g n) p = a_unit p.unit p.read (bad_ports p.refused)
 stage text (unit.TypeOf g n) p = a_unit p.unit p.read (bad_types p.refused.0 p.refused.1)
 stage text (unit.Marks g n o r) p = a_unit p.unit p.read (bad_marks p.ready p.first p.unsound)

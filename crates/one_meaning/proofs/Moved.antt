@@ -1,7 +1,7 @@
 -- What one typed tree of a unit answers, each answers.
-use Rattle.std.proofs.Common.{◌≡◌, ◌<◌, ◌∙◌, ℕ, zero, suc, Bool, true, false, List, [], ◌∷◌, map, find, Option, Some, None, option_map, slice_get, unwrap_or, refl, sym, ap, subst}
+use Rattle.std.proofs.Common.{◌≡◌, ◌<◌, ◌∙◌, ℕ, zero, suc, Bool, true, false, cond, List, [], ◌∷◌, map, find, Option, Some, None, option_map, slice_get, unwrap_or, refl, sym, ap, subst}
 use Rattle.std.proofs.lemmas.Option.{slice_get-map}
-use Rattle.std.specs.Option.{option_and_then, option_map_or}
+use Rattle.std.specs.Option.{is_none, option_and_then, option_map_or}
 use Rattle.std.specs.Str.{str_eq_ignore_ascii_case}
 use Rattle.flow_value.specs.declared.ty.Ty.{Ty}
 use Rattle.flow_value.specs.declared.value.Val.{Val}
@@ -27,18 +27,20 @@ use Rattle.one_meaning.specs.Laws.{AreAnswersMoved, IsOneMeaning}
 
 -- ---- what a program has without its types
 
-elsewhere_bare : (o : Option (List TypedExpr)) (f : Function) → f.body ≡ o → is_elsewhere (bare_function f) ≡ is_elsewhere f
-elsewhere_bare None f e = let g : bare_body f.body ≡ None = ap bare_body e in simp (e)
-elsewhere_bare (Some es) f e = simp (e)
+elsewhere_bare : (o : Option (List TypedExpr)) → is_none (bare_body o) ≡ is_none o
+elsewhere_bare None = refl
+elsewhere_bare (Some es) = refl
 
 found_bare : (fs : List Function) → find is_elsewhere (map bare_function fs) ≡ option_map bare_function (find is_elsewhere fs)
 found_bare [] = refl
-found_bare (f ∷ fs) = by (is_elsewhere f) refl (found_bare fs)
+found_bare (f ∷ fs) = by (is_elsewhere (bare_function f)) (is_elsewhere f) (elsewhere_bare f.body) (found_bare fs)
   where
-    by : (b : Bool) → is_elsewhere f ≡ b → find is_elsewhere (map bare_function fs) ≡ option_map bare_function (find is_elsewhere fs)
-        → find is_elsewhere (map bare_function (f ∷ fs)) ≡ option_map bare_function (find is_elsewhere (f ∷ fs))
-    by true e r = simp (elsewhere_bare f.body f refl, e)
-    by false e r = simp (elsewhere_bare f.body f refl, e, r)
+    by : (a b : Bool) → a ≡ b → find is_elsewhere (map bare_function fs) ≡ option_map bare_function (find is_elsewhere fs)
+        → cond a (Some (bare_function f)) (find is_elsewhere (map bare_function fs)) ≡ option_map bare_function (cond b (Some f) (find is_elsewhere fs))
+    by true true e r = refl
+    by false false e r = r
+    by true false e r = cc
+    by false true e r = cc
 
 named_bare : (names : List (List ℕ)) (o : Option Function) → option_map (λ (f : Function). unwrap_or (slice_get names f.name) []) (option_map bare_function o) ≡ option_map (λ (f : Function). unwrap_or (slice_get names f.name) []) o
 named_bare names None = refl
@@ -79,7 +81,7 @@ record HaveTypes (names : List (List ℕ)) (forms others : List Form) (ns ms : L
 
 types_there : (names : List (List ℕ)) (forms others : List Form) (o r : Option Function) → AreThere names forms others o r → HaveTypes names forms others (params_if o) (params_if r)
 types_there names forms others _ _ neither = record { types = []; one = tt; other = tt }
-types_there names forms others _ _ (each p) = record { types = p.params.0; one = p.params.1.0; other = p.params.1.1 }
+types_there names forms others _ _ (each p) = record { types = p.params.0; one = p.params.1; other = p.params.2 }
 
 module _ (shape : OneShapeLaw) (typing : OneTypingLaw) (meaning : IsOneMeaning) (u : tree.Unit) (p q : Program) (once : AreSpelledOnce u.tokens.names) (s : IsTyped u p) (t : IsTyped u q) where
   same_shape : bare_program p ≡ bare_program q

@@ -21,8 +21,8 @@ linked_either p name a b = let e : None ≡ Some name = sym a ∙ b in cc
 same_name : (n m : List ℕ) → Some n ≡ Some m → n ≡ m
 same_name n m e = cc
 
-same_given : (vs ws : List Val) (n m : ℕ) → (vs, n) ≡ (ws, m) → (vs ≡ ws) × (n ≡ m)
-same_given vs ws n m e = (ap (λ x. x.0) e, ap (λ x. x.1) e)
+same_given : (r s : List Val × ℕ) → r ≡ s → (r.0 ≡ s.0) × (r.1 ≡ s.1)
+same_given r s e = (ap (λ (x : List Val × ℕ). x.0) e, ap (λ (x : List Val × ℕ). x.1) e)
 
 module _ (calls : IsCallOne) (words : AreWordsOnce) (p : Program) (set : MeanSet) where
   types_same : (f g : ℕ) (ts us : List Ty) → IsEntry p set.entry f ts → IsEntry p set.entry g us → ts ≡ us
@@ -41,7 +41,7 @@ module _ (calls : IsCallOne) (words : AreWordsOnce) (p : Program) (set : MeanSet
   given_same : (n m f g : ℕ) (xs ys vs ws : List Val) (k l : ℕ) → IsSameCall f g xs ys → plain_calls n p.functions f xs ≡ Some (vs, k) → plain_calls m p.functions g ys ≡ Some (ws, l) → (vs ≡ ws) × (k ≡ l)
   given_same n m f g xs ys vs ws k l c x y =
       let moved : plain_calls n p.functions g ys ≡ Some (vs, k) = sym (ap (λ h. plain_calls n p.functions h xs) c.function ∙ ap (λ a. plain_calls n p.functions g a) c.args) ∙ x in
-      same_given vs ws k l (calls p.functions g ys n m (vs, k) (ws, l) moved y)
+      same_given (vs, k) (ws, l) (calls p.functions g ys n m (vs, k) (ws, l) moved y)
 
   pub values_same : (vs ws : List Val) → Gives p set vs → Gives p set ws → vs ≡ ws
   values_same vs ws a b =

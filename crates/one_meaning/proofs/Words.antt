@@ -49,7 +49,7 @@ misfit_one : (word : List ℕ) (t : Ty) (k j : ℕ) → MisfitAt word t k → Mi
 misfit_one word t k j p q =
     let x = p.place p.spelled.0 p.spelled.1 in
     let y = q.place p.spelled.0 p.spelled.1 in
-    x.1.1 ∙ ap (λ n. length word - n) (same_Some x.0 y.0 (sym x.1.0 ∙ y.1.0)) ∙ sym y.1.1
+    x.2 ∙ ap (λ n. length word - n) (same_Some x.0 y.0 (sym x.1 ∙ y.1)) ∙ sym y.2
 
 misfit_within : (word : List ℕ) (t : Ty) (k : ℕ) → MisfitAt word t k → PastLimits word → ⊥
 misfit_within word t k p q = true≢false (sym (p.within p.spelled.0 p.spelled.1) ∙ q.past p.spelled.0 p.spelled.1)
@@ -76,7 +76,7 @@ module _ (fit : (bytes : List ℕ) (ty : Ty) (v : Val) → reads_value bytes ty 
       let o = fit word t v r in
       let x = p.place o.spelled.0 o.spelled.1 in
       let none = o.fits o.spelled.0 o.spelled.1 in
-      let e : None ≡ Some x.0 = sym none ∙ x.1.0 in cc
+      let e : None ≡ Some x.0 = sym none ∙ x.1 in cc
   unread word t v faults.TooLarge r p =
       let o = fit word t v r in
       true≢false (sym (o.within o.spelled.0 o.spelled.1) ∙ p.past o.spelled.0 o.spelled.1)
@@ -110,16 +110,16 @@ module _ (fit : (bytes : List ℕ) (ty : Ty) (v : Val) → reads_value bytes ty 
 
   read_or_refused : (ws : List (List ℕ)) (ts : List Ty) (vs : List Val) (f : ArgumentFault) → AreRead ws ts vs → AreRefused ws ts (refusal.Argument f) → ⊥
   read_or_refused ws ts vs argument.Entry r p = p
-  read_or_refused ws ts vs (argument.Count wanted given) r p = p.1.1 (p.0 ∙ sym (as_many ws ts vs r) ∙ sym p.1.0)
+  read_or_refused ws ts vs (argument.Count wanted given) r p = p.2 (p.0 ∙ sym (as_many ws ts vs r) ∙ sym p.1)
   read_or_refused ws ts vs (argument.Value k f) r p = no_fault ws ts vs k f r p.1
 
   one_refusal : (ws : List (List ℕ)) (ts : List Ty) (f g : ArgumentFault) → AreRefused ws ts (refusal.Argument f) → AreRefused ws ts (refusal.Argument g) → f ≡ g
   one_refusal ws ts argument.Entry g p q = absurd p
   one_refusal ws ts (argument.Count a b) argument.Entry p q = absurd q
-  one_refusal ws ts (argument.Count a b) (argument.Count c d) p q = ap (λ n. argument.Count n b) (p.0 ∙ sym q.0) ∙ ap (λ n. argument.Count c n) (p.1.0 ∙ sym q.1.0)
-  one_refusal ws ts (argument.Count a b) (argument.Value k g) p q = absurd (p.1.1 (p.0 ∙ sym q.0 ∙ sym p.1.0))
+  one_refusal ws ts (argument.Count a b) (argument.Count c d) p q = ap (λ n. argument.Count n b) (p.0 ∙ sym q.0) ∙ ap (λ n. argument.Count c n) (p.1 ∙ sym q.1)
+  one_refusal ws ts (argument.Count a b) (argument.Value k g) p q = absurd (p.2 (p.0 ∙ sym q.0 ∙ sym p.1))
   one_refusal ws ts (argument.Value k f) argument.Entry p q = absurd q
-  one_refusal ws ts (argument.Value k f) (argument.Count c d) p q = absurd (q.1.1 (q.0 ∙ sym p.0 ∙ sym q.1.0))
+  one_refusal ws ts (argument.Value k f) (argument.Count c d) p q = absurd (q.2 (q.0 ∙ sym p.0 ∙ sym q.1))
   one_refusal ws ts (argument.Value k f) (argument.Value j g) p q =
       let r = first_fault_one ws ts k j f g p.1 q.1 in ap (λ n. argument.Value n f) r.0 ∙ ap (λ h. argument.Value j h) r.1
 

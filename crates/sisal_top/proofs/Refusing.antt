@@ -1,6 +1,9 @@
 -- Refusals of a text and of a command.
 use Rattle.std.proofs.Common.{◌≡◌, ◌≢◌, ◌⊎◌, inl, inr, List, ℕ, Result, Ok, Err, refl, subst, sym}
 use Rattle.std.specs.Result.{IfErr, IsErrAnd}
+use Rattle.mean_call.specs.declared.fault.ArgumentFault.TheVariants as argument
+use Rattle.mean_call.specs.declared.fault.Refusal.{Refusal}
+use Rattle.mean_call.specs.declared.fault.Refusal.TheVariants as refusal
 use Rattle.run_words.specs.Words.{IsCommand, HasFault}
 use Rattle.run_words.specs.declared.command.Command.{Command}
 use Rattle.run_words.specs.declared.fault.WordFault.{WordFault}
@@ -19,12 +22,15 @@ use Rattle.type_rules.specs.declared.fault.TypeFault.{TypeFault}
 use Rattle.type_rules.specs.declared.fault.TypeFault.TheVariants as checker
 use Rattle.typed_tree.specs.Faults.{BreaksUnit}
 use Rattle.sisal_check.specs.Texts.{IsText}
+use Rattle.value_text.specs.declared.fault.ValueFault.TheVariants as value
+use Rattle.sisal_top.specs.Answer.{Gives, IsStopped, Replies}
 use Rattle.sisal_top.specs.Program.{AskToRead, Fits, IsUnitOf, ReadsText}
-use Rattle.sisal_top.specs.Refusals.{IsCause, IsNoProgram, IsUnread}
-use Rattle.sisal_top.specs.Status.{of_checker, of_lexer, of_parser, of_words}
+use Rattle.sisal_top.specs.Refusals.{IsCause, IsNoProgram, IsReply, IsUnread}
+use Rattle.sisal_top.specs.Status.{of_checker, of_lexer, of_parser, of_refusal, of_words}
 use Rattle.sisal_top.proofs.Lengths.{fault_lined}
 use Rattle.sisal_top.proofs.Lexed.{is_text}
 use Rattle.sisal_top.specs.declared.status.Status.{Status}
+use Rattle.sisal_top.specs.declared.status.Status.TheVariants as status
 
 -- words that ask to read the text are no other command, and have no fault
 pub reads_text : (words : List (List ℕ)) (c : Command) → AskToRead words → IsCommand words c → ReadsText c
@@ -72,3 +78,33 @@ pub checker_cause : {X : Type 0} (u : tree.Unit) (f : TypeFault) (r : Result X S
 checker_cause u f (Ok x) breaks is = tt
 checker_cause u checker.NoMemory (Err s) breaks is = λ bytes unit. subst (IsNoProgram bytes) (sym is) tt
 checker_cause u (checker.Rule rule line) (Err s) breaks is = λ bytes unit. subst (IsNoProgram bytes) (sym is) (record { unit = u; is = unit; breaks = breaks (is_text bytes u unit) })
+
+-- why a program or a unit gives no values is a reply
+pub stopped_reply : (c : Command) (bytes : List ℕ) (r : Refusal) (x : Result (List ℕ) Status) → IsStopped c bytes r → IsErrAnd x (λ s. s ≡ of_refusal r) → Replies c bytes x
+stopped_reply c bytes r (Ok printed) why is = absurd is
+stopped_reply c bytes (refusal.Unlinked name) (Err s) why is = subst (λ t. Replies c bytes (Err t)) (sym is) why
+stopped_reply c bytes (refusal.Argument argument.Entry) (Err s) why is = subst (λ t. Replies c bytes (Err t)) (sym is) why
+stopped_reply c bytes (refusal.Argument (argument.Count wanted given)) (Err s) why is = subst (λ t. Replies c bytes (Err t)) (sym is) why
+stopped_reply c bytes (refusal.Argument (argument.Value k (value.BadSpelling b))) (Err s) why is = subst (λ t. Replies c bytes (Err t)) (sym is) why
+stopped_reply c bytes (refusal.Argument (argument.Value k (value.WrongShape b))) (Err s) why is = subst (λ t. Replies c bytes (Err t)) (sym is) why
+stopped_reply c bytes (refusal.Argument (argument.Value k value.TooLarge)) (Err s) why is = subst (λ t. Replies c bytes (Err t)) (sym is) why
+stopped_reply c bytes (refusal.Argument (argument.Value k value.NoMemory)) (Err s) why is = subst (λ t. Replies c bytes (Err t)) (sym is) tt
+stopped_reply c bytes refusal.TurnLimit (Err s) why is = subst (λ t. Replies c bytes (Err t)) (sym is) why
+stopped_reply c bytes refusal.NoMemory (Err s) why is = subst (λ t. Replies c bytes (Err t)) (sym is) tt
+
+-- what a command replies is what its words give
+pub gives_reply : (words : List (List ℕ)) (bytes : List ℕ) (c : Command) (x : Result (List ℕ) Status) → IsCommand words c → Replies c bytes x → IfErr x IsReply → Gives words bytes x
+gives_reply words bytes c (Ok printed) is p r = (c, is, p)
+gives_reply words bytes c (Err status.Done) is p r = absurd r
+gives_reply words bytes c (Err (status.Usage f)) is p r = absurd r
+gives_reply words bytes c (Err status.ReadFault) is p r = (c, is, p)
+gives_reply words bytes c (Err status.WriteFault) is p r = absurd r
+gives_reply words bytes c (Err status.NoMemory) is p r = tt
+gives_reply words bytes c (Err (status.Syntax f)) is p r = (c, is, p)
+gives_reply words bytes c (Err (status.Typing rule line)) is p r = (c, is, p)
+gives_reply words bytes c (Err (status.If1 f)) is p r = (c, is, p)
+gives_reply words bytes c (Err (status.Argument f)) is p r = (c, is, p)
+gives_reply words bytes c (Err status.TurnLimit) is p r = (c, is, p)
+gives_reply words bytes c (Err status.TooLong) is p r = (c, is, p)
+gives_reply words bytes c (Err status.Later) is p r = (c, is, p)
+gives_reply words bytes c (Err (status.Unlinked name)) is p r = (c, is, p)

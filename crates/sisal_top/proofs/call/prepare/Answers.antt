@@ -1,6 +1,6 @@
 use Rattle.flow_io.specs.Bytes.{IsAtEnd}
 use Rattle.run_words.specs.Commands.{bytes_of}
-use Rattle.sisal_top.proofs.Refusing.{not_read, reads_text}
+use Rattle.sisal_top.proofs.Refusing.{gives_reply, not_read, reads_text}
 use Rattle.sisal_top.proofs.call.prepare.Goals as goal
 
 pub returns-in_err-command-clause-read : goal.returns-in_err-command-clause-read
@@ -20,3 +20,8 @@ returns-clause-unread g c = λ none. c.perform.ensures.unread (λ reads. none (c
 
 pub returns-clause-unfailed : goal.returns-clause-unfailed
 returns-clause-unfailed g c = λ none. c.perform.ensures.unfailed (λ reads. none (c.in_ok-command.command, c.in_ok-command.ensures.command, reads))
+
+pub returns-clause-gives : goal.returns-clause-gives
+returns-clause-gives g c = λ told is.
+    gives_reply (bytes_of c.args.words.now) told c.in_ok-command.command c.perform.result c.in_ok-command.ensures.command
+    (c.perform.ensures.replies told (λ reads. is (c.in_ok-command.command, c.in_ok-command.ensures.command, reads))) c.perform.ensures.reply
