@@ -95,12 +95,7 @@ fn unit_to_run(alloc: Global, set: &RunSet, bytes: &[u8]) -> Result<Sound, Statu
 }
 
 /// What is printed of a run of the unit that a text is.
-fn results<G: Gate>(
-    alloc: Global,
-    set: &RunSet,
-    bytes: &[u8],
-    gate: &G,
-) -> Result<Text, Status>
+fn results<G: Gate>(alloc: Global, set: &RunSet, bytes: &[u8], gate: &G) -> Result<Text, Status>
     requires plain { IsPlain set.now }
     requires few { Fits bytes.now }
     ensures replies { Replies (command.Run set.now) bytes.now result }
