@@ -1,14 +1,16 @@
 //! A node.
-ghost use Rattle.std.specs.Prelude.{◌≡◌, ◌++◌, length, None, Some, IfOk, OnOk};
+ghost use Rattle.std.specs.Prelude.{◌≡◌, ◌++◌, List, length, None, Some, IfOk, OnOk};
 ghost use Rattle.node_works.specs.Tasks.{IsCallOrWhole, IsTask};
 ghost use Rattle.plan_nodes.specs.Nodes.{callee_in, collects_by, node_by, plain_collects, plain_node, simple_by, whole_by, whole_node};
-ghost use Rattle.plan_nodes.specs.Ports.{row_read};
+ghost use Rattle.port_feeds.specs.declared.filled.Filled.{Filled};
+ghost use Rattle.plan_nodes.specs.Ports.{row_read, told_in};
 
 use crate::collected::read_ports;
 use crate::parts::NodeParts;
-use crate::ports::{call_ports, compound_ports, simple_ports};
-use crate::told::{own_left, told_of};
+use crate::ports::{all_ports, call_ports, compound_ports, simple_ports, spread_ports};
+use crate::told::{all_told, own_left, told_of};
 use flow_value::{NoMemory, Seq, Shape};
+use gapped::Gapped;
 use if1_graph::Simple;
 use node_works::Task;
 use plan_builder::{Reading, add_collects, call_node, compound_node, reading_of, simple_node};
@@ -39,11 +41,11 @@ fn whole_node(
     match callee_in(&work) {
         Some(callee) => {
             let ports = call_ports(alloc, filled)?;
-            Ok(call_node(callee, width, ports))
+            Ok(call_node(callee, width, all_ports(alloc, ports)))
         }
         None => {
             let ports = compound_ports(alloc, filled)?;
-            Ok(compound_node(work, width, ports))
+            Ok(compound_node(work, width, all_ports(alloc, ports)))
         }
     }
 }
@@ -52,15 +54,15 @@ fn simple_by(
     row: Simple,
     own: Simple,
     shape: Shape,
-    filled: &[Filled],
+    told: bool,
     joined: bool,
     marks: u32,
-    ports: Seq<Port>,
+    ports: Gapped<Port>,
 ) -> PlanNode
-    ensures { result ≡ simple_by filled.now joined marks row own shape ports }
+    ensures { (fs : List Filled) → told ≡ told_in fs own → result ≡ simple_by fs joined marks row own shape ports }
 {
     let written = written_of(own, joined);
-    let counted = counted_of(own, told_of(filled, own), marks);
+    let counted = counted_of(own, told, marks);
     simple_node(row, shape, written, counted, ports)
 }
 
@@ -104,10 +106,10 @@ fn returned_node(
         row_read(reading, row),
         row,
         shape,
-        filled,
+        told_of(filled, row),
         joined,
         marks,
-        ins,
+        all_ports(alloc, ins),
     ))
 }
 
@@ -116,7 +118,7 @@ fn plain_node(
     plain: Option<u32>,
     row: Simple,
     shape: Shape,
-    filled: &[Filled],
+    filled: &Gapped<Filled>,
     joined: bool,
     marks: u32,
     collects: &mut Seq<Collect>,
@@ -125,10 +127,15 @@ fn plain_node(
     ensures collects { OnOk result (collects.new ≡ collects.old ++ plain_collects plain row filled.now) }
 {
     match plain {
-        Some(plain) => returned_node(alloc, plain, row, shape, filled, joined, marks, collects),
+        Some(plain) => {
+            let listed = filled.listed(alloc)?;
+            let ports = listed.as_slice();
+            returned_node(alloc, plain, row, shape, ports, joined, marks, collects)
+        }
         None => {
-            let ports = simple_ports(alloc, filled)?;
-            Ok(simple_by(row, row, shape, filled, joined, marks, ports))
+            let ports = spread_ports(alloc, filled)?;
+            let told = all_told(alloc, filled, row)?;
+            Ok(simple_by(row, row, shape, told, joined, marks, ports))
         }
     }
 }
@@ -152,11 +159,13 @@ pub fn node_of(
         joined,
         marks,
     } = parts;
-    let filled = ports.as_slice();
     match task {
         Task::Plain(row, shape) => {
-            plain_node(alloc, plain, row, shape, filled, joined, marks, collects)
+            plain_node(alloc, plain, row, shape, &ports, joined, marks, collects)
         }
-        Task::Whole(work) => whole_node(alloc, work, width, filled),
+        Task::Whole(work) => {
+            let filled = ports.listed(alloc)?;
+            whole_node(alloc, work, width, filled.as_slice())
+        }
     }
 }

@@ -10,3 +10,4 @@ pub mod UpdateSteps
 pub mod ElementSteps
 pub mod PartRows
 pub mod RangeRows
+pub mod SparseSteps
