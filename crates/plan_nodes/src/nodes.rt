@@ -1,19 +1,23 @@
 //! A node.
 ghost use Rattle.std.specs.Prelude.{◌≡◌, ◌++◌, List, length, None, Some, IfOk, OnOk};
 ghost use Rattle.node_works.specs.Tasks.{IsCallOrWhole, IsTask};
-ghost use Rattle.plan_nodes.specs.Nodes.{callee_in, collects_by, node_by, plain_collects, plain_node, simple_by, whole_by, whole_node};
+ghost use Rattle.plan_nodes.specs.Nodes.{IsSparse, callee_in, collects_by, node_by, plain_collects, plain_node, simple_by, whole_by, whole_node};
 ghost use Rattle.port_feeds.specs.declared.filled.Filled.{Filled};
 ghost use Rattle.plan_nodes.specs.Ports.{row_read, told_in};
 
-use crate::collected::read_ports;
+use crate::collected::{read_ports, whole_ports};
 use crate::parts::NodeParts;
-use crate::ports::{all_ports, call_ports, compound_ports, simple_ports, spread_ports};
+use crate::ports::{
+    all_ports, call_ports, compound_ports, simple_port, simple_ports, spread_ports,
+};
 use crate::told::{all_told, own_left, told_of};
 use flow_value::{NoMemory, Seq, Shape};
 use gapped::Gapped;
 use if1_graph::Simple;
 use node_works::Task;
-use plan_builder::{Reading, add_collects, call_node, compound_node, reading_of, simple_node};
+use plan_builder::{
+    Reading, add_collects, call_node, compound_node, multiple_of, reading_of, simple_node,
+};
 use plan_data::{PlanNode, Port, Work};
 use port_feeds::Filled;
 use row_counts::{counted_of, written_of};
@@ -113,6 +117,53 @@ fn returned_node(
     ))
 }
 
+fn returned_all(
+    alloc: Global,
+    plain: u32,
+    row: Simple,
+    shape: Shape,
+    filled: &Gapped<Filled>,
+    joined: bool,
+    marks: u32,
+    collects: &mut Seq<Collect>,
+) -> Result<PlanNode, NoMemory>
+    ensures node { IfOk result (λ node. node ≡ plain_node filled.now joined marks (Some plain) (length collects.old) row shape) }
+    ensures collects { OnOk result (collects.new ≡ collects.old ++ plain_collects (Some plain) row filled.now) }
+{
+    let listed = filled.listed(alloc)?;
+    let ports = listed.as_slice();
+    returned_node(alloc, plain, row, shape, ports, joined, marks, collects)
+}
+
+fn returned_sparse(
+    alloc: Global,
+    plain: u32,
+    row: Simple,
+    shape: Shape,
+    filled: &Gapped<Filled>,
+    joined: bool,
+    marks: u32,
+    collects: &mut Seq<Collect>,
+) -> Result<PlanNode, NoMemory>
+    requires { IsSparse row }
+    ensures node { IfOk result (λ node. node ≡ plain_node filled.now joined marks (Some plain) (length collects.old) row shape) }
+    ensures collects { OnOk result (collects.new ≡ collects.old ++ plain_collects (Some plain) row filled.now) }
+{
+    let kept = filled.kept();
+    match multiple_of(plain, kept.filler.feed) {
+        Some(_) => returned_all(alloc, plain, row, shape, filled, joined, marks, collects),
+        None => {
+            let number = number_of(collects)?;
+            let gaps = Seq::from_slice(alloc, kept.gaps)?;
+            let ports = simple_ports(alloc, kept.items)?;
+            let ins = whole_ports(alloc, plain, number, kept.items)?;
+            add_collects(plain, Reading::Whole, ports.as_slice(), collects)?;
+            let spread = Gapped::new(simple_port(kept.filler), gaps, ins);
+            Ok(simple_by(row, row, shape, false, joined, marks, spread))
+        }
+    }
+}
+
 fn plain_node(
     alloc: Global,
     plain: Option<u32>,
@@ -127,11 +178,12 @@ fn plain_node(
     ensures collects { OnOk result (collects.new ≡ collects.old ++ plain_collects plain row filled.now) }
 {
     match plain {
-        Some(plain) => {
-            let listed = filled.listed(alloc)?;
-            let ports = listed.as_slice();
-            returned_node(alloc, plain, row, shape, ports, joined, marks, collects)
-        }
+        Some(plain) => match row {
+            Simple::RBuild | Simple::RReplace => {
+                returned_sparse(alloc, plain, row, shape, filled, joined, marks, collects)
+            }
+            _ => returned_all(alloc, plain, row, shape, filled, joined, marks, collects),
+        },
         None => {
             let ports = spread_ports(alloc, filled)?;
             let told = all_told(alloc, filled, row)?;

@@ -1,6 +1,7 @@
 //! The edge that leads to a port, among edges in order.
-ghost use Rattle.std.specs.Prelude.{◌≡◌, ◌<◌, ◌≤◌, ℕ, None, option_and_then, slice_get, AllPairs, IfSome};
+ghost use Rattle.std.specs.Prelude.{◌≡◌, ◌<◌, ◌≤◌, ℕ, None, Some, option_and_then, slice_get, AllPairs, IfSome};
 ghost use Rattle.std.specs.Option.{option_copied};
+ghost use Rattle.if1_graph.specs.declared.graph.Edge.{Edge};
 ghost use Rattle.if1_graph.specs.Normal.{Precedes};
 ghost use Rattle.port_feeds.specs.Found.{edge_found, if_leading, stands_before};
 
@@ -24,6 +25,16 @@ pub fn place_of(edges: &[Edge], node: u32, port: u32) -> usize
     edges.partition_point(|e| stands_before(e, node, port))
 }
 
+// an edge to another node or to a lower port is no answer
+fn port_up(edge: Option<&Edge>, node: u32, port: u32) -> Option<u32>
+    ensures { IfSome result (λ p. (e : Edge) × (option_copied edge.entry ≡ Some e) × (e.node ≡ node) × (e.port ≡ p) × (port ≤ p)) }
+{
+    match edge {
+        Some(edge) if edge.node == node && port <= edge.port => Some(edge.port),
+        _ => None,
+    }
+}
+
 /// The port of the first edge to this node from a port on. Takes a search.
 fn port_from(edges: &[Edge], node: u32, port: u32) -> Option<u32>
     requires { AllPairs Precedes edges.now }
@@ -31,12 +42,7 @@ fn port_from(edges: &[Edge], node: u32, port: u32) -> Option<u32>
     ensures between { IfSome result (λ p. (j : ℕ) → port ≤ j → j < p → edge_found edges.now node j ≡ None) }
 {
     let place = edges.partition_point(|e| stands_before(e, node, port));
-    let edge = item_at(edges, place)?;
-    if edge.node == node && edge.port >= port {
-        Some(edge.port)
-    } else {
-        None
-    }
+    port_up(item_at(edges, place), node, port)
 }
 
 /// A port behind this one, up to the last one, between which and this one no edge leads to the node.

@@ -1,12 +1,15 @@
-use Rattle.std.proofs.Common.{◌≡◌, ◌≤◌, length}
+use Rattle.std.proofs.Common.{◌≡◌, ◌-◌, ◌≤◌, length}
 use Rattle.gapped.specs.Spread.{spread}
 use Rattle.plan_data.specs.declared.plan.PlanData.{PlanData}
 use Rattle.plan_builder.specs.Feeds.{HasLiterals}
 use Rattle.port_feeds.specs.Filled.{ArePorts}
 use Rattle.port_feeds.proofs.filled.ports_of.Given as goal
 
-abbrev pub invariant-loop : goal.invariant-loop
-invariant-loop l =
+abbrev pub decreases-loop-place : goal.decreases-loop-place
+decreases-loop-place l = l.width - l.place
+
+abbrev pub invariant-loop-place : goal.invariant-loop-place
+invariant-loop-place l =
     record {
       long : length (spread l.none l.gaps l.ports) ≡ l.place;
       up : l.place ≤ l.width;
