@@ -85,11 +85,11 @@ module _ (D : PlanData) (formed : IsFormed D) (P : Plan) (old new : Draft) (o : 
       zeroth : number_in D 0 ≡ 0
       zeroth = elim (ltb 0 (length D.literals)) as (λ b. (if b then 0 else 0) ≡ 0) [ true ↦ refl | false ↦ refl ]
 
-  pub sparse-grows : (args : List Seat) (first : ℕ) (f : Port) (ks : List ℕ) (xs : List Port) (row : SparseRow) (out : ℕ) (copies : Bool) (g i n : ℕ) → IsUnfilled f → length ks ≡ length xs → length (spread f ks xs) ≤ 2 ^ 32 - 1
+  pub sparse-grows : (args : List Seat) (first : ℕ) (f : Port) (ks : List ℕ) (xs : List Port) (row : SparseRow) (out : ℕ) (copies : Bool) (g i n : ℕ) → IsUnfilled f → length ks ≡ length xs
       → IsToldOf D P (row_of row) written.Nothing (counted_by copies) 1 (map mode_of (spread f ks xs)) o → new.steps ≡ old.steps ++ step.Sparse row g i n out copies ∷ [] → new.operands ≡ old.operands ++ map (laid D args first) xs → new.targets ≡ old.targets ++ ks → new.collects ≡ old.collects
       → i ≡ length old.operands → n ≡ length xs → g ≡ length old.targets
       → Grows D P old new (line o (made.Fire (row_of row) (shape_in row) (at_seats D (seats_at args first (spread f ks xs))) out 1) ∷ []) (setting (map mode_of (spread f ks xs)) [] lives owns ∷ [])
-  sparse-grows args first f ks xs row out copies g i n unfilled even few told a b c d i_is n_is g_is =
+  sparse-grows args first f ks xs row out copies g i n unfilled even told a b c d i_is n_is g_is =
       let os = map (laid D args first) xs in
       let all = spread f ks xs in
       let long = n_is ∙ sym (length-map xs (laid D args first)) in
@@ -109,7 +109,6 @@ module _ (D : PlanData) (formed : IsFormed D) (P : Plan) (old new : Draft) (o : 
             record {
               there = operands-there D old new code os i n h b i_is long;
               numbers = targets-there D old new code ks g n h c g_is (n_is ∙ sym even);
-              few = subst (λ m. m ≤ 2 ^ 32 - 1) (sym (ap length whole ∙ length-map all (laid D args first))) few;
               plain = subst (ArePlain code) (sym whole) (ports-plain D formed code h.literals some args first all);
             };
         keeps = λ k. refl;

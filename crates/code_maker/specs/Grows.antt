@@ -1,5 +1,5 @@
 -- Steps that are added to code are these lines, with these settings, whatever is added behind them.
-use Rattle.std.specs.Prelude.{◌≡◌, ◌⊎◌, ◌+◌, ◌-◌, ◌^◌, ◌<◌, ◌≤◌, ℕ, map, length, true, false, List, [], ◌∷◌, ◌++◌, get_or}
+use Rattle.std.specs.Prelude.{◌≡◌, ◌⊎◌, ◌+◌, ◌<◌, ◌≤◌, ℕ, map, length, true, false, List, [], ◌∷◌, ◌++◌, get_or}
 use Rattle.flow_value.specs.declared.operands.Shape.{Shape}
 use Rattle.if1_graph.specs.declared.op.Simple.{Simple}
 use Rattle.graph_meaning.specs.Demand.{Vertex}
@@ -87,11 +87,10 @@ AreCollected code i n = i + n ≤ length code.collects
 abbrev pub AreTargets : Code → (first many : ℕ) → Type 0
 AreTargets code i n = i + n ≤ length code.targets
 
--- so many operands from one on, and as many numbers of ports that nothing fills, which 32 bits count
+-- so many operands from one on, and as many numbers of ports that nothing fills
 pub record AreNamedApart (code : Code) (gaps first many : ℕ) : Type 0 where
   pub there : first + many ≤ length code.operands
   pub numbers : gaps + many ≤ length code.targets
-  pub few : length (gapped code gaps first many) ≤ 2 ^ 32 - 1
   pub plain : ArePlain code (gapped code gaps first many)
 
 -- the new block has as many cells as the function that the node calls

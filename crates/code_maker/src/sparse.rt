@@ -105,7 +105,6 @@ fn add_sparse(
     requires below { AreBelow (2 ^ 32 - first) kept.items.now }
     requires unfilled { IsUnfilled kept.filler }
     requires even { length kept.gaps.now ≡ length kept.items.now }
-    requires few { length (spread kept.filler kept.gaps.now kept.items.now) ≤ u32.MAX }
     ensures { OnOk result ((P : Plan) (o : Origin) (lives owns : Cells_of) → IsToldOf plan.now P (row_of node.row) Written.Nothing (counted_by node.copies) 1 (map mode_of (spread kept.filler kept.gaps.now kept.items.now)) o → Grows plan.now P draft.old draft.new (line o (Made.Fire (row_of node.row) (shape_in node.row) (at_seats plan.now (seats_at args.now first (spread kept.filler kept.gaps.now kept.items.now))) out 1) ∷ []) (setting (map mode_of (spread kept.filler kept.gaps.now kept.items.now)) [] lives owns ∷ [])) }
 {
     let ins = count_of(draft.operands.len())?;
@@ -158,6 +157,35 @@ fn add_all(
     )
 }
 
+/// Adds a step that fires a node of this kind, of whose ports some are not filled.
+fn add_kept(
+    alloc: Global,
+    draft: &mut Draft,
+    plan: &PlanData,
+    args: &[Seat],
+    first: u32,
+    ports: &Gapped<Port>,
+    node: SparseNode,
+    row: Simple,
+    shape: Shape,
+    written: Written,
+    counted: Counted,
+    out: u32,
+    width: u32,
+) -> Result<(), NoMemory>
+    requires formed { IsFormed plan.now }
+    requires below { AreBelow (2 ^ 32 - first) ports.now }
+    requires node { IsSparseNode row shape written counted width node }
+    ensures { OnOk result ((P : Plan) (o : Origin) (lives owns : Cells_of) → IsToldOf plan.now P row written counted width (map mode_of ports.now) o → Grows plan.now P draft.old draft.new (line o (Made.Fire row (shape_of shape) (at_seats plan.now (seats_at args.now first ports.now)) out width) ∷ []) (setting (map mode_of ports.now) [] lives owns ∷ [])) }
+{
+    match kept_of(ports) {
+        Some(kept) => add_sparse(draft, plan, args, first, node, kept, out),
+        None => add_all(
+            alloc, draft, plan, args, first, ports, row, shape, written, counted, out, width,
+        ),
+    }
+}
+
 /// Adds a step that fires a simple node of whose ports some are not filled.
 fn add_some(
     alloc: Global,
@@ -177,22 +205,18 @@ fn add_some(
     requires below { AreBelow (2 ^ 32 - first) ports.now }
     ensures { OnOk result ((P : Plan) (o : Origin) (lives owns : Cells_of) → IsToldOf plan.now P row written counted width (map mode_of ports.now) o → Grows plan.now P draft.old draft.new (line o (Made.Fire row (shape_of shape) (at_seats plan.now (seats_at args.now first ports.now)) out width) ∷ []) (setting (map mode_of ports.now) [] lives owns ∷ [])) }
 {
-    let Some(_many) = ports.count() else {
-        return Err(NoMemory);
-    };
-    match (
-        sparse_node(row, shape, written, counted, width),
-        kept_of(ports),
-    ) {
-        (Some(node), Some(kept)) => add_sparse(draft, plan, args, first, node, kept, out),
-        _ => add_all(
+    match sparse_node(row, shape, written, counted, width) {
+        Some(node) => add_kept(
+            alloc, draft, plan, args, first, ports, node, row, shape, written, counted, out, width,
+        ),
+        None => add_all(
             alloc, draft, plan, args, first, ports, row, shape, written, counted, out, width,
         ),
     }
 }
 
 /// Adds a step that fires a simple node. Where ports are not filled and the node is an RBuild or an
-/// RReplace, the step names those alone that are; more ports than 32 bits count are want of memory.
+/// RReplace, the step names those alone that are.
 pub fn add_plain(
     alloc: Global,
     draft: &mut Draft,

@@ -1,6 +1,6 @@
 -- Items with fillers before them, one after another.
 use Rattle.std.proofs.Common.{◌≡◌, ℕ, zero, suc, ◌+◌, ◌≤◌, List, [], ◌∷◌, ◌++◌, map, drop, replicate, length, get_or, refl, sym, ap, ◌∙◌, arith}
-use Rattle.std.proofs.lemmas.List.{append-nil, append_assoc, length-append, length-replicate, map-append}
+use Rattle.std.proofs.lemmas.List.{append-nil, append_assoc, map-append}
 use Rattle.gapped.specs.Spread.{AreNone, spread}
 
 all-dropped : {A : Type 0} (i : ℕ) (xs : List A) → length xs ≤ i → drop i xs ≡ []
@@ -44,19 +44,6 @@ module _ {A : Type 0} (f : A) where
   spread_of_none [] xs h = refl
   spread_of_none (k ∷ ks) [] h = refl
   spread_of_none (k ∷ ks) (x ∷ xs) h = ap (λ z. x ∷ z) (spread_of_none ks xs h.1) ∙ ap (λ n. replicate n f ++ (x ∷ spread f ks xs)) (sym h.0)
-
-  -- one more item, in numbers
-  pub count-step : (ks : List ℕ) (xs : List A) (i many : ℕ) (x : A) → drop i xs ≡ x ∷ drop (i + 1) xs → many + length (spread f (drop i ks) (drop i xs)) ≡ length (spread f ks xs)
-      → (many + get_or ks i 0) + 1 + length (spread f (drop (i + 1) ks) (drop (i + 1) xs)) ≡ length (spread f ks xs)
-  count-step ks xs i many x here inv =
-      let s : i + 1 ≡ suc i = omega arith in
-      let rest = spread f (drop (suc i) ks) (drop (i + 1) xs) in
-      let a = ap (λ z. length (spread f (drop i ks) z)) here in
-      let b = ap length (spread-next ks i x (drop (i + 1) xs)) in
-      let c = length-append (replicate (get_or ks i 0) f) (x ∷ rest) in
-      let d = length-replicate (get_or ks i 0) f in
-      let e = ap (λ z. length (spread f (drop z ks) (drop (i + 1) xs))) s in
-      omega (arith, inv, a, b, c, d, e)
 
   -- one more behind them
   pub spread-more : (ks : List ℕ) (xs : List A) (k : ℕ) (x : A) → length ks ≡ length xs → spread f (ks ++ k ∷ []) (xs ++ x ∷ []) ≡ spread f ks xs ++ (replicate k f ++ (x ∷ []))

@@ -1,5 +1,5 @@
 //! The lists.
-ghost use Rattle.std.specs.Prelude.{◌≡◌, ◌++◌, true, replicate, get_or, length, IfOk, IfSome, OnOk};
+ghost use Rattle.std.specs.Prelude.{◌≡◌, ◌++◌, true, replicate, get_or, IfOk, IfSome, OnOk};
 ghost use Rattle.gapped.specs.Spread.{AreNone, spread};
 
 use flow_value::{NoMemory, Numbers, Seq};
@@ -93,18 +93,6 @@ fn are_none(gaps: &[u32]) -> bool
     true
 }
 
-fn count_in<T: Copy>(gaps: &[u32], items: &[T], filler: T) -> Option<u32>
-    ensures { IfSome result (λ n. n ≡ length (spread filler gaps.now items.now)) }
-{
-    let _same = filler;
-    let mut many: u32 = 0;
-    for place in 0..items.len() {
-        let before = many.checked_add(gap_at(gaps, place))?;
-        many = before.checked_add(1)?;
-    }
-    Some(many)
-}
-
 /// These items in a list of their own, with so many fillers before each.
 pub fn spread_out<T: Copy>(
     alloc: Global,
@@ -144,13 +132,6 @@ impl<T: Copy> Gapped<T> {
         } else {
             None
         }
-    }
-
-    /// How many items there are, with the fillers, if 32 bits count them.
-    pub fn count(&self) -> Option<u32>
-        ensures { IfSome result (λ n. n ≡ length self.now) }
-    {
-        count_in(self.gaps.as_slice(), self.items.as_slice(), self.filler)
     }
 
     /// All items in a list of their own.

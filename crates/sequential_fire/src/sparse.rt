@@ -72,7 +72,7 @@ fn sum_of(counted: bool, before: u64, with_operands: u64) -> u64
 }
 
 /// Fires an RBuild or RReplace of whose ports few are filled. What is taken
-/// leaves its cell and goes into the output.
+/// leaves its cell and goes into the output. More ports than 32 bits count are want of memory.
 #[inline(never)]
 pub fn fire_sparse(
     machine: &mut Machine,
@@ -89,7 +89,6 @@ pub fn fire_sparse(
     requires place { machine.old.pc < 4294967296 }
     requires listed { ins + many ≤ length code.now.operands }
     requires numbers { gaps + many ≤ length code.now.targets }
-    requires few { length (gapped code.now gaps ins many) < 4294967296 }
     requires inside { AreInside code.now (length machine.old.cells.items - machine.old.base) (gapped code.now gaps ins many) }
     requires apart { AreApart code.now (gapped code.now gaps ins many) }
     requires out { machine.old.base + out < length machine.old.cells.items }
@@ -100,6 +99,9 @@ pub fn fire_sparse(
         return Ok(Turn::Over);
     }
     let operands = all_operands(alloc, code, gaps, ins, many)?;
+    if operands.len() > u32::MAX as usize {
+        return Err(NoMemory);
+    }
     let mut counted = machine.copies;
     load(
         alloc,

@@ -97,11 +97,9 @@ module _ (code : Code) where
   pub apart-so : (room gaps first many : ℕ) → AreNamedApart code gaps first many → AreCells room (map (operand_in code) (gapped code gaps first many)) → AreTakenLast (map (mode_in code) (gapped code gaps first many)) (map (operand_in code) (gapped code gaps first many))
       → AreSpread code room gaps first many
   apart-so room g i n named cells last =
-      let few = named.few in
       record {
         listed_there = named.there;
         numbers_there = named.numbers;
-        few = omega (arith, few);
         inside = all-inside room (gapped code g i n) named.plain cells;
         apart = all-apart (gapped code g i n) named.plain last;
       }

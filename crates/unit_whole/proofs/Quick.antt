@@ -35,7 +35,7 @@ module _ (code : Code) (ys : List Step) where
   listed-as room i n h = record { listed_there = h.listed_there; long = h.long; inside = all-inside room (listed code i n) h.inside; apart = h.apart }
 
   spread-as : (room g i n : ℕ) → AreSpread code room g i n → AreSpread (with_steps code ys) room g i n
-  spread-as room g i n h = record { listed_there = h.listed_there; numbers_there = h.numbers_there; few = h.few; inside = all-inside room (gapped code g i n) h.inside; apart = h.apart }
+  spread-as room g i n h = record { listed_there = h.listed_there; numbers_there = h.numbers_there; inside = all-inside room (gapped code g i n) h.inside; apart = h.apart }
 
   collected-as : (room i n : ℕ) → AreCollected code room i n → AreCollected (with_steps code ys) room i n
   collected-as room i n h = record { collected = h.collected; counted_long = h.counted_long }

@@ -8,6 +8,6 @@ returns c =
     let a = c.args in
     let k = a.kept in
     on_ok_weaker c.add.result
-    (λ e P o lives owns told. sparse-grows a.plan.now c.requires.formed P a.draft.now _ o lives owns a.args.now a.first k.filler k.gaps.now k.items.now a.node.row a.out a.node.copies c.in_ok-gaps.gaps c.in_ok-ins.ins c.in_ok-many.many c.requires.unfilled c.requires.even c.requires.few told
-    e c.in_ok-add_ports.ensures c.in_ok-extend.ensures.ok refl (c.in_ok-ins.ensures ∙ c.len.ensures) c.in_ok-many.ensures (c.in_ok-gaps.ensures ∙ c.len-3.ensures))
+    (λ e P o lives owns told. sparse-grows a.plan.now c.requires.formed P a.draft.now _ o lives owns a.args.now a.first k.filler k.gaps.now k.items.now a.node.row a.out a.node.copies c.in_ok-gaps.gaps c.in_ok-ins.ins c.in_ok-many.many c.requires.unfilled c.requires.even told
+    e c.in_ok-add_ports.ensures c.in_ok-extend.ensures.ok refl (c.in_ok-ins.ensures ∙ c.len.ensures) c.in_ok-many.ensures (c.in_ok-gaps.ensures ∙ c.len-2.ensures))
     c.add.ensures.ok

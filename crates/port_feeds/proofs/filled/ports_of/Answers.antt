@@ -45,9 +45,9 @@ loop-place-preserved c =
     let behind = c.port_behind-next.ensures.behind in
     let up = c.port_behind-next.ensures.up in
     let gaps : c.add.new.self ≡ c.loop-place.gaps ++ k ∷ [] = c.in_ok-add.ensures.ok in
-    let ports : c.add-2.new.self ≡ c.loop-place.ports ++ f ∷ [] = c.in_ok-add-2.ensures.ok in
-    let all : spread none c.add.new.self c.add-2.new.self ≡ before ++ (replicate k none ++ (f ∷ [])) =
-    ap (λ z. spread none z c.add-2.new.self) gaps ∙ (ap (spread none (c.loop-place.gaps ++ k ∷ [])) ports ∙ spread-more none c.loop-place.gaps c.loop-place.ports k f even) in
+    let ports : c.add-in-loop-place.new.self ≡ c.loop-place.ports ++ f ∷ [] = c.in_ok-add-2.ensures.ok in
+    let all : spread none c.add.new.self c.add-in-loop-place.new.self ≡ before ++ (replicate k none ++ (f ∷ [])) =
+    ap (λ z. spread none z c.add-in-loop-place.new.self) gaps ∙ (ap (spread none (c.loop-place.gaps ++ k ∷ [])) ports ∙ spread-more none c.loop-place.gaps c.loop-place.ports k f even) in
     let a = length-append before (replicate k none ++ (f ∷ [])) in
     let b = length-append (replicate k none) (f ∷ []) in
     let d = length-replicate k none in
