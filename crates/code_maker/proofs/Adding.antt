@@ -29,11 +29,15 @@ use Rattle.plan_data.specs.declared.plan.PlanData.{PlanData}
 use Rattle.plan_data.specs.Parts.{IsFormed, mode_by, mode_of}
 use Rattle.code_maker.specs.declared.draft.Draft.{Draft}
 use Rattle.code_maker.specs.declared.seats.Seat.{Seat}
-use Rattle.code_maker.specs.Seats.{at_seat, at_seats, laid, looked_at, number_in, seat_at, seats_at, sifts_among, with_mode}
+use Rattle.code_maker.specs.Seats.{at_seat, at_seats, laid, looked_at, seat_at, seats_at, sifts_among, with_mode}
 use Rattle.code_maker.specs.Sparse.{IsUnfilled}
 use Rattle.code_maker.specs.Grows.{AreNamed, ArePlain, Begins, Grows, IsRoomOf, IsToldOf, read_as}
 use Rattle.code_maker.proofs.Reading.{kept-by, looked-read, more-read, operand-is, operands-are, plain-one, ports-kept, ports-plain, ports-read, puts-none, read-one, sifts-are, sifts-long, taken-same, unmarked}
 use Rattle.code_maker.proofs.Growing.{collects-named, collects-there, grows-one, operands-named, operands-there, targets-named, targets-there}
+
+either-way : (b : Bool) (n : ℕ) → (if b then n else n) ≡ n
+either-way true n = refl
+either-way false n = refl
 
 looked-long : (i n : ℕ) → length (looked_at i n) ≡ n
 looked-long i zero = refl
@@ -80,10 +84,7 @@ module _ (D : PlanData) (formed : IsFormed D) (P : Plan) (old new : Draft) (o : 
 
   -- what fills a port that nothing fills is the first literal
   unfilled-laid : (args : List Seat) (first : ℕ) (f : Port) → IsUnfilled f → laid D args first f ≡ operand.Literal 0
-  unfilled-laid args first f h = ap (λ z. with_mode D f.handled (seat_at args first z)) h.literal ∙ ap operand.Literal zeroth
-    where
-      zeroth : number_in D 0 ≡ 0
-      zeroth = elim (ltb 0 (length D.literals)) as (λ b. (if b then 0 else 0) ≡ 0) [ true ↦ refl | false ↦ refl ]
+  unfilled-laid args first f h = ap (λ z. with_mode D f.handled (seat_at args first z)) h.literal ∙ ap operand.Literal (either-way (ltb 0 (length D.literals)) 0)
 
   pub sparse-grows : (args : List Seat) (first : ℕ) (f : Port) (ks : List ℕ) (xs : List Port) (row : SparseRow) (out : ℕ) (copies : Bool) (g i n : ℕ) → IsUnfilled f → length ks ≡ length xs
       → IsToldOf D P (row_of row) written.Nothing (counted_by copies) 1 (map mode_of (spread f ks xs)) o → new.steps ≡ old.steps ++ step.Sparse row g i n out copies ∷ [] → new.operands ≡ old.operands ++ map (laid D args first) xs → new.targets ≡ old.targets ++ ks → new.collects ≡ old.collects

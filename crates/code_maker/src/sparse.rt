@@ -91,30 +91,33 @@ fn kept_of<'a>(ports: &'a Gapped<Port>) -> Option<Items<'a, Port>>
     }
 }
 
-/// Adds a step that fires a simple node of which these ports are kept.
+/// Adds a step that fires a simple node of which these ports are filled, each behind so many that are
+/// not.
 fn add_sparse(
     draft: &mut Draft,
     plan: &PlanData,
     args: &[Seat],
     first: u32,
     node: SparseNode,
-    kept: Items<'_, Port>,
+    filler: Port,
+    gaps: &[u32],
+    items: &[Port],
     out: u32,
 ) -> Result<(), NoMemory>
     requires formed { IsFormed plan.now }
-    requires below { AreBelow (2 ^ 32 - first) kept.items.now }
-    requires unfilled { IsUnfilled kept.filler }
-    requires even { length kept.gaps.now ≡ length kept.items.now }
-    ensures { OnOk result ((P : Plan) (o : Origin) (lives owns : Cells_of) → IsToldOf plan.now P (row_of node.row) Written.Nothing (counted_by node.copies) 1 (map mode_of (spread kept.filler kept.gaps.now kept.items.now)) o → Grows plan.now P draft.old draft.new (line o (Made.Fire (row_of node.row) (shape_in node.row) (at_seats plan.now (seats_at args.now first (spread kept.filler kept.gaps.now kept.items.now))) out 1) ∷ []) (setting (map mode_of (spread kept.filler kept.gaps.now kept.items.now)) [] lives owns ∷ [])) }
+    requires below { AreBelow (2 ^ 32 - first) items.now }
+    requires unfilled { IsUnfilled filler }
+    requires even { length gaps.now ≡ length items.now }
+    ensures { OnOk result ((P : Plan) (o : Origin) (lives owns : Cells_of) → IsToldOf plan.now P (row_of node.row) Written.Nothing (counted_by node.copies) 1 (map mode_of (spread filler gaps.now items.now)) o → Grows plan.now P draft.old draft.new (line o (Made.Fire (row_of node.row) (shape_in node.row) (at_seats plan.now (seats_at args.now first (spread filler gaps.now items.now))) out 1) ∷ []) (setting (map mode_of (spread filler gaps.now items.now)) [] lives owns ∷ [])) }
 {
     let ins = count_of(draft.operands.len())?;
-    let many = count_of(kept.items.len())?;
-    let gaps = count_of(draft.targets.len())?;
-    add_ports(&mut draft.operands, plan, args, first, kept.items)?;
-    draft.targets.extend(kept.gaps)?;
+    let many = count_of(items.len())?;
+    let numbers = count_of(draft.targets.len())?;
+    add_ports(&mut draft.operands, plan, args, first, items)?;
+    draft.targets.extend(gaps)?;
     draft.steps.add(Step::Sparse {
         row: node.row,
-        gaps,
+        gaps: numbers,
         ins,
         many,
         out,
@@ -179,7 +182,17 @@ fn add_kept(
     ensures { OnOk result ((P : Plan) (o : Origin) (lives owns : Cells_of) → IsToldOf plan.now P row written counted width (map mode_of ports.now) o → Grows plan.now P draft.old draft.new (line o (Made.Fire row (shape_of shape) (at_seats plan.now (seats_at args.now first ports.now)) out width) ∷ []) (setting (map mode_of ports.now) [] lives owns ∷ [])) }
 {
     match kept_of(ports) {
-        Some(kept) => add_sparse(draft, plan, args, first, node, kept, out),
+        Some(kept) => add_sparse(
+            draft,
+            plan,
+            args,
+            first,
+            node,
+            kept.filler,
+            kept.gaps,
+            kept.items,
+            out,
+        ),
         None => add_all(
             alloc, draft, plan, args, first, ports, row, shape, written, counted, out, width,
         ),

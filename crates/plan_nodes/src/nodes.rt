@@ -1,5 +1,7 @@
 //! A node.
 ghost use Rattle.std.specs.Prelude.{◌≡◌, ◌++◌, List, length, None, Some, IfOk, OnOk};
+ghost use Rattle.gapped.specs.Spread.{spread};
+ghost use Rattle.plan_builder.specs.Ways.{multiple_by};
 ghost use Rattle.node_works.specs.Tasks.{IsCallOrWhole, IsTask};
 ghost use Rattle.plan_nodes.specs.Nodes.{IsSparse, callee_in, collects_by, node_by, plain_collects, plain_node, simple_by, whole_by, whole_node};
 ghost use Rattle.port_feeds.specs.declared.filled.Filled.{Filled};
@@ -149,19 +151,39 @@ fn returned_sparse(
     ensures node { IfOk result (λ node. node ≡ plain_node filled.now joined marks (Some plain) (length collects.old) row shape) }
     ensures collects { OnOk result (collects.new ≡ collects.old ++ plain_collects (Some plain) row filled.now) }
 {
-    let kept = filled.kept();
-    match multiple_of(plain, kept.filler.feed) {
+    let own = filled.kept();
+    match multiple_of(plain, own.filler.feed) {
         Some(_) => returned_all(alloc, plain, row, shape, filled, joined, marks, collects),
-        None => {
-            let number = number_of(collects)?;
-            let gaps = Seq::from_slice(alloc, kept.gaps)?;
-            let ports = simple_ports(alloc, kept.items)?;
-            let ins = whole_ports(alloc, plain, number, kept.items)?;
-            add_collects(plain, Reading::Whole, ports.as_slice(), collects)?;
-            let spread = Gapped::new(simple_port(kept.filler), gaps, ins);
-            Ok(simple_by(row, row, shape, false, joined, marks, spread))
-        }
+        None => returned_kept(
+            alloc, plain, row, shape, own.filler, own.gaps, own.items, joined, marks, collects,
+        ),
     }
+}
+
+fn returned_kept(
+    alloc: Global,
+    plain: u32,
+    row: Simple,
+    shape: Shape,
+    filler: Filled,
+    gaps: &[u32],
+    items: &[Filled],
+    joined: bool,
+    marks: u32,
+    collects: &mut Seq<Collect>,
+) -> Result<PlanNode, NoMemory>
+    requires sparse { IsSparse row }
+    requires none { multiple_by plain filler.feed ≡ None }
+    ensures node { IfOk result (λ node. node ≡ plain_node (spread filler gaps.now items.now) joined marks (Some plain) (length collects.old) row shape) }
+    ensures collects { OnOk result (collects.new ≡ collects.old ++ plain_collects (Some plain) row (spread filler gaps.now items.now)) }
+{
+    let number = number_of(collects)?;
+    let numbers = Seq::from_slice(alloc, gaps)?;
+    let ports = simple_ports(alloc, items)?;
+    let ins = whole_ports(alloc, plain, number, items)?;
+    add_collects(plain, Reading::Whole, ports.as_slice(), collects)?;
+    let all = Gapped::new(simple_port(filler), numbers, ins);
+    Ok(simple_by(row, row, shape, false, joined, marks, all))
 }
 
 fn plain_node(
