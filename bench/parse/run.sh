@@ -16,13 +16,7 @@ import ast, sys
 print(len(ast.parse(open(sys.argv[1]).read()).body))
 PY
 
-milliseconds() { # a command
-    local begin end
-    begin=$(date +%s%N)
-    "$@" >"$build/printed"
-    end=$(date +%s%N)
-    echo $(((end - begin) / 1000000))
-}
+. bench/milliseconds.sh
 ours_on() { "$ours" parse <"$1"; }
 
 declare -A least

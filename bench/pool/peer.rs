@@ -1,11 +1,11 @@
-//! The work of the crate `bench_pool` with `Box`, `Arc` and `Vec`.
+//! The work of the crate `bench_pool` with `Box`, `Arc` and `Vec`, and values of 40 bytes.
 use std::env;
 use std::hint::black_box;
 use std::sync::Arc;
 
 const SHORT: u64 = 1000;
 const LONG: u64 = 4_000_000;
-const PLACES: u64 = 1000;
+const PLACES: usize = 1_000_000;
 
 #[allow(dead_code)]
 enum Val {
@@ -17,7 +17,7 @@ enum Val {
     Arr(i64, Vec<Val>),
     Rec(Vec<Val>),
     Uni(u32, Box<Val>),
-    Stream(Vec<Val>),
+    Stream(Vec<Val>, u64),
 }
 
 fn number_of(value: &Val) -> u64 {
@@ -46,21 +46,37 @@ fn lend_often(steps: u64) -> u64 {
     sum
 }
 
-fn make_rooms(rooms: u64, places: usize, write: bool) -> u64 {
-    for _ in 0..rooms {
-        let mut room = Vec::with_capacity(places);
-        for _ in 0..places {
-            room.push(Val::Null);
-        }
-        let mut room = black_box(room);
-        if write {
-            for i in 0..places {
-                room[i] = Val::Int(i as i64);
-            }
-        }
-        black_box(room);
+fn build_often(arrays: u64) -> u64 {
+    for _ in 0..arrays {
+        black_box(Vec::<Val>::with_capacity(PLACES));
     }
-    rooms
+    arrays
+}
+
+fn fill_often(arrays: u64) -> u64 {
+    for _ in 0..arrays {
+        let mut array = Vec::with_capacity(PLACES);
+        for _ in 0..PLACES {
+            array.push(Val::Null);
+        }
+        let mut array = black_box(array);
+        for i in 0..PLACES {
+            array[i] = Val::Int(i as i64);
+        }
+        black_box(array);
+    }
+    arrays
+}
+
+fn push_often(arrays: u64) -> u64 {
+    for _ in 0..arrays {
+        let mut array = black_box(Vec::with_capacity(PLACES));
+        for i in 0..PLACES {
+            array.push(Val::Int(i as i64));
+        }
+        black_box(array);
+    }
+    arrays
 }
 
 fn main() {
@@ -68,15 +84,16 @@ fn main() {
     let mut steps = SHORT;
     for arg in env::args() {
         match arg.as_str() {
-            "lend" | "room" | "write" => work = arg,
+            "lend" | "room" | "write" | "push" => work = arg,
             "long" => steps = LONG,
             _ => {}
         }
     }
     let sum = match work.as_str() {
         "lend" => lend_often(steps),
-        "room" => make_rooms(steps / PLACES, PLACES as usize, false),
-        "write" => make_rooms(steps / PLACES, PLACES as usize, true),
+        "room" => build_often(steps / 400),
+        "write" => fill_often(steps / 400_000),
+        "push" => push_often(steps / 400_000),
         _ => put_often(steps),
     };
     println!("{steps} steps: {sum}");

@@ -1,7 +1,8 @@
 #!/bin/bash
-# Times 4 million calls of the pool of aggregates beside Box, Arc and Vec of Rust, in turns, and prints nanoseconds a call,
-# the least of some rounds, without the program's start. A write costs what a place that is made and written costs more
-# than one that is made. Run it at the top of the repository, on an idle machine; the argument is the rounds.
+# Times the pool of aggregates beside Box, Arc and Vec of Rust, in turns: 4 million puts and lends, 10,000 arrays of a
+# million places that are begun and given up, and 10 that are written and let go, beside a Vec that is filled by index and one
+# whose elements are pushed. Prints nanoseconds a call, an array or a place, the least of some rounds, without the program's
+# start. Run it at the top of the repository, on an idle machine; the argument is the rounds.
 set -e
 rounds=${1:-10}
 build=$(mktemp -d)
@@ -24,32 +25,35 @@ keep() { # whose, the work, how much, its time
     [ -n "${least[$1 $2 $3]}" ] && [ "${least[$1 $2 $3]}" -le "$4" ] || least[$1 $2 $3]=$4
 }
 
+time_once() { # whose, its program, the work, how much
+    keep $1 $3 $4 "$(nanoseconds "$2" $3 $4)"
+}
 for work in put lend room write; do
     for amount in short long; do
         for ((i = 0; i < rounds; i++)); do
-            keep pool $work $amount "$(nanoseconds "$pool" $work $amount)"
+            time_once pool "$pool" $work $amount
             cp "$build/printed" "$build/first"
-            keep peer $work $amount "$(nanoseconds "$build/peer" $work $amount)"
+            time_once peer "$build/peer" $work $amount
             cmp "$build/first" "$build/printed"
+            [ $work != write ] || time_once peer "$build/peer" push $amount
         done
     done
 done
 
-picoseconds() { # whose, the work: what a call takes, without the start of the program
-    echo $(((least[$1 $2 long] - least[$1 $2 short]) * 1000 / (4000000 - 1000)))
+units() { # the work: how many calls, arrays or places a long run has more than a short one
+    case $1 in room) echo 9998 ;; write | push) echo 10000000 ;; *) echo 3999000 ;; esac
 }
 
-say() { # what, the pool's time, the peer, its time
-    awk -v what="$1" -v a="$2" -v peer="$3" -v b="$4" \
+picoseconds() { # whose, the work: what one takes, without the start of the program
+    echo $(((least[$1 $2 long] - least[$1 $2 short]) * 1000 / $(units $2)))
+}
+
+say() { # what, its work, the peer, the peer's work
+    awk -v what="$1" -v a="$(picoseconds pool $2)" -v peer="$3" -v b="$(picoseconds peer $4)" \
         'BEGIN { if (a < 0) a = 0; printf "%s: %.1f ns, %s %.1f ns, ratio %.2f\n", what, a / 1000, peer, b / 1000, a / b }'
 }
-for whose in pool peer; do
-    for work in put lend room write; do
-        least[$whose $work]=$(picoseconds $whose $work)
-    done
-    least[$whose store]=$((least[$whose write] - least[$whose room]))
-done
-say "put and take" "${least[pool put]}" "Box::new and drop" "${least[peer put]}"
-say "lend and give_back" "${least[pool lend]}" "Arc::clone and drop" "${least[peer lend]}"
-say "a place made and written" "${least[pool write]}" "of a Vec" "${least[peer write]}"
-say "the write alone" "${least[pool store]}" "an indexed store" "${least[peer store]}"
+say "put and take" put "Box::new and drop" put
+say "lend and give_back" lend "Arc::clone and drop" lend
+say "an array of 1,000,000 places begun" room "Vec::with_capacity" room
+say "a place built, written and sealed" write "of a Vec filled by index" write
+say "the same" write "of a Vec by push" push

@@ -13,7 +13,7 @@ ghost use Rattle.agg_pool.specs.declared.entry.Entry.TheVariants as entry;
 
 use crate::entry::{Building, Entry};
 use crate::parts::{Key, Lease, Segment};
-use crate::table::{blanks, make_room};
+use crate::table::make_room;
 use flow_value::{NoMemory, Val};
 use lease::Owner;
 use segment::Room;
@@ -183,8 +183,8 @@ impl Pool {
         value
     }
 
-    /// Begins an array of `n` places, under a key that was not in use. A number is added only where each that is free
-    /// is promised. On want of memory the entries are as before.
+    /// Begins an array of `n` places, under a key that was not in use. No place is touched. A number is added only where
+    /// each that is free is promised. On want of memory the entries are as before.
     pub fn build(&mut self, n: usize) -> Result<Key, NoMemory>
         requires few { n ≤ 4194304 }
         ensures now { IfOk result (λ key. (start : Ptr) × (entry_at self.new key.number ≡ Some (entry.Parts (record { start = start; places = replicate n unwritten })))) }
@@ -196,18 +196,19 @@ impl Pool {
         ensures err { OnErr result (self.new.entries ≡ self.old.entries) }
         ensures spare { self.new.spare ≡ self.old.spare }
     {
-        let items = blanks(*self.entries.allocator(), n)?;
+        let memory = Vec::with_capacity(*self.entries.allocator(), n)?;
         if self.spare < self.free.len() {
-            Ok(self.build_free(items))
+            Ok(self.build_free(memory, n))
         } else {
-            self.build_last(items)
+            self.build_last(memory, n)
         }
     }
 
-    /// Begins an array under a free number that is not promised.
-    fn build_free(&mut self, items: Vec<Val>) -> Key
+    /// Begins an array of `n` places under a free number that is not promised.
+    fn build_free(&mut self, memory: Vec<Val>, n: usize) -> Key
+        requires memory { (vec_len memory ≡ 0) × (n ≤ vec_capacity memory) }
         requires free { used self.old.entries + self.old.spare < length self.old.entries }
-        ensures now { (start : Ptr) × (self.new ≡ record self.old { entries = slice_set self.old.entries result.number (Some (entry.Parts (record { start = start; places = replicate (vec_len items) unwritten }))) }) }
+        ensures now { (start : Ptr) × (self.new ≡ record self.old { entries = slice_set self.old.entries result.number (Some (entry.Parts (record { start = start; places = replicate n unwritten }))) }) }
         ensures was_vacant { entry_at self.old result.number ≡ None }
         ensures known { result.number < length self.old.entries }
     {
@@ -217,7 +218,7 @@ impl Pool {
         let Some(number) = self.free.pop() else {
             unreachable!()
         };
-        let room = Room::new(items);
+        let room = Room::new(memory, n);
         let old = replace(
             &mut self.entries[number],
             Some(Entry::Parts(Building { room, place })),
@@ -226,15 +227,16 @@ impl Pool {
         Key { number }
     }
 
-    /// Begins an array under a new number.
-    fn build_last(&mut self, items: Vec<Val>) -> Result<Key, NoMemory>
-        ensures ok { IfOk result (λ key. (start : Ptr) × (key.number ≡ length self.old.entries) × (self.new ≡ record self.old { entries = self.old.entries ++ Some (entry.Parts (record { start = start; places = replicate (vec_len items) unwritten })) ∷ [] })) }
+    /// Begins an array of `n` places under a new number.
+    fn build_last(&mut self, memory: Vec<Val>, n: usize) -> Result<Key, NoMemory>
+        requires memory { (vec_len memory ≡ 0) × (n ≤ vec_capacity memory) }
+        ensures ok { IfOk result (λ key. (start : Ptr) × (key.number ≡ length self.old.entries) × (self.new ≡ record self.old { entries = self.old.entries ++ Some (entry.Parts (record { start = start; places = replicate n unwritten })) ∷ [] })) }
         ensures err { OnErr result (self.new ≡ self.old) }
     {
         let place = Box::new(*self.entries.allocator(), Val::Null)?;
         make_room(&mut self.entries, &mut self.free, &mut self.boxes)?;
         let number = self.entries.len();
-        let room = Room::new(items);
+        let room = Room::new(memory, n);
         self.entries
             .push_reserved(Some(Entry::Parts(Building { room, place })));
         Ok(Key { number })
@@ -291,7 +293,8 @@ impl Pool {
         let None = vacant else { unreachable!() };
     }
 
-    /// Ends the pool, with the values that are left in it.
+    /// Ends the pool, with the values that are left in it. Of an array that was not sealed the memory of its places is
+    /// freed, and what was written there is forgotten.
     pub fn end(self)
         requires idle { (number : ℕ) → IsIdleIfAny (entry_at self number) }
     {

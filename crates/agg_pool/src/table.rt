@@ -1,10 +1,9 @@
 //! Room in the vectors of a pool.
-ghost use Rattle.std.specs.Prelude.{◌≡◌, ◌+◌, ◌≤◌, ◌<◌, OnOk, OnErr, IfOk};
+ghost use Rattle.std.specs.Prelude.{◌≡◌, ◌+◌, ◌≤◌, ◌<◌, OnOk};
 ghost use Rattle.std.specs.Vec.{vec_len, vec_capacity};
 
 use crate::entry::Entry;
 use flow_value::{NoMemory, Val};
-use std::alloc::Global;
 
 /// Makes room for one more entry, and for the numbers and the boxes of all entries to come back.
 pub(crate) fn make_room(
@@ -22,15 +21,4 @@ pub(crate) fn make_room(
     free.reserve(entries.len() - free.len() + 1)?;
     spare.reserve(entries.len() - spare.len() + 1)?;
     Ok(())
-}
-
-/// `n` places of an array that is to be written.
-pub(crate) fn blanks(alloc: Global, n: usize) -> Result<Vec<Val>, NoMemory>
-    ensures { IfOk result (λ items. vec_len items ≡ n) }
-{
-    let mut items = Vec::with_capacity(alloc, n)?;
-    for _ in 0..n {
-        items.push_reserved(Val::Null);
-    }
-    Ok(items)
 }

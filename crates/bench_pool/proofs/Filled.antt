@@ -1,37 +1,42 @@
--- A part that is filled place by place, and a room whose one part came back.
-use Rattle.std.proofs.Common.{◌≡◌, ℕ, ◌+◌, ◌<◌, ◌≤◌, List, length, replicate, get_or, set, slice_get, Some, true, refl, sym, ap, subst, ◌∙◌, arith, length-set, IsTrue}
-use Rattle.std.proofs.lemmas.List.{get_or-set_other, get_or-replicate, length-replicate}
-use Rattle.std.specs.List.{All, list_all}
-use Rattle.std.proofs.lemmas.List.Elements.{All-set, All-replicate}
-use Rattle.std.proofs.lemmas.List.Sums.{list_all-from_AllPass}
+-- A part that is filled place by place.
+use Rattle.std.proofs.Common.{◌≡◌, ℕ, ◌+◌, ◌<◌, ◌≤◌, ◌&&◌, List, [], ◌∷◌, length, replicate, take, get_or, set, slice_get, Some, refl, sym, ap, subst, ◌∙◌, arith, length-set, IsTrue}
+use Rattle.std.specs.List.{list_all}
+use Rattle.std.proofs.lemmas.List.{get_or-set_same, get_or-set_other, get_or-replicate, length-replicate, take-set, take_all}
+use Rattle.std.proofs.lemmas.List.Folds.{list_all_more}
 use Rattle.std.proofs.lemmas.Option.{slice_get-get_or}
-use Rattle.segment.specs.Places.{Place, away, unwritten, written, is_here}
+use Rattle.segment.specs.Places.{Place, away, unwritten, written, is_written}
 
-abbrev pub IsHere : {X : Type 0} → Place X → Type 0
-IsHere p = is_here p ≡ true
+module _ {X : Type 0} where
+  -- of n places the first i are written, and the others are not
+  abbrev pub IsFilled : ℕ → List (Place X) → ℕ → Type 0
+  IsFilled n ps i = (length ps ≡ n) × IsTrue (list_all is_written (take i ps)) × ((j : ℕ) → i ≤ j → j < n → get_or ps j away ≡ unwritten)
 
-module _ {X : Type 0} (places : List (Place X)) (n : ℕ) where
-  -- the places from i on are unwritten
-  abbrev Left : List (Place X) → ℕ → Type 0
-  Left ps i = (j : ℕ) → i ≤ j → j < n → get_or ps j away ≡ unwritten
+  none_taken : (ps : List (Place X)) → IsTrue (list_all is_written (take 0 ps))
+  none_taken [] = refl
+  none_taken (p ∷ ps) = refl
 
-  pub begins : places ≡ replicate n unwritten → (length places ≡ n) × All IsHere places × Left places 0
-  begins are = (
-    ap length are ∙ length-replicate n unwritten,
-    subst (All IsHere) (sym are) (All-replicate IsHere n unwritten refl),
-    λ j _ lt. ap (λ ps. get_or ps j away) are ∙ get_or-replicate n j unwritten away lt,
-  )
+  pub begins : (n : ℕ) (ps : List (Place X)) → ps ≡ replicate n unwritten → IsFilled n ps 0
+  begins n ps are = (ap length are ∙ length-replicate n unwritten, none_taken ps, λ j _ lt. ap (λ qs. get_or qs j away) are ∙ get_or-replicate n j unwritten away lt)
 
-  module _ (i : ℕ) (long : length places ≡ n) (here : All IsHere places) (left : Left places i) (within : i < n) where
-    pub is_unwritten : slice_get places i ≡ Some unwritten
-    is_unwritten = slice_get-get_or places i away (omega arith) ∙ ap Some (left i (omega arith) within)
+  module _ (n : ℕ) (ps : List (Place X)) (i : ℕ) (filled : IsFilled n ps i) where
+    pub is_unwritten : i < n → slice_get ps i ≡ Some unwritten
+    is_unwritten within = let long = filled.0 in slice_get-get_or ps i away (omega arith) ∙ ap Some (filled.2 i (omega arith) within)
 
-    pub goes_on : (after : List (Place X)) (x : X) → after ≡ set places i (written x) → (length after ≡ n) × All IsHere after × Left after (i + 1)
-    goes_on after x is = (
-      ap length is ∙ length-set places i (written x) ∙ long,
-      subst (All IsHere) (sym is) (All-set IsHere places i (written x) refl here),
-      λ j le lt. ap (λ ps. get_or ps j away) is ∙ get_or-set_other places i j (written x) away (λ same. absurd (omega arith)) ∙ left j (omega arith) lt,
-    )
+    module _ (within : i < n) (after : List (Place X)) (x : X) (is : after ≡ set ps i (written x)) where
+      one_more : IsTrue (list_all is_written (take (i + 1) (set ps i (written x))))
+      one_more =
+          let qs = set ps i (written x) in
+          let long = filled.0 in
+          let same = length-set ps i (written x) in
+          list_all_more is_written qs i away (omega arith) ∙ ap (λ b. b && is_written (get_or qs i away)) (ap (list_all is_written) (take-set ps i (written x)) ∙ filled.1)
+          ∙ ap is_written (get_or-set_same ps i (written x) away (omega arith))
 
-pub all_here : {X : Type 0} (places : List (Place X)) → All IsHere places → IsTrue (list_all is_here places)
-all_here places here = list_all-from_AllPass is_here places here
+      pub goes_on : IsFilled n after (i + 1)
+      goes_on = (
+        ap length is ∙ length-set ps i (written x) ∙ filled.0,
+        subst (λ qs. IsTrue (list_all is_written (take (i + 1) qs))) (sym is) one_more,
+        λ j le lt. ap (λ qs. get_or qs j away) is ∙ get_or-set_other ps i j (written x) away (λ same. absurd (omega arith)) ∙ filled.2 j (omega arith) lt,
+      )
+
+    pub all_written : n ≤ i → IsTrue (list_all is_written ps)
+    all_written end = let long = filled.0 in subst (λ qs. IsTrue (list_all is_written qs)) (take_all i ps (omega arith)) filled.1

@@ -7,7 +7,7 @@ mod rooms;
 mod values;
 
 use flow_value::NoMemory;
-use rooms::make_rooms;
+use rooms::{build_often, gather_often};
 use std::alloc::Global;
 use std::{env, io};
 use values::{lend_often, put_often};
@@ -16,8 +16,8 @@ const SHORT: i64 = 1000;
 
 const LONG: i64 = 4_000_000;
 
-// How many places a room has.
-const PLACES: u16 = 1000;
+// How many places an array has.
+const PLACES: usize = 1_000_000;
 
 #[derive(Drop)]
 enum Work {
@@ -25,9 +25,9 @@ enum Work {
     Put,
     // A value is lent and given back.
     Lend,
-    // A place is made.
+    // An array is begun and given up.
     Room,
-    // A place is made and written.
+    // An array is built, each of its places written, and let go.
     Write,
 }
 
@@ -35,8 +35,8 @@ fn run(alloc: Global, work: Work, steps: i64) -> Result<i64, NoMemory> {
     match work {
         Work::Put => put_often(alloc, steps),
         Work::Lend => lend_often(alloc, steps),
-        Work::Room => make_rooms(alloc, steps / PLACES as i64, PLACES as usize, false),
-        Work::Write => make_rooms(alloc, steps / PLACES as i64, PLACES as usize, true),
+        Work::Room => build_often(alloc, steps / 400, PLACES),
+        Work::Write => gather_often(alloc, steps / 400_000, PLACES),
     }
 }
 

@@ -169,7 +169,9 @@ fn emit_node(
             let entry = number_at(plan.entries.as_slice(), *function);
             let inputs = number_at(plan.params.as_slice(), *function);
             let new = inputs + number_at(plan.extents.as_slice(), *function);
-            add_call(draft, plan, args, first, ports, entry, room, new, lo, node.width)
+            add_call(
+                draft, plan, args, first, ports, entry, room, new, lo, node.width,
+            )
         }
         _ => emit_whole(
             alloc, plan, room, levels, args, first, node, place, lo, draft,

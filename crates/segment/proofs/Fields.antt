@@ -1,9 +1,9 @@
 -- The one data field of a run, and structs of one field. Assumes `Logic`.
-use Rattle.std.proofs.Common.{◌≡◌, List, [], ◌∷◌, ◌++◌, refl, ap, ◌∙◌}
+use Rattle.std.proofs.Common.{◌≡◌, ℕ, List, [], ◌∷◌, ◌++◌, refl, ap, ◌∙◌}
 use lib.Dec.{T}
 use seplogic.Ra.Ura.{Ura}
-use mir.Syntax.{given as dict_at}
-use mir.Val.{Val, vstruct, vcons, vnil, of_list, has_ty, WT}
+use mir.Syntax.{w64, given as dict_at}
+use mir.Val.{Val, vunit, vint, vstruct, vcons, vnil, of_list, has_ty, WT}
 use base.Logic.{ent, emp}
 use base.Fml.{ftrue}
 use types.Logic.{Logic, sem}
@@ -18,6 +18,8 @@ use denote.Steps.{nothing}
 use denote.Struct.Struct.{Struct, within}
 use denote.Struct.Owning.{shape}
 use Rattle.std.proofs.alloc.Calls.{handle_tells}
+use Rattle.std.proofs.mem.Param.{El}
+use Rattle.std.proofs.ptr.Rows as arrays
 use Rattle.segment.specs.contracts.run.Run as run
 
 -- the machine's value of a struct of one field, and of a run at p
@@ -27,8 +29,19 @@ wrapped u = vstruct (vcons u vnil)
 abbrev pub stored : Ptr → Val
 stored p = wrapped (ptr_val p)
 
+-- that of a `Vec`, and of the one field of a struct
+abbrev pub stored_words : Ptr → ℕ → ℕ → Val → Val
+stored_words p len cap h = vstruct (vcons (ptr_val p) (vcons (vint w64 len) (vcons (vint w64 cap) (vcons h vnil))))
+
+abbrev pub inner : List Val → Val
+inner (vstruct (vcons u us) ∷ vs) = u
+inner vs = vunit
+
 abbrev pub Good : RattleType → Val → Type 0
 Good R v = T (has_ty (layout R) v) × WT v
+
+abbrev pub in_arrays : El → arrays.El
+in_arrays E = record { row = E.row; laws = E.laws }
 
 module _ (R : RattleType) where
   abbrev pub Pointer : RattleType

@@ -1,8 +1,9 @@
 -- A part of a list, and another list in its place.
-use Rattle.std.proofs.Common.{◌≡◌, ℕ, zero, suc, ◌+◌, ◌≤◌, ◌<◌, List, [], ◌∷◌, ◌++◌, length, take, drop, refl, sym, ap, ◌∙◌, arith, Option, Some, None, slice_get, slice_set, map, true≢false, length-append, length-drop, length-take-le, take-append-drop, drop-drop}
+use Rattle.std.proofs.Common.{◌≡◌, ℕ, zero, suc, ◌+◌, ◌-◌, ◌≤◌, ◌<◌, List, [], ◌∷◌, ◌++◌, length, take, drop, refl, sym, ap, ◌∙◌, arith, Option, Some, None, slice_get, slice_set, map, replicate, true≢false, length-append, length-drop, length-take-le, take-append-drop, drop-drop}
+use Rattle.std.proofs.lemmas.List.{length-map, length-replicate, append_assoc, replicate-append-replicate}
 use Rattle.std.specs.Prelude.{IsTrue}
 use Rattle.std.specs.List.{list_all}
-use Rattle.segment.specs.Places.{Place, away, unwritten, written, is_here, is_written, Fills}
+use Rattle.segment.specs.Places.{Place, away, unwritten, written, is_written}
 use Rattle.segment.specs.Runs.{part, spliced}
 
 module _ {X : Type 0} where
@@ -53,25 +54,32 @@ module _ {X : Type 0} where
       let next : suc i + 1 ≡ suc (i + 1) = omega arith in
       ap (λ (n : ℕ). y ∷ (take i ys ++ (x ∷ drop n (y ∷ ys)))) next ∙ ap (λ (l : List X). y ∷ l) (set-spliced ys i x (omega arith))
 
--- places that are all written are here, and only their values fill them
-pub all_here : {X : Type 0} (ps : List (Place X)) → IsTrue (list_all is_written ps) → IsTrue (list_all is_here ps)
-all_here [] all = refl
-all_here (away ∷ ps) all = all
-all_here (unwritten ∷ ps) all = absurd (true≢false (sym all))
-all_here (written x ∷ ps) all = all_here ps all
+-- places that are all written have values
+pub values : {X : Type 0} (ps : List (Place X)) → IsTrue (list_all is_written ps) → (xs : List X) × (map written xs ≡ ps)
+values [] all = ([], refl)
+values (away ∷ ps) all = absurd (true≢false (sym all))
+values (unwritten ∷ ps) all = absurd (true≢false (sym all))
+values (written x ∷ ps) all = let rest = values ps all in (x ∷ rest.0, ap (λ l. written x ∷ l) rest.1)
 
-pub filled : {X : Type 0} (ps : List (Place X)) (xs : List X) → IsTrue (list_all is_written ps) → Fills ps xs → map written xs ≡ ps
-filled [] [] all fills = refl
-filled [] (x ∷ xs) all fills = absurd fills
-filled (p ∷ ps) [] all fills = absurd fills
-filled (away ∷ ps) (x ∷ xs) all fills = absurd fills
-filled (unwritten ∷ ps) (x ∷ xs) all fills = absurd (true≢false (sym all))
-filled (written y ∷ ps) (x ∷ xs) all fills = (λ i. written (sym fills.0 i) ∷ filled ps xs all fills.1 i)
+-- the first of n places hold xs, and are as many with more of them behind
+module _ {X : Type 0} where
+  abbrev blank : ℕ → List (Place X)
+  blank n = replicate n unwritten
 
-pub fills_long : {X : Type 0} (ps : List (Place X)) (xs : List X) → Fills ps xs → length xs ≡ length ps
-fills_long [] [] fills = refl
-fills_long [] (x ∷ xs) fills = absurd fills
-fills_long (p ∷ ps) [] fills = absurd fills
-fills_long (away ∷ ps) (x ∷ xs) fills = absurd fills
-fills_long (unwritten ∷ ps) (x ∷ xs) fills = ap suc (fills_long ps xs fills)
-fills_long (written y ∷ ps) (x ∷ xs) fills = ap suc (fills_long ps xs fills.1)
+  blank_both : (m n : ℕ) → blank m ++ blank n ≡ blank (m + n)
+  blank_both m n = replicate-append-replicate m n unwritten
+
+  pub blank_more : (n c : ℕ) → n ≤ c → blank n ++ blank (c - n) ≡ blank c
+  blank_more n c fits = let all : n + (c - n) ≡ c = omega arith in blank_both n (c - n) ∙ ap blank all
+
+  pub begun_long : (xs : List X) (n : ℕ) → length xs ≤ n → length (map written xs ++ blank (n - length xs)) ≡ n
+  begun_long xs n fewer =
+      let both = length-append (map written xs) (blank (n - length xs)) in
+      let first = length-map xs written in
+      let rest = length-replicate (n - length xs) (let z : Place X = unwritten in z) in
+      omega arith
+
+  pub begun_more : (xs : List X) (n c : ℕ) → length xs ≤ n → n ≤ c → (map written xs ++ blank (n - length xs)) ++ blank (c - n) ≡ map written xs ++ blank (c - length xs)
+  begun_more xs n c fewer fits =
+      let all : n - length xs + (c - n) ≡ c - length xs = omega arith in
+      append_assoc (map written xs) (blank (n - length xs)) (blank (c - n)) ∙ ap (λ l. map written xs ++ l) (blank_both (n - length xs) (c - n) ∙ ap blank all)

@@ -1,5 +1,5 @@
 -- Places side by side: a part comes out of them and another goes back, and a Vec's elements are such a row. Assumes `Logic`.
-use Rattle.std.proofs.Common.{◌≡◌, ℕ, zero, suc, ◌+◌, ◌*◌, ◌≤◌, ◌<◌, ◌^◌, List, [], ◌∷◌, ◌++◌, length, take, drop, replicate, true≢false, refl, sym, ap, subst, ◌∙◌, arith, length-take-le}
+use Rattle.std.proofs.Common.{◌≡◌, ℕ, zero, suc, ◌+◌, ◌*◌, ◌≤◌, ◌<◌, ◌^◌, List, [], ◌∷◌, ◌++◌, length, take, drop, replicate, map, true≢false, refl, sym, ap, subst, ◌∙◌, arith, length-take-le}
 use Rattle.std.specs.Prelude.{IsTrue}
 use Rattle.std.specs.List.{list_all}
 use native.Mathlib.Nat.{add_comm, zero-mul, suc-mul}
@@ -7,20 +7,24 @@ use prog.Memory.{capped}
 use prog.Capped.{capped_is}
 use seplogic.Ra.Ura.{Ura}
 use base.Fraction.{full_share}
-use base.Logic.{SProp, ex, guard, ent, sep, emp, id⊢, emp∗, snd∗, via, never, never_e}
-use base.Fml.{Fml, fsep, fex, flt}
+use base.Logic.{SProp, ent, sep, emp, id⊢, mono_r, emp∗, snd∗, via, never, never_e}
+use mir.Syntax.{ty_array}
+use mir.Val.{Val}
+use base.Fml.{Fml, fsep, flt, fat, froom}
 use contract.Monad.{fact, fact_i}
 use denote.RattleType.{RattleType}
 use types.Logic.{Logic, sem}
-use types.Kit.{‵, ◌⊛◌, ◌$◌, ◌∵◌, !, qed, by, move, split, fsplit, fjoin, fpack, fpick, pick, learn, show, check, some, given, frame, rewrite, use0, use1, use2, done}
+use types.Kit.{‵, ◌⊛◌, ◌$◌, ◌∵◌, !, qed, by, move, keep, split, fsplit, fjoin, pick, learn, some, given, frame, rewrite, use0, use1, use2, done}
 use denote.Index.{place, place_is, row}
 use denote.Memory.{part_at}
 use denote.RawPtr.{Ptr, InBlock, block_ptr, null_ptr}
 use denote.Steps.{nothing}
-use Rattle.std.proofs.mem.Param.{El, R, el_x}
-use Rattle.segment.specs.Places.{Place, away, unwritten, written, is_here, Fills}
+use Rattle.std.proofs.mem.Param.{El, R, el_x, elτ}
+use Rattle.std.proofs.ptr.Rows.{el_out}
+use Rattle.segment.specs.Places.{Place, away, unwritten, written, is_here}
 use Rattle.segment.specs.Runs.{bytes_of, part, spliced, place_owns, places_own, run_owns, place_at}
 use Rattle.segment.proofs.Lists.{part_long, spliced-part}
+use Rattle.segment.proofs.Fields.{Good, in_arrays}
 
 -- a run's pointer points into a block
 pub points : (R : RattleType) {M : Type 1} {𝓤 : Ura M} (𝓛 : Logic 𝓤) (p : Ptr) (ps : List (Place R.Denot)) → ent 𝓤 (sem 𝓛 (run_owns R p ps)) (fact 𝓤 (InBlock p))
@@ -57,12 +61,12 @@ module _ (E : El) {M : Type 1} {𝓤 : Ura M} (𝓛 : Logic 𝓤) (b : ℕ) wher
   abbrev pub all : ℕ → List (Place (el_x E)) → Fml
   all o ps = places_own (R E) (block_ptr b o) ps
 
-  cut_at : (ps rs : List (Place (el_x E))) (o : ℕ) → ⟦ all o (ps ++ rs) ⟧ ⊢ ⟦ all o ps ⟧ ∗ ⟦ all (place s o (length ps)) rs ⟧
+  pub cut_at : (ps rs : List (Place (el_x E))) (o : ℕ) → ⟦ all o (ps ++ rs) ⟧ ⊢ ⟦ all o ps ⟧ ∗ ⟦ all (place s o (length ps)) rs ⟧
   cut_at [] rs o = emp∗ 𝓤 ⟦ all o rs ⟧
   cut_at (p ∷ ps) rs o = qed 𝓛 (‵ (one o p) ∷ ‵ (all (o + s) (ps ++ rs)) ∷ []) ∵ move ! (1 ∷ []) $
       use1 𝓛 (‵ (all (o + s) ps) ⊛ ‵ (all (place s (o + s) (length ps)) rs)) (cut_at ps rs (o + s)) $ split ! $ move ! (2 ∷ 0 ∷ []) $ fjoin ! $ done !
 
-  glue_at : (ps rs : List (Place (el_x E))) (o : ℕ) → ⟦ all o ps ⟧ ∗ ⟦ all (place s o (length ps)) rs ⟧ ⊢ ⟦ all o (ps ++ rs) ⟧
+  pub glue_at : (ps rs : List (Place (el_x E))) (o : ℕ) → ⟦ all o ps ⟧ ∗ ⟦ all (place s o (length ps)) rs ⟧ ⊢ ⟦ all o (ps ++ rs) ⟧
   glue_at [] rs o = snd∗ 𝓤 (emp 𝓤) ⟦ all o rs ⟧
   glue_at (p ∷ ps) rs o = qed 𝓛 (‵ (all o (p ∷ ps)) ∷ ‵ (all (place s (o + s) (length ps)) rs) ∷ []) ∵ fsplit ! $ frame ! $ by ! (glue_at ps rs (o + s))
 
@@ -74,10 +78,10 @@ module _ (E : El) {M : Type 1} {𝓤 : Ura M} (𝓛 : Logic 𝓤) (b : ℕ) wher
     there : place s o (length ps) ≡ o + n * s
     there = ap (place s o) long ∙ place_after o n
 
-    cut : ⟦ all o (ps ++ rs) ⟧ ⊢ ⟦ all o ps ⟧ ∗ ⟦ all (o + n * s) rs ⟧
+    pub cut : ⟦ all o (ps ++ rs) ⟧ ⊢ ⟦ all o ps ⟧ ∗ ⟦ all (o + n * s) rs ⟧
     cut = subst (λ (k : ℕ). ⟦ all o (ps ++ rs) ⟧ ⊢ ⟦ all o ps ⟧ ∗ ⟦ all k rs ⟧) there (cut_at ps rs o)
 
-    glue : ⟦ all o ps ⟧ ∗ ⟦ all (o + n * s) rs ⟧ ⊢ ⟦ all o (ps ++ rs) ⟧
+    pub glue : ⟦ all o ps ⟧ ∗ ⟦ all (o + n * s) rs ⟧ ⊢ ⟦ all o (ps ++ rs) ⟧
     glue = subst (λ (k : ℕ). ⟦ all o ps ⟧ ∗ ⟦ all k rs ⟧ ⊢ ⟦ all o (ps ++ rs) ⟧) there (glue_at ps rs o)
 
   module _ (ps : List (Place (el_x E))) (a n : ℕ) (fits : a + n ≤ length ps) (o : ℕ) where
@@ -106,19 +110,36 @@ module _ (E : El) {M : Type 1} {𝓤 : Ura M} (𝓛 : Logic 𝓤) (b : ℕ) wher
   none_here zero o = id⊢ 𝓤 (emp 𝓤)
   none_here (suc n) o = qed 𝓛 [] ∵ use0 𝓛 (‵ (all (o + s) (replicate n away))) (none_here n (o + s)) $ nothing ! $ fjoin ! $ done !
 
-  -- any values are unwritten places, and places that are all here have values
-  pub of_values : (xs : List (el_x E)) (o : ℕ) → ⟦ row (R E) full_share xs b o ⟧ ⊢ ⟦ all o (replicate (length xs) unwritten) ⟧
+  -- values are written places
+  pub of_values : (xs : List (el_x E)) (o : ℕ) → ⟦ row (R E) full_share xs b o ⟧ ⊢ ⟦ all o (map written xs) ⟧
   of_values [] o = id⊢ 𝓤 (emp 𝓤)
-  of_values (x ∷ xs) o = qed 𝓛 (‵ (part_at (R E) full_share x b o) ∷ ‵ (row (R E) full_share xs b (o + s)) ∷ []) ∵
-      fpack ! (el_x E) (λ y. part_at (R E) full_share y b o) x $ frame ! $ by ! (of_values xs (o + s))
+  of_values (x ∷ xs) o = mono_r 𝓤 ⟦ part_at (R E) full_share x b o ⟧ (of_values xs (o + s))
 
-  pub to_values : (ps : List (Place (el_x E))) (o : ℕ) → IsTrue (list_all is_here ps)
-      → ⟦ all o ps ⟧ ⊢ ex 𝓤 (λ (xs : List (el_x E)). guard 𝓤 (Fills ps xs) ⟦ row (R E) full_share xs b o ⟧)
-  to_values [] o here = qed 𝓛 (‵ (all o []) ∷ []) ∵ show ! (λ (xs : List (el_x E)). guard 𝓤 (Fills [] xs) ⟦ row (R E) full_share xs b o ⟧) [] $ check ! tt $ done !
-  to_values (away ∷ ps) o here = absurd (true≢false (sym here))
-  to_values (unwritten ∷ ps) o here = qed 𝓛 (‵ (all o (unwritten ∷ ps)) ∷ []) ∵ fsplit ! $ fpick ! (λ x. move ! (1 ∷ []) $
-      use1 𝓛 (some (λ (xs : List (el_x E)). given (Fills ps xs) (‵ (row (R E) full_share xs b (o + s))))) (to_values ps (o + s) here) $ pick ! (λ xs. learn ! (λ fills.
-      show ! (λ (ys : List (el_x E)). guard 𝓤 (Fills (unwritten ∷ ps) ys) ⟦ row (R E) full_share ys b o ⟧) (x ∷ xs) $ check ! fills $ move ! (1 ∷ 0 ∷ []) $ fjoin ! $ done !)))
-  to_values (written x ∷ ps) o here = qed 𝓛 (‵ (all o (written x ∷ ps)) ∷ []) ∵ fsplit ! $ move ! (1 ∷ []) $
-      use1 𝓛 (some (λ (xs : List (el_x E)). given (Fills ps xs) (‵ (row (R E) full_share xs b (o + s))))) (to_values ps (o + s) here) $ pick ! (λ xs. learn ! (λ fills.
-      show ! (λ (ys : List (el_x E)). guard 𝓤 (Fills (written x ∷ ps) ys) ⟦ row (R E) full_share ys b o ⟧) (x ∷ xs) $ check ! (refl, fills) $ move ! (1 ∷ 0 ∷ []) $ fjoin ! $ done !))
+  pub to_values : (xs : List (el_x E)) (o : ℕ) → ⟦ all o (map written xs) ⟧ ⊢ ⟦ row (R E) full_share xs b o ⟧
+  to_values [] o = id⊢ 𝓤 (emp 𝓤)
+  to_values (x ∷ xs) o = mono_r 𝓤 ⟦ part_at (R E) full_share x b o ⟧ (to_values xs (o + s))
+
+  -- room is unwritten places
+  pub of_room : (n o : ℕ) → 𝓛.H.room (ty_array (elτ E) n) b o ⊢ ⟦ all o (replicate n unwritten) ⟧
+  of_room zero o = qed 𝓛 (‵ (froom (ty_array (elτ E) 0) b o) ∷ []) ∵ keep ! [] $ done !
+  of_room (suc n) o = qed 𝓛 (‵ (froom (ty_array (elτ E) (suc n)) b o) ∷ []) ∵
+      use1 𝓛 (‵ (froom (elτ E) b o) ⊛ ‵ (froom (ty_array (elτ E) n) b (o + s))) (𝓛.laws.room_uncons (elτ E) n b o) $ split ! $
+      use1 𝓛 (‵ (one o unwritten)) (𝓛.laws.room-raw (elτ E) b o) $ frame ! $ by ! (of_room n (o + s))
+
+  pub to_room : (n o : ℕ) → ⟦ all o (replicate n unwritten) ⟧ ⊢ 𝓛.H.room (ty_array (elτ E) n) b o
+  to_room zero o = 𝓛.laws.room_nil (elτ E) b o
+  to_room (suc n) o = qed 𝓛 (‵ (all o (replicate (suc n) unwritten)) ∷ []) ∵ fsplit ! $
+      use1 𝓛 (‵ (froom (elτ E) b o)) (𝓛.laws.raw-room (elτ E) b o) $ move ! (1 ∷ []) $
+      use1 𝓛 (‵ (froom (ty_array (elτ E) n) b (o + s))) (to_room n (o + s)) $ move ! (1 ∷ []) $ by ! (𝓛.laws.room_cons (elτ E) n b o)
+
+  -- a value is forgotten, and its place is room
+  forgotten : (x : el_x E) (o : ℕ) → ⟦ one o (written x) ⟧ ⊢ ⟦ one o unwritten ⟧
+  forgotten x o = qed 𝓛 (‵ (part_at (R E) full_share x b o) ∷ []) ∵
+      use1 𝓛 (some (λ (v : Val). given (Good (E.row) v) (‵ (fat full_share (elτ E) b o v) ⊛ ‵ (E.row.own_val x (v ∷ []))))) (el_out (in_arrays E) 𝓛 full_share x b o) $
+      pick ! (λ v. learn ! (λ good. split ! $ keep ! (0 ∷ []) $ use1 𝓛 (‵ (froom (elτ E) b o)) (𝓛.laws.at_room (elτ E) b o v) $ by ! (𝓛.laws.room-raw (elτ E) b o)))
+
+  pub all_forgotten : (ps : List (Place (el_x E))) (o : ℕ) → IsTrue (list_all is_here ps) → ⟦ all o ps ⟧ ⊢ ⟦ all o (replicate (length ps) unwritten) ⟧
+  all_forgotten [] o here = id⊢ 𝓤 (emp 𝓤)
+  all_forgotten (away ∷ ps) o here = absurd (true≢false (sym here))
+  all_forgotten (unwritten ∷ ps) o here = mono_r 𝓤 ⟦ one o unwritten ⟧ (all_forgotten ps (o + s) here)
+  all_forgotten (written x ∷ ps) o here = qed 𝓛 (‵ (all o (written x ∷ ps)) ∷ []) ∵ fsplit ! $ use1 𝓛 (‵ (one o unwritten)) (forgotten x o) $ frame ! $ by ! (all_forgotten ps (o + s) here)

@@ -1,5 +1,5 @@
 -- The words that the walks share.
-pub use Rattle.std.proofs.Common.{◌≡◌, ℕ, ◌+◌, ◌*◌, ◌^◌, ◌<◌, ◌≤◌, List, [], ◌∷◌, ◌++◌, length, take, drop as drop_list, replicate, map, sym, refl, ap, ◌∙◌, subst, arith, slice_get, slice_set, Some}
+pub use Rattle.std.proofs.Common.{◌≡◌, ℕ, suc, ◌+◌, ◌-◌, ◌*◌, ◌^◌, ◌<◌, ◌≤◌, List, [], ◌∷◌, ◌++◌, length, take, drop as drop_list, replicate, map, sym, refl, ap, ◌∙◌, subst, arith, slice_get, slice_set, Some}
 pub use native.Mathlib.Nat.{add_comm}
 pub use lib.ListN.{length-replicate}
 pub use mir.Syntax.{a_type, dcons, dnil, named, w64}
@@ -10,9 +10,9 @@ pub use base.Logic.{SProp, ent, emp, id⊢, never, all_e, apply∗, guard_i}
 pub use base.Fml.{Lft, Fml, ftrue, fsep, fex, feq, flt, fall, fwand, fat, flft}
 pub use types.Logic.{Logic, sem}
 pub use types.Kit.{Item, ‵, raw, ◌⊛◌, some, given, at_ret, ◌$◌, ◌∵◌, !, qed, by, move, keep, drop, split, split3, join, fsplit, fsplit3, fjoin, fjoin3, fpick, fpack, pick, learn, use0, use1, use2, rewrite, feq_i, feq_l, flt_i, flt_l, suffices, frame, done}
-pub use types.Run.{stop, fld, hop, load, look, unit_lit, size_word, of_opd, bin, store, no_more, and_then, assigns, first, blocks, exec, returns, enter}
-pub use types.ByLocal.{alloc_all, pass_all, free_all, look_at, get, get_in, through, sets, sets_last, is, env}
-pub use types.Part.{agg, sub, whole, look_in}
+pub use types.Run.{stop, fld, hop, load, look, unit_lit, lit, size_word, of_opd, addr, from, bin, init, no_more, and_then, assigns_last, first, blocks, exec, returns, enter}
+pub use types.ByLocal.{alloc_all, pass_all, free_all, look_at, take_at, give_at, get, get_in, through, sets, sets_last, is, env}
+pub use types.Part.{agg, sub, whole, look_in, store_in}
 pub use contract.Running.{tables}
 pub use contract.Monad.{fact, fact_i, fact_use}
 pub use contract.BorrowLft.{◌⊑◌}

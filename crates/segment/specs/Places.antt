@@ -1,5 +1,5 @@
 -- What a contract sees of a room and of a segment.
-use Rattle.std.specs.Prelude.{◌≡◌, refl, ℕ, ◌+◌, ◌≤◌, length, Bool, true, false, List, [], ◌∷◌, Option, Some, None}
+use Rattle.std.specs.Prelude.{◌≡◌, refl, ℕ, ◌+◌, ◌≤◌, length, Bool, true, false, List, Option, Some, None}
 use Rattle.std.specs.Coded.{Coded, code_by, coded×, coded_ℕ, coded_list, coded_option}
 use denote.RawPtr.{Ptr, coded_ptr}
 
@@ -18,15 +18,6 @@ abbrev pub is_written : {X : Type 0} → Place X → Bool
 is_written away = false
 is_written unwritten = false
 is_written (written x) = true
-
--- a list has an element for each place, which is the value of a written one
-abbrev pub Fills : {X : Type 0} → List (Place X) → List X → Type 0
-Fills [] [] = Unit {0}
-Fills [] (x ∷ xs) = ⊥
-Fills (p ∷ ps) [] = ⊥
-Fills (away ∷ ps) (x ∷ xs) = ⊥
-Fills (unwritten ∷ ps) (x ∷ xs) = Fills ps xs
-Fills (written y ∷ ps) (x ∷ xs) = (y ≡ x) × Fills ps xs
 
 -- where the places begin, and the places
 pub record RoomView (X : Type 0) : Type 0 where

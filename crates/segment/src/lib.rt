@@ -1,10 +1,10 @@
-//! A `Vec` whose places have several owners for a while, each with a range of its own to write, also in other threads.
-//! It comes back as the very `Vec` that it was: no element moves, nothing is allocated, and nothing is counted or
-//! flagged at run time.
+//! The memory of an empty `Vec` whose places have several owners for a while, each with a range of its own to write, also
+//! in other threads. It comes back as that `Vec` with what was written: no place is touched before it is written, no element
+//! moves, nothing is allocated, and nothing is counted or flagged at run time.
 #![tactic(auto)]
 
 ghost use Rattle.std.specs.Prelude.{◌≡◌, ℕ, ◌+◌, ◌≤◌, List, length, replicate, map, slice_get, slice_set, Some, IsTrue};
-ghost use Rattle.std.specs.Vec.{vec_len};
+ghost use Rattle.std.specs.Vec.{vec_len, vec_capacity};
 ghost use Rattle.std.specs.List.{list_all};
 ghost use Rattle.segment.specs.Places.{Place, away, unwritten, written, is_here, is_written, RoomView, SegmentView, IsOf, room_code, segment_code};
 ghost use Rattle.segment.specs.Runs.{part, spliced};
@@ -16,12 +16,13 @@ mod run;
 
 use run::{Run, Shell};
 
-/// The places of a `Vec`, ranges of which are away as segments. It cannot be dropped: it ends by [`Room::seal`], once
+/// Places in the memory of a `Vec`, ranges of which are away as segments. It cannot be dropped: it ends by [`Room::seal`], once
 /// every place is written, or by [`Room::abandon`]. Contracts see it as where its places begin, and for each place whether it is
 /// away, unwritten, or written and with what.
 pub struct Room<T> {
     run: Run<T>,
     shell: Shell<T, Global>,
+    count: usize,
 }
 
 impl<T> Model for Room<T> {
@@ -31,7 +32,7 @@ impl<T> Model for Room<T> {
 
     ghost view = { λ r. record { start = r.run.at; places = r.run.places } };
 
-    ghost invariant = { λ r. (r.run.at ≡ r.shell.at) × (length r.run.places ≡ r.shell.len) };
+    ghost invariant = { λ r. (r.run.at ≡ r.shell.at) × (length r.run.places ≡ r.shell.len) × (r.count ≡ r.shell.len) };
 }
 
 /// A range of a room's places, which its owner writes. It cannot be dropped: it goes back by [`Room::join`]. Contracts
@@ -52,13 +53,15 @@ impl<T> Model for Segment<T> {
 }
 
 impl<T> Room<T> {
-    /// The room of a `Vec`'s places, each of which counts as unwritten. What they hold is let go as they are written.
-    pub fn new(mut items: Vec<T>) -> Room<T>
-        ensures unwritten { result.places ≡ replicate (vec_len items) unwritten }
+    /// The room of the first `count` places in the memory of an empty `Vec`, each of which is unwritten. None is touched.
+    pub fn new(mut empty: Vec<T>, count: usize) -> Room<T>
+        requires empty { vec_len empty ≡ 0 }
+        requires fits { count ≤ vec_capacity empty }
+        ensures unwritten { result.places ≡ replicate count unwritten }
     {
-        let at = items.as_mut_ptr();
-        let (run, shell) = run::detach(items, at);
-        Room { run, shell }
+        let at = empty.as_mut_ptr();
+        let (run, shell) = run::detach(empty, at, count);
+        Room { run, shell, count }
     }
 
     /// Cuts out the `count` places from `from` on, as they are. They are away until they are joined again.
@@ -82,36 +85,38 @@ impl<T> Room<T> {
         self.run.join(run, from);
     }
 
-    /// The `Vec` again, once every place is written. No element moves.
-    #[tactic(auto, using(crate::proofs::Lists::filled))]
+    /// The `Vec` of what was written, once every place is. No element moves.
     pub fn seal(self) -> Vec<T>
         requires written { IsTrue (list_all is_written self.places) }
         ensures items { map written result.items ≡ self.places }
     {
-        let Room { run, shell } = self;
-        run::attach(run, shell)
+        let Room { run, shell, count } = self;
+        run::attach(run, shell, count)
     }
 
-    /// Lets a room go that is not wanted any more, with what was written in it, once every place is back.
+    /// Lets a room go that is not wanted any more, once every place is back. Nobody knows which places were written, so
+    /// what was is not dropped, and the memory that it has of its own is not freed.
     pub fn abandon(self)
     where
         T: Drop,
         requires here { IsTrue (list_all is_here self.places) }
     {
-        let Room { run, shell } = self;
-        drop(run::attach(run, shell));
+        let Room {
+            run,
+            shell,
+            count: _,
+        } = self;
+        run::release(run, shell).destroy_empty();
     }
 }
 
 impl<T> Segment<T> {
     /// Writes a place that is unwritten, counted from the segment's first.
     pub fn write(&mut self, place: usize, value: T)
-    where
-        T: Drop,
         requires unwritten { slice_get self.old.places place ≡ Some unwritten }
         ensures written { self.new ≡ record self.old { places = slice_set self.old.places place (written value) } }
     {
-        drop(self.run.replace(place, value));
+        self.run.write(place, value);
     }
 }
 

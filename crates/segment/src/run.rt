@@ -1,12 +1,12 @@
 //! The pointers below a room. A run of places lies apart from the `Vec` that it comes from, and is cut and joined.
-ghost use Rattle.std.specs.Prelude.{◌≡◌, ℕ, ◌+◌, ◌≤◌, List, length, replicate, slice_get, slice_set, Some, IsTrue};
+ghost use Rattle.std.specs.Prelude.{◌≡◌, ℕ, ◌+◌, ◌≤◌, List, length, replicate, slice_get, slice_set, map, Some, IsTrue};
 ghost use Rattle.std.specs.Coded.{coded_list};
 ghost use Rattle.std.specs.List.{list_all};
-ghost use Rattle.std.specs.Vec.{vec_len, vec_ptr, with_items};
+ghost use Rattle.std.specs.Vec.{vec_len, vec_capacity, vec_ptr};
 ghost use denote.RawPtr.{Ptr};
-ghost use base.Fml.{ftrue, fex, fall, fwand, fsep, feq};
-ghost use Rattle.segment.specs.Places.{Place, away, unwritten, written, is_here, Fills, place_code};
-ghost use Rattle.segment.specs.Runs.{Extent, extent_code, array_owns, cut_owns, place_at, part, spliced};
+ghost use base.Fml.{ftrue, fex, fsep, feq};
+ghost use Rattle.segment.specs.Places.{Place, away, unwritten, written, is_here, is_written, place_code};
+ghost use Rattle.segment.specs.Runs.{Extent, extent_code, way_back, cut_owns, place_at, part, spliced};
 
 use std::alloc::Allocator;
 use std::marker::{Model, Move, Owns};
@@ -24,8 +24,8 @@ impl<T> Model for Run<T> {
     ghost also_owns = { λ r. cut_owns T.row r.start r.offset r.at r.places };
 }
 
-/// A `Vec` without its elements. It owns the way back: from any elements of the same number in the same place, the
-/// `Vec` of these.
+/// An empty `Vec` without the first places of its memory. It owns the way back: from these places, with values in the
+/// first of them, the `Vec` of these values.
 pub(crate) struct Shell<T, A: Allocator> {
     vec: Vec<T, A>,
 }
@@ -39,21 +39,40 @@ impl<T, A: Allocator> Owns for Shell<T, A> {
 }
 
 impl<T, A: Allocator> Move for Shell<T, A> {
-    ghost own_val = { λ e vs. fex Inside (λ s. fsep (feq ℕ s.vec.len e.len) (fall (List T.row.Denot) (λ xs. fwand (fsep (feq ℕ (length xs) e.len) (array_owns T.row e.at xs)) (Fields.own_val (record { vec = with_items s.vec xs }) vs)))) };
+    ghost own_val = { λ e vs. way_back T.row e vs (λ xs ws. fex Inside (λ s. fsep (feq (List T.row.Denot) s.vec.items xs) (Fields.own_val s ws))) };
 }
 
-/// Takes a `Vec` apart into its places and the way back.
-pub(crate) fn detach<T, A: Allocator>(vec: Vec<T, A>, at: *mut T) -> (Run<T>, Shell<T, A>)
-    requires { at ≡ vec_ptr vec }
-    ensures { (result.0.at ≡ at) × (result.0.places ≡ replicate (vec_len vec) unwritten) × (result.1 ≡ record { at = at; len = vec_len vec }) }
+/// Takes an empty `Vec` apart into the first `count` places of its memory and the way back.
+pub(crate) fn detach<T, A: Allocator>(
+    vec: Vec<T, A>,
+    at: *mut T,
+    count: usize,
+) -> (Run<T>, Shell<T, A>)
+    requires { (at ≡ vec_ptr vec) × (vec_len vec ≡ 0) × (count ≤ vec_capacity vec) }
+    ensures { (result.0.at ≡ at) × (result.0.places ≡ replicate count unwritten) × (result.1 ≡ record { at = at; len = count }) }
 {
     (Run { at }, Shell { vec })
 }
 
-/// Puts a `Vec` together again, when every place is here.
-pub(crate) fn attach<T, A: Allocator>(run: Run<T>, shell: Shell<T, A>) -> Vec<T, A>
+/// The `Vec` of what was written, when every place is.
+pub(crate) fn attach<T, A: Allocator>(run: Run<T>, shell: Shell<T, A>, count: usize) -> Vec<T, A>
+    requires { (run.at ≡ shell.at) × (length run.places ≡ shell.len) × (count ≡ shell.len) × IsTrue (list_all is_written run.places) }
+    ensures { map written result.items ≡ run.places }
+{
+    let Run { at: _ } = run;
+    let Shell { mut vec } = shell;
+    // A `Vec` has no `set_len`: its length is its second word.
+    let words = &raw mut vec as *mut usize;
+    unsafe {
+        *words.add(1) = count;
+    }
+    vec
+}
+
+/// The empty `Vec` again, when every place is here. What was written is forgotten.
+pub(crate) fn release<T, A: Allocator>(run: Run<T>, shell: Shell<T, A>) -> Vec<T, A>
     requires { (run.at ≡ shell.at) × (length run.places ≡ shell.len) × IsTrue (list_all is_here run.places) }
-    ensures { Fills run.places result.items }
+    ensures { vec_len result ≡ 0 }
 {
     let Run { at: _ } = run;
     let Shell { vec } = shell;
@@ -77,16 +96,13 @@ impl<T> Run<T> {
         let Run { at: _ } = other;
     }
 
-    /// Writes an unwritten place, and gives what it held till then.
-    pub(crate) fn replace(&mut self, i: usize, value: T) -> T
+    /// Writes an unwritten place. Nothing is read there, and nothing dropped.
+    pub(crate) fn write(&mut self, i: usize, value: T)
         requires { slice_get self.old.places i ≡ Some unwritten }
         ensures { self.new ≡ record self.old { places = slice_set self.old.places i (written value) } }
     {
         unsafe {
-            let place = self.at.add(i);
-            let held = place.read();
-            place.write(value);
-            held
+            self.at.add(i).write(value);
         }
     }
 }

@@ -33,7 +33,7 @@ fn fill_both<R: Threads>(rt: &R, low: &mut Segment<u64>, high: &mut Segment<u64>
 
 #[test]
 fn a_room_is_written_by_two_threads_and_sealed(rt: HostRuntime) -> Result<(), Fail> {
-    let mut room = Room::new(vec![in rt.alloc(); 0u64; 4]?);
+    let mut room = Room::new(Vec::with_capacity(rt.alloc(), 6)?, 4);
     let mut high = room.cut(2, 2);
     let mut low = room.cut(0, 2);
     fill_both(&rt, &mut low, &mut high);
@@ -46,7 +46,7 @@ fn a_room_is_written_by_two_threads_and_sealed(rt: HostRuntime) -> Result<(), Fa
 
 #[test]
 fn a_room_of_no_places_is_cut_and_sealed(rt: HostRuntime) -> Result<(), Fail> {
-    let mut room = Room::new(Vec::<u64>::new(rt.alloc()));
+    let mut room = Room::new(Vec::<u64>::new(rt.alloc()), 0);
     let part = room.cut(0, 0);
     room.join(part);
     let items = room.seal();
@@ -56,7 +56,7 @@ fn a_room_of_no_places_is_cut_and_sealed(rt: HostRuntime) -> Result<(), Fail> {
 
 #[test]
 fn a_room_that_is_partly_written_is_let_go(rt: HostRuntime) -> Result<(), Fail> {
-    let mut room = Room::new(vec![in rt.alloc(); 0u64; 3]?);
+    let mut room = Room::new(Vec::with_capacity(rt.alloc(), 5)?, 3);
     let mut part = room.cut(1, 1);
     part.write(0, 5);
     room.join(part);

@@ -1,5 +1,6 @@
 //! What is brought to a cell.
-ghost use Rattle.std.specs.Prelude.{◌≡◌, ◌-◌, ◌+◌, true, length, IfOk, OnOk};
+ghost use Rattle.std.specs.Prelude.{◌≡◌, ◌-◌, ◌+◌, true, length, IfOk, IfSome, OnOk};
+ghost use Rattle.graph_meaning.specs.Carried.{Carried};
 ghost use Rattle.graph_meaning.specs.Storage.{capped, leaves_of};
 ghost use Rattle.run_store.specs.Stored as stored;
 ghost use Rattle.run_fuller.specs.Fuller.{IsWithin};
@@ -18,6 +19,7 @@ use step_code::{Code, Operand};
 
 /// What a step brings of an operand: a copy, or what leaves its cell. What is copied by its mode is
 /// added to the copies.
+#[inline(always)]
 pub fn brought(
     alloc: Global,
     code: &Code,
@@ -39,11 +41,31 @@ pub fn brought(
         Operand::CopiesOf(_) => counted(alloc, sight(code, cells.as_slice(), base, from), copies),
         Operand::Literal(_) => looked(alloc, code, cells.as_slice(), base, from),
         Operand::Looks(_) => looked(alloc, code, cells.as_slice(), base, from),
-        Operand::LooksAt(_) => copied(alloc, sight(code, cells.as_slice(), base, from)),
+        Operand::LooksAt(_) => copy_of(alloc, code, cells.as_slice(), base, from),
+    }
+}
+
+/// An integer or a boolean that stands in a cell, where bringing it copies nothing.
+#[inline(always)]
+pub fn plain(code: &Code, cells: &[Cell], base: usize, from: Operand) -> Option<Cell>
+    requires { IsInside code.now (length cells.now - base) from }
+    ensures value { IfSome result (λ c. held c ≡ stored.Owns (stored.seen (heap_of cells.now) base (mode_in code.now from) (operand_in code.now from))) }
+    ensures none { IfSome result (λ c. (k : Carried) → stored.copied_as (mode_in code.now from) k ≡ 0) }
+{
+    match from {
+        Operand::Literal(_) | Operand::Looks(_) | Operand::Takes(_) => {
+            match direct(code, cells, base, from) {
+                Some(Cell::Int(n)) => Some(Cell::Int(*n)),
+                Some(Cell::Bool(b)) => Some(Cell::Bool(*b)),
+                _ => None,
+            }
+        }
+        _ => None,
     }
 }
 
 /// A copy of what an operand is.
+#[inline(always)]
 fn looked(
     alloc: Global,
     code: &Code,
@@ -57,10 +79,25 @@ fn looked(
     match direct(code, cells, base, from) {
         Some(Cell::Int(n)) => Ok(Cell::Int(*n)),
         Some(Cell::Bool(b)) => Ok(Cell::Bool(*b)),
-        _ => copied(alloc, sight(code, cells, base, from)),
+        _ => copy_of(alloc, code, cells, base, from),
     }
 }
 
+#[inline(never)]
+fn copy_of(
+    alloc: Global,
+    code: &Code,
+    cells: &[Cell],
+    base: usize,
+    from: Operand,
+) -> Result<Cell, NoMemory>
+    requires { IsInside code.now (length cells.now - base) from }
+    ensures { IfOk result (λ c. held c ≡ stored.Owns (stored.seen (heap_of cells.now) base (mode_in code.now from) (operand_in code.now from))) }
+{
+    copied(alloc, sight(code, cells, base, from))
+}
+
+#[inline(never)]
 fn counted(alloc: Global, seen: Seen<'_>, copies: &mut u64) -> Result<Cell, NoMemory>
     ensures value { IfOk result (λ c. held c ≡ stored.Owns (seen_value seen.entry)) }
     ensures copies { copies.new ≡ capped (copies.old + leaves_of (seen_value seen.entry)) }

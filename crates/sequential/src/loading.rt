@@ -1,5 +1,5 @@
 //! Operands that are brought one after another.
-ghost use Rattle.std.specs.Prelude.{◌≡◌, ◌-◌, ◌<◌, slice_get, length, Some, OnOk};
+ghost use Rattle.std.specs.Prelude.{◌≡◌, ◌-◌, ◌<◌, ◌∷◌, [], ◌++◌, slice_get, length, Some, OnOk};
 ghost use Rattle.sequential.specs.Loading.{AreInside, AreApart, Loads};
 
 use crate::bringing::brought;
@@ -29,12 +29,27 @@ pub fn load(
     for place in 0..operands.len() {
         let operand = operand_at(operands, place);
         let cell = brought(alloc, code, cells, base, operand, copies)?;
-        loaded.push(cell)?;
+        put_behind(loaded, cell)?;
     }
     Ok(())
 }
 
+/// Puts a cell behind others; where there is room, nothing is called.
+#[inline(always)]
+pub fn put_behind(list: &mut Vec<Cell>, cell: Cell) -> Result<(), NoMemory>
+    ensures { OnOk result (list.new.items ≡ list.old.items ++ cell ∷ []) }
+{
+    if list.len() < list.capacity() {
+        list.push_reserved(cell);
+        Ok(())
+    } else {
+        list.push(cell)?;
+        Ok(())
+    }
+}
+
 /// The operand at a place.
+#[inline(always)]
 pub fn operand_at(operands: &[Operand], place: usize) -> Operand
     requires { place < length operands.now }
     ensures { slice_get operands.now place ≡ Some result }

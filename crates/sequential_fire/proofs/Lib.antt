@@ -7,4 +7,6 @@ pub mod LentSteps
 pub mod TakeSteps
 pub mod RouteSteps
 pub mod UpdateSteps
+pub mod ElementSteps
+pub mod PartRows
 pub mod RangeRows

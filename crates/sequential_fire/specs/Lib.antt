@@ -3,3 +3,4 @@ pub mod Outputs
 pub mod Taking
 pub mod Routes
 pub mod Updating
+pub mod Elements

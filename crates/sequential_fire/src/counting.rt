@@ -72,7 +72,8 @@ fn copied_of(code: &Code, cells: &[Cell], base: usize, from: Operand) -> u64
 
 /// So many marks from one on, as far as there are any.
 #[tactic(auto, using(crate::proofs::Counts::none_from, crate::proofs::Counts::all_from))]
-fn marks_in(code: &Code, first: u32, many: u32) -> &[bool]
+#[inline(always)]
+pub fn marks_in(code: &Code, first: u32, many: u32) -> &[bool]
     ensures { result.now ≡ so_many first many code.now.marks }
 {
     let marks = code.marks.as_slice();
@@ -98,7 +99,8 @@ fn marked(marks: &[bool], made: &[Cell]) -> u64
     sum
 }
 
-fn mark_at(marks: &[bool], place: usize) -> bool
+#[inline(always)]
+pub fn mark_at(marks: &[bool], place: usize) -> bool
     ensures { result ≡ get_or marks.now place true }
 {
     match marks.get(place) {

@@ -16,6 +16,7 @@ use step_code::{Code, Counted, Written};
 
 /// Fires a simple node of any row on any number of operands, which are looked at: what its outputs
 /// store is copied.
+#[inline(never)]
 pub fn fire_lent(
     machine: &mut Machine,
     alloc: Global,

@@ -2,11 +2,13 @@
 #![tactic(auto)]
 
 mod counting;
+mod elements;
 mod firing;
 mod given;
 mod kept;
 mod loaded;
 mod outputs;
+mod parts;
 mod ranges;
 mod routes;
 mod taking;

@@ -1,7 +1,7 @@
 //! The outputs of a simple node, as cells.
 ghost use Rattle.std.specs.Prelude.{◌≡◌, ◌-◌, ◌<◌, ◌∷◌, [], length, map, IfOk, OnOk};
 ghost use Rattle.flow_value.specs.declared.value.Val.TheViews.{out-Val};
-ghost use Rattle.graph_meaning.specs.NodeValues.{op};
+ghost use Rattle.graph_meaning.specs.NodeValues.{Fields, op};
 ghost use Rattle.node_ops.specs.Operands.{multiple_in, shape_of};
 ghost use Rattle.run_store.specs.Stored as stored;
 ghost use Rattle.run_cells.specs.Held.{held, heap_of};
@@ -9,6 +9,7 @@ ghost use Rattle.sequential.specs.Loading.{AreInside, seen_of};
 ghost use Rattle.sequential_fire.specs.Outputs.{carried_out, AreHeld};
 
 use crate::given::all_given;
+use crate::parts::{array_of, record_of, scatter, split};
 use crate::ranges::range_of;
 use flow_value::{NoMemory, Outputs, Shape, Val};
 use if1_graph::Simple;
@@ -35,7 +36,7 @@ pub fn outputs(
 {
     match range_of(code, cells, base, row, operands) {
         Some(cell) => only(cell, made),
-        None => listed_outputs(alloc, code, cells, base, row, shape, operands, made),
+        None => other_outputs(alloc, code, cells, base, row, shape, operands, made),
     }
 }
 
@@ -45,6 +46,80 @@ fn only(cell: Cell, made: &mut Vec<Cell>) -> Result<(), NoMemory>
     made.clear();
     made.push(cell)?;
     Ok(())
+}
+
+fn other_outputs(
+    alloc: Global,
+    code: &Code,
+    cells: &[Cell],
+    base: usize,
+    row: Simple,
+    shape: Shape,
+    operands: &[Operand],
+    made: &mut Vec<Cell>,
+) -> Result<(), NoMemory>
+    requires inside { AreInside code.now (length cells.now - base) operands.now }
+    requires ports { length operands.now < 4294967296 }
+    ensures { OnOk result (AreHeld made.new.items (op row (shape_of shape) (seen_of code.now base (heap_of cells.now) operands.now))) }
+{
+    match (row, shape) {
+        (Simple::AScatter, _) => {
+            array_outputs(alloc, code, cells, base, row, shape, operands, made)
+        }
+        (Simple::RElements, Shape::Fields(count)) => {
+            field_outputs(alloc, code, cells, base, count, operands, made)
+        }
+        _ => listed_outputs(alloc, code, cells, base, row, shape, operands, made),
+    }
+}
+
+fn array_outputs(
+    alloc: Global,
+    code: &Code,
+    cells: &[Cell],
+    base: usize,
+    row: Simple,
+    shape: Shape,
+    operands: &[Operand],
+    made: &mut Vec<Cell>,
+) -> Result<(), NoMemory>
+    requires inside { AreInside code.now (length cells.now - base) operands.now }
+    requires row { row ≡ Simple.AScatter }
+    requires ports { length operands.now < 4294967296 }
+    ensures { OnOk result (AreHeld made.new.items (op row (shape_of shape) (seen_of code.now base (heap_of cells.now) operands.now))) }
+{
+    match array_of(code, cells, base, operands) {
+        Some(array) => scatter(alloc, array, made),
+        None => listed_outputs(alloc, code, cells, base, row, shape, operands, made),
+    }
+}
+
+fn field_outputs(
+    alloc: Global,
+    code: &Code,
+    cells: &[Cell],
+    base: usize,
+    count: u32,
+    operands: &[Operand],
+    made: &mut Vec<Cell>,
+) -> Result<(), NoMemory>
+    requires inside { AreInside code.now (length cells.now - base) operands.now }
+    requires ports { length operands.now < 4294967296 }
+    ensures { OnOk result (AreHeld made.new.items (op Simple.RElements (Fields count) (seen_of code.now base (heap_of cells.now) operands.now))) }
+{
+    match record_of(code, cells, base, operands) {
+        Some(fields) => split(alloc, fields, count, made),
+        None => listed_outputs(
+            alloc,
+            code,
+            cells,
+            base,
+            Simple::RElements,
+            Shape::Fields(count),
+            operands,
+            made,
+        ),
+    }
 }
 
 fn listed_outputs(

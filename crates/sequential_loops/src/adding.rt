@@ -60,6 +60,7 @@ pub fn add(
 }
 
 /// The same of any values.
+#[inline(never)]
 fn add_all(
     machine: &mut Machine,
     alloc: Global,

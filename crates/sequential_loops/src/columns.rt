@@ -1,7 +1,8 @@
 //! Values of a row that is put.
-ghost use Rattle.std.specs.Prelude.{◌≡◌, ℕ, true, false, get_or, IfOk};
+ghost use Rattle.std.specs.Prelude.{◌≡◌, ℕ, true, false, get_or, IfOk, MatchOption};
+ghost use Rattle.flow_value.specs.declared.value.Val.TheVariants as val;
 ghost use Rattle.flow_value.specs.declared.value.Val.TheViews.{out-Val};
-ghost use Rattle.graph_meaning.specs.Carried.{Unfilled, val_of};
+ghost use Rattle.graph_meaning.specs.Carried.{Value, Unfilled, val_of};
 ghost use Rattle.loop_folds.specs.Masks.{keep_of};
 ghost use Rattle.node_ops.specs.Operands.{multiple_in};
 ghost use Rattle.run_code.specs.Collecting.{says};
@@ -27,6 +28,29 @@ pub fn column(row: &[Cell], place: u32) -> Seen<'_>
         owned_by(cell_at(row, at))
     } else {
         Seen::Unfilled
+    }
+}
+
+/// The integer that a row has in a column, if it is one.
+#[inline(always)]
+pub fn number_in(row: &[Cell], place: u32) -> Option<i64>
+    ensures { MatchOption result (Unit {0}) (λ n. get_or (owned_all row.now) place Unfilled ≡ Value (val.Int n)) }
+{
+    let at = place as usize;
+    if at < row.len() {
+        number_owned(cell_at(row, at))
+    } else {
+        None
+    }
+}
+
+#[inline(always)]
+fn number_owned(cell: &Cell) -> Option<i64>
+    ensures { MatchOption result (Unit {0}) (λ n. stored.owned_in (held cell.now) ≡ Value (val.Int n)) }
+{
+    match cell {
+        Cell::Int(n) => Some(*n),
+        _ => None,
     }
 }
 

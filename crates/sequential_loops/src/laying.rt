@@ -20,21 +20,44 @@ pub fn settle(cells: &mut Vec<Cell>, from: usize, loaded: &mut Vec<Cell>)
 }
 
 /// Puts a cell at a place.
+#[inline(always)]
 pub fn lay(cells: &mut Vec<Cell>, place: usize, cell: Cell)
     requires { place < length cells.old.items }
     ensures here { heap_of cells.new.items place ≡ held cell }
     ensures others { (q : ℕ) → (q ≡ place → ⊥) → heap_of cells.new.items q ≡ heap_of cells.old.items q }
     ensures size { length cells.new.items ≡ length cells.old.items }
 {
-    cells[place] = cell;
+    let before = mem::replace(&mut cells[place], cell);
+    let_go(before);
 }
 
-/// What stands at a place, which is left empty.
+/// Lets what a cell had go, which is a scalar as a rule.
+#[inline(always)]
+fn let_go(cell: Cell) {
+    match cell {
+        Cell::Int(_) => {}
+        Cell::Empty => {}
+        Cell::Bool(_) => {}
+        other => let_any_go(other),
+    }
+}
+
+#[inline(never)]
+fn let_any_go(cell: Cell) {
+    let _any = cell;
+}
+
+/// What stands at a place, which is left empty, but for a scalar.
+#[inline(always)]
 pub fn lift(cells: &mut Vec<Cell>, place: usize) -> Cell
     requires { place < length cells.old.items }
     ensures value { held result ≡ heap_of cells.old.items place }
     ensures others { (q : ℕ) → (q ≡ place → ⊥) → heap_of cells.new.items q ≡ heap_of cells.old.items q }
     ensures size { length cells.new.items ≡ length cells.old.items }
 {
-    mem::replace(&mut cells[place], Cell::Empty)
+    match &cells[place] {
+        Cell::Int(n) => Cell::Int(*n),
+        Cell::Bool(b) => Cell::Bool(*b),
+        _ => mem::replace(&mut cells[place], Cell::Empty),
+    }
 }

@@ -1,5 +1,7 @@
 //! How long multiples are.
 ghost use Rattle.std.specs.Prelude.{◌≡◌, ◌-◌, ◌<◌, ◌^◌, length};
+ghost use Rattle.flow_value.specs.declared.value.Val.TheViews.{out-Val};
+ghost use Rattle.node_ops.specs.Operands.{multiple_in};
 ghost use Rattle.graph_meaning.specs.Forms.{spoiled, first_spoiled, items, places_of, are_as_long};
 ghost use Rattle.run_store.specs.Stored as stored;
 ghost use Rattle.run_cells.specs.Held.{heap_of, rising_in};
@@ -9,7 +11,7 @@ ghost use Rattle.sequential.specs.Inside.{IsInside};
 ghost use Rattle.sequential.specs.Loading.{AreInside, seen_of};
 ghost use Rattle.sequential_loops.specs.Spreading.{all_long};
 
-use flow_value::Cause;
+use flow_value::{Cause, Val};
 use run_cells::{Cell, Seen};
 use sequential::{direct, operand_at, sight};
 use step_code::{Code, Operand};
@@ -34,7 +36,20 @@ fn risen(many: u32, lo: i64) -> usize
     many as usize
 }
 
+/// How many elements the multiple in a box has.
+#[inline(always)]
+fn listed(v: &Val) -> usize
+    ensures places { result ≡ length (items (multiple_in v.now (out-Val v.now))) }
+    ensures few { result < 2 ^ 63 }
+{
+    match v {
+        Val::Stream(values) => values.as_slice().len(),
+        _ => 0,
+    }
+}
+
 /// How many elements the first one of these multiples has.
+#[inline(always)]
 pub fn first_places(code: &Code, cells: &[Cell], base: usize, operands: &[Operand]) -> usize
     requires { AreInside code.now (length cells.now - base) operands.now }
     ensures places { result ≡ places_of (seen_of code.now base (heap_of cells.now) operands.now) }
@@ -46,6 +61,7 @@ pub fn first_places(code: &Code, cells: &[Cell], base: usize, operands: &[Operan
     }
 }
 
+#[inline(always)]
 fn long_of(code: &Code, cells: &[Cell], base: usize, from: Operand) -> usize
     requires { IsInside code.now (length cells.now - base) from }
     ensures places { result ≡ length (items (stored.seen (heap_of cells.now) base (mode_in code.now from) (operand_in code.now from))) }
@@ -53,6 +69,7 @@ fn long_of(code: &Code, cells: &[Cell], base: usize, from: Operand) -> usize
 {
     match direct(code, cells, base, from) {
         Some(Cell::Range(many, lo)) => risen(*many, *lo),
+        Some(Cell::Many(v)) => listed(v.get()),
         _ => places_in(sight(code, cells, base, from)),
     }
 }

@@ -5,12 +5,14 @@
 mod adding;
 mod behind;
 mod columns;
+mod copying;
 mod iterating;
 mod keeping;
 mod laying;
 mod lengths;
 mod numbers;
 mod once;
+mod pushing;
 mod putting;
 mod rows;
 mod spreading;

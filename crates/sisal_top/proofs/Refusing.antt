@@ -22,7 +22,6 @@ use Rattle.sisal_top.specs.Refusals.{IsCause, IsNoProgram, IsUnread}
 use Rattle.sisal_top.specs.Status.{of_checker, of_parser, of_words}
 use Rattle.sisal_top.proofs.Lexed.{is_text}
 use Rattle.sisal_top.specs.declared.status.Status.{Status}
-use Rattle.sisal_top.specs.declared.status.Status.TheVariants as status
 
 -- words that ask to read the text are no other command, and have no fault
 pub reads_text : (words : List (List ℕ)) (c : Command) → AskToRead words → IsCommand words c → ReadsText c

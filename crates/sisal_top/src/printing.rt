@@ -52,7 +52,11 @@ fn add_totals(totals: &Totals, text: &mut Text) -> Result<(), NoMemory>
 fn add_totals_if(totals: &Totals, stats: bool, text: &mut Text) -> Result<(), NoMemory>
     ensures { OnOk result (text.new ≡ text.old ++ totals_if stats totals.now) }
 {
-    if stats { add_totals(totals, text) } else { Ok(()) }
+    if stats {
+        add_totals(totals, text)
+    } else {
+        Ok(())
+    }
 }
 
 /// Each value of a run on a line, and where it is asked for the line of its totals.

@@ -41,7 +41,7 @@ pub enum Status {
     TurnLimit,
     /// The text is longer than its limit.
     TooLong,
-    /// What the words or the text ask for is not built yet.
+    /// What the words ask for is not built yet.
     Later,
     /// A function stands in another text: the first one's name.
     Unlinked(Name),

@@ -5,6 +5,7 @@ ghost use Rattle.flow_value.specs.declared.cause.Cause.TheVariants as cause;
 ghost use Rattle.flow_value.specs.Lent.{operand_value};
 ghost use Rattle.value_ops.specs.Given.{values_in};
 ghost use Rattle.value_ops.specs.Operations.{op_value};
+ghost use Rattle.meaning.specs.Words.{value_at};
 ghost use Rattle.source_meaning.specs.Slots.{given_values, slot_value, slot_values};
 
 use flow_value::{Cause, Items, NoMemory, Operand, Operands, Seq, Val, item_at, scalar1, scalar2};
@@ -66,13 +67,21 @@ fn add_each(slots: &mut Seq<Slot>, values: Items) -> Result<(), NoMemory>
     Ok(())
 }
 
+/// The value of the name at a level.
+fn named<'a>(names: &'a [Val], level: u32, missing: &'a Val) -> &'a Val
+    requires { missing.now ≡ val.Err cause.Explicit }
+    ensures { result.now ≡ value_at names.now level }
+{
+    item_at(names, level as usize).unwrap_or(missing)
+}
+
 /// The value of an operand, where these are the values of the names.
 pub fn lent<'a>(names: &'a [Val], slot: &'a Slot, missing: &'a Val) -> &'a Val
     requires { missing.now ≡ val.Err cause.Explicit }
     ensures { result.now ≡ slot_value names.now slot.now }
 {
     match slot {
-        Slot::Name(level) => item_at(names, *level as usize).unwrap_or(missing),
+        Slot::Name(level) => named(names, *level, missing),
         Slot::Value(v) => v,
     }
 }
@@ -83,7 +92,7 @@ fn handed<'a>(names: &'a [Val], slot: Slot, missing: &'a Val) -> Operand<'a>
     ensures { operand_value result ≡ Some (slot_value names.now slot) }
 {
     match slot {
-        Slot::Name(level) => Operand::Lent(item_at(names, level as usize).unwrap_or(missing)),
+        Slot::Name(level) => Operand::Lent(named(names, level, missing)),
         Slot::Value(v) => Operand::Owned(v),
     }
 }

@@ -1,6 +1,6 @@
 -- A room that is cut into segments of one place each, and put together again from the last to the first.
 use Rattle.std.proofs.Math.Facts.{yes_leb}
-use Rattle.std.proofs.Common.{◌≡◌, ◌≢◌, ℕ, zero, suc, ◌+◌, ◌-◌, ◌<◌, ◌≤◌, List, [], ◌∷◌, ◌++◌, length, map, replicate, take, drop, Option, Some, refl, sym, ap, subst, ◌∙◌, arith, slice_index_or, pos}
+use Rattle.std.proofs.Common.{◌≡◌, ℕ, zero, suc, ◌+◌, ◌-◌, ◌<◌, ◌≤◌, List, [], ◌∷◌, ◌++◌, length, map, replicate, take, drop, Option, Some, refl, sym, ap, subst, ◌∙◌, arith, pos}
 use Rattle.std.proofs.lemmas.List.{append_assoc, append-nil, drop_at, drop-drop, take_at, get_or_append_left, get_or_push, length-append, length-replicate, length_push, replicate_more}
 use Rattle.std.specs.Prelude.{IsTrue}
 use Rattle.std.specs.List.{list_all}
@@ -10,14 +10,13 @@ use native.Mathlib.Decide.{ℕ_discrete}
 use denote.RawPtr.{Ptr}
 use Rattle.flow_value.specs.Bounds.{IsWithinLength}
 use Rattle.flow_value.specs.declared.value.Val.{Val}
-use Rattle.flow_value.specs.declared.value.Val.TheVariants as value
-use Rattle.segment.specs.Places.{Place, RoomView, IsOf, away, unwritten, written, is_written}
+use Rattle.segment.specs.Places.{Place, RoomView, away, unwritten, written, is_written}
 use Rattle.segment.specs.Runs.{part, spliced}
 use Rattle.agg_pool.specs.Parts.{Cut}
 use Rattle.agg_pool.specs.Pools.{BuildsAnd, IfBuilds, IfHolds}
 use Rattle.agg_pool.specs.declared.entry.Entry.{Entry}
 use Rattle.agg_pool.specs.declared.entry.Entry.TheVariants as entry
-use Rattle.test_pool.specs.Shares.{room_at, share, AreShares, with_place, number_at, counted}
+use Rattle.test_pool.specs.Shares.{room_at, share, AreShares, number_at, counted}
 
 -- what is said of an entry that is this room
 pub if_room : (o : Option Entry) (P : RoomView Val → Type 0) (start : Ptr) (places : List (Place Val)) → o ≡ room_at start places → IfBuilds o P → P (record { start = start; places = places })

@@ -1,5 +1,5 @@
 pub mod Counted
 pub mod Arguments
-pub mod Rooms
+pub mod RoomTables
 pub mod Makes
 pub mod Recorded

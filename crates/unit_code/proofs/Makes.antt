@@ -1,9 +1,8 @@
 -- What is made of the data of a unit is its code, and whole.
-use Rattle.std.proofs.Common.{◌≡◌, ◌+◌, ◌<◌, ◌≤◌, ℕ, suc, List, length, sym, ap, subst, ◌∙◌, arith}
+use Rattle.std.proofs.Common.{◌≡◌, ◌+◌, ◌<◌, ℕ, suc, List, length, sym, ap, subst, ◌∙◌, arith}
 use Rattle.if1_graph.specs.declared.graph.Unit1.{Unit1}
 use Rattle.if1_graph.specs.Ready.{IsReady}
 use Rattle.if1_marks.specs.Sound.{IsSound}
-use Rattle.graph_meaning.specs.Entered.{IsIn}
 use Rattle.run_code.specs.Made.{Plan}
 use Rattle.made_store.specs.Settings.{Shares}
 use Rattle.firing_order.specs.Orders.{order_by}
@@ -21,7 +20,6 @@ use Rattle.unit_runs.proofs.QuickCode.{quick-unit-code}
 use Rattle.unit_runs.proofs.WritesOf.{quick-writes}
 use Rattle.quick_code.specs.Quick.{RunsSame}
 use Rattle.unit_whole.specs.Laws.{AreUnitCodesEntered, IsMadeOfData}
-use Rattle.unit_code.specs.declared.code.UnitCode.{UnitCode}
 use Rattle.unit_code.specs.Codes.{IsCodeOfUnit, IsMadeOf}
 use Rattle.unit_code.proofs.Counted.{places-many}
 

@@ -232,8 +232,7 @@ module _ (D : PlanData) (P : Plan) (S : Shares) (functions : List ℕ) (stands :
         let fits = s.1 in
         let m = operands-long code froms n h.knit.0 in
         let c = collects-long cs k h.knit.1 in
-        let l = front-last (modes_in code froms n) (taken_all k) (operands_in code froms n) (cells_at (out + length (operands_in code froms n)) (length (collects_in code cs k))) (modes-long code froms n) h.last in
-        (
+        let l = front-last (modes_in code froms n) (taken_all k) (operands_in code froms n) (cells_at (out + length (operands_in code froms n)) (length (collects_in code cs k))) (modes-long code froms n) h.last in (
           listed-so code room froms n h.knit.0 s.0 l.0,
           collected-so cs k h.knit.1,
           columns-so froms n cs k h.steady,
@@ -250,8 +249,7 @@ module _ (D : PlanData) (P : Plan) (S : Shares) (functions : List ℕ) (stands :
     ready (step.Each many n from count kept turn leave) o ms h =
         let s = h.stays in
         let fits = s.1 in
-        let e = h.knit.1 in
-        (
+        let e = h.knit.1 in (
           record {
             listed_there = h.knit.0;
             long = sym (ap length e ∙ looked-long code from n);
@@ -267,8 +265,7 @@ module _ (D : PlanData) (P : Plan) (S : Shares) (functions : List ℕ) (stands :
         let fits = s.1 in
         let m = operands-long code froms n h.knit.0 in
         let c = collects-long cs k h.knit.1 in
-        let l = front-last (modes_in code froms n) (taken_all k) (operands_in code froms n) (cells_at out (length (collects_in code cs k))) (modes-long code froms n) h.last in
-        (
+        let l = front-last (modes_in code froms n) (taken_all k) (operands_in code froms n) (cells_at out (length (collects_in code cs k))) (modes-long code froms n) h.last in (
           listed-so code room froms n h.knit.0 s.0 l.0,
           collected-so cs k h.knit.1,
           columns-so froms n cs k h.steady,

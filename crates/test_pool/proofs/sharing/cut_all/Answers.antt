@@ -1,4 +1,4 @@
-use Rattle.std.proofs.Common.{◌≡◌, ℕ, ◌+◌, ◌-◌, ◌≤◌, length, replicate, Some, refl, sym, ap, subst, ◌∙◌, arith}
+use Rattle.std.proofs.Common.{◌≡◌, ◌+◌, ◌-◌, ◌≤◌, length, replicate, Some, refl, sym, ap, subst, ◌∙◌, arith}
 use Rattle.segment.specs.Places.{away, unwritten}
 use Rattle.segment.specs.Runs.{part, spliced}
 use Rattle.agg_pool.specs.Pools.{entry_at}

@@ -1,5 +1,5 @@
 -- `cut` hands places over, and leaves none of theirs behind.
-use Rattle.segment.proofs.Words.{◌≡◌, ℕ, ◌+◌, ◌*◌, ◌^◌, ◌<◌, ◌≤◌, List, [], ◌∷◌, ◌++◌, length, replicate, sym, refl, ap, ◌∙◌, subst, arith, add_comm, length-replicate, a_type, named, w64, Val, vint, vptr, inst_fn, full_share, SProp, emp, id⊢, never, Lft, Fml, ftrue, fsep, flft, Item, ‵, raw, ◌⊛◌, at_ret, ◌$◌, ◌∵◌, !, qed, by, move, keep, drop, split, join, fsplit, fsplit3, fjoin, fjoin3, fpick, fpack, use0, use1, use2, rewrite, feq_i, flt_i, flt_l, stop, fld, load, size_word, of_opd, bin, no_more, and_then, first, blocks, exec, returns, enter, alloc_all, pass_all, free_all, look_at, get, through, sets, sets_last, is, env, agg, sub, whole, look_in, tables, fact, fact_i, yes, RattleType, owns, types_at, plain, Ptr, block_ptr, in_block, in_a_block, ◌+ₚ◌, nothing, peeks, heard, opens, closes, Is, shows, cell_at, row, layouts, usize, uint_vals, uint_Tells, mut_vals, mut_Tells, Stays, stay_dropped, stay_ref, walk_of, Goes-dropped, Goes-ref, proved, leaves, after, El, R}
+use Rattle.segment.proofs.Words.{◌≡◌, ℕ, ◌+◌, ◌*◌, ◌^◌, ◌<◌, ◌≤◌, List, [], ◌∷◌, length, replicate, sym, refl, ap, ◌∙◌, subst, arith, add_comm, length-replicate, a_type, named, w64, Val, vint, vptr, inst_fn, full_share, SProp, emp, id⊢, never, Lft, Fml, ftrue, fsep, flft, Item, ‵, raw, ◌⊛◌, at_ret, ◌$◌, ◌∵◌, !, qed, by, move, keep, drop, split, join, fsplit, fsplit3, fjoin, fjoin3, fpick, fpack, use0, use1, use2, rewrite, feq_i, flt_i, flt_l, stop, fld, load, size_word, of_opd, bin, no_more, and_then, first, blocks, exec, returns, enter, alloc_all, pass_all, free_all, look_at, get, through, sets, sets_last, is, env, agg, sub, whole, look_in, tables, fact, fact_i, yes, RattleType, owns, types_at, plain, Ptr, block_ptr, in_block, in_a_block, ◌+ₚ◌, nothing, peeks, heard, opens, closes, Is, shows, cell_at, layouts, usize, uint_vals, uint_Tells, mut_vals, mut_Tells, Stays, stay_dropped, stay_ref, walk_of, Goes-dropped, Goes-ref, proved, leaves, after, El, R}
 use Rattle.std.proofs.ptr.Rows.{times_below}
 use Rattle.segment.specs.Places.{Place, away}
 use Rattle.segment.specs.Runs.{bytes_of, place_at, part, spliced, places_own}

@@ -1,6 +1,5 @@
 -- `join` puts the other run's places where they belong.
-use Rattle.segment.proofs.Words.{◌≡◌, ℕ, ◌+◌, ◌*◌, ◌^◌, ◌<◌, ◌≤◌, List, [], ◌∷◌, ◌++◌, length, sym, refl, ap, ◌∙◌, subst, a_type, named, w64, Val, vunit, vint, vptr, inst_fn, SProp, emp, id⊢, never, guard_i, Lft, Fml, ftrue, fsep, flft, sem, ‵, raw, ◌⊛◌, given, ◌$◌, ◌∵◌, !, qed, by, move, keep, drop, split, join, fsplit, fsplit3, fjoin, fjoin3, fpick, fpack, learn, use0, use1, use2, rewrite, feq_i, flt_i, flt_l, unit_lit, of_opd, returns, enter, alloc_all, pass_all, free_all, look_at, sets, tables, fact, fact_i, fact_use, yes, no, RattleType, owns, types_at, plain, Ptr, InBlock, block_ptr, in_block, in_a_block, ◌+ₚ◌, nothing, heard, opens, closes, row, layouts, usize, uint_vals, uint_Tells, mut_vals, mut_Tells, Stays, stay_dropped, stay_ref, walk_of, Goes-dropped, Goes-ref, proved, leaves, strip_good, El, R}
-use Rattle.segment.specs.Places.{Place}
+use Rattle.segment.proofs.Words.{◌≡◌, ℕ, ◌+◌, ◌*◌, ◌^◌, ◌<◌, ◌≤◌, List, [], ◌∷◌, length, sym, refl, ap, ◌∙◌, subst, a_type, named, w64, Val, vunit, vint, vptr, inst_fn, SProp, emp, id⊢, never, guard_i, Lft, Fml, ftrue, fsep, flft, sem, ‵, raw, ◌⊛◌, given, ◌$◌, ◌∵◌, !, qed, by, move, keep, drop, split, join, fsplit, fsplit3, fjoin, fjoin3, fpick, fpack, learn, use0, use1, use2, rewrite, feq_i, flt_i, flt_l, unit_lit, of_opd, returns, enter, alloc_all, pass_all, free_all, look_at, sets, tables, fact, fact_i, fact_use, yes, no, RattleType, owns, types_at, plain, Ptr, InBlock, block_ptr, in_block, in_a_block, ◌+ₚ◌, nothing, heard, opens, closes, layouts, usize, uint_vals, uint_Tells, mut_vals, mut_Tells, Stays, stay_dropped, stay_ref, walk_of, Goes-dropped, Goes-ref, proved, leaves, strip_good, El, R}
 use Rattle.segment.specs.Runs.{bytes_of, place_at, part, spliced, places_own, run_owns}
 use Rattle.segment.proofs.Lists.{spliced_long}
 use Rattle.segment.proofs.Rows.{points, Around, comes_out, goes_back}

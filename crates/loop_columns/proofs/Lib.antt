@@ -1,0 +1,16 @@
+pub mod From
+pub mod Steps
+pub mod Yields
+pub mod Later
+pub mod Nodes
+pub mod Numbers
+pub mod Columns
+pub mod Generators
+pub mod Forms
+pub mod Bounds
+pub mod FoldNodes
+pub mod Clauses
+pub mod ForAlls
+pub mod Turns
+pub mod TurnsRead
+pub mod Collected

@@ -1,0 +1,71 @@
+//! Integers that go behind a multiple where it stands.
+ghost use Rattle.std.specs.Prelude.{◌≡◌, ℕ, ◌<◌, ◌∷◌, [], ◌++◌, true, false, length, if◌then◌else◌};
+ghost use Rattle.flow_value.specs.declared.value.Val.TheVariants as val;
+ghost use Rattle.graph_meaning.specs.Carried.{Carried, Value};
+ghost use Rattle.run_code.specs.Collections.{behind};
+ghost use Rattle.run_store.specs.Stored as stored;
+ghost use Rattle.run_cells.specs.declared.cell.Cell.TheVariants as cell;
+ghost use Rattle.run_cells.specs.Held.{held, heap_of};
+
+use flow_value::{Seq, Val};
+use run_cells::{Boxed, Cell};
+
+/// Puts an integer behind the multiple in a cell, if its list has room for one more.
+#[inline(always)]
+pub fn is_pushed(cells: &mut Vec<Cell>, place: usize, n: i64) -> bool
+    requires { place < length cells.old.items }
+    ensures put { result ≡ true → (m : Carried) → heap_of cells.old.items place ≡ stored.Owns m → heap_of cells.new.items place ≡ stored.Owns (behind m (Value (val.Int n))) }
+    ensures none { result ≡ false → (q : ℕ) → heap_of cells.new.items q ≡ heap_of cells.old.items q }
+    ensures others { (q : ℕ) → (q ≡ place → ⊥) → heap_of cells.new.items q ≡ heap_of cells.old.items q }
+    ensures size { length cells.new.items ≡ length cells.old.items }
+{
+    match &mut cells[place] {
+        Cell::Many(stream) => is_behind(stream, n),
+        _ => false,
+    }
+}
+
+#[inline(always)]
+fn is_behind(stream: &mut Boxed<Val>, n: i64) -> bool
+    ensures put { result ≡ true → (m : Carried) → held (cell.Many stream.old) ≡ stored.Owns m → held (cell.Many stream.new) ≡ stored.Owns (behind m (Value (val.Int n))) }
+    ensures none { result ≡ false → stream.new ≡ stream.old }
+{
+    match stream.replace(Val::Null) {
+        Val::Stream(items) => {
+            let mut longer = items.into_vec();
+            let pushed = is_put(&mut longer, n);
+            let_go(stream.replace(Val::Stream(Seq::from_vec(longer))));
+            pushed
+        }
+        other => {
+            let_go(stream.replace(other));
+            false
+        }
+    }
+}
+
+#[inline(always)]
+fn is_put(items: &mut Vec<Val>, n: i64) -> bool
+    ensures { items.new.items ≡ (if result then items.old.items ++ val.Int n ∷ [] else items.old.items) }
+{
+    if items.len() < items.capacity() {
+        items.push_reserved(Val::Int(n));
+        true
+    } else {
+        false
+    }
+}
+
+/// Lets a value go, which is null as a rule.
+#[inline(always)]
+fn let_go(v: Val) {
+    match v {
+        Val::Null => {}
+        other => let_any_go(other),
+    }
+}
+
+#[inline(never)]
+fn let_any_go(v: Val) {
+    let _any = v;
+}
