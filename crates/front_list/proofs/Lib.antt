@@ -1,5 +1,6 @@
-pub mod Blocks
-pub mod Crosses
-pub mod Memory
+mod AtPlaces
+mod Crossing
+mod Fields
+mod Lending
+mod Memory
 pub mod Rows
-pub mod Sharing

@@ -2,7 +2,7 @@
 use Rattle.std.proofs.Common.{◌≡◌, ℕ, zero, suc, ◌+◌, ◌-◌, ◌<◌, ◌≤◌, Bool, true, false, List, [], ◌∷◌, ◌++◌, map, length, take, drop, set, get_or, replicate, Option, Some, None, refl, sym, ap, ◌∙◌, arith, take_at}
 use Rattle.std.proofs.lemmas.List.{length-map}
 use Rattle.front_list.specs.Places.{somes}
-use Rattle.front_list.specs.Rows.{shape, is_here, items_of, IsRow}
+use Rattle.front_list.specs.Rows.{shape, is_here, items_of, places_of, IsRow}
 use Rattle.front_list.specs.declared.row.Row.{Row}
 
 flags_none : (X : Type 0) (b : ℕ) → let none : Option X = None in map is_here (replicate b none) ≡ replicate b false
@@ -134,16 +134,15 @@ module _ {X : Type 0} where
   cut_first (x ∷ xs) h = (x, (xs, refl))
 
   -- a row is read, and made
-  pub unlaid : (r : Row X) → IsRow r → (r.cells.slots ≡ laid r.first (items_of r) (r.room - (r.first + r.len))) × (length (items_of r) ≡ r.len)
+  pub unlaid : (r : Row X) → IsRow r → (r.block.places ≡ laid r.first (items_of r) (r.block.room - (r.first + r.len))) × (length (items_of r) ≡ r.len)
   unlaid r h =
-      let b = r.room - (r.first + r.len) in let u = unpack r.cells.slots r.first r.len b h.places in
+      let b = r.block.room - (r.first + r.len) in let u = unpack r.block.places r.first r.len b h.places in
       let is : items_of r ≡ u.0 = ap somes u.1.1 ∙ somes-laid r.first u.0 b in
       (u.1.1 ∙ ap (λ xs. laid r.first xs b) (sym is), ap length is ∙ u.1.0)
 
-  pub relaid : (r : Row X) (xs : List X) (b : ℕ) → (r.cells.at ≡ r.base.ptr) × ((r.deed.at ≡ r.base.ptr) × (r.deed.len ≡ r.room))
-      → r.cells.slots ≡ laid r.first xs b → length xs ≡ r.len → b ≡ r.room - (r.first + r.len) → r.first + r.len ≤ r.room → IsRow r × (items_of r ≡ xs)
-  relaid r xs b block is count rest fits = (
-    record { block = block; places = ap (map is_here) is ∙ flags-laid r.first xs b ∙ (λ i. shape r.first (count i) (rest i)); fits = fits },
+  pub relaid : (r : Row X) (xs : List X) (b : ℕ) → r.block.places ≡ laid r.first xs b → length xs ≡ r.len → b ≡ r.block.room - (r.first + r.len) → r.first + r.len ≤ places_of r → IsRow r × (items_of r ≡ xs)
+  relaid r xs b is count rest fits = (
+    record { places = ap (map is_here) is ∙ flags-laid r.first xs b ∙ (λ i. shape r.first (count i) (rest i)); fits = fits },
     ap somes is ∙ somes-laid r.first xs b,
   )
 

@@ -41,15 +41,33 @@ impl<T> FrontList<T> {
     pub fn with_room(alloc: Global, items: usize) -> Result<FrontList<T>, AllocError>
         ensures { IfOk result (λ l. l ≡ []) }
     {
-        if items == 0 {
-            return Ok(FrontList::new(alloc));
-        }
         let Ok(room) = u32::try_from(items) else {
             return Err(AllocError);
         };
         Ok(FrontList {
             row: Row::with_room(alloc, 0, room)?,
         })
+    }
+
+    /// The items of a vector, of which there are at most 4,294,967,295. None is moved.
+    pub fn from_vec(items: Vec<T>) -> FrontList<T>
+        requires few { length items.items ≤ 4294967295 }
+        ensures { result ≡ items.items }
+    {
+        let len = items.len();
+        let alloc = *items.allocator();
+        FrontList {
+            row: Row::of_vec(alloc, items, len as u32),
+        }
+    }
+
+    /// The vector of the items; takes no memory. They are moved where items were taken off at the front.
+    pub fn into_vec(self) -> Vec<T>
+        ensures { result.items ≡ self }
+    {
+        let FrontList { mut row } = self;
+        row.settle();
+        row.into_vec()
     }
 
     /// The items in order.
@@ -73,16 +91,29 @@ impl<T> FrontList<T> {
         self.row.count() == 0
     }
 
+    /// Adds an item at the end where there is a place for it; takes no memory. Where there is none the item comes back, and
+    /// the list is as it was.
+    pub fn push_in_room(&mut self, item: T) -> Result<(), T>
+        ensures list { self.new ≡ (if is_ok result then self.old ++ item ∷ [] else self.old) }
+        ensures handed_back { IfErr result (λ y. y ≡ item) }
+    {
+        if !self.row.has_room() {
+            return Err(item);
+        }
+        self.row.put_last(item);
+        Ok(())
+    }
+
     /// Adds an item at the end. On want of memory the item comes back, and the list is as it was.
     pub fn push(&mut self, item: T) -> Result<(), T>
         ensures list { self.new ≡ (if is_ok result then self.old ++ item ∷ [] else self.old) }
         ensures handed_back { IfErr result (λ y. y ≡ item) }
     {
-        if !self.row.reserve_last(1) {
-            return Err(item);
+        if self.row.has_room() || self.row.reserve_last(1) {
+            self.row.put_last(item);
+            return Ok(());
         }
-        self.row.put_last(item);
-        Ok(())
+        Err(item)
     }
 
     /// Adds an item at the front. On want of memory the item comes back, and the list is as it was.

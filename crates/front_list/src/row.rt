@@ -1,20 +1,17 @@
 //! The fields of a list, and the steps that keep its items side by side.
-ghost use Rattle.std.specs.Prelude.{◌≡◌, ◌+◌, ◌<◌, ◌≤◌, [], ◌∷◌, ◌++◌, length, take, drop, slice_set, IfOk, IfSome, IsTrue};
-ghost use Rattle.front_list.specs.Rows.{items_of, IsRow, Becomes};
+ghost use Rattle.std.specs.Prelude.{◌≡◌, ◌+◌, ◌<◌, ◌≤◌, ◌↔◌, [], ◌∷◌, ◌++◌, length, take, drop, slice_set, IfOk, IfSome, IsTrue};
+ghost use Rattle.std.specs.Vec.{vec_capacity};
+ghost use Rattle.front_list.specs.Rows.{items_of, places_of, IsRow, Becomes};
 
-use crate::cells::{Base, Cells, Deed, allocate, deallocate, forget, nothing};
+use crate::block::{Block, attach, detach};
 use std::alloc::{AllocError, Global};
 use std::mem;
-use std_alloc::room::may_hold;
 
 /// The `len` items lie side by side from the place `first` on. The places before and behind them are empty.
 pub struct Row<T> {
-    pub(crate) base: Base<T>,
+    pub(crate) block: Block<T>,
     pub(crate) first: u32,
     pub(crate) len: u32,
-    pub(crate) room: u32,
-    pub(crate) cells: Cells<T>,
-    deed: Deed<T, Global>,
     pub(crate) alloc: Global,
 }
 
@@ -23,66 +20,101 @@ impl<T> Row<T> {
     pub(crate) fn empty(alloc: Global) -> Row<T>
         ensures { IsRow result × (items_of result ≡ []) }
     {
-        let (base, cells, deed) = nothing(&alloc);
+        Row::of_vec(alloc, Vec::new(alloc), 0)
+    }
+
+    /// The items of a vector, of which there are `len`. None is moved.
+    pub(crate) fn of_vec(alloc: Global, mut vec: Vec<T>, len: u32) -> Row<T>
+        requires { length vec.items ≡ len }
+        ensures row { IsRow result × (items_of result ≡ vec.items) × (result.first ≡ 0) × (result.len ≡ len) }
+        ensures room { result.block.room ≡ vec_capacity vec }
+    {
+        let at = vec.as_mut_ptr();
+        let room = vec.capacity();
+        let (block, left) = detach(vec, at, room);
+        left.destroy_empty();
         Row {
-            base,
+            block,
             first: 0,
-            len: 0,
-            room: 0,
-            cells,
-            deed,
+            len,
             alloc,
         }
     }
 
+    /// Moves the items to the first places.
+    pub(crate) fn settle(&mut self)
+        requires { IsRow self.old }
+        ensures { IsRow self.new × (items_of self.new ≡ items_of self.old) × (self.new.first ≡ 0) }
+    {
+        if self.first > 0 {
+            let mut place = 0;
+            while place < self.len as usize {
+                let item = self.block.read(self.first as usize + place);
+                self.block.write(place, item);
+                place += 1;
+            }
+            self.first = 0;
+        }
+    }
+
+    /// The vector of the items, which begin at the first place. None is moved.
+    pub(crate) fn into_vec(self) -> Vec<T>
+        requires { IsRow self × (self.first ≡ 0) }
+        ensures { result.items ≡ items_of self }
+    {
+        let Row {
+            block,
+            first: _,
+            len,
+            alloc,
+        } = self;
+        attach(block, Vec::new(alloc), len as usize)
+    }
+
     /// A row of `room` places with no item, whose first will stand behind `first` places.
     pub(crate) fn with_room(alloc: Global, first: u32, room: u32) -> Result<Row<T>, AllocError>
-        requires { (first ≤ room) × (0 < room) }
-        ensures { IfOk result (λ r. IsRow r × (r.first ≡ first) × (r.len ≡ 0) × (r.room ≡ room) × (items_of r ≡ [])) }
+        requires { first ≤ room }
+        ensures { IfOk result (λ r. IsRow r × (r.first ≡ first) × (r.len ≡ 0) × (places_of r ≡ room) × (items_of r ≡ [])) }
     {
-        if !may_hold::<T>(room as usize) {
-            return Err(AllocError);
-        }
-        let (base, cells, deed) = allocate(&alloc, room as usize)?;
-        Ok(Row {
-            base,
-            first,
-            len: 0,
-            room,
-            cells,
-            deed,
+        let row = Row::of_vec(alloc, Vec::with_capacity(alloc, room as usize)?, 0);
+        Ok(row.begun(first))
+    }
+
+    /// An empty row whose first item will stand behind `first` places.
+    fn begun(self, first: u32) -> Row<T>
+        requires { IsRow self × (self.len ≡ 0) × (first ≤ self.block.room) }
+        ensures { IsRow result × (result.first ≡ first) × (result.len ≡ 0) × (result.block.room ≡ self.block.room) × (items_of result ≡ []) }
+    {
+        let Row {
+            block,
+            first: _,
+            len,
             alloc,
-        })
+        } = self;
+        Row {
+            block,
+            first,
+            len,
+            alloc,
+        }
     }
 
     /// Gives the memory of a row without items back.
     pub(crate) fn free(self)
         requires { IsRow self × (items_of self ≡ []) }
     {
-        let Row {
-            base,
-            first: _,
-            len: _,
-            room,
-            cells,
-            deed,
-            alloc,
-        } = self;
-        if room == 0 {
-            forget(cells, deed);
-        } else {
-            deallocate(&alloc, base, room as usize, cells, deed);
-        }
+        self.begun(0).into_vec().destroy_empty();
     }
 
     /// Adds an item at the end, where there is an empty place.
     pub(crate) fn put_last(&mut self, item: T)
-        requires { IsRow self.old × (self.old.first + self.old.len < self.old.room) }
+        requires row { IsRow self.old }
+        requires room { self.old.first + self.old.len < places_of self.old }
         ensures items { Becomes self.old self.new (items_of self.old ++ item ∷ []) }
         ensures ends { (self.new.first ≡ self.old.first) × (self.new.len ≡ self.old.len + 1) }
     {
-        let place = self.first + self.len;
-        self.cells.write(self.base, place as usize, item);
+        self.block
+            .write(self.first as usize + self.len as usize, item);
         self.len += 1;
     }
 
@@ -92,7 +124,7 @@ impl<T> Row<T> {
         ensures { Becomes self.old self.new (item ∷ items_of self.old) }
     {
         let place = self.first - 1;
-        self.cells.write(self.base, place as usize, item);
+        self.block.write(place as usize, item);
         self.first = place;
         self.len += 1;
     }
@@ -100,11 +132,11 @@ impl<T> Row<T> {
     /// Takes the last item off.
     pub(crate) fn take_last(&mut self) -> T
         requires { IsRow self.old × (0 < self.old.len) }
-        ensures row { IsRow self.new × (self.new.room ≡ self.old.room) × (self.new.len + 1 ≡ self.old.len) }
+        ensures row { IsRow self.new × (self.new.block.room ≡ self.old.block.room) × (self.new.len + 1 ≡ self.old.len) }
         ensures items { items_of self.old ≡ items_of self.new ++ result ∷ [] }
     {
         let left = self.len - 1;
-        let item = self.cells.read(self.base, (self.first + left) as usize);
+        let item = self.block.read(self.first as usize + left as usize);
         self.len = left;
         item
     }
@@ -112,11 +144,11 @@ impl<T> Row<T> {
     /// Takes the first item off.
     pub(crate) fn take_first(&mut self) -> T
         requires { IsRow self.old × (0 < self.old.len) }
-        ensures row { IsRow self.new × (self.new.room ≡ self.old.room) × (self.new.len + 1 ≡ self.old.len) }
+        ensures row { IsRow self.new × (self.new.block.room ≡ self.old.block.room) × (self.new.len + 1 ≡ self.old.len) }
         ensures items { items_of self.old ≡ result ∷ items_of self.new }
     {
         let place = self.first;
-        let item = self.cells.read(self.base, place as usize);
+        let item = self.block.read(place as usize);
         self.first = place + 1;
         self.len -= 1;
         item
@@ -128,8 +160,8 @@ impl<T> Row<T> {
         ensures { Becomes self.old self.new (slice_set (items_of self.old) place item) }
     {
         let at = self.first as usize + place;
-        let old = self.cells.read(self.base, at);
-        self.cells.write(self.base, at, item);
+        let old = self.block.read(at);
+        self.block.write(at, item);
         old
     }
 
@@ -147,15 +179,30 @@ impl<T> Row<T> {
         ensures items { result.now ≡ items_of self.now }
         ensures len { length result.now ≡ self.now.len }
     {
-        self.cells
-            .slice(self.base, self.first as usize, self.len as usize)
+        self.block.slice(self.first as usize, self.len as usize)
+    }
+
+    /// How many places can be counted.
+    fn places(&self) -> usize
+        ensures { result ≡ places_of self.now }
+    {
+        self.block.room.min(u32::MAX as usize)
+    }
+
+    /// Whether there is an empty place at the end.
+    #[inline(always)]
+    pub(crate) fn has_room(&self) -> bool
+        requires { IsRow self.now }
+        ensures { IsTrue result ↔ (self.now.first + self.now.len < places_of self.now) }
+    {
+        self.first as usize + (self.len as usize) < self.places()
     }
 
     /// Moves the items to `room` new places, the first of them behind `first` places, and returns whether it could.
     pub(crate) fn refill(&mut self, first: u32, room: u32) -> bool
-        requires { IsRow self.old × (first + self.old.len ≤ room) × (0 < room) }
+        requires { IsRow self.old × (first + self.old.len ≤ room) }
         ensures items { IsRow self.new × (items_of self.new ≡ items_of self.old) × (self.new.len ≡ self.old.len) }
-        ensures room { IsTrue result → (self.new.first ≡ first) × (self.new.room ≡ room) }
+        ensures room { IsTrue result → (self.new.first ≡ first) × (places_of self.new ≡ room) }
     {
         let Ok(mut other) = Row::with_room(self.alloc, first, room) else {
             return false;
@@ -166,19 +213,38 @@ impl<T> Row<T> {
         true
     }
 
+    /// Makes sure of empty places for `more` items behind items that begin at the first place, and returns whether it could.
+    fn grow(&mut self, more: u32) -> bool
+        requires { IsRow self.old × (self.old.first ≡ 0) }
+        ensures items { IsRow self.new × (items_of self.new ≡ items_of self.old) }
+        ensures room { IsTrue result → self.new.first + self.new.len + more ≤ places_of self.new }
+    {
+        let len = self.len;
+        if u32::MAX - len < more {
+            return false;
+        }
+        let mut vec = mem::replace(self, Row::empty(self.alloc)).into_vec();
+        let is_grown = vec.reserve(more as usize).is_ok();
+        mem::replace(self, Row::of_vec(self.alloc, vec, len)).free();
+        is_grown
+    }
+
     /// Makes sure of empty places for `more` items at the end, and returns whether it could. Where it moves the items, it
     /// leaves room in proportion to them.
     pub(crate) fn reserve_last(&mut self, more: u32) -> bool
         requires { IsRow self.old }
         ensures items { IsRow self.new × (items_of self.new ≡ items_of self.old) }
-        ensures room { IsTrue result → self.new.first + self.new.len + more ≤ self.new.room }
+        ensures room { IsTrue result → self.new.first + self.new.len + more ≤ places_of self.new }
     {
-        if more <= self.room - (self.first + self.len) {
+        if more as usize <= self.places() - (self.first as usize + self.len as usize) {
             return true;
+        }
+        if self.first == 0 {
+            return self.grow(more);
         }
         let first = self.first.min(self.len);
         let behind = self.len.saturating_add(4).max(more);
-        match places(first, self.len, behind) {
+        match counted(first, self.len, behind) {
             Some(room) => self.refill(first, room),
             None => false,
         }
@@ -194,8 +260,8 @@ impl<T> Row<T> {
             return true;
         }
         let first = self.len.saturating_add(4);
-        let behind = (self.room - self.len).min(self.len);
-        match places(first, self.len, behind) {
+        let behind = (self.places() - self.len as usize).min(self.len as usize);
+        match counted(first, self.len, behind as u32) {
             Some(room) => self.refill(first, room),
             None => false,
         }
@@ -230,10 +296,10 @@ impl<T> Row<T> {
     /// Moves the items of `more` to the end, where there are empty places for them.
     pub(crate) fn put_all(&mut self, more: &mut Row<T>)
         requires mine { IsRow self.old × IsRow more.old }
-        requires room { self.old.first + self.old.len + more.old.len ≤ self.old.room }
+        requires room { self.old.first + self.old.len + more.old.len ≤ places_of self.old }
         ensures all { IsRow self.new × (items_of self.new ≡ items_of self.old ++ items_of more.old) }
         ensures left { IsRow more.new × (items_of more.new ≡ []) }
-        ensures same { (self.new.first ≡ self.old.first) × (self.new.room ≡ self.old.room) × (self.new.len ≡ self.old.len + more.old.len) }
+        ensures same { (self.new.first ≡ self.old.first) × (self.new.block.room ≡ self.old.block.room) × (self.new.len ≡ self.old.len + more.old.len) }
     {
         while more.len > 0 {
             let item = more.take_first();
@@ -243,7 +309,7 @@ impl<T> Row<T> {
 }
 
 /// How many places these are, if not too many.
-fn places(before: u32, items: u32, behind: u32) -> Option<u32>
+fn counted(before: u32, items: u32, behind: u32) -> Option<u32>
     ensures { IfSome result (λ n. n ≡ before + items + behind) }
 {
     before.checked_add(items)?.checked_add(behind)

@@ -1,0 +1,1 @@
+-- The memory of a `Vec` is the places of a block. Assumes `Logic`.
