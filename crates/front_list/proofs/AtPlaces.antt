@@ -1,6 +1,6 @@
 -- The places of a block as segments have them: one of them is found, and changed.
 use Rattle.std.proofs.Common.{◌≡◌, ℕ, zero, suc, ◌+◌, ◌-◌, ◌≤◌, ◌<◌, List, [], ◌∷◌, ◌++◌, map, length, take, drop, set, get_or, replicate, Option, Some, None, refl, sym, ap, ◌∙◌, arith, true≢false, Bool, true, false}
-use Rattle.std.proofs.lemmas.List.{length-map}
+use Rattle.std.proofs.lemmas.List.{length-map, length-append, length-replicate}
 use Rattle.segment.specs.Places.{Place, unwritten, written}
 use Rattle.segment.specs.Runs.{part}
 use Rattle.front_list.specs.Places.{packed}
@@ -40,3 +40,8 @@ module _ {X : Type 0} where
 
   pub vec_places : (xs : List X) (c : ℕ) → map here (packed xs c) ≡ map written xs ++ replicate (c - length xs) unwritten
   vec_places xs c = here_packed xs (c - length xs)
+
+  pub packed_long : (xs : List X) (c : ℕ) → length xs ≤ c → length (packed xs c) ≡ c
+  packed_long xs c fits =
+      let blank : Option X = None in
+      omega (arith, length-append (map Some xs) (replicate (c - length xs) blank), length-map xs Some, length-replicate (c - length xs) blank, fits)

@@ -7,7 +7,7 @@ use mir.Raw.{raw}
 use denote.RattleType.{RattleType}
 use denote.Memory.{lone}
 use denote.RawPtr.{Ptr, block_ptr, null_ptr, block_of, count_of, in_block, ◌+ₚ◌}
-use denote.Builtin.{RawPtr, usize}
+use denote.Builtin.{RawPtr}
 use denote.Param.Send.{IsSend, IsSync, Common, AllSend, owning_send, struct_send, struct_sync, sendable}
 use denote.Struct.Struct.{exits_of}
 use denote.Struct.Owning.{shape, fields, to}
@@ -18,12 +18,6 @@ use Rattle.segment.specs.Runs.{bytes_of}
 use Rattle.segment.proofs.Crossing.{pointer_send, stays_quiet, owned_keyless}
 use Rattle.front_list.specs.Ownership.{here, freed, place_lent, places_lent, run_lent, block_lent}
 use Rattle.front_list.specs.contracts.block.Block as Block
-
-word_send : IsSend usize
-word_send = search sendable
-
-word_sync : IsSync usize
-word_sync = search sendable
 
 pointer_sync : IsSync RawPtr
 pointer_sync = search sendable
@@ -52,11 +46,11 @@ module _ (R : RattleType) where
   pub block_send : IsSend R → IsSend (Block.the_row R)
   block_send s =
       let O = Block.the_type R in
-      let all : AllSend (fields O) = (pointer_send, (word_send, tt)) in
+      let all : AllSend (fields O) = (pointer_send, tt) in
       owning_send O all (λ b. (owned_keyless R s b.at (map here b.places), (tt, freed_keyless b.at b.room)))
       (λ k. stays_quiet (to O) (exits_of k (fields O)) ((struct_send (shape O) all).leaving k))
 
   pub block_sync : IsSync R → IsSync (Block.the_row R)
   block_sync y =
       let O = Block.the_type R in
-      record { shared = λ d b o κ. ((struct_sync (shape O) (pointer_sync, (word_sync, tt))).shared (to O d) b o κ, (tt, run_common y d.at d.places κ)) }
+      record { shared = λ d b o κ. ((struct_sync (shape O) (pointer_sync, tt)).shared (to O d) b o κ, (tt, run_common y d.at d.places κ)) }

@@ -1,7 +1,13 @@
 -- A `&` to a block shows the value in each place that has one. Assumes `Logic`.
-use Rattle.std.proofs.Common.{ℕ, ◌*◌, ◌^◌, List, [], ◌∷◌, length, map, Option, Some, None}
-use base.Fml.{Lft, Incl, ffalse, fsep, flt}
-use types.Logic.{Logic}
+use Rattle.std.proofs.Common.{◌≡◌, ℕ, zero, suc, ◌+◌, ◌*◌, ◌^◌, List, [], ◌∷◌, length, map, take, drop as drop_list, Option, Some, None, refl, arith}
+use native.Mathlib.Nat.{zero-mul, suc-mul}
+use base.Fml.{Lft, Fml, Incl, ffalse, fsep, flt}
+use base.Logic.{ent}
+use types.Logic.{Logic, sem}
+use types.Kit.{‵, ◌$◌, ◌∵◌, !, qed, move, drop, use1, rewrite, fsplit, fjoin, done}
+use denote.Memory.{shared_of}
+use denote.Slice.{elements_shared}
+use denote.Steps.{nothing as none_more}
 use seplogic.Ra.Ura.{Ura}
 use denote.RattleType.{RattleType}
 use denote.Param.Laws.{Laws}
@@ -49,3 +55,31 @@ module _ (R : RattleType) (L : Laws R) where
         let small = flt (length (map here cs) * bytes_of R) (2 ^ 63) in
         Lends-first 𝓛 (run_owns R p (map here cs)) (fsep (flt c (2 ^ 63)) (freed R p c)) (block_lent R p cs) l
         (Lends-both 𝓛 small (in_block p (places_own R p (map here cs))) (said small) (run_lent R p cs) l (Lends-said 𝓛 small tt l) (lends_run p cs))
+
+-- a run of values is seen as a slice
+module _ (R : RattleType) {M : Type 1} {𝓤 : Ura M} (𝓛 : Logic 𝓤) (κ : Lft) (b : ℕ) where
+  abbrev seen : ℕ → List (Option R.Denot) → Fml
+  seen o cs = places_lent R (block_ptr b o) cs κ
+
+  as_elements : (cs : List (Option R.Denot)) (n : ℕ) (xs : List R.Denot) (o : ℕ) → take n cs ≡ map Some xs → ent 𝓤 (sem 𝓛 (seen o cs)) (sem 𝓛 (elements_shared R xs b o κ))
+  as_elements cs n [] o is = qed 𝓛 (‵ (seen o cs) ∷ []) ∵ drop ! $ none_more ! $ done !
+  as_elements [] zero (x ∷ xs) o is = cc
+  as_elements [] (suc n) (x ∷ xs) o is = cc
+  as_elements (c ∷ cs) zero (x ∷ xs) o is = cc
+  as_elements (None ∷ cs) (suc n) (x ∷ xs) o is = cc
+  as_elements (Some y ∷ cs) (suc n) (x ∷ xs) o is =
+      let same : y ≡ x = cc in
+      let rest : take n cs ≡ map Some xs = cc in
+      qed 𝓛 (‵ (seen o (Some y ∷ cs)) ∷ []) ∵ fsplit ! $ fsplit ! $ drop ! $ rewrite ! 0 (λ (z : R.Denot). ‵ (shared_of R z b o κ)) same refl $
+      move ! (1 ∷ []) $ use1 𝓛 (‵ (elements_shared R xs b (o + bytes_of R) κ)) (as_elements cs n xs (o + bytes_of R) rest) $ move ! (1 ∷ 0 ∷ []) $ fjoin ! $ done !
+
+  pub shows : (f : ℕ) (cs : List (Option R.Denot)) (n : ℕ) (xs : List R.Denot) (o : ℕ) → take n (drop_list f cs) ≡ map Some xs
+      → ent 𝓤 (sem 𝓛 (seen o cs)) (sem 𝓛 (elements_shared R xs b (o + f * bytes_of R) κ))
+  shows zero cs n xs o is =
+      let here : o ≡ o + 0 * bytes_of R = omega (arith, zero-mul (bytes_of R)) in
+      qed 𝓛 (‵ (seen o cs) ∷ []) ∵ use1 𝓛 (‵ (elements_shared R xs b o κ)) (as_elements cs n xs o is) $ rewrite ! 0 (λ (k : ℕ). ‵ (elements_shared R xs b k κ)) here refl $ done !
+  shows (suc f) [] n xs o is = as_elements [] n xs (o + suc f * bytes_of R) is
+  shows (suc f) (c ∷ cs) n xs o is =
+      let there : o + bytes_of R + f * bytes_of R ≡ o + suc f * bytes_of R = omega (arith, suc-mul f (bytes_of R)) in
+      qed 𝓛 (‵ (seen o (c ∷ cs)) ∷ []) ∵ fsplit ! $ drop ! $
+      use1 𝓛 (‵ (elements_shared R xs b (o + bytes_of R + f * bytes_of R) κ)) (shows f cs n xs (o + bytes_of R) is) $ rewrite ! 0 (λ (k : ℕ). ‵ (elements_shared R xs b k κ)) there refl $ done !

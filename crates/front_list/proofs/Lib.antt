@@ -2,5 +2,5 @@ mod AtPlaces
 mod Crossing
 mod Fields
 mod Lending
-mod Memory
 pub mod Rows
+mod Vecs

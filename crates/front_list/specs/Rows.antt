@@ -18,12 +18,13 @@ module _ {X : Type 0} where
 
   -- the places that a row counts
   abbrev pub places_of : Row X → ℕ
-  places_of r = min r.block.room 4294967295
+  places_of r = min r.room 4294967295
 
   pub record IsRow (r : Row X) : Type 0 where
-    pub places : map is_here r.block.places ≡ shape r.first r.len (r.block.room - (r.first + r.len))
+    pub block : r.block.room ≡ r.room
+    pub places : map is_here r.block.places ≡ shape r.first r.len (r.room - (r.first + r.len))
     pub fits : r.first + r.len ≤ places_of r
 
   -- s is a row of as many places, with the items xs
   abbrev pub Becomes : Row X → Row X → List X → Type 0
-  Becomes r s xs = IsRow s × ((s.block.room ≡ r.block.room) × (items_of s ≡ xs))
+  Becomes r s xs = IsRow s × ((s.room ≡ r.room) × (items_of s ≡ xs))

@@ -11,7 +11,7 @@ use std::slice;
 /// Places in the memory that a `Vec` had. It owns that memory, and the values in it.
 pub struct Block<T> {
     at: *mut T,
-    pub(crate) room: usize,
+    pub(crate) ghost room: { ℕ },
     pub(crate) ghost places: { List (Option T) } by { coded_list (coded_option T.code) },
 }
 
@@ -28,8 +28,7 @@ unsafe impl<T: Sync> Sync for Block<T> {}
 /// Takes its memory from a `Vec`, which is then empty and has none.
 pub(crate) fn detach<T>(mut vec: Vec<T>, at: *mut T, room: usize) -> (Block<T>, Vec<T>)
     requires { (at ≡ vec_ptr vec) × (room ≡ vec_capacity vec) }
-    ensures block { (result.0.room ≡ room) × (result.0.places ≡ packed vec.items room) × (length vec.items ≤ room) }
-    ensures none { (vec_len result.1 ≡ 0) × (vec_capacity result.1 ≡ 0) }
+    ensures { (result.0.room ≡ room) × (result.0.places ≡ packed vec.items room) × (length vec.items ≤ room) × (vec_len result.1 ≡ 0) }
 {
     // A `Vec` is its pointer, its length and its capacity, in this order.
     let words = &raw mut vec as *mut usize;
@@ -37,16 +36,15 @@ pub(crate) fn detach<T>(mut vec: Vec<T>, at: *mut T, room: usize) -> (Block<T>, 
         *words.add(1) = 0;
         *words.add(2) = 0;
     }
-    (Block { at, room }, vec)
+    (Block { at }, vec)
 }
 
 /// Gives a block whose first `count` places hold values to a `Vec` that has no memory.
-pub(crate) fn attach<T>(block: Block<T>, mut vec: Vec<T>, count: usize) -> Vec<T>
-    requires none { vec_capacity vec ≡ 0 }
-    requires packed { (block.places ≡ packed (somes block.places) block.room) × (length (somes block.places) ≡ count) × (count ≤ block.room) }
+pub(crate) fn attach<T>(block: Block<T>, mut vec: Vec<T>, count: usize, room: usize) -> Vec<T>
+    requires { (vec_capacity vec ≡ 0) × (room ≡ block.room) × (block.places ≡ packed (somes block.places) room) × (length (somes block.places) ≡ count) × (count ≤ room) }
     ensures { result.items ≡ somes block.places }
 {
-    let Block { at, room } = block;
+    let Block { at } = block;
     let words = &raw mut vec as *mut usize;
     unsafe {
         *(words as *mut *mut T) = at;
@@ -70,8 +68,7 @@ impl<T> Block<T> {
     /// Takes the value out of a place.
     pub(crate) fn read(&mut self, index: usize) -> T
         requires { IsFilled self.old.places index }
-        ensures value { get_or self.old.places index None ≡ Some result }
-        ensures places { self.new ≡ record self.old { places = slice_set self.old.places index None } }
+        ensures { (get_or self.old.places index None ≡ Some result) × (self.new ≡ record self.old { places = slice_set self.old.places index None }) }
     {
         unsafe { self.at.add(index).read() }
     }

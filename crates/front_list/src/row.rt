@@ -10,6 +10,7 @@ use std::mem;
 /// The `len` items lie side by side from the place `first` on. The places before and behind them are empty.
 pub struct Row<T> {
     pub(crate) block: Block<T>,
+    pub(crate) room: usize,
     pub(crate) first: u32,
     pub(crate) len: u32,
     pub(crate) alloc: Global,
@@ -27,7 +28,7 @@ impl<T> Row<T> {
     pub(crate) fn of_vec(alloc: Global, mut vec: Vec<T>, len: u32) -> Row<T>
         requires { length vec.items ≡ len }
         ensures row { IsRow result × (items_of result ≡ vec.items) × (result.first ≡ 0) × (result.len ≡ len) }
-        ensures room { result.block.room ≡ vec_capacity vec }
+        ensures room { result.room ≡ vec_capacity vec }
     {
         let at = vec.as_mut_ptr();
         let room = vec.capacity();
@@ -35,6 +36,7 @@ impl<T> Row<T> {
         left.destroy_empty();
         Row {
             block,
+            room,
             first: 0,
             len,
             alloc,
@@ -64,11 +66,12 @@ impl<T> Row<T> {
     {
         let Row {
             block,
+            room,
             first: _,
             len,
             alloc,
         } = self;
-        attach(block, Vec::new(alloc), len as usize)
+        attach(block, Vec::new(alloc), len as usize, room)
     }
 
     /// A row of `room` places with no item, whose first will stand behind `first` places.
@@ -82,17 +85,19 @@ impl<T> Row<T> {
 
     /// An empty row whose first item will stand behind `first` places.
     fn begun(self, first: u32) -> Row<T>
-        requires { IsRow self × (self.len ≡ 0) × (first ≤ self.block.room) }
-        ensures { IsRow result × (result.first ≡ first) × (result.len ≡ 0) × (result.block.room ≡ self.block.room) × (items_of result ≡ []) }
+        requires { IsRow self × (self.len ≡ 0) × (first ≤ self.room) }
+        ensures { IsRow result × (result.first ≡ first) × (result.len ≡ 0) × (result.room ≡ self.room) × (items_of result ≡ []) }
     {
         let Row {
             block,
+            room,
             first: _,
             len,
             alloc,
         } = self;
         Row {
             block,
+            room,
             first,
             len,
             alloc,
@@ -132,7 +137,7 @@ impl<T> Row<T> {
     /// Takes the last item off.
     pub(crate) fn take_last(&mut self) -> T
         requires { IsRow self.old × (0 < self.old.len) }
-        ensures row { IsRow self.new × (self.new.block.room ≡ self.old.block.room) × (self.new.len + 1 ≡ self.old.len) }
+        ensures row { IsRow self.new × (self.new.room ≡ self.old.room) × (self.new.len + 1 ≡ self.old.len) }
         ensures items { items_of self.old ≡ items_of self.new ++ result ∷ [] }
     {
         let left = self.len - 1;
@@ -144,7 +149,7 @@ impl<T> Row<T> {
     /// Takes the first item off.
     pub(crate) fn take_first(&mut self) -> T
         requires { IsRow self.old × (0 < self.old.len) }
-        ensures row { IsRow self.new × (self.new.block.room ≡ self.old.block.room) × (self.new.len + 1 ≡ self.old.len) }
+        ensures row { IsRow self.new × (self.new.room ≡ self.old.room) × (self.new.len + 1 ≡ self.old.len) }
         ensures items { items_of self.old ≡ result ∷ items_of self.new }
     {
         let place = self.first;
@@ -186,7 +191,7 @@ impl<T> Row<T> {
     fn places(&self) -> usize
         ensures { result ≡ places_of self.now }
     {
-        self.block.room.min(u32::MAX as usize)
+        self.room.min(u32::MAX as usize)
     }
 
     /// Whether there is an empty place at the end.
@@ -299,7 +304,7 @@ impl<T> Row<T> {
         requires room { self.old.first + self.old.len + more.old.len ≤ places_of self.old }
         ensures all { IsRow self.new × (items_of self.new ≡ items_of self.old ++ items_of more.old) }
         ensures left { IsRow more.new × (items_of more.new ≡ []) }
-        ensures same { (self.new.first ≡ self.old.first) × (self.new.block.room ≡ self.old.block.room) × (self.new.len ≡ self.old.len + more.old.len) }
+        ensures same { (self.new.first ≡ self.old.first) × (self.new.room ≡ self.old.room) × (self.new.len ≡ self.old.len + more.old.len) }
     {
         while more.len > 0 {
             let item = more.take_first();

@@ -2,8 +2,8 @@
 use denote.RattleType.{RattleType}
 use denote.Param.Laws.{Laws}
 use denote.Param.Shared.{copy_shared}
-use denote.Struct.Field.{RawPtr-field, usize-field}
-use denote.Struct.Laws.{RawPtr-copy, usize-copy}
+use denote.Struct.Field.{RawPtr-field}
+use denote.Struct.Laws.{RawPtr-copy}
 use denote.Struct.Lending.{of_Lends}
 use base.Fml.{Incl-trans}
 use mathlib.Core.List.{[], ◌++◌}
@@ -15,5 +15,5 @@ use Rattle.front_list.proofs.Lending.{block_laws, lends_block}
 pub shares : (T : RattleType) (L : Laws T) → statement T L
 shares T L =
     of_Lends (B.struct T) (B.the_codes T.Denot T.coded) (B.the_heap T) (B.the_lent T) (λ d p. block_laws T L d.at d.places)
-    (copy_shared RawPtr-field RawPtr-copy, (copy_shared usize-field usize-copy, tt))
+    (copy_shared RawPtr-field RawPtr-copy, tt)
     (λ M 𝓤 𝓛 d p. lends_block T L 𝓛 (B.the_row T).lives (Incl-trans (meet_⊑_left (T.lives ++ []) []) (meet_⊑_left T.lives [])) d.at d.room d.places)

@@ -7,10 +7,10 @@ use Rattle.std.proofs.RawLayout.{as_written}
 use Rattle.segment.specs.Places.{Place, written}
 use Rattle.segment.specs.Runs.{bytes_of, part, places_own}
 use Rattle.segment.proofs.Rows.{uncapped, Around, comes_out, goes_back}
-use Rattle.segment.proofs.Fields.{in_arrays, tells}
+use Rattle.segment.proofs.Fields.{in_arrays, tells, stored}
 use Rattle.front_list.specs.Ownership.{here}
 use Rattle.front_list.proofs.AtPlaces.{place_at, place_set}
-use Rattle.front_list.proofs.Fields.{Words, stored, stored_as}
+use Rattle.front_list.proofs.Fields.{Pointer, stored_as}
 use Rattle.front_list.specs.contracts.block.Block as block
 use Rattle.front_list.specs.contracts.block.Block.write.{ended, clauses}
 use Rattle.front_list.specs.contracts.block.Block.write.Key.{name as #self}
@@ -22,7 +22,7 @@ write_spec 𝓤 𝓛 𝓜 𝓡 wired X L =
     let 𝓣 = tables 𝓤 𝓛.H 𝓜 𝓡 𝓡.env in
     let E : El = record { row = X; laws = L } in
     let Row : RattleType = block.the_row (R E) in
-    let D : RattleType = Words (R E) in
+    let D : RattleType = Pointer (R E) in
     let s : ℕ = bytes_of (R E) in
     let En = ended X in
     let inst = layouts (a_type ∷ []) (X, tt) in
@@ -61,10 +61,10 @@ write_spec 𝓤 𝓛 𝓜 𝓡 wired X L =
     let us : List Val = vptr b o ∷ vint w64 i ∷ v ∷ [] in
     suffices ! (Run us) (subst (λ (ws : List Val). ent 𝓤 (Run us) (Run ws)) (sym (λ j. are.0.0 j ++ (are.1.0.0 j ++ (third_is j ++ [])))) (id⊢ 𝓤 (Run us))) $
     enter ! 𝓣.C 𝓣.Λ fn us Post $ alloc_all ! (λ l. pass_all ! refl ((tt, tt), ((tt, record { fits = are.1.0.1 }), (good, tt))) $
-    opens ! tt Row b o (λ vs. move ! (1 ∷ []) $ fsplit ! $ peeks ! D (Is D) (shows 𝓛 D) (p, (r.room, tt)) vs (λ so. move ! (1 ∷ []) $ fsplit ! $ fsplit ! $ flt_l ! (λ small.
+    opens ! tt Row b o (λ vs. move ! (1 ∷ []) $ fsplit ! $ peeks ! D (Is D) (shows 𝓛 D) (p, tt) vs (λ so. move ! (1 ∷ []) $ fsplit ! $ fsplit ! $ flt_l ! (λ small.
     in_a_block ! p (λ q. in_block q (places_own (R E) q ps)) (id⊢ 𝓤 (never 𝓤)) (λ b' o' at.
     let off : ℕ = o' + i * s in
-    let cell_is : vs ≡ stored (block_ptr b' o') r.room ∷ [] = stored_as (R E) p r.room vs so ∙ ap (λ (q : Ptr). stored q r.room ∷ []) at in
+    let cell_is : vs ≡ stored (block_ptr b' o') ∷ [] = stored_as (R E) p vs so ∙ ap (λ (q : Ptr). stored q ∷ []) at in
     let far : i * s < 2 ^ 63 = times_below i (length ps) s (2 ^ 63) (omega arith) small in
     let fits_word : i * s < 2 ^ 64 = omega arith in
     let size_is = uncapped i s fits_word in

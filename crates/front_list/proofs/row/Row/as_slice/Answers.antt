@@ -1,22 +1,13 @@
-use Rattle.std.proofs.Common.{◌≡◌, ◌+◌, ◌-◌, zero, suc, [], ◌∷◌, ◌++◌, length, take, drop, set, get_or, replicate, Some, None, refl, sym, ap, ◌∙◌, arith, length-append, length-set}
+use Rattle.std.proofs.Common.{◌≡◌, sym, ap, ◌∙◌, length}
 use Rattle.front_list.specs.Rows.{items_of}
-use Rattle.front_list.proofs.Rows.{laid, unlaid, run-laid, length-laid, same_values}
+use Rattle.front_list.proofs.Rows.{is_run, items_are, count_is, same_values}
 use Rattle.front_list.proofs.row.Row.as_slice.Goals as goal
 
 pub slice-requires : goal.slice-requires
-slice-requires g c =
-    let a = c.args.self.now in let h = c.requires in let fits = h.fits in let u = unlaid a h in let count = u.1 in let xs = items_of a in let b = a.room - (a.first + a.len) in
-    let run = ap (λ l. take a.len (drop a.first l)) u.0 ∙ run-laid a.first xs b a.len (sym count) in
-    (sym h.block.0, (omega (arith, ap length u.0, length-laid a.first xs b), (xs, run)))
+slice-requires g c = is_run c.args.self.now c.requires
 
 pub returns-clause-items : goal.returns-clause-items
-returns-clause-items g c =
-    let a = c.args.self.now in let h = c.requires in let fits = h.fits in let u = unlaid a h in let count = u.1 in let xs = items_of a in let b = a.room - (a.first + a.len) in
-    let run = ap (λ l. take a.len (drop a.first l)) u.0 ∙ run-laid a.first xs b a.len (sym count) in
-    same_values c.slice.result.now xs (sym c.slice.ensures ∙ run)
+returns-clause-items g c = same_values c.slice.result.now (items_of c.args.self.now) (sym c.slice.ensures ∙ items_are c.args.self.now c.requires)
 
 pub returns-clause-len : goal.returns-clause-len
-returns-clause-len g c =
-    let a = c.args.self.now in let h = c.requires in let fits = h.fits in let u = unlaid a h in let count = u.1 in let xs = items_of a in let b = a.room - (a.first + a.len) in
-    let run = ap (λ l. take a.len (drop a.first l)) u.0 ∙ run-laid a.first xs b a.len (sym count) in
-    ap length (same_values c.slice.result.now xs (sym c.slice.ensures ∙ run)) ∙ count
+returns-clause-len g c = ap length (same_values c.slice.result.now (items_of c.args.self.now) (sym c.slice.ensures ∙ items_are c.args.self.now c.requires)) ∙ count_is c.args.self.now c.requires

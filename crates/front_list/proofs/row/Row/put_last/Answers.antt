@@ -1,20 +1,9 @@
-use Rattle.std.proofs.Common.{◌≡◌, ◌+◌, ◌-◌, zero, suc, [], ◌∷◌, ◌++◌, length, set, get_or, replicate, Some, None, refl, sym, ap, ◌∙◌, arith, length-append, length-set}
-use Rattle.front_list.specs.Rows.{items_of}
-use Rattle.front_list.proofs.Rows.{laid, unlaid, relaid, put-behind, length-laid}
+use Rattle.std.proofs.Common.{◌≡◌, refl}
+use Rattle.front_list.proofs.Rows.{blank_behind, puts_last}
 use Rattle.front_list.proofs.row.Row.put_last.Goals as goal
 
 pub write-requires : goal.write-requires
-write-requires g c =
-    let a = c.args.self.now in let h = c.requires.0 in let lt = c.requires.1 in let fits = h.fits in let u = unlaid a h in let count = u.1 in let xs = items_of a in let x = c.args.item in
-    let b = a.room - (a.first + a.len + 1) in let more : a.room - (a.first + a.len) ≡ suc b = omega arith in
-    let is = u.0 ∙ ap (λ n. laid a.first xs n) more in let put = put-behind a.first xs b x (a.first + a.len) (omega arith) in
-    (sym h.block.0, omega (arith, ap length is, length-laid a.first xs (suc b)), ap (λ l. get_or l (a.first + a.len) None) is ∙ put.0)
+write-requires g c = blank_behind c.args.self.now c.requires.row c.requires.room
 
 pub returns-clause-items : goal.returns-clause-items
-returns-clause-items g c =
-    let a = c.args.self.now in let h = c.requires.0 in let lt = c.requires.1 in let fits = h.fits in let u = unlaid a h in let count = u.1 in let xs = items_of a in let x = c.args.item in
-    let b = a.room - (a.first + a.len + 1) in let more : a.room - (a.first + a.len) ≡ suc b = omega arith in
-    let is = u.0 ∙ ap (λ n. laid a.first xs n) more in let put = put-behind a.first xs b x (a.first + a.len) (omega arith) in
-    let w = c.write.ensures in let new = record a { len = a.len + 1; cells = c.write.new.self } in
-    let made = relaid new (xs ++ x ∷ []) b (w.0 ∙ h.block.0, h.block.1) (w.1 ∙ ap (λ l. set l (a.first + a.len) (Some x)) is ∙ put.1) (omega (arith, length-append xs (x ∷ []))) (omega arith) (omega arith) in
-    (made.0, (refl, made.1))
+returns-clause-items g c = rw c.write.ensures (let made = puts_last c.args.self.now c.requires.row c.requires.room c.args.item in (made.0, (refl, made.1)))

@@ -1,35 +1,12 @@
-use Rattle.std.proofs.Common.{◌≡◌, ◌+◌, ◌-◌, zero, suc, [], ◌∷◌, ◌++◌, length, set, get_or, replicate, Some, None, refl, sym, ap, ◌∙◌, arith, length-append, length-set}
-use Rattle.front_list.specs.Rows.{items_of}
-use Rattle.front_list.proofs.Rows.{laid, unlaid, relaid, take-first, cut_first}
+use Rattle.std.proofs.Common.{◌≡◌, refl, arith}
+use Rattle.front_list.proofs.Rows.{first_is, takes_first}
 use Rattle.front_list.proofs.row.Row.take_first.Goals as goal
 
 pub read-item-requires : goal.read-item-requires
-read-item-requires g c =
-    let a = c.args.self.now in let h = c.requires.0 in let lt = c.requires.1 in let fits = h.fits in let u = unlaid a h in let count = u.1 in let xs = items_of a in
-    let e = cut_first xs (omega arith) in let us = e.1.0 in let x = e.0 in let b = a.room - (a.first + a.len) in let k = a.first in
-    let is = u.0 ∙ ap (λ l. laid a.first l b) e.1.1 in let one = ap length e.1.1 in
-    let took = take-first a.first us b x k refl in
-    (sym h.block.0, (x, ap (λ l. get_or l k None) is ∙ took.0))
+read-item-requires g c = first_is c.args.self.now c.requires.0 c.requires.1
 
 pub returns-clause-row : goal.returns-clause-row
-returns-clause-row g c =
-    let a = c.args.self.now in let h = c.requires.0 in let lt = c.requires.1 in let fits = h.fits in let u = unlaid a h in let count = u.1 in let xs = items_of a in
-    let e = cut_first xs (omega arith) in let us = e.1.0 in let x = e.0 in let b = a.room - (a.first + a.len) in let k = a.first in
-    let is = u.0 ∙ ap (λ l. laid a.first l b) e.1.1 in let one = ap length e.1.1 in
-    let took = take-first a.first us b x k refl in
-    let w = c.read-item.ensures.slots in let new = record a { first = a.first + 1; len = a.len - 1; cells = c.read-item.new.self } in
-    let more : suc a.first ≡ a.first + 1 = omega arith in
-    let made = relaid new us b (w.0 ∙ h.block.0, h.block.1) (w.1 ∙ ap (λ l. set l k None) is ∙ took.1 ∙ ap (λ n. laid n us b) more) (omega arith) (omega arith) (omega arith) in
-    (made.0, refl, omega arith)
+returns-clause-row g c = let r = c.read-item.ensures in rw r.1 ((takes_first c.args.self.now c.requires.0 c.requires.1 c.read-item.result r.0).0, refl, omega (arith, c.requires.1))
 
 pub returns-clause-items : goal.returns-clause-items
-returns-clause-items g c =
-    let a = c.args.self.now in let h = c.requires.0 in let lt = c.requires.1 in let fits = h.fits in let u = unlaid a h in let count = u.1 in let xs = items_of a in
-    let e = cut_first xs (omega arith) in let us = e.1.0 in let x = e.0 in let b = a.room - (a.first + a.len) in let k = a.first in
-    let is = u.0 ∙ ap (λ l. laid a.first l b) e.1.1 in let one = ap length e.1.1 in
-    let took = take-first a.first us b x k refl in
-    let w = c.read-item.ensures.slots in let new = record a { first = a.first + 1; len = a.len - 1; cells = c.read-item.new.self } in
-    let more : suc a.first ≡ a.first + 1 = omega arith in
-    let made = relaid new us b (w.0 ∙ h.block.0, h.block.1) (w.1 ∙ ap (λ l. set l k None) is ∙ took.1 ∙ ap (λ n. laid n us b) more) (omega arith) (omega arith) (omega arith) in
-    let got : Some c.read-item.result ≡ Some x = sym c.read-item.ensures.value ∙ ap (λ l. get_or l k None) is ∙ took.0 in
-    let same : x ≡ c.read-item.result = cc in e.1.1 ∙ (λ i. same i ∷ sym made.1 i)
+returns-clause-items g c = let r = c.read-item.ensures in rw r.1 ((takes_first c.args.self.now c.requires.0 c.requires.1 c.read-item.result r.0).1)

@@ -1,1 +1,0 @@
--- The memory of a `Vec` is the places of a block. Assumes `Logic`.
