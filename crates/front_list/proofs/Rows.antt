@@ -292,3 +292,90 @@ module _ {X : Type 0} where
   begins r h none f fits =
       let u = unlaid r h in let within = h.fits in let all = u.0 ∙ ap (λ l. laid r.first l (r.room - (r.first + r.len))) (no_item r h none) ∙ sym (no_items r.first (r.room - (r.first + r.len)) r.room (omega arith)) in
       ((relaid (record r { first = f }) [] (r.room - f) h.block (all ∙ no_items f (r.room - f) r.room (omega arith)) (sym none) (omega arith) (omega arith)).0, no_item r h none)
+
+  -- while the items move to the first places, k of them are there, and the others still behind a places
+  abbrev pub slid : ℕ → List X → ℕ → ℕ → List (Option X)
+  slid k xs a b = map Some (take k xs) ++ laid a (drop k xs) b
+
+  slid-item : (k : ℕ) (xs : List X) (a b j : ℕ) → k < length xs → j ≡ a + k → (x : X) × (get_or (slid k xs a b) j None ≡ Some x)
+  slid-item k [] a b j lt e = absurd (omega arith)
+  slid-item zero (y ∷ ys) a b j lt e = let at : j ≡ a = omega arith in (y, ap (λ i. get_or (laid a (y ∷ ys) b) i None) at ∙ item-before a ys b y)
+  slid-item (suc k) (y ∷ ys) a b zero lt e = absurd (omega arith)
+  slid-item (suc k) (y ∷ ys) a b (suc j) lt e = slid-item k ys a b j (omega arith) (omega arith)
+
+  slid-blank : (k : ℕ) (xs : List X) (a b j : ℕ) → 0 < a → k < length xs → j ≡ a + k → (k < length (set (slid k xs a b) j None)) × (get_or (set (slid k xs a b) j None) k None ≡ None)
+  slid-blank k [] a b j some lt e = absurd (omega arith)
+  slid-blank zero (y ∷ ys) zero b j some lt e = absurd (omega arith)
+  slid-blank zero (y ∷ ys) (suc a) b zero some lt e = absurd (omega arith)
+  slid-blank zero (y ∷ ys) (suc a) b (suc j) some lt e = (omega arith, refl)
+  slid-blank (suc k) (y ∷ ys) a b zero some lt e = absurd (omega arith)
+  slid-blank (suc k) (y ∷ ys) a b (suc j) some lt e = let on = slid-blank k ys a b j some (omega arith) (omega arith) in (omega (arith, on.0), on.1)
+
+  slid-next : (k : ℕ) (xs : List X) (a b j : ℕ) (x : X) → 0 < a → k < length xs → j ≡ a + k → get_or (slid k xs a b) j None ≡ Some x
+      → set (set (slid k xs a b) j None) k (Some x) ≡ slid (suc k) xs a b
+  slid-next k [] a b j x some lt e got = absurd (omega arith)
+  slid-next zero (y ∷ ys) zero b j x some lt e got = absurd (omega arith)
+  slid-next zero (y ∷ ys) (suc a) b j x some lt e got =
+      let at : j ≡ suc a = omega arith in
+      let same : y ≡ x = same_item (sym (item-before (suc a) ys b y) ∙ ap (λ i. get_or (laid (suc a) (y ∷ ys) b) i None) (sym at) ∙ got) in
+      ap (λ i. set (set (laid (suc a) (y ∷ ys) b) i None) 0 (Some x)) at ∙ ap (λ l. set l 0 (Some x)) (take-before (suc a) ys b y) ∙ ap (λ z. Some z ∷ laid (suc a) ys b) (sym same)
+  slid-next (suc k) (y ∷ ys) a b zero x some lt e got = absurd (omega arith)
+  slid-next (suc k) (y ∷ ys) a b (suc j) x some lt e got = ap (λ l. Some y ∷ l) (slid-next k ys a b j x some (omega arith) (omega arith) got)
+
+  take_whole : (xs : List X) (n : ℕ) → length xs ≤ n → take n xs ≡ xs
+  take_whole [] zero le = refl
+  take_whole [] (suc n) le = refl
+  take_whole (x ∷ xs) zero le = absurd (omega arith)
+  take_whole (x ∷ xs) (suc n) le = ap (λ l. x ∷ l) (take_whole xs n (omega arith))
+
+  drop_whole : (xs : List X) (n : ℕ) → length xs ≤ n → drop n xs ≡ []
+  drop_whole [] zero le = refl
+  drop_whole [] (suc n) le = refl
+  drop_whole (x ∷ xs) zero le = absurd (omega arith)
+  drop_whole (x ∷ xs) (suc n) le = drop_whole xs n (omega arith)
+
+  -- what the row of these items is while they move
+  pub record IsSliding (old now : Row X) (k : ℕ) : Type 0 where
+    pub row : IsRow old
+    pub fields : (now.first ≡ old.first) × ((now.len ≡ old.len) × ((now.room ≡ old.room) × (now.block.room ≡ old.block.room)))
+    pub few : k ≤ old.len
+    pub some : 0 < old.first
+    pub places : now.block.places ≡ slid k (items_of old) old.first (old.room - (old.first + old.len))
+
+  pub slides : (old : Row X) → IsRow old → 0 < old.first → IsSliding old old 0
+  slides old h some = record { row = h; fields = (refl, (refl, (refl, refl))); few = omega arith; some = some; places = (unlaid old h).0 }
+
+  pub slid_is : (old now : Row X) (k : ℕ) → IsSliding old now k → k < now.len → IsFilled now.block.places (now.first + k)
+  slid_is old now k h lt =
+      let count = (unlaid old h.row).1 in let same = h.fields.1.0 in let at = h.fields.0 in
+      let on = slid-item k (items_of old) old.first (old.room - (old.first + old.len)) (now.first + k) (omega arith) (omega arith) in
+      (on.0, ap (λ l. get_or l (now.first + k) None) h.places ∙ on.1)
+
+  pub slid_open : (old now : Row X) (k : ℕ) → IsSliding old now k → k < now.len
+      → (k < length (set now.block.places (now.first + k) None)) × (get_or (set now.block.places (now.first + k) None) k None ≡ None)
+  slid_open old now k h lt =
+      let count = (unlaid old h.row).1 in let same = h.fields.1.0 in let at = h.fields.0 in
+      let on = slid-blank k (items_of old) old.first (old.room - (old.first + old.len)) (now.first + k) h.some (omega arith) (omega arith) in
+      (omega (arith, on.0, ap (λ l. length (set l (now.first + k) None)) h.places), ap (λ l. get_or (set l (now.first + k) None) k None) h.places ∙ on.1)
+
+  pub slides_on : (old now : Row X) (k : ℕ) → IsSliding old now k → k < now.len → (x : X) → get_or now.block.places (now.first + k) None ≡ Some x
+      → IsSliding old (record now { block = record now.block { places = set (set now.block.places (now.first + k) None) k (Some x) } }) (k + 1)
+  slides_on old now k h lt x got =
+      let count = (unlaid old h.row).1 in let same = h.fields.1.0 in let at = h.fields.0 in let xs = items_of old in let b = old.room - (old.first + old.len) in
+      let next : suc k ≡ k + 1 = omega arith in
+      let on = slid-next k xs old.first b (now.first + k) x h.some (omega arith) (omega arith) (ap (λ l. get_or l (now.first + k) None) (sym h.places) ∙ got) in
+      record {
+        row = h.row;
+        fields = h.fields;
+        few = omega arith;
+        some = h.some;
+        places = ap (λ l. set (set l (now.first + k) None) k (Some x)) h.places ∙ on ∙ ap (λ n. slid n xs old.first b) next;
+      }
+
+  pub settles : (old now : Row X) (k : ℕ) → IsSliding old now k → now.len ≤ k → let new = record now { first = 0 } in IsRow new × (items_of new ≡ items_of old)
+  settles old now k h all =
+      let count = (unlaid old h.row).1 in let same = h.fields.1.0 in let xs = items_of old in let b = old.room - (old.first + old.len) in let fits = h.row.fits in let room = h.fields.1.1.0 in
+      let done : slid k xs old.first b ≡ laid 0 xs (old.first + b) =
+        ap (λ l. map Some l ++ laid old.first (drop k xs) b) (take_whole xs k (omega arith)) ∙ ap (λ l. map Some xs ++ laid old.first l b) (drop_whole xs k (omega arith))
+        ∙ ap (λ l. map Some xs ++ l) (sym (no_items old.first b (old.first + b) refl)) in
+      relaid (record now { first = 0 }) xs (old.first + b) (h.fields.1.1.1 ∙ h.row.block ∙ sym room) (h.places ∙ done) (count ∙ sym same) (omega arith) (omega arith)

@@ -2,24 +2,24 @@
 ghost use Rattle.std.specs.Prelude.{◌≡◌, ◌∷◌, [], ◌++◌, IfOk, OnOk};
 ghost use Rattle.flow_value.specs.declared.value.Val.TheVariants as val;
 
-use flow_value::{Items, NoMemory, Seq, Val, copy};
+use flow_value::{Items, NoMemory, Val, copy};
 use std::alloc::Global;
 
 /// Equal values, in the same order.
 pub fn copies_of(alloc: Global, items: &[Val]) -> Result<Items, NoMemory>
     ensures { IfOk result (λ vs. vs ≡ items.now) }
 {
-    let mut copies = Vec::with_capacity(alloc, items.len())?;
+    let mut copies = Items::with_room(alloc, items.len())?;
     for item in items {
         put_copy(alloc, &mut copies, item)?;
     }
-    Ok(Seq::from_vec(copies))
+    Ok(copies)
 }
 
 /// Puts a copy of a value behind others; an integer goes there at once where there is room.
 #[inline(always)]
-fn put_copy(alloc: Global, copies: &mut Vec<Val>, item: &Val) -> Result<(), NoMemory>
-    ensures { OnOk result (copies.new.items ≡ copies.old.items ++ item.now ∷ []) }
+fn put_copy(alloc: Global, copies: &mut Items, item: &Val) -> Result<(), NoMemory>
+    ensures { OnOk result (copies.new ≡ copies.old ++ item.now ∷ []) }
 {
     match item {
         Val::Int(n) => put_int(copies, *n),
@@ -28,23 +28,18 @@ fn put_copy(alloc: Global, copies: &mut Vec<Val>, item: &Val) -> Result<(), NoMe
 }
 
 #[inline(always)]
-fn put_int(copies: &mut Vec<Val>, n: i64) -> Result<(), NoMemory>
-    ensures { OnOk result (copies.new.items ≡ copies.old.items ++ val.Int n ∷ []) }
+fn put_int(copies: &mut Items, n: i64) -> Result<(), NoMemory>
+    ensures { OnOk result (copies.new ≡ copies.old ++ val.Int n ∷ []) }
 {
-    if copies.len() < copies.capacity() {
-        copies.push_reserved(Val::Int(n));
-        Ok(())
-    } else {
-        copies.push(Val::Int(n))?;
-        Ok(())
-    }
+    copies.add(Val::Int(n))?;
+    Ok(())
 }
 
 #[inline(never)]
-fn put_any(alloc: Global, copies: &mut Vec<Val>, item: &Val) -> Result<(), NoMemory>
-    ensures { OnOk result (copies.new.items ≡ copies.old.items ++ item.now ∷ []) }
+fn put_any(alloc: Global, copies: &mut Items, item: &Val) -> Result<(), NoMemory>
+    ensures { OnOk result (copies.new ≡ copies.old ++ item.now ∷ []) }
 {
     let value = copy(alloc, item)?;
-    copies.push(value)?;
+    copies.add(value)?;
     Ok(())
 }

@@ -7,7 +7,7 @@ ghost use Rattle.run_store.specs.Stored as stored;
 ghost use Rattle.run_cells.specs.declared.cell.Cell.TheVariants as cell;
 ghost use Rattle.run_cells.specs.Held.{held, heap_of};
 
-use flow_value::{Seq, Val};
+use flow_value::{Items, Val};
 use run_cells::{Boxed, Cell};
 
 /// Puts an integer behind the multiple in a cell, if its list has room for one more.
@@ -32,9 +32,9 @@ fn is_behind(stream: &mut Boxed<Val>, n: i64) -> bool
 {
     match stream.replace(Val::Null) {
         Val::Stream(items) => {
-            let mut longer = items.into_vec();
+            let mut longer = items;
             let pushed = is_put(&mut longer, n);
-            let_go(stream.replace(Val::Stream(Seq::from_vec(longer))));
+            let_go(stream.replace(Val::Stream(longer)));
             pushed
         }
         other => {
@@ -45,14 +45,15 @@ fn is_behind(stream: &mut Boxed<Val>, n: i64) -> bool
 }
 
 #[inline(always)]
-fn is_put(items: &mut Vec<Val>, n: i64) -> bool
-    ensures { items.new.items ≡ (if result then items.old.items ++ val.Int n ∷ [] else items.old.items) }
+fn is_put(items: &mut Items, n: i64) -> bool
+    ensures { items.new ≡ (if result then items.old ++ val.Int n ∷ [] else items.old) }
 {
-    if items.len() < items.capacity() {
-        items.push_reserved(Val::Int(n));
-        true
-    } else {
-        false
+    match items.push_in_room(Val::Int(n)) {
+        Ok(()) => true,
+        Err(back) => {
+            let_go(back);
+            false
+        }
     }
 }
 

@@ -106,4 +106,4 @@ detach_spec 𝓤 𝓛 𝓜 𝓡 wired X L =
     sets ! (agg ! (and_then ! (get ! refl) (and_then ! (get ! refl) (no_more !)))) refl outer $
     use0 𝓛 (raw (fact 𝓤 Told)) (fact_i 𝓤 Told (emp 𝓤) (refl, refl, within, refl)) $ nothing ! $ nothing ! $ fjoin ! $ nothing ! $ fjoin ! $ nothing ! $ fjoin ! $
     returns ! (look_at ! 0 refl) $ free_all ! refl $ keep ! (3 ∷ 0 ∷ 2 ∷ 1 ∷ []) $
-    by ! (leaves 𝓛 En hs c z out (places, left) ((tt, (tt, (tt, (tt, tt)))), (tt, (tt, tt))) (tt, (tt, (tt, tt)))))))))
+    by ! (leaves 𝓛 En hs c z out (places, left) ((tt, (tt, (tt, (tt, tt)))), (tt, (tt, tt))) (tt, (tt, (tt, tt))))))))))

@@ -58,7 +58,7 @@ read_spec 𝓤 𝓛 𝓜 𝓡 wired X L =
     let within = is_within r.places i x asked.1 in
     let long = length-map r.places here in
     let fits : i + 1 ≤ length ps = omega (arith, within, long) in
-    split ! $ split ! $ move ! (2 ∷ []) $ fsplit3 ! $ drop ! $ drop ! $ fsplit3 ! $ keep ! (1 ∷ 2 ∷ 3 ∷ 4 ∷ []) $
+    split ! $ split ! $ move ! (2 ∷ []) $ fsplit3 ! $ fsplit3 ! $ keep ! (1 ∷ 2 ∷ 5 ∷ 6 ∷ []) $
     let us : List Val = vptr b o ∷ vint w64 i ∷ [] in
     suffices ! (Run us) (subst (λ (ws : List Val). ent 𝓤 (Run us) (Run ws)) (sym (λ j. are.0.0 j ++ (are.1.0.0 j ++ []))) (id⊢ 𝓤 (Run us))) $
     enter ! 𝓣.C 𝓣.Λ fn us Post $ alloc_all ! (λ l. pass_all ! refl ((tt, tt), ((tt, record { fits = are.1.0.1 }), tt)) $
