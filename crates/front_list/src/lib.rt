@@ -11,3 +11,6 @@ pub use block::Block;
 pub use list::FrontList;
 #[doc(hidden)]
 pub use row::Row;
+
+#[cfg(test)]
+mod tests;

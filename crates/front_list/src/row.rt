@@ -229,9 +229,26 @@ impl<T> Row<T> {
             return false;
         }
         let mut vec = mem::replace(self, Row::empty(self.alloc)).into_vec();
-        let is_grown = vec.reserve(more as usize).is_ok();
+        match vec.reserve(more as usize) {
+            Ok(()) => {
+                self.hold(vec, len);
+                true
+            }
+            Err(_) => {
+                self.hold(vec, len);
+                false
+            }
+        }
+    }
+
+    /// Makes an empty row that of a vector, which has `len` items.
+    fn hold(&mut self, vec: Vec<T>, len: u32)
+        requires empty { IsRow self.old × (items_of self.old ≡ []) }
+        requires len { length vec.items ≡ len }
+        ensures row { IsRow self.new × (items_of self.new ≡ vec.items) × (self.new.first ≡ 0) × (self.new.len ≡ len) }
+        ensures room { self.new.room ≡ vec_capacity vec }
+    {
         mem::replace(self, Row::of_vec(self.alloc, vec, len)).free();
-        is_grown
     }
 
     /// Makes sure of empty places for `more` items at the end, and returns whether it could. Where it moves the items, it

@@ -1,5 +1,5 @@
 -- `attach` makes a block the memory of a `Vec`, by setting each of its three words.
-use Rattle.segment.proofs.Words.{◌≡◌, ℕ, ◌+◌, ◌-◌, ◌*◌, ◌^◌, ◌<◌, ◌≤◌, List, [], ◌∷◌, ◌++◌, length, map, replicate, sym, refl, ap, ◌∙◌, subst, arith, a_type, w64, Val, vint, inst_fn, SProp, ent, emp, id⊢, never, Fml, ftrue, fsep, flft, Item, ‵, raw, ◌⊛◌, at_ret, ◌$◌, ◌∵◌, !, qed, by, move, keep, drop, split, fsplit, fsplit3, fjoin, fpick, use0, use1, use2, rewrite, flt_l, suffices, stop, fld, lit, of_opd, addr, from, bin, assigns, assigns_last, first, blocks, exec, returns, enter, alloc_all, pass_all, free_all, look_at, take_at, give_at, get, get_in, through, sets, env, sub, whole, store_in, tables, fact, fact_i, yes, no, RattleType, plain, Ptr, block_ptr, in_block, in_a_block, nothing, heard, layout, layouts, param_laws, usize, Stays, stay_dropped, walk_of, Goes-dropped, proved_at, leaves, strip_good, Goes-blank, after, El, R}
+use Rattle.segment.proofs.Words.{◌≡◌, ℕ, ◌+◌, ◌-◌, ◌*◌, ◌^◌, ◌<◌, ◌≤◌, List, [], ◌∷◌, ◌++◌, length, map, replicate, sym, refl, ap, ◌∙◌, subst, arith, a_type, w64, Val, vint, inst_fn, SProp, ent, emp, id⊢, never, Fml, ftrue, fsep, flft, Item, ‵, raw, ◌⊛◌, at_ret, ◌$◌, ◌∵◌, !, qed, by, move, keep, drop, split, fsplit, fsplit3, fjoin, fpick, use0, use1, use2, rewrite, flt_l, suffices, stop, fld, lit, of_opd, addr, from, bin, assigns_last, first, blocks, exec, returns, enter, alloc_all, pass_all, free_all, look_at, take_at, give_at, get, get_in, through, sets, env, sub, whole, store_in, tables, fact, fact_i, yes, no, RattleType, plain, Ptr, block_ptr, in_block, in_a_block, nothing, heard, layout, layouts, param_laws, usize, Stays, stay_dropped, walk_of, Goes-dropped, proved_at, leaves, strip_good, Goes-blank, after, El, R}
 use Rattle.std.proofs.lemmas.List.{length-map}
 use Rattle.std.specs.Vec.Ownership.{owns_if, has_block}
 use Rattle.std.specs.contracts.impls.GlobalAllocator.TheImpl.{ghosts}
@@ -10,6 +10,7 @@ use Rattle.std.proofs.vec.Vec.TheLaws as vec_laws
 use Rattle.std.proofs.VecSteps.El as V
 use Rattle.std.proofs.VecSteps.Opens.{vec_had, vec_made, Blk}
 use mir.Syntax.{ty_array}
+use types.Run.{assigns}
 use mir.Raw.{raw as bare}
 use Rattle.segment.specs.Places.{Place, unwritten, written}
 use Rattle.segment.specs.Runs.{bytes_of, places_own}
@@ -64,7 +65,7 @@ attach_spec 𝓤 𝓛 𝓜 𝓡 wired X L =
     rewrite ! 0 (λ (k : ℕ). ‵ (owns_if (has_block k) (ghosts.dealloc_token h (bare (ty_array (layout X) k)) p))) (sym asked.1) refl $
     rewrite ! 0 (λ (q : Ptr). ‵ (owns_if y (ghosts.dealloc_token h τ q))) at refl $
     move ! (2 ∷ []) $ tells ! Vs (vec_laws.the_row_laws (R E) heap.the_row ghosts (param_laws 0 X L) heap_laws.the_row_laws) v z.0.4.1.0 (λ u second_is good.
-    vec_had V-at ! v (u ∷ []) (λ b' o' hv at' is fn fc fit fa. drop ! $
+    vec_had V-at ! v (u ∷ []) (λ b' o' hv at' is fl fc fit fa. drop ! $
     -- [the handle; the right to free them; the places; the numbers; the tokens]
     let count : n ≡ length xs = sym asked.3 in
     let laid : ps ≡ map written xs ++ replicate (room - n) unwritten = ap (map here) asked.2 ∙ vec_places xs room ∙ ap (λ k. map written xs ++ replicate (room - k) unwritten) (sym count) in
@@ -76,7 +77,7 @@ attach_spec 𝓤 𝓛 𝓜 𝓡 wired X L =
     let back : Vs.Denot = (V.el_make V-at v.alloc (block_ptr b o) n room xs (count, asked.4) low_room).0 in
     let old : Val = V.vec_val V-at hv b' o' v.len v.cap in
     let new : Val = V.vec_val V-at hv b o n room in
-    let good_old = V.vec_typed V-at hv b' o' v.len v.cap fa fn fc in
+    let good_old = V.vec_typed V-at hv b' o' v.len v.cap fa fl fc in
     let good_new = V.vec_typed V-at hv b o n room fa few wide in
     let Told : Type 0 = back.items ≡ xs in
     move ! (2 ∷ 1 ∷ []) $ rewrite ! 0 (λ (qs : List (Place X.Denot)). ‵ (places_own (R E) (block_ptr b o) qs)) laid refl $

@@ -1,5 +1,5 @@
 -- `detach` takes the memory as places: the `Vec`'s words for its length and its capacity are set to 0.
-use Rattle.segment.proofs.Words.{◌≡◌, ℕ, ◌+◌, ◌-◌, ◌*◌, ◌^◌, ◌<◌, ◌≤◌, List, [], ◌∷◌, ◌++◌, length, map, replicate, sym, refl, ap, ◌∙◌, subst, arith, a_type, w64, Val, vint, vstruct, vcons, vnil, of_list, inst_fn, SProp, ent, emp, id⊢, Fml, ftrue, fsep, fex, feq, flft, Item, ‵, raw, ◌⊛◌, at_ret, ◌$◌, ◌∵◌, !, qed, by, move, keep, split, fsplit3, fjoin, fjoin3, fpack, use0, use1, rewrite, feq_i, feq_l, flt_i, suffices, stop, lit, of_opd, addr, from, bin, no_more, and_then, assigns, assigns_last, first, blocks, exec, returns, enter, alloc_all, pass_all, free_all, look_at, take_at, give_at, get, through, sets, env, agg, sub, whole, store_in, tables, fact, fact_i, yes, no, RattleType, Valss, owns, plain, Ptr, InBlock, block_ptr, ptr_val, in_block, nothing, heard, layout, layouts, param_laws, RawPtr, usize, as_fields, Stays, stay_dropped, walk_of, Goes-dropped, proved_at, leaves, Ptr-Good, strip_good, Goes-blank, after, El, R}
+use Rattle.segment.proofs.Words.{◌≡◌, ℕ, ◌+◌, ◌-◌, ◌*◌, ◌^◌, ◌<◌, ◌≤◌, List, [], ◌∷◌, ◌++◌, length, map, replicate, sym, refl, ap, ◌∙◌, subst, arith, a_type, w64, Val, vint, vstruct, vcons, vnil, of_list, inst_fn, SProp, ent, emp, id⊢, Fml, ftrue, fsep, fex, feq, flft, Item, ‵, raw, ◌⊛◌, at_ret, ◌$◌, ◌∵◌, !, qed, by, move, keep, split, fsplit3, fjoin, fjoin3, fpack, use0, use1, rewrite, feq_i, feq_l, flt_i, suffices, stop, lit, of_opd, addr, from, bin, no_more, and_then, assigns_last, first, blocks, exec, returns, enter, alloc_all, pass_all, free_all, look_at, take_at, give_at, get, through, sets, env, agg, sub, whole, store_in, tables, fact, fact_i, yes, no, RattleType, Valss, owns, plain, Ptr, InBlock, block_ptr, ptr_val, in_block, nothing, heard, layout, layouts, param_laws, RawPtr, usize, as_fields, Stays, stay_dropped, walk_of, Goes-dropped, proved_at, leaves, Ptr-Good, strip_good, Goes-blank, after, El, R}
 use Rattle.std.proofs.Common.{lit<, true≢false, Bool, true, false}
 use Rattle.std.proofs.lemmas.List.{length-map, length-append, length-replicate}
 use Rattle.std.specs.Vec.Ownership.{owns_if, has_block}
@@ -11,7 +11,9 @@ use Rattle.std.proofs.alloc.Global.TheLaws as heap_laws
 use Rattle.std.proofs.vec.Vec.TheLaws as vec_laws
 use Rattle.std.proofs.VecSteps.El as V
 use Rattle.std.proofs.VecSteps.Opens.{vec_had, vec_made, not_live}
+use native.Mathlib.Nat.{zero-mul}
 use mir.Syntax.{ty_array}
+use types.Run.{assigns}
 use mir.Raw.{raw as bare}
 use mathlib.Core.Bool.{not}
 use lib.Dec.{T}
@@ -63,7 +65,7 @@ detach_spec 𝓤 𝓛 𝓜 𝓡 wired X L =
     qed 𝓛 ((Tokens ⊛ ‵ (fsep (Vs.own_val v z.0.4.0) (fsep (RawPtr.own_val p z.0.4.1.0) (fsep (usize.own_val n z.0.4.1.1.0) ftrue)))) ∷ raw (fact 𝓤 _) ∷ raw (fact 𝓤 Asked) ∷ []) ∵
     keep ! (2 ∷ 0 ∷ []) $ heard ! Asked (λ asked. split ! $ move ! (1 ∷ []) $ fsplit3 ! $
     tells ! Vs (vec_laws.the_row_laws (R E) heap.the_row ghosts (param_laws 0 X L) heap_laws.the_row_laws) v z.0.4.0 (λ u first_is good.
-    vec_had V-at ! v (u ∷ []) (λ b o hv at is fn fc fit fa.
+    vec_had V-at ! v (u ∷ []) (λ b o hv at is fl fc fit fa.
     let y = has_block v.cap in
     let ps : List (Place X.Denot) = map here (packed xs n) in
     let there : p ≡ block_ptr b o = asked.0 ∙ at in
@@ -82,11 +84,11 @@ detach_spec 𝓤 𝓛 𝓜 𝓡 wired X L =
     move ! (1 ∷ 0 ∷ []) $ fjoin ! $ move ! (2 ∷ []) $ feq_l ! (λ second_is. keep ! (0 ∷ 1 ∷ 3 ∷ []) $
     -- [what the block owns; the handle; the tokens]
     use0 𝓛 (‵ ((Pointer (R E)).own_val (p, tt) (stored p ∷ []))) (pointer_made (R E) 𝓛 p) $ fjoin ! $ move ! (1 ∷ []) $ nothing ! $
-    vec_made V-at ! left b o 0 0 [] (at, refl, refl, refl) (lit< tt) (lit< tt) (lit< tt) $
+    vec_made V-at ! left b o 0 0 [] (at, refl, refl, refl) (lit< tt) (lit< tt) (let none = zero-mul s in omega arith) $
     let full : Val = V.vec_val V-at hv b o v.len v.cap in
     let empty : Val = V.vec_val V-at hv b o 0 0 in
     let half : Val = V.vec_val V-at hv b o 0 v.cap in
-    let good_full = V.vec_typed V-at hv b o v.len v.cap fa fn fc in
+    let good_full = V.vec_typed V-at hv b o v.len v.cap fa fl fc in
     let good_empty = V.vec_typed V-at hv b o 0 0 fa (lit< tt) (lit< tt) in
     let outer = as_fields (layout Row ∷ layout Vs ∷ []) (stored p ∷ empty ∷ []) (strip_good p inside, (good_empty, tt)) in
     let out : Val = vstruct (vcons (stored p) (vcons empty vnil)) in
@@ -106,4 +108,4 @@ detach_spec 𝓤 𝓛 𝓜 𝓡 wired X L =
     sets ! (agg ! (and_then ! (get ! refl) (and_then ! (get ! refl) (no_more !)))) refl outer $
     use0 𝓛 (raw (fact 𝓤 Told)) (fact_i 𝓤 Told (emp 𝓤) (refl, refl, within, refl)) $ nothing ! $ nothing ! $ fjoin ! $ nothing ! $ fjoin ! $ nothing ! $ fjoin ! $
     returns ! (look_at ! 0 refl) $ free_all ! refl $ keep ! (3 ∷ 0 ∷ 2 ∷ 1 ∷ []) $
-    by ! (leaves 𝓛 En hs c z out (places, left) ((tt, (tt, (tt, (tt, tt)))), (tt, (tt, tt))) (tt, (tt, (tt, tt))))))))))
+    by ! (leaves 𝓛 En hs c z out (places, left) (tt, (tt, (tt, tt))) (tt, (tt, (tt, tt))))))))))

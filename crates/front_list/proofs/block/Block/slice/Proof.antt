@@ -59,8 +59,8 @@ slice_spec 𝓤 𝓛 𝓜 𝓡 wired X L =
     let Post : Val → SProp 𝓤 = (walk_of 𝓛 En hs c).post y in
     let Cell : Share → List Val → Item 𝓤 = λ q ws. ‵ (cell_at q D.mir ws b o) in
     let us : List Val = vptr b o ∷ vint w64 f ∷ vint w64 n ∷ [] in
-    qed 𝓛 (((‵ (flft κ qs.0) ⊛ ‵ others) ⊛ ‵ (owns (types_at En.signature.params κs) a y.0.4)) ∷ raw (fact 𝓤 Asked) ∷ []) ∵
-    move ! (1 ∷ []) $ heard ! Asked (λ asked.
+    qed 𝓛 (((‵ (flft κ qs.0) ⊛ ‵ others) ⊛ ‵ (owns (types_at En.signature.params κs) a y.0.4)) ∷ raw (fact 𝓤 _) ∷ raw (fact 𝓤 Asked) ∷ []) ∵
+    move ! (2 ∷ []) $ heard ! Asked (λ asked.
     let xs : List X.Denot = asked.1.0 in
     let count : n ≡ length xs =
       let rest = length-drop f r.places in
