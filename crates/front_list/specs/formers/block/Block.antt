@@ -1,5 +1,5 @@
 -- A `Block` holds the values in its places, in their order.
-use Rattle.std.specs.Prelude.{◌≡◌, ℕ, ◌*◌, ◌^◌, List, [], ◌∷◌, map, length, Option, Some, None}
+use Rattle.std.specs.Prelude.{◌≡◌, ℕ, suc, ◌*◌, ◌^◌, List, [], ◌∷◌, map, length, Option, Some, None}
 use Rattle.std.specs.Vec.Ownership.{owns_if, has_block}
 use Rattle.std.specs.Vec.Recursive.{lies_placed, lent_at_placed, codes_placed}
 use Rattle.std.specs.declared.alloc.Global.{Global}
@@ -8,7 +8,7 @@ use mathlib.Core.Path.{refl, ap, ◌∙◌}
 use mathlib.Core.Logic.{◌⊎◌, inl, inr}
 use mathlib.Core.Former.{Former, this, const, pair, or, list, via}
 use lib.ListN.{length-map}
-use base.Stored.{gcons}
+use base.Stored.{Gv, gcons}
 use base.Fml.{Lft, Fml, fsep, fex, flt}
 use mir.Syntax.{ty_array}
 use mir.Raw.{raw}
@@ -76,6 +76,13 @@ turned {X} {Y} h = (maybe this).map X Y h
 abbrev pub mapped : {X Y : Type 0} → (X → Y) → Block X → Block Y
 mapped {X} {Y} h = (the_former this).map X Y h
 
+-- a stored pair is the same if its parts are
+with_head : {a b head : Gv} → a ≡ b → gcons head a ≡ gcons head b
+with_head {head = head} same = ap (gcons head) same
+
+with_tail : {a b tail : Gv} → a ≡ b → gcons a tail ≡ gcons b tail
+with_tail {tail = tail} same = ap (λ g. gcons g tail) same
+
 module _ (R S : RattleType) (h : R.Denot → S.Denot) where
   module _ (alike : Alike R S h) where
     wide : bytes_of S ≡ bytes_of R
@@ -93,7 +100,7 @@ module _ (R S : RattleType) (h : R.Denot → S.Denot) where
 
     counted : (cs : List (Option R.Denot)) → length (map here (map (turned h) cs)) ≡ length (map here cs)
     counted [] = refl
-    counted (c ∷ cs) = ap Prim.Native.Nat.suc (counted cs)
+    counted (c ∷ cs) = ap suc (counted cs)
 
     small_same : (cs : List (Option R.Denot)) → flt (length (map here (map (turned h) cs)) * bytes_of S) (2 ^ 63) ≡ flt (length (map here cs) * bytes_of R) (2 ^ 63)
     small_same cs = λ i. flt (counted cs i * wide i) (2 ^ 63)
@@ -128,9 +135,9 @@ module _ (R S : RattleType) (h : R.Denot → S.Denot) where
   }
 
   place_code : Recodes R S h → (c : Option R.Denot) → (coded_option S.coded).code (turned h c) ≡ (coded_option R.coded).code c
-  place_code same (Some x) = ap (λ g. gcons _ g) (same x)
+  place_code same (Some x) = with_head (same x)
   place_code same None = refl
 
   pub the_codes_placed : Recodes R S h → Recodes (contract.the_row R) (contract.the_row S) (mapped h)
   the_codes_placed same b =
-      ap (λ g. gcons _ (gcons _ (gcons g _))) (codes_placed (coded_option R.coded).code (coded_option S.coded).code (turned h) (place_code same) b.places)
+      with_head (with_head (with_tail (codes_placed (coded_option R.coded).code (coded_option S.coded).code (turned h) (place_code same) b.places)))

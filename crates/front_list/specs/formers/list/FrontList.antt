@@ -5,7 +5,7 @@ use mathlib.Core.Former.{Former, one_more, this, const, pair, list, via, childre
 use base.Stored.{code_map}
 use denote.RattleType.{RattleType}
 use denote.HoleLaws.{Alike}
-use denote.HolePlaces.{Recodes, struct_places, laid, stays}
+use denote.HolePlaces.{Recodes, struct_places, laid}
 use denote.Hole.Carrier.{listed, list-listed}
 use denote.Hole.Fix.{over}
 use denote.Param.Weighed.{Weighed, w_list}
@@ -80,7 +80,7 @@ module _ (R S : RattleType) (h : R.Denot → S.Denot) where
   row_places : Alike R S h → Alike (row.the_row R) (row.the_row S) (turned_row h)
   row_places alike =
       struct_places (row.the_type R) (row.the_type S) (block.mapped h, (λ n. n, (λ n. n, (λ n. n, (λ n. n, tt))))) _ (λ r. refl) refl
-      (laid _ _ _ (block.the_places R S h alike), (stays _, (stays _, (stays _, (stays _, tt)))))
+      (laid _ _ _ (block.the_places R S h alike), ((refl, (λ n. refl, λ n. refl)), ((refl, (λ n. refl, λ n. refl)), ((refl, (λ n. refl, λ n. refl)), ((refl, (λ n. refl, λ n. refl)), tt)))))
 
   pub the_places : Alike R S h → Alike (whole.the_row R) (whole.the_row S) ((the_former this).map R.Denot S.Denot h)
   the_places alike =
