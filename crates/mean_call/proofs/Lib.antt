@@ -1,5 +1,5 @@
 pub mod Standing
-pub mod Known
+pub mod ToldTypes
 pub mod Like
 pub mod Reading
 pub mod One

@@ -1,6 +1,9 @@
 -- Words that are read from left to right.
 use Rattle.std.proofs.Common.{◌≡◌, ◌<◌, ℕ, zero, suc, ◌+◌, List, [], ◌∷◌, ◌++◌, drop, drop-cons, add-one, length, get_or, refl, sym, ap, subst, ◌∙◌, append_assoc, arith}
-use Rattle.std.specs.Prelude.{Result, Ok, Err, IfOk, IfErr}
+use Rattle.std.specs.Prelude.{Result, Ok, Err, IfOk, IfErr, IsErrAnd}
+use Rattle.value_text.specs.Forms.{FirstBad}
+use Rattle.value_text.specs.Faults.{MisfitAt, PastLimits}
+use Rattle.value_text.specs.declared.fault.ValueFault.TheVariants as faults
 use Rattle.value_text.specs.Numbered.{Numbered, StandsFor, StandForAll}
 use Rattle.std.proofs.lemmas.List.{append-nil}
 use Rattle.flow_value.specs.declared.ty.Ty.{Ty}
@@ -10,7 +13,7 @@ use Rattle.value_text.specs.declared.fault.ValueFault.{ValueFault}
 use Rattle.mean_call.specs.declared.fault.ArgumentFault.TheVariants as argument
 use Rattle.mean_call.specs.declared.fault.Refusal.{Refusal}
 use Rattle.mean_call.specs.declared.fault.Refusal.TheVariants as refusal
-use Rattle.mean_call.specs.Words.{AreRead, IsFirstFault, IsWordRefusal, AreMisread, AreRefused}
+use Rattle.mean_call.specs.Words.{AreRead, IsFirstFault, IsWordRefusal, AreMisread, AreRefused, refusal_of}
 
 -- what is still to be read decides the whole
 pub record Decides (words : List (List ℕ)) (types : List Ty) (i : ℕ) (done : List Val) : Type 0 where
@@ -88,9 +91,35 @@ stands_at ts (m ∷ ns) (t ∷ types) (suc i) n h within is =
     let more = stands_at ts ns types i n h.1 (omega (arith, within)) is in
     record { type = more.type; is = more.is; stands = more.stands }
 
--- the first word of a program's call that is refused
-pub word_refusal : {A : Type 0} (r : Result A Refusal) (P : Refusal → Type 0) (e : Refusal) → r ≡ Err e → IfErr r P → P e
-word_refusal r P e is h = subst (λ (x : Result A Refusal). IfErr x P) is h
+-- an answer that is handed on, and what is so of it
+pub given_up : {A : Type 0} (P : Refusal → Type 0) (r : Result A Refusal) (e : Refusal) → IsErrAnd r (λ f. f ≡ e) → P e → IfErr r P
+given_up P (Ok x) e is p = tt
+given_up P (Err f) e is p = subst P (sym is) p
 
-pub word_value : {A : Type 0} (r : Result A Refusal) (P : A → Type 0) (v : A) → r ≡ Ok v → IfOk r P → P v
-word_value r P v is h = subst (λ (x : Result A Refusal). IfOk x P) is h
+pub of_refusal : (P : Refusal → Type 0) (r : Result Val Refusal) (e : Refusal) → r ≡ Err e → IfErr r P → P e
+of_refusal P (Ok v) e is h = cc
+of_refusal P (Err f) e is h = let same : f ≡ e = cc in subst P same h
+
+pub of_value : (P : Val → Type 0) (r : Result Val Refusal) (v : Val) → r ≡ Ok v → IfOk r P → P v
+of_value P (Ok w) v is h = let same : w ≡ v = cc in subst P same h
+of_value P (Err f) v is h = cc
+
+pub of_refusals : (P : Refusal → Type 0) (r : Result (List Val) Refusal) (e : Refusal) → r ≡ Err e → IfErr r P → P e
+of_refusals P (Ok v) e is h = cc
+of_refusals P (Err f) e is h = let same : f ≡ e = cc in subst P same h
+
+pub of_values : (P : List Val → Type 0) (r : Result (List Val) Refusal) (v : List Val) → r ≡ Ok v → IfOk r P → P v
+of_values P (Ok w) v is h = let same : w ≡ v = cc in subst P same h
+of_values P (Err f) v is h = cc
+
+-- why a word is refused
+pub word_refused : (word : List ℕ) (t : Ty) (place : ℕ) (fault : ValueFault) → ((k : ℕ) → fault ≡ faults.BadSpelling k → FirstBad word k) → (fault ≡ faults.TooLarge → PastLimits word)
+    → ((k : ℕ) → fault ≡ faults.WrongShape k → MisfitAt word t k) → IsWordRefusal word t place (refusal_of place fault)
+word_refused word t place (faults.BadSpelling k) spelling large shape = (refl, spelling k refl)
+word_refused word t place (faults.WrongShape k) spelling large shape = (refl, shape k refl)
+word_refused word t place faults.TooLarge spelling large shape = (refl, large refl)
+word_refused word t place faults.NoMemory spelling large shape = tt
+
+pub misread_all : (words : List (List ℕ)) (types : List Ty) (r : Result (List Val) Refusal) → length words ≡ length types → IfErr r (AreMisread words types) → IfErr r (AreRefused words types)
+misread_all words types (Ok vs) same p = tt
+misread_all words types (Err e) same p = misread words types e same p

@@ -1,14 +1,27 @@
 //! The arguments of a call, from words.
-ghost use Rattle.std.specs.Prelude.{◌≡◌, ◌+◌, IfOk, IfErr, List, length};
+ghost use Rattle.std.specs.Prelude.{◌≡◌, ◌+◌, ◌<◌, ℕ, IfOk, IfErr, List, length, get_or};
 ghost use Rattle.flow_value.specs.declared.ty.Ty.{Ty};
 ghost use Rattle.value_text.specs.Grammar.{reads_value};
 ghost use Rattle.value_text.specs.Numbered.{StandsFor, StandForAll};
-ghost use Rattle.mean_call.specs.Words.{IsWordRefusal, AreRead, AreRefused, AreMisread};
+ghost use Rattle.mean_call.specs.Words.{IsWordRefusal, AreRead, AreRefused, AreMisread, refusal_of};
 
 use crate::fault::{ArgumentFault, Refusal};
 use flow_value::{Items, Text, Val};
 use std::alloc::Global;
 use value_text::{NumberedTypes, ValueFault, read_value_by};
+
+/// The refusal of the word at a place, from 1, for a fault.
+fn refusal_of(fault: ValueFault, place: usize) -> Refusal
+    ensures { result ≡ refusal_of place fault }
+{
+    match fault {
+        ValueFault::NoMemory => Refusal::NoMemory,
+        _ => Refusal::Argument(ArgumentFault::Value {
+            argument: place,
+            fault,
+        }),
+    }
+}
 
 /// The value of one word, which stands at a place, from 1, at the type of a number.
 fn argument<T: NumberedTypes>(
@@ -23,12 +36,15 @@ fn argument<T: NumberedTypes>(
 {
     match read_value_by(alloc, word, types, number) {
         Ok(value) => Ok(value),
-        Err(ValueFault::NoMemory) => Err(Refusal::NoMemory),
-        Err(fault) => Err(Refusal::Argument(ArgumentFault::Value {
-            argument: place,
-            fault,
-        })),
+        Err(fault) => Err(refusal_of(fault, place)),
     }
+}
+
+fn number_at(numbers: &[u32], place: usize) -> u32
+    requires { place < length numbers.now }
+    ensures { (other : ℕ) → result ≡ get_or numbers.now place other }
+{
+    numbers[place]
 }
 
 /// The values of as many words as types.
@@ -44,7 +60,8 @@ fn read_all<T: NumberedTypes>(
 {
     let mut values = Items::with_room(alloc, words.len())?;
     for i in 0..words.len() {
-        let value = argument(alloc, words[i].as_slice(), types, numbers[i], i + 1)?;
+        let number = number_at(numbers, i);
+        let value = argument(alloc, words[i].as_slice(), types, number, i + 1)?;
         values.add(value)?;
     }
     Ok(values)

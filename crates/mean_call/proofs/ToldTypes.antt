@@ -218,3 +218,14 @@ no_entry p word e = λ f types h. none_spelled_entry f (sym e ∙ h.called)
   where
     none_spelled_entry : (f : ℕ) → None ≡ Some f → ⊥
     none_spelled_entry f e = cc
+
+-- ---- one look at each
+
+form_at_place : (fs : List Form) (i : ℕ) (f : Form) → slice_get fs i ≡ Some f → drop i fs ≡ f ∷ drop (i + 1) fs
+form_at_place [] i f e = cc
+form_at_place (g ∷ fs) zero f e = ap (λ k. k ∷ fs) (same_Some g f e)
+form_at_place (g ∷ fs) (suc i) f e = let s : suc i + 1 ≡ suc (i + 1) = omega arith in form_at_place fs i f e ∙ ap (λ k. f ∷ drop k (g ∷ fs)) (sym s)
+
+pub known_next : (names : ℕ) (known new : List Bool) (fs : List Form) (i : ℕ) (f : Form) → slice_get fs i ≡ Some f → new ≡ known ++ is_known_form names known f ∷ [] → known_onto names new (drop (i + 1) fs) ≡ known_onto names known (drop i fs)
+known_next names known new fs i f at is =
+    ap (λ k. known_onto names k (drop (i + 1) fs)) is ∙ ap (known_onto names known) (sym (form_at_place fs i f at))
