@@ -6,7 +6,7 @@ use Rattle.mean_call.specs.Words.{IsWordRefusal}
 use Rattle.mean_call.proofs.Reading.{word_refused}
 use Rattle.mean_call.proofs.arguments.argument.Goals as goal
 
-err : ValueFault → Result Val ValueFault
+abbrev err : ValueFault → Result Val ValueFault
 err e = Err e
 
 pub returns-in-Err : goal.returns-in-Err
