@@ -17,6 +17,10 @@ nth_slice n count k = record { from = cut_point n count k; to = cut_point n coun
 abbrev pub slices : ℕ → ℕ → List Slice
 slices n workers = let count = slice_count n workers in map (nth_slice n count) (range_with_len 0 count)
 
+-- a slice begins with this iteration
+abbrev pub BeginsAt : (n workers place : ℕ) → Type 0
+BeginsAt n workers place = (k : ℕ) × (k < slice_count n workers) × (cut_point n (slice_count n workers) k ≡ place)
+
 -- The slices are non-empty and follow each other from `from` up to `to`.
 abbrev pub Joins : ℕ → ℕ → List Slice → Type 0
 Joins from to [] = from ≡ to

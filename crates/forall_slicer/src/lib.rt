@@ -1,8 +1,8 @@
 //! Cuts the iterations of a `for` into slices that workers can take.
 #![tactic(auto)]
 
-ghost use Rattle.std.specs.Prelude.{◌≡◌, ◌+◌, ◌*◌, ◌/◌, ◌<◌, ◌≤◌, length, IfOk};
-ghost use Rattle.forall_slicer.specs.Slices.{slices, cut_point, Joins};
+ghost use Rattle.std.specs.Prelude.{◌≡◌, ◌+◌, ◌*◌, ◌/◌, ◌<◌, ◌≤◌, ◌↔◌, length, IfOk, IsTrue};
+ghost use Rattle.forall_slicer.specs.Slices.{slices, cut_point, BeginsAt, Joins};
 
 use flow_value::{NoMemory, Seq};
 use std::alloc::Global;
@@ -40,6 +40,20 @@ pub fn cut(alloc: Global, n: u64, workers: u32) -> Result<Slices, NoMemory>
         })?;
     }
     Ok(found)
+}
+
+/// Whether one of these slices begins with an iteration.
+pub fn begins_at(n: u64, workers: u32, place: u64) -> bool
+    requires { 0 < workers }
+    ensures { IsTrue result ↔ BeginsAt n workers place }
+{
+    let most = n.min(SLICES_PER_WORKER * u64::from(workers));
+    for slice in 0..most {
+        if cut_point(n, most, slice) == place {
+            return true;
+        }
+    }
+    false
 }
 
 /// Where slice `k` of `count` begins, which is where the one before it ends.

@@ -9,6 +9,7 @@ use crate::entry::types_of;
 use flow_value::Items;
 use if1_sound::Sound;
 use mean_call::{ArgumentFault, Refusal, values_of_words};
+use run_gate::Gate;
 use run_words::RunSet;
 use sequential_run::RunFault;
 use std::alloc::Global;
@@ -46,20 +47,21 @@ fn call_of(alloc: Global, unit: Sound, set: &RunSet) -> Result<Call, Refusal>
 }
 
 /// Runs a function of a unit by its code.
-fn run_code(
+fn run_code<G: Gate>(
     alloc: Global,
     unit: &Sound,
     code: &UnitCode,
     function: u32,
     args: Items,
     limit: u64,
+    gate: &G,
 ) -> Result<Totals, Refusal>
     requires code { IsCodeOfUnit unit.now code.now }
     requires count { AreArguments unit.now function args }
     ensures run { IfOk result (AreTotalsOf unit.now function limit (map Value args)) }
     ensures stopped { IfErr result (IsStopped unit.now function args limit) }
 {
-    match run_unit(alloc, unit, code, function, args, limit) {
+    match run_unit(alloc, unit, code, function, args, limit, gate) {
         Ok(totals) => Ok(totals),
         Err(RunFault::TurnLimit) => Err(Refusal::TurnLimit),
         Err(RunFault::NoMemory) => Err(Refusal::NoMemory),
@@ -67,7 +69,8 @@ fn run_code(
 }
 
 /// Runs the entry of a unit on the words, within the limit of firings, by code that is made of the unit.
-pub fn run(alloc: Global, unit: Sound, set: &RunSet) -> Result<Totals, Refusal>
+/// The gate is called around each item.
+pub fn run<G: Gate>(alloc: Global, unit: Sound, set: &RunSet, gate: &G) -> Result<Totals, Refusal>
     ensures given { IfOk result (Gives unit set.now) }
     ensures refused { IfErr result (IsRefused unit set.now) }
 {
@@ -77,5 +80,5 @@ pub fn run(alloc: Global, unit: Sound, set: &RunSet) -> Result<Totals, Refusal>
         args,
     } = call_of(alloc, unit, set)?;
     let code = unit_code(alloc, &unit)?;
-    run_code(alloc, &unit, &code, function, args, set.limit)
+    run_code(alloc, &unit, &code, function, args, set.limit, gate)
 }

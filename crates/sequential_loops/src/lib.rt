@@ -22,4 +22,5 @@ mod weighing;
 pub use adding::add;
 pub use iterating::each;
 pub use keeping::keep_values;
+pub use lengths::first_places;
 pub use spreading::spread;

@@ -2,6 +2,7 @@
 //! limit of firings.
 #![tactic(auto)]
 
+mod items;
 mod laws;
 mod running;
 mod stepping;

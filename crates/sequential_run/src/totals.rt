@@ -10,6 +10,7 @@ ghost use Rattle.sequential_run.specs.Totals.{entered_at, CanEnter, HasEntered, 
 use crate::running::{RunFault, run};
 use flow_value::{NoMemory, Seq};
 use run_cells::Cell;
+use run_gate::Gate;
 use sequential::Machine;
 use std::alloc::Global;
 use step_code::Code;
@@ -28,21 +29,22 @@ pub struct Totalled {
 }
 
 /// Runs the function whose first step stands at a place, in a block with so many cells, on these
-/// arguments.
-pub fn run_function(
+/// arguments. The gate is called around each item.
+pub fn run_function<G: Gate>(
     alloc: Global,
     code: &Code,
     entry: u32,
     room: u32,
     args: Vec<Cell>,
     limit: u64,
+    gate: &G,
 ) -> Result<Totalled, RunFault>
     requires can { CanEnter code.now entry room }
     requires begun { (ins : List Carried) × (map held args.items ≡ map stored.Owns ins) × IsDecided code.now limit (entered_at entry ins) × LendsBelow code.now limit (entered_at entry ins) }
     ensures { (ins : List Carried) → map held args.items ≡ map stored.Owns ins → MatchResult result (λ t. HasTotals code.now limit (entered_at entry ins) t) (λ e. IsFault code.now limit (entered_at entry ins) e) }
 {
     let mut machine = entered(alloc, entry, room, args)?;
-    let writes = run(&mut machine, alloc, code, limit)?;
+    let writes = run(&mut machine, alloc, code, limit, gate)?;
     Ok(totals(machine, writes))
 }
 

@@ -3,6 +3,7 @@
 #![tactic(auto)]
 
 use flow_io::{ReaderSource, WriterSink};
+use run_gate::OpenGate;
 use sisal_top::{Status, report, sisal};
 use std::process::ExitCode;
 use std::{env, io};
@@ -17,10 +18,17 @@ fn main(rt: HostRuntime) -> ExitCode {
     let mut out = WriterSink::new(rt.stdout());
     let mut err = WriterSink::new(rt.stderr());
     let status = match words(&rt) {
-        Ok(words) => sisal(rt.alloc(), words.as_slice(), &mut text, &mut out, &mut err),
+        Ok(words) => sisal(
+            rt.alloc(),
+            words.as_slice(),
+            &mut text,
+            &mut out,
+            &mut err,
+            &OpenGate,
+        ),
         // Words that are no text are taken as no words.
         Err(e) if e.kind() == io::ErrorKind::InvalidData => {
-            sisal(rt.alloc(), &[], &mut text, &mut out, &mut err)
+            sisal(rt.alloc(), &[], &mut text, &mut out, &mut err, &OpenGate)
         }
         Err(_) => report(Status::NoMemory, &mut err),
     };

@@ -23,6 +23,7 @@ use if1_call::canonical_text;
 use if1_sound::Sound;
 use mean_call::evaluate;
 use run_call::{run, unit_of_text};
+use run_gate::Gate;
 use run_words::{Command, CompileSet, MeanSet, RunSet, read_words};
 use std::alloc::Global;
 
@@ -90,19 +91,24 @@ fn unit_to_run(alloc: Global, set: &RunSet, bytes: &[u8]) -> Result<Sound, Statu
 }
 
 /// What is printed of a run of the unit that a text is.
-fn results(alloc: Global, set: &RunSet, bytes: &[u8]) -> Result<Text, Status>
+fn results<G: Gate>(alloc: Global, set: &RunSet, bytes: &[u8], gate: &G) -> Result<Text, Status>
     requires { IsPlain set.now }
     ensures replies { Replies (command.Run set.now) bytes.now result }
     ensures of_bytes { IfErr result IsOfBytes }
 {
     let unit = unit_to_run(alloc, set, bytes)?;
-    let totals = run(alloc, unit, set)?;
+    let totals = run(alloc, unit, set, gate)?;
     let printed = print_run(alloc, &totals, set.stats)?;
     Ok(printed)
 }
 
 /// Runs the unit of graphs that the text is.
-fn run_text<S: Source>(alloc: Global, set: &RunSet, text: &mut S) -> Result<Text, Status>
+fn run_text<S: Source, G: Gate>(
+    alloc: Global,
+    set: &RunSet,
+    text: &mut S,
+    gate: &G,
+) -> Result<Text, Status>
     requires { IsPlain set.now }
     ensures replies { (told : List ℕ) → S.left text.old ≡ Some told → Replies (command.Run set.now) told result }
     ensures reply { IfErr result IsReply }
@@ -112,7 +118,7 @@ fn run_text<S: Source>(alloc: Global, set: &RunSet, text: &mut S) -> Result<Text
     ensures no_fault { result ≢ Err Status.ReadFault → S.faults text.new ≡ S.faults text.old }
 {
     let bytes = read(alloc, text)?;
-    results(alloc, set, bytes.as_slice())
+    results(alloc, set, bytes.as_slice(), gate)
 }
 
 /// What the program that a text is prints by the meaning of its source.
@@ -187,7 +193,12 @@ fn if1<S: Source>(alloc: Global, text: &mut S) -> Result<Text, Status>
 }
 
 /// What a command prints.
-fn perform<S: Source>(alloc: Global, command: Command, text: &mut S) -> Result<Text, Status>
+fn perform<S: Source, G: Gate>(
+    alloc: Global,
+    command: Command,
+    text: &mut S,
+    gate: &G,
+) -> Result<Text, Status>
     ensures replies { (told : List ℕ) → S.left text.old ≡ Some told → Replies command told result }
     ensures reply { IfErr result IsReply }
     ensures to_the_end { ReadsText command → OnOk result (IsAtEnd (S.left text.new)) }
@@ -202,7 +213,7 @@ fn perform<S: Source>(alloc: Global, command: Command, text: &mut S) -> Result<T
         Command::Gen(n) => Ok(make(alloc, n)?),
         Command::Run(set) => {
             if is_plain(&set) {
-                run_text(alloc, &set, text)
+                run_text(alloc, &set, text, gate)
             } else {
                 Err(Status::Later)
             }
@@ -221,7 +232,12 @@ fn perform<S: Source>(alloc: Global, command: Command, text: &mut S) -> Result<T
 }
 
 /// What the words and the text print.
-fn prepare<S: Source>(alloc: Global, words: &[String], text: &mut S) -> Result<Text, Status>
+fn prepare<S: Source, G: Gate>(
+    alloc: Global,
+    words: &[String],
+    text: &mut S,
+    gate: &G,
+) -> Result<Text, Status>
     ensures gives { (told : List ℕ) → S.left text.old ≡ Some told → Gives (bytes_of words.now) told result }
     ensures usage { IfErr result (IsUsage (bytes_of words.now)) }
     ensures early { IfErr result IsEarly }
@@ -232,17 +248,18 @@ fn prepare<S: Source>(alloc: Global, words: &[String], text: &mut S) -> Result<T
     ensures no_fault { result ≢ Err Status.ReadFault → S.faults text.new ≡ S.faults text.old }
 {
     let command = read_words(alloc, words)?;
-    perform(alloc, command, text)
+    perform(alloc, command, text, gate)
 }
 
 /// Does what the words ask for. For `run`, `mean`, `compile` and `if1` the text is read to its end, and what is
 /// printed is written at once.
-pub fn sisal<S: Source, O: Sink, E: Sink>(
+pub fn sisal<S: Source, O: Sink, E: Sink, G: Gate>(
     alloc: Global,
     words: &[String],
     text: &mut S,
     out: &mut O,
     err: &mut E,
+    gate: &G,
 ) -> Status
     ensures answers { (told : List ℕ)
         → S.left text.old ≡ Some told
@@ -264,7 +281,7 @@ pub fn sisal<S: Source, O: Sink, E: Sink>(
     ensures line { ¬ HasRisen (E.faults err.old) (E.faults err.new) → AddsOn (E.taken err.old) (line_of result) (E.taken err.new) }
     ensures line_prefix { (n : ℕ) × AddsOn (E.taken err.old) (take n (line_of result)) (E.taken err.new) }
 {
-    let printed = match prepare(alloc, words, text) {
+    let printed = match prepare(alloc, words, text, gate) {
         Ok(printed) => printed,
         Err(status) => return report(status, err),
     };

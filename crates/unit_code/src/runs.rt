@@ -12,6 +12,7 @@ use flow_value::Items;
 use if1_sound::Sound;
 use plan_data::number_at;
 use run_cells::Cell;
+use run_gate::Gate;
 use sequential_run::{RunFault, Totalled, run_function};
 use std::alloc::Global;
 
@@ -29,14 +30,15 @@ pub struct Totals {
 }
 
 /// Runs a function of a unit on these arguments: its results, firings, copies and writes are of
-/// record, and the limit is told only where every cost is above it.
-pub fn run_unit(
+/// record, and the limit is told only where every cost is above it. The gate is called around each item.
+pub fn run_unit<G: Gate>(
     alloc: Global,
     unit: &Sound,
     code: &UnitCode,
     function: u32,
     args: Items,
     limit: u64,
+    gate: &G,
 ) -> Result<Totals, RunFault>
     requires made { IsCodeOfUnit unit.now code.now }
     requires count { AreArguments unit.now function args }
@@ -46,7 +48,7 @@ pub fn run_unit(
     let cells = entered(alloc, args)?;
     let entry = number_at(code.entries.as_slice(), function);
     let room = number_at(code.rooms.as_slice(), function);
-    let ended = run_function(alloc, &code.code, entry, room, cells, limit)?;
+    let ended = run_function(alloc, &code.code, entry, room, cells, limit, gate)?;
     left(alloc, ended)
 }
 

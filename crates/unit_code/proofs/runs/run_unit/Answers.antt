@@ -9,7 +9,7 @@ use Rattle.unit_code.proofs.Recorded.{can-enter, fault-is, run-is, totals-are}
 use Rattle.unit_code.proofs.runs.run_unit.Goals as goal
 
 pub run_function-requires-clause-can : goal.run_function-requires-clause-can
-run_function-requires-clause-can c =
+run_function-requires-clause-can g c = λ κs h.
     let a = c.args in
     let code = a.code.now in
     let entry = c.number_at-entry.ensures ∙ ap (λ es. table_of es a.function) c.as_slice.ensures in
@@ -18,7 +18,7 @@ run_function-requires-clause-can c =
     subst (λ n. CanEnter code.code n c.number_at-room.result) (sym entry) (subst (λ n. CanEnter code.code (table_of code.entries a.function) n) (sym room) can)
 
 pub run_function-requires-clause-begun : goal.run_function-requires-clause-begun
-run_function-requires-clause-begun c =
+run_function-requires-clause-begun g c = λ κs h.
     let a = c.args in
     let code = a.code.now in
     let entry = c.number_at-entry.ensures ∙ ap (λ es. table_of es a.function) c.as_slice.ensures in
@@ -31,7 +31,7 @@ run_function-requires-clause-begun c =
     )
 
 pub returns : goal.returns
-returns c =
+returns g c =
     let a = c.args in
     let code = a.code.now in
     let entry = c.number_at-entry.ensures ∙ ap (λ es. table_of es a.function) c.as_slice.ensures in
@@ -43,7 +43,7 @@ returns c =
     (λ e h. subst (IsFaultOf a.unit.now a.function a.limit ins) (sym h) tt)
 
 pub returns-in_err-ended : goal.returns-in_err-ended
-returns-in_err-ended c =
+returns-in_err-ended g c =
     let a = c.args in
     let code = a.code.now in
     let entry = c.number_at-entry.ensures ∙ ap (λ es. table_of es a.function) c.as_slice.ensures in
