@@ -1,5 +1,5 @@
 -- Each step that is added is its line, with its setting.
-use Rattle.std.proofs.Common.{◌≡◌, ℕ, zero, suc, ◌+◌, ◌-◌, ◌^◌, ◌<◌, ◌≤◌, true, false, List, [], ◌∷◌, ◌++◌, map, length, get_or, refl, sym, ap, ◌∙◌, subst}
+use Rattle.std.proofs.Common.{◌≡◌, ℕ, zero, suc, ◌+◌, ◌-◌, ◌^◌, ◌<◌, ◌≤◌, ltb, if◌then◌else◌, Bool, true, false, List, [], ◌∷◌, ◌++◌, map, length, get_or, refl, sym, ap, ◌∙◌, subst}
 use Rattle.std.proofs.lemmas.List.{append-nil, length-map}
 use Rattle.node_ops.specs.Operands.{shape_of}
 use Rattle.flow_value.specs.declared.operands.Shape.{Shape}
@@ -16,18 +16,28 @@ use Rattle.step_code.specs.declared.step.Collect.{Collect}
 use Rattle.step_code.specs.declared.step.Counted.{Counted}
 use Rattle.step_code.specs.declared.step.Written.{Written}
 use Rattle.step_code.specs.declared.step.Step.TheVariants as step
-use Rattle.step_code.specs.Laid.{collect_in, puts_of, taken_all}
-use Rattle.step_code.specs.Reading.{is_kept, mode_in, operand_in, so_many}
+use Rattle.gapped.specs.Spread.{spread}
+use Rattle.gapped.proofs.Spreading.{map-spread}
+use Rattle.step_code.specs.declared.code.Operand.TheVariants as operand
+use Rattle.step_code.specs.declared.step.SparseRow.{SparseRow}
+use Rattle.step_code.specs.declared.step.Written.TheVariants as written
+use Rattle.step_code.specs.Laid.{collect_in, counted_by, puts_of, row_of, shape_in, taken_all}
+use Rattle.step_code.specs.Reading.{gapped, is_kept, mode_in, operand_in, so_many}
 use Rattle.plan_data.specs.declared.plan.Handled.{Handled}
 use Rattle.plan_data.specs.declared.plan.Port.{Port}
 use Rattle.plan_data.specs.declared.plan.PlanData.{PlanData}
 use Rattle.plan_data.specs.Parts.{IsFormed, mode_by, mode_of}
 use Rattle.code_maker.specs.declared.draft.Draft.{Draft}
 use Rattle.code_maker.specs.declared.seats.Seat.{Seat}
-use Rattle.code_maker.specs.Seats.{at_seat, at_seats, laid, looked_at, seats_at, sifts_among, with_mode}
+use Rattle.code_maker.specs.Seats.{at_seat, at_seats, laid, looked_at, seat_at, seats_at, sifts_among, with_mode}
+use Rattle.code_maker.specs.Sparse.{IsUnfilled}
 use Rattle.code_maker.specs.Grows.{AreNamed, ArePlain, Begins, Grows, IsRoomOf, IsToldOf, read_as}
 use Rattle.code_maker.proofs.Reading.{kept-by, looked-read, more-read, operand-is, operands-are, plain-one, ports-kept, ports-plain, ports-read, puts-none, read-one, sifts-are, sifts-long, taken-same, unmarked}
 use Rattle.code_maker.proofs.Growing.{collects-named, collects-there, grows-one, operands-named, operands-there, targets-named, targets-there}
+
+either-way : (b : Bool) (n : ℕ) → (if b then n else n) ≡ n
+either-way true n = refl
+either-way false n = refl
 
 looked-long : (i n : ℕ) → length (looked_at i n) ≡ n
 looked-long i zero = refl
@@ -70,6 +80,39 @@ module _ (D : PlanData) (formed : IsFormed D) (P : Plan) (old new : Draft) (o : 
         keeps = λ k.
             let marks : length code.marks ≤ 2 ^ 32 - 1 = subst (λ ms. length ms ≤ 2 ^ 32 - 1) (sym h.marks) formed.marks in
             kept-by (so_many (2 ^ 32 - 1) w code.marks) (unmarked (2 ^ 32 - 1) w code.marks marks) out k;
+      })
+
+  -- what fills a port that nothing fills is the first literal
+  unfilled-laid : (args : List Seat) (first : ℕ) (f : Port) → IsUnfilled f → laid D args first f ≡ operand.Literal 0
+  unfilled-laid args first f h = ap (λ z. with_mode D f.handled (seat_at args first z)) h.literal ∙ ap operand.Literal (either-way (ltb 0 (length D.literals)) 0)
+
+  pub sparse-grows : (args : List Seat) (first : ℕ) (f : Port) (ks : List ℕ) (xs : List Port) (row : SparseRow) (out : ℕ) (copies : Bool) (g i n : ℕ) → IsUnfilled f → length ks ≡ length xs
+      → IsToldOf D P (row_of row) written.Nothing (counted_by copies) 1 (map mode_of (spread f ks xs)) o → new.steps ≡ old.steps ++ step.Sparse row g i n out copies ∷ [] → new.operands ≡ old.operands ++ map (laid D args first) xs → new.targets ≡ old.targets ++ ks → new.collects ≡ old.collects
+      → i ≡ length old.operands → n ≡ length xs → g ≡ length old.targets
+      → Grows D P old new (line o (made.Fire (row_of row) (shape_in row) (at_seats D (seats_at args first (spread f ks xs))) out 1) ∷ []) (setting (map mode_of (spread f ks xs)) [] lives owns ∷ [])
+  sparse-grows args first f ks xs row out copies g i n unfilled even told a b c d i_is n_is g_is =
+      let os = map (laid D args first) xs in
+      let all = spread f ks xs in
+      let long = n_is ∙ sym (length-map xs (laid D args first)) in
+      grows-one D P old new (step.Sparse row g i n out copies) (line o (made.Fire (row_of row) (shape_in row) (at_seats D (seats_at args first all)) out 1)) (setting (map mode_of all) [] lives owns) os ks [] a b c (d ∙ sym (append-nil old.collects))
+      (λ code h.
+      let there : so_many i n code.operands ≡ os = operands-named D old new code os i n h b i_is long in
+      let here : so_many g n code.targets ≡ ks = targets-named D old new code ks g n h c g_is (n_is ∙ sym even) in
+      let whole : gapped code g i n ≡ map (laid D args first) all =
+      ap (λ z. spread (operand.Literal 0) z (so_many i n code.operands)) here
+      ∙ (ap (λ z. spread (operand.Literal 0) ks z) there ∙ (ap (λ z. spread z ks os) (sym (unfilled-laid args first f unfilled)) ∙ sym (map-spread (laid D args first) f ks xs))) in
+      record {
+        step = ap (λ l. made.Fire (row_of row) (shape_in row) (map (operand_in code) l) out 1) whole ∙ ap (λ l. made.Fire (row_of row) (shape_in row) l out 1) (operands-are D formed code h.literals args first all);
+        modes = ap (λ l. read_as (map (mode_in code) l) (at_seats D (seats_at args first all))) whole ∙ ports-read D formed code h.literals args first all;
+        puts = λ k. refl;
+        told = told;
+        knit = λ some.
+            record {
+              there = operands-there D old new code os i n h b i_is long;
+              numbers = targets-there D old new code ks g n h c g_is (n_is ∙ sym even);
+              plain = subst (ArePlain code) (sym whole) (ports-plain D formed code h.literals some args first all);
+            };
+        keeps = λ k. refl;
       })
 
   pub call-grows : (args : List Seat) (first : ℕ) (xs : List Port) (entry size room out w : ℕ) (i n : ℕ) → IsRoomOf D P room o → new.steps ≡ old.steps ++ step.Call entry size room i n out w ∷ [] → new.operands ≡ old.operands ++ map (laid D args first) xs → new.targets ≡ old.targets → new.collects ≡ old.collects

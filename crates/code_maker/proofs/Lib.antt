@@ -4,3 +4,4 @@ pub mod Growing
 pub mod Adding
 pub mod Standing
 pub mod Emitting
+pub mod Unfilled

@@ -16,8 +16,9 @@ use Rattle.step_code.specs.declared.step.Counted.{Counted}
 use Rattle.step_code.specs.declared.step.Step.{Step}
 use Rattle.step_code.specs.declared.step.Step.TheVariants as step
 use Rattle.step_code.specs.declared.step.Written.{Written}
-use Rattle.step_code.specs.Laid.{handling_in, step_in}
-use Rattle.step_code.specs.Reading.{listed}
+use Rattle.step_code.specs.declared.step.Written.TheVariants as written
+use Rattle.step_code.specs.Laid.{counted_by, handling_in, row_of, step_in}
+use Rattle.step_code.specs.Reading.{gapped, listed}
 use Rattle.plan_data.specs.declared.plan.PlanData.{PlanData}
 use Rattle.plan_data.specs.declared.plan.PlanNode.{PlanNode}
 use Rattle.plan_data.specs.declared.plan.Work.TheVariants as work
@@ -55,6 +56,7 @@ module _ (D : PlanData) (P : Plan) where
   IsTold (step.One op a out) ms o = ⊥
   IsTold (step.Two op a b out) ms o = ⊥
   IsTold (step.Fire row writes shape ins n out w kept copies) ms o = IsToldOf row writes copies w ms o
+  IsTold (step.Sparse row g ins n out copies) ms o = IsToldOf (row_of row) written.Nothing (counted_by copies) 1 ms o
   IsTold x ms o = Unit {0}
 
 -- ---- what a step names
@@ -85,6 +87,12 @@ AreCollected code i n = i + n ≤ length code.collects
 abbrev pub AreTargets : Code → (first many : ℕ) → Type 0
 AreTargets code i n = i + n ≤ length code.targets
 
+-- so many operands from one on, and as many numbers of ports that nothing fills
+pub record AreNamedApart (code : Code) (gaps first many : ℕ) : Type 0 where
+  pub there : first + many ≤ length code.operands
+  pub numbers : gaps + many ≤ length code.targets
+  pub plain : ArePlain code (gapped code gaps first many)
+
 -- the new block has as many cells as the function that the node calls
 abbrev pub IsRoomOf : PlanData → Plan → (room : ℕ) → Origin → Type 0
 IsRoomOf D P room (OfNode g v) = (n : PlanNode) × (f : ℕ) × IsPair (graph_nodes D g) (P.nodes g) n v × (n.work ≡ work.Call f) × (room ≡ table_of D.params f + extent_in D f)
@@ -97,6 +105,7 @@ IsKnit D P code (step.Two op a b out) o = ⊥
 IsKnit D P code (step.Bring a out next) o = ⊥
 IsKnit D P code step.Count o = Unit {0}
 IsKnit D P code (step.Fire row x shape ins n out w kept k) o = AreNamed code ins n
+IsKnit D P code (step.Sparse row g ins n out copies) o = AreNamedApart code g ins n
 IsKnit D P code (step.Move froms n out w next) o = AreNamed code froms n
 IsKnit D P code (step.Tag a ts n content keeps out w next) o = IsPlain code a × AreTargets code ts n
 IsKnit D P code (step.Branch a ts n out w next) o = IsPlain code a × AreTargets code ts n

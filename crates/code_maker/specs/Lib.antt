@@ -1,3 +1,4 @@
 pub mod Seats
 pub mod Grows
 pub mod Makes
+pub mod Sparse

@@ -10,9 +10,10 @@ use crate::draft::{Draft, count_of};
 use crate::seats::{
     Seat, copied, first_seat, head_of, own_seats, with_cells, with_content, with_stand,
 };
+use crate::sparse::add_plain;
 use crate::steps::{
-    add_begin, add_branch, add_call, add_copies, add_count, add_each, add_early, add_fire,
-    add_keep, add_move, add_put, add_spread, add_tag, add_test,
+    add_begin, add_branch, add_call, add_copies, add_count, add_each, add_early, add_keep,
+    add_move, add_put, add_spread, add_tag, add_test,
 };
 use flow_value::NoMemory;
 use plan_data::{
@@ -160,15 +161,17 @@ fn emit_node(
     requires cells { lo + (node.now.width + (own_copies node.now.work node.now.ins + work_cells plan.now node.now.work)) ≤ u32.MAX }
     ensures { OnOk result (NodeMade plan.now room levels args.now first node.now place lo draft.old draft.new) }
 {
-    let ports = node.ins.as_slice();
     match &node.work {
-        Work::Plain(row, shape, written, counted) => add_fire(
-            draft, plan, args, first, ports, *row, *shape, *written, *counted, lo, node.width,
+        Work::Plain(row, shape, written, counted) => add_plain(
+            alloc, draft, plan, args, first, &node.ins, *row, *shape, *written, *counted, lo,
+            node.width,
         ),
         Work::Call(function) => {
             let entry = number_at(plan.entries.as_slice(), *function);
             let inputs = number_at(plan.params.as_slice(), *function);
             let new = inputs + number_at(plan.extents.as_slice(), *function);
+            let listed = node.ins.listed(alloc)?;
+            let ports = listed.as_slice();
             add_call(
                 draft, plan, args, first, ports, entry, room, new, lo, node.width,
             )
@@ -201,7 +204,8 @@ fn emit_whole(
     requires cells { lo + (node.now.width + (count_true (map picks_of node.now.ins) + work_cells plan.now node.now.work)) ≤ u32.MAX }
     ensures { OnOk result (NodeMade plan.now room levels args.now first node.now place lo draft.old draft.new) }
 {
-    let ports = node.ins.as_slice();
+    let listed = node.ins.listed(alloc)?;
+    let ports = listed.as_slice();
     let many = copied(ports) as u32;
     let up = lo + node.width;
     add_count(draft)?;

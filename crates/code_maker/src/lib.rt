@@ -6,6 +6,7 @@ mod draft;
 mod emit;
 mod make;
 mod seats;
+mod sparse;
 mod steps;
 
 pub use draft::Draft;

@@ -10,8 +10,9 @@ use Rattle.step_code.specs.declared.step.Counted.{Counted}
 use Rattle.step_code.specs.declared.step.Counted.TheVariants as counted
 use Rattle.step_code.specs.declared.step.Step.{Step}
 use Rattle.step_code.specs.declared.step.Step.TheVariants as step
-use Rattle.step_code.specs.Laid.{copied_at, copied_in, handling_in, step_in, written_in}
-use Rattle.step_code.specs.Reading.{modes_in}
+use Rattle.step_code.specs.declared.step.Written.TheVariants as written
+use Rattle.step_code.specs.Laid.{copied_at, copied_in, counted_by, handling_in, row_of, step_in, written_in}
+use Rattle.step_code.specs.Reading.{gapped, mode_in, modes_in}
 use Rattle.plan_data.specs.declared.plan.PlanData.{PlanData}
 use Rattle.plan_data.specs.declared.plan.Work.TheVariants as work
 use Rattle.plan_data.specs.Parts.{mode_of}
@@ -41,6 +42,13 @@ module _ (D : PlanData) (P : Plan) (W : Weighing) (code : Code) where
     writes-so (step.Fire row writes shape i n out w kept copies) ms OfNothing told = absurd told
     writes-so (step.One op a out) ms o told = absurd told
     writes-so (step.Two op a b out) ms o told = absurd told
+    writes-so (step.Sparse row g i n out copies) ms (OfNode gr v) told =
+        let here : IsWrittenSo D P W gr v (work.Plain (row_of row) told.1 written.Nothing (counted_by copies)) = subst (IsWrittenSo D P W gr v) told.3 (right gr told.0 v told.2) in
+        λ ks rs long. here ks rs
+    writes-so (step.Sparse row g i n out copies) ms (OfInputs gr v) told = absurd told
+    writes-so (step.Sparse row g i n out copies) ms (OfResults gr) told = absurd told
+    writes-so (step.Sparse row g i n out copies) ms (OfRows b r) told = absurd told
+    writes-so (step.Sparse row g i n out copies) ms OfNothing told = absurd told
     writes-so step.Count ms o told = tt
     writes-so (step.Bring a out next) ms o told = tt
     writes-so (step.Move froms n out w next) ms o told = tt
@@ -68,6 +76,16 @@ module _ (D : PlanData) (P : Plan) (W : Weighing) (code : Code) where
     copies-so (step.Fire row writes shape i n out w kept copies) ms OfNothing told = absurd told
     copies-so (step.One op a out) ms o told = absurd told
     copies-so (step.Two op a b out) ms o told = absurd told
+    copies-so (step.Sparse row g i n out copies) ms (OfNode gr v) told =
+        let m = told.0 in
+        let here : IsCopiedSo D P W gr v m (work.Plain (row_of row) told.1 written.Nothing (counted_by copies)) = subst (IsCopiedSo D P W gr v m) told.3 (right gr m v told.2) in
+        λ ks rs same long.
+        counted-same code (counted_by copies) (map (mode_in code) (gapped code g i n)) ms 1 ks rs same
+        ∙ (ap (λ q. copied_at code (counted_by copies) q 1 ks rs) told.5 ∙ (ap (λ q. copied_at code (counted_by copies) (map mode_of m.ins) q ks rs) told.4 ∙ here code marks ks rs (long ∙ told.4)))
+    copies-so (step.Sparse row g i n out copies) ms (OfInputs gr v) told = absurd told
+    copies-so (step.Sparse row g i n out copies) ms (OfResults gr) told = absurd told
+    copies-so (step.Sparse row g i n out copies) ms (OfRows b r) told = absurd told
+    copies-so (step.Sparse row g i n out copies) ms OfNothing told = absurd told
     copies-so step.Count ms o told = tt
     copies-so (step.Bring a out next) ms o told = tt
     copies-so (step.Move froms n out w next) ms o told = tt

@@ -16,7 +16,8 @@ ghost use Rattle.plan_data.specs.declared.plan.Work.TheVariants as Work;
 ghost use Rattle.plan_builder.specs.Nodes.{AreHandled, given_by, handled_by, made_node};
 
 use crate::widths::plain_width;
-use flow_value::{Seq, Shape};
+use flow_value::Shape;
+use gapped::Gapped;
 use if1_graph::Simple;
 use plan_data::{Feed, Handled, PlanNode, Port, Work};
 use step_code::{Counted, Written};
@@ -59,7 +60,7 @@ pub fn simple_node(
     shape: Shape,
     written: Written,
     counted: Counted,
-    ins: Seq<Port>,
+    ins: Gapped<Port>,
 ) -> PlanNode
     ensures made { result ≡ made_node (Work.Plain row shape written counted) (outputs_by (row_of row).gives (shape_of shape)) ins }
     ensures stands { (D : PlanData) (P : Plan) (S : Shares) (g : ℕ) (v : Vertex) → v.kind ≡ demand.Plain row (shape_of shape) → P.width v ≡ outputs_by (row_of row).gives (shape_of shape) → AreFed D P S g ins v.ins → AreHandled handled_by (S.takes g v.label) (S.copies g v.label) 1 ins → IsNode D P S g result v }
@@ -73,7 +74,7 @@ pub fn simple_node(
 
 /// A Call of the function of a number, which gives so many results, with its arguments, which stand at
 /// the ports from 2 on.
-pub fn call_node(callee: u32, width: u32, ins: Seq<Port>) -> PlanNode
+pub fn call_node(callee: u32, width: u32, ins: Gapped<Port>) -> PlanNode
     ensures made { result ≡ made_node (Work.Call callee) width ins }
     ensures stands { (D : PlanData) (P : Plan) (S : Shares) (g : ℕ) (v : Vertex) → v.kind ≡ demand.Whole (form.Call callee) → P.width v ≡ width → AreFed D P S g ins v.ins → AreHandled handled_by (S.takes g v.label) (S.copies g v.label) 2 ins → IsNode D P S g result v }
 {
@@ -86,7 +87,7 @@ pub fn call_node(callee: u32, width: u32, ins: Seq<Port>) -> PlanNode
 
 /// A compound node with so many outputs, with its ports, from 1 on. It takes nothing where it has no
 /// ports.
-pub fn compound_node(work: Work, width: u32, ins: Seq<Port>) -> PlanNode
+pub fn compound_node(work: Work, width: u32, ins: Gapped<Port>) -> PlanNode
     requires { IsWhole work }
     ensures made { result ≡ made_node work width ins }
     ensures stands { (D : PlanData) (P : Plan) (S : Shares) (g : ℕ) (v : Vertex) (copies : (port : ℕ) → Bool) → v.kind ≡ kind_of work width → P.width v ≡ width → P.picks g v ≡ picks_of copies 1 v.ins → (v.ins ≡ [] → S.takes g v.label 1 ≡ false) → AreFed D P S g ins v.ins → AreHandled given_by (S.takes g v.label) copies 1 ins → IsNode D P S g result v }

@@ -1,5 +1,6 @@
 //! The data.
 use flow_value::{Numbers, Seq, Shape};
+use gapped::Gapped;
 use if1_graph::Simple;
 use run_cells::Cell;
 use step_code::{Collect, Counted, Written};
@@ -76,8 +77,9 @@ pub struct PlanNode {
     pub work: Work,
     /// How many outputs it has.
     pub width: u32,
-    /// What fills its ports; of a Call those of the arguments.
-    pub ins: Seq<Port>,
+    /// What fills its ports; of a Call those of the arguments. Of an RBuild or RReplace only those that
+    /// are filled are kept.
+    pub ins: Gapped<Port>,
 }
 
 /// A graph.

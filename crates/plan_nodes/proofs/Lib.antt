@@ -5,3 +5,4 @@ pub mod Vertices
 pub mod Lists
 pub mod Made
 pub mod Works
+pub mod Spread

@@ -3,6 +3,7 @@ use Rattle.std.specs.Prelude.{ℕ, Bool, List, [], map, drop, Option, Some, None
 use Rattle.flow_value.specs.declared.operands.Shape.{Shape}
 use Rattle.if1_graph.specs.Rows.{row_of}
 use Rattle.if1_graph.specs.declared.op.Simple.{Simple}
+use Rattle.if1_graph.specs.declared.op.Simple.TheVariants as simple
 use Rattle.graph_meaning.specs.Laws.{outputs_by}
 use Rattle.node_ops.specs.Operands.{shape_of}
 use Rattle.row_counts.specs.Counts.{counted_by_row, written_by_row}
@@ -35,6 +36,12 @@ abbrev pub whole_node : Work → (width : ℕ) → List Filled → PlanNode
 whole_node y w fs = whole_by (callee_in y) y w fs
 
 -- ---- a simple node
+
+-- of whose ports few may be filled
+abbrev pub IsSparse : Simple → Type 0
+IsSparse simple.RBuild = Unit {0}
+IsSparse simple.RReplace = Unit {0}
+IsSparse _ = ⊥
 
 module _ (fs : List Filled) (joined : Bool) (marks : ℕ) where
   -- of a row, with these ports, in place of one of its own row

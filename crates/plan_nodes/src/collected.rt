@@ -117,7 +117,8 @@ fn add_port(plain: u32, number: u32, filled: Filled, ports: &mut Seq<Port>) -> R
     }
 }
 
-fn whole_ports(
+/// The ports of a node that reads each multiple whole.
+pub fn whole_ports(
     alloc: Global,
     plain: u32,
     number: u32,

@@ -1,5 +1,5 @@
 //! What is known of a node.
-use flow_value::Seq;
+use gapped::Gapped;
 use node_works::Task;
 use port_feeds::Filled;
 
@@ -11,7 +11,7 @@ pub struct NodeParts {
     /// How many outputs it has.
     pub width: u32,
     /// What fills its ports, from port 1 on.
-    pub ports: Seq<Filled>,
+    pub ports: Gapped<Filled>,
     /// Whether its result is joined to others.
     pub joined: bool,
     /// The first of the marks of its outputs.

@@ -1,11 +1,14 @@
 //! What is told of the ports of simple nodes.
-ghost use Rattle.std.specs.Prelude.{◌≡◌, ◌-◌, ◌≤◌};
+ghost use Rattle.std.specs.Prelude.{◌≡◌, ◌-◌, ◌≤◌, IfOk};
 ghost use Rattle.std.specs.Option.{option_copied};
 ghost use Rattle.plan_builder.specs.Ways.{multiple_port};
 ghost use Rattle.plan_nodes.specs.Ports.{has_left, has_whole, left_at, told_in};
 
+use flow_value::NoMemory;
+use gapped::Gapped;
 use if1_graph::Simple;
 use port_feeds::Filled;
+use std::alloc::Global;
 
 fn has_left(port: Option<&Filled>) -> bool
     ensures { result ≡ has_left (option_copied port.entry) }
@@ -56,5 +59,18 @@ pub fn told_of(filled: &[Filled], row: Simple) -> bool
         Simple::AGather | Simple::Reduce(_) => second_left(filled),
         Simple::AFill => has_whole(filled.get(2)),
         _ => false,
+    }
+}
+
+/// The same of ports of which few may be filled.
+pub fn all_told(alloc: Global, filled: &Gapped<Filled>, row: Simple) -> Result<bool, NoMemory>
+    ensures { IfOk result (λ told. told ≡ told_in filled.now row) }
+{
+    match row {
+        Simple::RBuild | Simple::RReplace => Ok(false),
+        _ => {
+            let listed = filled.listed(alloc)?;
+            Ok(told_of(listed.as_slice(), row))
+        }
     }
 }

@@ -5,6 +5,7 @@ ghost use Rattle.plan_data.specs.Parts.{count_true, extent_in, for_all_cells, gr
 ghost use Rattle.plan_tables.specs.Above.{ArePartsAbove, roomed};
 
 use crate::sizes::{plus, zeros};
+use gapped::Gapped;
 use flow_value::{NoMemory, Numbers};
 use plan_data::{
     Handled, LoopParts, PlanGraph, PlanNode, Port, Work, collects_in, number_at, refolded_in,
@@ -96,23 +97,35 @@ fn copied(ports: &[Port]) -> usize
     many
 }
 
-fn own_copies(work: &Work, ports: &[Port]) -> usize
-    ensures { result ≡ own_copies work.now ports.now }
+fn all_copied(alloc: Global, ports: &Gapped<Port>) -> Result<usize, NoMemory>
+    ensures { IfOk result (λ n. n ≡ count_true (map picks_of ports.now)) }
+{
+    let listed = ports.listed(alloc)?;
+    Ok(copied(listed.as_slice()))
+}
+
+fn own_copies(alloc: Global, work: &Work, ports: &Gapped<Port>) -> Result<usize, NoMemory>
+    ensures { IfOk result (λ n. n ≡ own_copies work.now ports.now) }
 {
     match work {
-        Work::Plain(..) | Work::Call(_) => 0,
+        Work::Plain(..) | Work::Call(_) => Ok(0),
         Work::Select(..) | Work::TagCase(_) | Work::LoopA(_) | Work::LoopB(_) | Work::ForAll(..) =>
-            copied(ports),
+            all_copied(alloc, ports),
     }
 }
 
-fn nodes_most(graphs: &[PlanGraph], extents: &[u32], nodes: &[PlanNode]) -> Result<u32, NoMemory>
+fn nodes_most(
+    alloc: Global,
+    graphs: &[PlanGraph],
+    extents: &[u32],
+    nodes: &[PlanNode],
+) -> Result<u32, NoMemory>
     ensures { IfOk result (λ n. n ≡ nodes_cells (roomed graphs.now extents.now) nodes.now) }
 {
     let mut most = 0;
     let mut outputs = 0;
     for node in nodes {
-        let own = count_of(own_copies(&node.work, node.ins.as_slice()))?;
+        let own = count_of(own_copies(alloc, &node.work, &node.ins)?)?;
         let inner = plus(own, work_most(graphs, extents, &node.work)?)?;
         most = greater(most, plus(outputs, plus(node.width, inner)?)?);
         outputs = plus(outputs, node.width)?;
@@ -129,7 +142,12 @@ pub fn extents_of(alloc: Global, graphs: &[PlanGraph]) -> Result<Numbers, NoMemo
     let mut graph = graphs.len();
     while graph > 0 {
         graph -= 1;
-        let cells = nodes_most(graphs, extents.as_slice(), graphs[graph].nodes.as_slice())?;
+        let cells = nodes_most(
+            alloc,
+            graphs,
+            extents.as_slice(),
+            graphs[graph].nodes.as_slice(),
+        )?;
         extents.set(graph, cells);
     }
     Ok(extents)

@@ -1,5 +1,5 @@
 -- Ports in a row.
-use Rattle.std.proofs.Common.{◌≡◌, ℕ, suc, ◌+◌, List, [], ◌∷◌, ◌++◌, length, All, Contains, subst, arith}
+use Rattle.std.proofs.Common.{◌≡◌, ℕ, zero, suc, ◌+◌, ◌<◌, ◌≤◌, List, [], ◌∷◌, ◌++◌, length, replicate, All, Contains, subst, arith}
 use Rattle.std.proofs.lemmas.List.Elements.{All-nil, All-cons}
 use Rattle.if1_graph.specs.declared.graph.Graph.{Graph}
 use Rattle.if1_graph.specs.declared.graph.Graph.TheViews.{out-Graph}
@@ -21,10 +21,16 @@ use Rattle.port_feeds.specs.declared.filled.Filled.{Filled}
 use Rattle.port_feeds.specs.Filled.{AreFilled, ArePorts, AreTold, IsPort}
 
 module _ (u : Unit1) (g : Graph) (x : Outlets) (l : ℕ) where
-  -- one more
-  pub ports-more : (cs : List Cell) (i n : ℕ) (fs : List Filled) (f : Filled) → ArePorts u g x cs l i fs → n ≡ i + length fs → IsPort u g x cs l n f → ArePorts u g x cs l i (fs ++ f ∷ [])
-  ports-more cs i n [] f hs e h = let s : n ≡ i = omega (arith, e) in (subst (λ k. IsPort u g x cs l k f) s h, tt)
-  ports-more cs i n (y ∷ ys) f hs e h = (hs.0, ports-more cs (suc i) n ys f hs.1 (omega (arith, e)) h)
+  -- ports that nothing fills, and then one more
+  pub ports-behind : (cs : List Cell) (n k : ℕ) (none f : Filled) → ((j : ℕ) → n ≤ j → j < n + k → IsPort u g x cs l j none) → IsPort u g x cs l (n + k) f → ArePorts u g x cs l n (replicate k none ++ (f ∷ []))
+  ports-behind cs n zero none f gaps h = let s : n + 0 ≡ n = omega arith in (subst (λ j. IsPort u g x cs l j f) s h, tt)
+  ports-behind cs n (suc k) none f gaps h =
+      let s : n + suc k ≡ suc n + k = omega arith in
+      (gaps n (omega arith) (omega arith), ports-behind cs (suc n) k none f (λ j a b. gaps j (omega (arith, a)) (omega (arith, b))) (subst (λ j. IsPort u g x cs l j f) s h))
+
+  pub ports-joined : (cs : List Cell) (i n : ℕ) (fs hs : List Filled) → ArePorts u g x cs l i fs → n ≡ i + length fs → ArePorts u g x cs l n hs → ArePorts u g x cs l i (fs ++ hs)
+  ports-joined cs i n [] hs a e b = let s : n ≡ i = omega (arith, e) in subst (λ j. ArePorts u g x cs l j hs) s b
+  ports-joined cs i n (y ∷ ys) hs a e b = (a.0, ports-joined cs (suc i) n ys hs a.1 (omega (arith, e)) b)
 
   module _ (cs ds : List Cell) (kept : (D : PlanData) → HasLiterals ds D → HasLiterals cs D) where
     port-later : (i : ℕ) (f : Filled) → IsPort u g x cs l i f → IsPort u g x ds l i f

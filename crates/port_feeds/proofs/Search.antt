@@ -4,6 +4,7 @@ use Rattle.std.specs.List.{AllWithin}
 use Rattle.std.specs.List.Sorted.{IsPartitionedBy}
 use Rattle.std.proofs.lemmas.Bool.{and_parts, both_ways}
 use Rattle.std.proofs.lemmas.Bool.Decides.{eqb_tells, leb_tells}
+use Rattle.std.proofs.lemmas.Option.{get_or_from_slice_get}
 use Rattle.if1_graph.specs.declared.graph.Edge.{Edge}
 use Rattle.if1_graph.specs.Normal.{Precedes}
 use Rattle.if1_marks.proofs.Tests.{same-number}
@@ -149,3 +150,28 @@ leading-is l p (Some x) e h = go (leads_to l p x) h
     go : (c : Bool) → cond c (Some x) None ≡ Some e → Some x ≡ Some e
     go true h = h
     go false h = absurd (let x : None ≡ Some e = h in cc)
+
+-- where edges from this place on do not stand before a port, and the first of them leads to a higher one, none leads to one between
+pub passed : (l p j : ℕ) (es : List Edge) (k : ℕ) (e : Edge) → AllPairs Precedes es → AllWithin (λ e. stands_before l p e ≡ true) es 0 k → slice_get es k ≡ Some e → e.node ≡ l → p ≤ j → j < e.port → edge_found es l j ≡ None
+passed l p j es k e h before at node le lt =
+    sym (found-at l j es k h (λ i d a b. shown l j (get_or es i d) (later (get_or es i d) (told l p (get_or es i d) (before i d a b)))) (λ i d a b. off i d a b))
+    ∙ (ap (option_and_then (if_leading l j)) at ∙ another (leads_to l j e) refl)
+  where
+    later : (x : Edge) → IsBefore l p x → IsBefore l j x
+    later x (inl t) = let u = t.1 in inl (t.0, omega (arith, u, le))
+    later x (inr t) = inr t
+
+    denied : (x : Edge) → x ≡ e → IsBefore l j x → ⊥
+    denied x s (inl t) = let a = t.1 in let b = ap (λ (y : Edge). y.port) s in omega (arith, a, b, lt)
+    denied x s (inr t) = t.0 (ap (λ (y : Edge). y.node) s ∙ node)
+
+    off : (i : ℕ) (d : Edge) → k ≤ i → i < length es → stands_before l j (get_or es i d) ≡ false
+    off i d a b = go (stands_before l j (get_or es i d)) refl
+      where
+        go : (c : Bool) → stands_before l j (get_or es i d) ≡ c → stands_before l j (get_or es i d) ≡ false
+        go false is = is
+        go true is = absurd (denied (get_or es k d) (get_or_from_slice_get es k e d at) (pair-at l j es k i d h a b (told l j (get_or es i d) is)))
+
+    another : (c : Bool) → leads_to l j e ≡ c → (if leads_to l j e then Some e else None) ≡ None
+    another false is = ap (λ c. if c then Some e else None) is
+    another true is = let s = (leads l j e is).1 in absurd (omega (arith, s, lt))

@@ -21,10 +21,11 @@ ghost use Rattle.plan_builder.specs.Outlets.{AreLaid, AreOutlets, cells_of};
 ghost use Rattle.storage_flags.specs.Flags.{AreFlags};
 ghost use Rattle.port_feeds.specs.Filled.{AreFilled, AreTold, IsGraphOf, IsPort};
 
-use crate::edges::{edge_at, place_of};
+use crate::edges::{edge_at, place_of, port_behind};
 use crate::flags::flag_at;
 use crate::literals::{literal_cell, want_at};
 use flow_value::{NoMemory, Seq};
+use gapped::Gapped;
 use if1_graph::{Edge, Graph, Origin, TypeEntry};
 use if1_ports::{edges_into, greatest_port};
 use if1_sound::Sound;
@@ -136,8 +137,8 @@ fn port_at(
 }
 
 /// What fills the ports of the node of a label, or of the boundary of a graph for 0, from port 1 to the
-/// last one that is filled. The flags are those of the edges of the unit, by the numbers of the graphs.
-/// Literals are put behind the others; more than 32 bits count are want of memory. Takes for each port
+/// last one that is filled; only those that are filled are kept. The flags are those of the edges of the unit, by the numbers of the graphs.
+/// Literals are put behind the others; more than 32 bits count are want of memory. Takes for each edge
 /// the time of a search among the edges, and for a literal of one among the nodes and one among the
 /// types.
 pub fn ports_of(
@@ -149,7 +150,7 @@ pub fn ports_of(
     outlets: &Outlets,
     label: u32,
     literals: &mut Seq<Cell>,
-) -> Result<Seq<Filled>, NoMemory>
+) -> Result<Gapped<Filled>, NoMemory>
     requires are { AreOutlets outlets.now }
     requires place { IsGraphOf unit.now graph.now outlets.now }
     requires flags { AreFlags unit.now (storage_of unit.now).is_aggregate aggregates.now }
@@ -163,21 +164,20 @@ pub fn ports_of(
     ensures told { IfOk result (λ xs. AreTold (storage_of unit.now) (out-Graph graph.now).number label 1 xs) }
 {
     let _whole = unit.unit();
-    let width = greatest_port(edges_into(graph.edges.as_slice(), label));
-    let mut ports = Seq::with_room(alloc, width as usize)?;
-    for place in 0..width {
+    let edges = graph.edges.as_slice();
+    let width = greatest_port(edges_into(edges, label));
+    let none = unfilled();
+    let mut gaps = Seq::new(alloc);
+    let mut ports = Seq::new(alloc);
+    let mut place = 0;
+    while place < width {
+        let next = port_behind(edges, label, place, width);
         let port = port_at(
-            alloc,
-            unit,
-            graph,
-            aggregates,
-            consumed,
-            outlets,
-            label,
-            place + 1,
-            literals,
+            alloc, unit, graph, aggregates, consumed, outlets, label, next, literals,
         )?;
+        gaps.add(next - place - 1)?;
         ports.add(port)?;
+        place = next;
     }
-    Ok(ports)
+    Ok(Gapped::new(none, gaps, ports))
 }

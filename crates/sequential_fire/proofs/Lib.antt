@@ -12,3 +12,4 @@ pub mod MakeSteps
 pub mod ElementSteps
 pub mod PartRows
 pub mod RangeRows
+pub mod SparseSteps

@@ -13,10 +13,12 @@ mod outputs;
 mod parts;
 mod ranges;
 mod routes;
+mod sparse;
 mod taking;
 mod updating;
 
 pub use firing::fire_lent;
 pub use loaded::fire_loaded;
 pub use routes::fire;
+pub use sparse::fire_sparse;
 pub use updating::{Update, fire_update};

@@ -77,7 +77,8 @@ fn graph_of(
         0,
         literals,
     )?;
-    let results = results_of(alloc, ports.as_slice())?;
+    let listed = ports.listed(alloc)?;
+    let results = results_of(alloc, listed.as_slice())?;
     Ok(PlanGraph {
         nodes: made.nodes,
         results,

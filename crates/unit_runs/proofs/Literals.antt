@@ -9,7 +9,7 @@ use Rattle.step_code.specs.declared.code.Operand.TheVariants as operand
 use Rattle.step_code.specs.declared.step.Step.{Step}
 use Rattle.step_code.specs.declared.step.Step.TheVariants as step
 use Rattle.step_code.specs.Laid.{collects_in, handling_in, step_in, taken_all}
-use Rattle.step_code.specs.Reading.{listed, mode_in, modes_in, operand_in, operands_in}
+use Rattle.step_code.specs.Reading.{gapped, listed, mode_in, modes_in, operand_in, operands_in}
 use Rattle.unit_runs.specs.Alike.{AreLiteralsBare}
 
 pub cells-bare : (ms : List Mode) (i n : ℕ) → AreLiteralsBare ms (cells.cells_at i n)
@@ -49,6 +49,7 @@ module _ (code : Code) where
   step-bare (step.One o a out) = one-bare a
   step-bare (step.Two o a b out) = first-bare a (mode_in code b ∷ []) (operand_in code b ∷ []) (one-bare b)
   step-bare (step.Fire row x shape ins n out w kept k) = alone-bare (listed code ins n)
+  step-bare (step.Sparse row g ins n out copies) = alone-bare (gapped code g ins n)
   step-bare step.Count = tt
   step-bare (step.Bring a out next) = one-bare a
   step-bare (step.Move froms n out w next) = alone-bare (listed code froms n)

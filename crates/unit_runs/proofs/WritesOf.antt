@@ -76,6 +76,7 @@ no-written : (code : Code) (x : Step) (ks : List Carried) → written_in code x 
 no-written code (step.Fire row x shape ins n out w kept k) ks = no-written-at x ks
 no-written code (step.One o a out) ks = refl
 no-written code (step.Two o a b out) ks = refl
+no-written code (step.Sparse row g ins n out copies) ks = refl
 no-written code step.Count ks = refl
 no-written code (step.Bring a out next) ks = refl
 no-written code (step.Move froms n out w next) ks = refl

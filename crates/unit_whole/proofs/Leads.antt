@@ -66,6 +66,7 @@ module _ (D : PlanData) (P : Plan) (S : Shares) (functions : List ℕ) (stands :
   leads (step.Bring a out t) o ms h = absurd h.knit
   leads step.Count o ms h = behind h.stays
   leads (step.Fire row x shape ins n out w kept k) o ms h = let s = h.stays in behind s.2
+  leads (step.Sparse row g ins n out copies) o ms h = let s = h.stays in behind s.2
   leads (step.Move froms n out w t) o ms h = let s = h.stays in ahead t s.2
   leads (step.Tag a ts n content keeps out w t) o ms h = let s = h.stays in (all-ahead _ s.1, ahead t s.4)
   leads (step.Branch a ts n out w t) o ms h = let s = h.stays in (all-ahead _ s.1, ahead t s.3)

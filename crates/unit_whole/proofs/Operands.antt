@@ -14,14 +14,14 @@ use Rattle.made_store.specs.Last.{AreTakenLast, IsLast, IsNoneOf}
 use Rattle.step_code.specs.declared.code.Code.{Code}
 use Rattle.step_code.specs.declared.code.Operand.{Operand}
 use Rattle.step_code.specs.declared.code.Operand.TheVariants as operand
-use Rattle.step_code.specs.Reading.{listed, mode_in, modes_in, operand_in, operands_in, so_many}
-use Rattle.code_maker.specs.Grows.{AreNamed, ArePlain, IsPlain}
+use Rattle.step_code.specs.Reading.{gapped, listed, mode_in, modes_in, operand_in, operands_in, so_many}
+use Rattle.code_maker.specs.Grows.{AreNamed, AreNamedApart, ArePlain, IsPlain}
 use Rattle.code_maker.specs.Seats.{looked_at}
 use Rattle.sequential.specs.Inside.{IsInside, IsUncopied}
 use Rattle.sequential.specs.Loading.{AllApart, AreApart, AreInside, IsApart, IsNotIn}
 use Rattle.sequential_loops.specs.Iterating.{AllUncopied}
 use Rattle.sequential_loops.specs.Putting.{AreSparing, IsSparing}
-use Rattle.sequential_run.specs.Ready.{AreListed}
+use Rattle.sequential_run.specs.Ready.{AreListed, AreSpread}
 use Rattle.sequential_run.specs.Seen.{IsNamed}
 use Rattle.unit_whole.proofs.Taking.{beside}
 use Rattle.unit_whole.specs.Seen.{IsFixedFirst}
@@ -91,6 +91,17 @@ module _ (code : Code) where
         long = sym named.long;
         inside = all-inside room (listed code i n) named.plain cells;
         apart = all-apart (listed code i n) named.plain last;
+      }
+
+  -- so with those among which ports stand that nothing fills
+  pub apart-so : (room gaps first many : ℕ) → AreNamedApart code gaps first many → AreCells room (map (operand_in code) (gapped code gaps first many)) → AreTakenLast (map (mode_in code) (gapped code gaps first many)) (map (operand_in code) (gapped code gaps first many))
+      → AreSpread code room gaps first many
+  apart-so room g i n named cells last =
+      record {
+        listed_there = named.there;
+        numbers_there = named.numbers;
+        inside = all-inside room (gapped code g i n) named.plain cells;
+        apart = all-apart (gapped code g i n) named.plain last;
       }
 
   pub operands-long : (i n : ℕ) → AreNamed code i n → length (operands_in code i n) ≡ n

@@ -5,11 +5,11 @@ use Rattle.step_code.specs.declared.code.Operand.{Operand}
 use Rattle.step_code.specs.declared.code.Operand.TheVariants as operand
 use Rattle.step_code.specs.declared.step.Step.{Step}
 use Rattle.step_code.specs.declared.step.Step.TheVariants as step
-use Rattle.step_code.specs.Reading.{listed, so_many}
+use Rattle.step_code.specs.Reading.{gapped, listed, so_many}
 use Rattle.quick_code.specs.Quick.{Names, RunsSame, with_steps}
 use Rattle.sequential.specs.Inside.{IsInside}
 use Rattle.sequential.specs.Loading.{AreInside}
-use Rattle.sequential_run.specs.Ready.{AreCollected, AreListed, IsReady}
+use Rattle.sequential_run.specs.Ready.{AreCollected, AreListed, AreSpread, IsReady}
 use Rattle.sequential_run.specs.Whole.{AreAhead, Blocks, IsCalled, IsNext, IsWhole, Leads, step_at}
 use Rattle.unit_whole.specs.Laws.{IsQuickCodeWhole}
 
@@ -34,6 +34,9 @@ module _ (code : Code) (ys : List Step) where
   listed-as : (room i n : ℕ) → AreListed code room i n → AreListed (with_steps code ys) room i n
   listed-as room i n h = record { listed_there = h.listed_there; long = h.long; inside = all-inside room (listed code i n) h.inside; apart = h.apart }
 
+  spread-as : (room g i n : ℕ) → AreSpread code room g i n → AreSpread (with_steps code ys) room g i n
+  spread-as room g i n h = record { listed_there = h.listed_there; numbers_there = h.numbers_there; inside = all-inside room (gapped code g i n) h.inside; apart = h.apart }
+
   collected-as : (room i n : ℕ) → AreCollected code room i n → AreCollected (with_steps code ys) room i n
   collected-as room i n h = record { collected = h.collected; counted_long = h.counted_long }
 
@@ -41,6 +44,7 @@ module _ (code : Code) (ys : List Step) where
   ready-as room (step.One op a out) h = (one-inside room a h.0, h.1)
   ready-as room (step.Two op a b out) h = (one-inside room a h.0, one-inside room b h.1, h.2)
   ready-as room (step.Fire row x shape ins n out w kept k) h = (listed-as room ins n h.0, h.1, h.2, h.3)
+  ready-as room (step.Sparse row g ins n out copies) h = (spread-as room g ins n h.0, h.1)
   ready-as room step.Count h = tt
   ready-as room (step.Bring a out next) h = (one-inside room a h.0, h.1)
   ready-as room (step.Move froms n out w next) h = (listed-as room froms n h.0, h.1, h.2)
@@ -68,6 +72,7 @@ module _ (code : Code) (ys : List Step) where
     leads-as pc (step.One op a out) h = next-as pc (suc pc) h
     leads-as pc (step.Two op a b out) h = next-as pc (suc pc) h
     leads-as pc (step.Fire row x shape ins n out w kept k) h = next-as pc (suc pc) h
+    leads-as pc (step.Sparse row g ins n out copies) h = next-as pc (suc pc) h
     leads-as pc step.Count h = next-as pc (suc pc) h
     leads-as pc (step.Bring a out next) h = (h.0, next-as pc next h.1)
     leads-as pc (step.Move froms n out w next) h = (h.0, next-as pc next h.1)

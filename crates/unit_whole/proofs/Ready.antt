@@ -49,7 +49,7 @@ use Rattle.sequential_loops.specs.Iterating.{AllUncopied}
 use Rattle.sequential_loops.specs.Putting.{AreColumns, AreSpared}
 use Rattle.sequential_run.specs.Ready.{AreCollected, AreListed, IsReady}
 use Rattle.sequential_run.specs.Seen.{IsFirstKept, IsSeen}
-use Rattle.unit_whole.proofs.Operands.{all-sparing, fixed-named, listed-so, looked-apart, looked-are, looked-inside, looked-long, looked-uncopied, modes-long, one-inside, operands-long, so-long}
+use Rattle.unit_whole.proofs.Operands.{all-sparing, apart-so, fixed-named, listed-so, looked-apart, looked-are, looked-inside, looked-long, looked-uncopied, modes-long, one-inside, operands-long, so-long}
 use Rattle.unit_whole.proofs.Taking.{front-last}
 use Rattle.unit_whole.specs.Seen.{IsSeenOf}
 
@@ -202,6 +202,10 @@ module _ (D : PlanData) (P : Plan) (S : Shares) (functions : List ℕ) (stands :
         let f = fired-so o row (shape_of shape) x k (operands_in code ins n) w ms h.steady h.told in
         let s = h.stays in
         (listed-so code room ins n h.knit s.0 h.last, f.wide, s.1, seen-so x (listed code ins n) w kept out f.places f.ins f.args_are f.seen_so h.keeps)
+    ready (step.Sparse row g ins n out copies) o ms h =
+        let s = h.stays in
+        let fits = s.1 in
+        (apart-so code room g ins n h.knit s.0 h.last, omega (arith, fits))
     ready (step.Move froms n out w next) o ms h =
         let s = h.stays in
         let e = h.steady in

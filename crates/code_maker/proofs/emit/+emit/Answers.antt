@@ -177,20 +177,20 @@ emit_graph-emit_node-requires t c =
 pub emit_node-returns-in-Plain : goal.emit_node-returns-in-Plain
 emit_node-returns-in-Plain t c =
     let plan = c.args.plan.now in
-    on_ok_weaker c.add_fire.result
-    (λ e. fire-made plan c.requires.formed c.args.room c.args.levels c.args.node.now c.args.args.now c.args.first c.in-Plain.row c.in-Plain.shape c.in-Plain.written c.in-Plain.counted c.args.place c.args.lo c.args.draft.now c.add_fire.new.draft
-    c.as_slice-ports.result.now c.as_slice-ports.ensures c.in-Plain.is e)
-    c.add_fire.ensures
+    on_ok_weaker c.add_plain.result
+    (λ e. fire-made plan c.requires.formed c.args.room c.args.levels c.args.node.now c.args.args.now c.args.first c.in-Plain.row c.in-Plain.shape c.in-Plain.written c.in-Plain.counted c.args.place c.args.lo c.args.draft.now c.add_plain.new.draft
+    c.args.node.now.ins refl c.in-Plain.is e)
+    c.add_plain.ensures
 
-pub emit_node-returns-in-Call : goal.emit_node-returns-in-Call
-emit_node-returns-in-Call t c =
+pub emit_node-returns-in_ok-listed-in-Call : goal.emit_node-returns-in_ok-listed-in-Call
+emit_node-returns-in_ok-listed-in-Call t c =
     let plan = c.args.plan.now in
     let f = c.in-Call.function in
     let inputs : c.number_at-inputs.result ≡ table_of plan.params f = c.number_at-inputs.ensures ∙ ap (λ x. table_of x f) c.as_slice-in-Call.ensures in
     let cells : c.number_at.result ≡ table_of plan.extents f = c.number_at.ensures ∙ ap (λ x. table_of x f) c.as_slice-in-Call-2.ensures in
     on_ok_weaker c.add_call.result
     (λ e. call-made plan c.requires.formed c.args.room c.args.levels c.args.node.now c.args.args.now c.args.first c.in-Call.function c.number_at-entry.result (c.number_at-inputs.result + c.number_at.result) c.args.place c.args.lo c.args.draft.now c.add_call.new.draft
-    c.as_slice-ports.result.now c.as_slice-ports.ensures c.in-Call.is (c.number_at-entry.ensures ∙ ap (λ x. table_of x c.in-Call.function) c.as_slice.ensures) (omega (arith, inputs, cells)) e)
+    c.as_slice-ports.result.now (c.as_slice-ports.ensures ∙ c.in_ok-listed-in-Call.ensures) c.in-Call.is (c.number_at-entry.ensures ∙ ap (λ x. table_of x c.in-Call.function) c.as_slice.ensures) (omega (arith, inputs, cells)) e)
     c.add_call.ensures
 
 pub emit_whole-returns : goal.emit_whole-returns
@@ -198,7 +198,7 @@ emit_whole-returns t c =
     let plan = c.args.plan.now in
     on_ok_weaker c.emit_parts.result
     (λ e. whole-made plan c.requires.formed c.args.room c.args.levels c.args.node.now c.args.args.now c.as_slice.result.now (parts.mode_by c.first_given.result) c.args.first c.args.place c.args.lo (c.args.lo + c.args.node.now.width) c.copied-many.result
-    (c.args.place + c.work_steps.result) (c.args.lo + c.args.node.now.width + c.copied-many.result) c.args.draft.now c.add_count.new.draft c.add_copies.new.draft c.emit_parts.new.draft c.as_slice-ports.result.now c.as_slice-ports.ensures c.requires.whole
+    (c.args.place + c.work_steps.result) (c.args.lo + c.args.node.now.width + c.copied-many.result) c.args.draft.now c.add_count.new.draft c.add_copies.new.draft c.emit_parts.new.draft c.as_slice-ports.result.now (c.as_slice-ports.ensures ∙ c.in_ok-listed.ensures) c.requires.whole
     refl c.copied-many.ensures (ap (λ q. c.args.place + q) c.work_steps.ensures) refl c.first_given.ensures (c.as_slice.ensures ∙ c.in_ok-own.ensures) (c.in_ok-add_count.ensures plan) c.in_ok-add_copies.ensures e)
     c.emit_parts.ensures
 

@@ -42,5 +42,5 @@ returns-clause-made c = λ D os t p on begun place same plainly ordered.
     let made = c.in_ok-made.ensures.made D os t p before begun place same plainly order in
     let found : AreResultsFound D u g K c.ports_of.new.literals xs =
     record { filled = λ P S begun has laid. c.in_ok-ports.ensures.filled D P S begun has laid; told = c.in_ok-ports.ensures.told; below = c.in_ok-ports.ensures.below } in
-    subst (λ (rs : List Port). let x : PlanGraph = record { nodes = ns; results = rs; collects = cs; refolded = (out-Graph g).number } in IsGraphAt D u os t (number_of p) (Some x)) (sym (c.in_ok-results.ensures ∙ ap (map port_by) c.as_slice-3.ensures))
+    subst (λ (rs : List Port). let x : PlanGraph = record { nodes = ns; results = rs; collects = cs; refolded = (out-Graph g).number } in IsGraphAt D u os t (number_of p) (Some x)) (sym (c.in_ok-results.ensures ∙ ap (map port_by) (c.as_slice-3.ensures ∙ c.in_ok-listed.ensures)))
     (graph-there D u c.unit-whole.ensures.ready os t p place K facts order c.ports_of.new.literals c.nodes_of.new.marks on begun ns cs xs g same made c.in_ok-made.ensures.below found)
