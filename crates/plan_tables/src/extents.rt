@@ -5,8 +5,8 @@ ghost use Rattle.plan_data.specs.Parts.{count_true, extent_in, for_all_cells, gr
 ghost use Rattle.plan_tables.specs.Above.{ArePartsAbove, roomed};
 
 use crate::sizes::{plus, zeros};
-use gapped::Gapped;
 use flow_value::{NoMemory, Numbers};
+use gapped::Gapped;
 use plan_data::{
     Handled, LoopParts, PlanGraph, PlanNode, Port, Work, collects_in, number_at, refolded_in,
     results_in,
