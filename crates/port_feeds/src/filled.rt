@@ -137,10 +137,10 @@ fn port_at(
 }
 
 /// What fills the ports of the node of a label, or of the boundary of a graph for 0, from port 1 to the
-/// last one that is filled; only those that are filled are kept. The flags are those of the edges of the unit, by the numbers of the graphs.
-/// Literals are put behind the others; more than 32 bits count are want of memory. Takes for each edge
-/// the time of a search among the edges, and for a literal of one among the nodes and one among the
-/// types.
+/// last one that is filled; only those that are filled are kept. The flags are those of the edges of
+/// the unit, by the numbers of the graphs. Literals are put behind the others; more than 32 bits count
+/// are want of memory. Takes for each edge the time of a search among the edges, and for a literal of
+/// one among the nodes and one among the types.
 pub fn ports_of(
     alloc: Global,
     unit: &Sound,
