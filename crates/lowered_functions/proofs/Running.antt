@@ -7,7 +7,7 @@ use Rattle.typed_tree.specs.declared.program.Program.{Program}
 use Rattle.lowering.specs.declared.graph.Lowered.{Lowered}
 use Rattle.lowering.specs.Graphs.{new_graph, new_graphs, size, closed_graphs}
 use Rattle.lowering.specs.Programs.{function_lowered, functions_lowered}
-use Rattle.lowering.specs.TooMany.{most_graphs, most_ports, is_large, graph_ports, graphs_over, member_ports, header_ports, program_over}
+use Rattle.lowering.specs.TooMany.{most_graphs, most_ports, is_large, graph_ports, graphs_over, header_ports, program_over}
 
 -- what is left of a test that names no line
 record IsOpen (b : Bool) (o : Option ℕ) : Type 0 where
@@ -41,10 +41,10 @@ module _ (p : Program) where
   begun number done h n d = record {
     all = ap (λ l. l ++ functions_lowered p) (sym d) ∙ ap (λ q. done ++ from q p.functions) (sym n);
     graphs = 0;
-    ports = member_ports p.types + header_ports p.functions;
+    ports = header_ports p.functions;
     next = n;
     few = omega arith;
-    within = subst (λ q. graphs_over p.functions (from q p.functions) 0 (member_ports p.types + header_ports p.functions) ≡ None) (sym n) h;
+    within = subst (λ q. graphs_over p.functions (from q p.functions) 0 (header_ports p.functions) ≡ None) (sym n) h;
   }
 
   module _ (f : Function) (fs : List Function) (q : ℕ) (done : List Lowered) (h : Going (f ∷ fs) q done) where

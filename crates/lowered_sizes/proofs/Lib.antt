@@ -1,4 +1,3 @@
-mod Typed
 mod Sized
 mod SizedForms
 mod SizedLoops

@@ -28,7 +28,7 @@ use Rattle.lowering.specs.Phrases.{call_lowered}
 use Rattle.lowered_sizes.specs.declared.sizes.Sizes.{Sizes}
 use Rattle.lowered_sizes.specs.Counting.{Sizing, only, valued, joined, beside, behind, a_node, whole}
 use Rattle.lowered_sizes.specs.Forms.{all_sized, defs_sized, body_sized, constant_sized, applied_sized, selector_sized, if_sized, arms_sized, case_sized}
-use Rattle.lowered_sizes.proofs.Typed.{AreTyped, typed-both, typed-into, typed-at, typed-ports, typed-literals}
+use Rattle.lowered_units.proofs.Wired.{AreTyped, typed-both, typed-into, typed-at, typed-ports, typed-literals}
 use Rattle.lowered_sizes.proofs.Sized.{Any, plainly, Gives, resized, only-gives, then-gives, beside-gives, row-gives, no_part, a_part, whole-sized, tag-sized, AllGive, gives_none, gives_more, new-sized}
 
 module _ (forms : List Form) (names : List (List ℕ)) where
@@ -247,7 +247,7 @@ module _ (forms : List Form) (names : List (List ℕ)) where
           let w = wire (Port 0 0 1) (One (content_of forms type (first_tag c arm))) in
           let both = length-append (map into env) (w ∷ []) in
           let same = length-map env into in
-          of-any tys (all_sized z (n + 1)) (all_lowered g (map into env ++ w ∷ [])) (all-to (γ ++ b ∷ []) z g tys h (map into env ++ w ∷ []) (typed-both forms names (map into env) (w ∷ []) γ (b ∷ []) (typed-into forms names env γ a) (content, tt)) (n + 1) (omega (arith, both, same, e)))
+          of-any tys (all_sized z (n + 1)) (all_lowered g (map into env ++ w ∷ [])) (all-to (γ ++ b ∷ []) z g tys h (map into env ++ w ∷ []) (typed-both forms names (map into env) (w ∷ []) γ (b ∷ []) (typed-into forms names env γ a) ((content, tt), tt)) (n + 1) (omega (arith, both, same, e)))
       by false k =
           let l = ltb-false arm c.named k in
           let all = count (omega arith) in

@@ -32,7 +32,7 @@ use Rattle.lowering.specs.Loops.{own_inputs, many, single, types, take_up, with_
 use Rattle.lowered_sizes.specs.declared.sizes.Sizes.{Sizes}
 use Rattle.lowered_sizes.specs.Counting.{Sizing, only, valued, joined, beside, a_node}
 use Rattle.lowered_sizes.specs.Forms.{all_sized, defs_sized, body_sized, not_sized, clauses_sized, fold_sized, returns_sized, generators_sized, first_array, is_limited, product_sized, SizedPhrase, extra_sized, extras_sized, test_sized, initial_sized}
-use Rattle.lowered_sizes.proofs.Typed.{IsTyped, AreTyped, typed-length, typed-both, typed-into, typed-drop, typed-take, typed-ports, typed-renew, same-array, array-elements, stream-elements}
+use Rattle.lowered_units.proofs.Wired.{IsTyped, AreTyped, AreMultiples, multiples-both, ones-typed, own-typed, first-typed, the-number, typed-length, typed-both, typed-into, typed-drop, typed-take, typed-ports, typed-renew, same-array, array-elements, stream-elements}
 use Rattle.lowered_sizes.proofs.Sized.{Any, plainly, Gives, resized, only-gives, then-gives, beside-gives, row-gives, no_part, a_part, whole-sized}
 use Rattle.lowered_sizes.proofs.SizedForms.{Of, To, EachTo, each_none, each_more, DefsTo}
 use Rattle.lowered_sizes.proofs.SizedForms as forms_are
@@ -115,93 +115,53 @@ module _ (forms : List Form) (names : List (List ℕ)) where
 
   -- ---- generators
 
-  -- multiples of these types
-  abbrev IsMultiple : Carried → Ty → Type 0
-  IsMultiple (Many n) t = IsNumber forms names n t
-  IsMultiple (One n) t = ⊥
-  IsMultiple (Callee f) t = ⊥
-
-  abbrev AreMultiples : List Ty → List Wire → Type 0
-  AreMultiples [] [] = Unit {0}
-  AreMultiples (t ∷ ts) (w ∷ ws) = IsMultiple w.ty t × AreMultiples ts ws
-  AreMultiples [] (w ∷ ws) = ⊥
-  AreMultiples (t ∷ ts) [] = ⊥
-
-  multiples-both : (ts us : List Ty) (vs ws : List Wire) → AreMultiples ts vs → AreMultiples us ws → AreMultiples (ts ++ us) (vs ++ ws)
-  multiples-both [] us [] ws a b = b
-  multiples-both [] us (v ∷ vs) ws a b = absurd a
-  multiples-both (t ∷ ts) us [] ws a b = absurd a
-  multiples-both (t ∷ ts) us (v ∷ vs) ws a b = (a.0, multiples-both ts us vs ws a.1 b)
-
-  -- one of each
-  one-of : (c : Carried) (t : Ty) → IsMultiple c t → IsTyped forms names (single c) t
-  one-of (Many n) t h = h
-  one-of (One n) t h = absurd h
-  one-of (Callee f) t h = absurd h
-
-  ones-typed : (ts : List Ty) (ws : List Wire) → AreMultiples ts ws → (n port : ℕ) → AreTyped forms names (ports n port (map single (types ws))) ts
-  ones-typed [] [] h n port = tt
-  ones-typed [] (w ∷ ws) h n port = absurd h
-  ones-typed (t ∷ ts) [] h n port = absurd h
-  ones-typed (t ∷ ts) (w ∷ ws) h n port = (one-of w.ty t h.0, ones-typed ts ws h.1 n (suc port))
-
-  -- what the first bound of an array or a stream carries
-  pub first-typed : (ws : List Wire) (t : Ty) → AreTyped forms names ws (t ∷ []) → IsTyped forms names (wire_at ws 0).ty t
-  first-typed [] t h = absurd h
-  first-typed (w ∷ ws) t h = h.0
-
-  pub the-number : (c : Carried) (t : Ty) → IsTyped forms names c t → IsNumber forms names (type_of c) t
-  the-number (One n) t h = h
-  the-number (Many n) t h = absurd h
-  the-number (Callee f) t h = absurd h
-
   scatter-gives : (ws : List Wire) (t : Ty) → length ws ≡ 1 → IsNumber forms names (element_of forms (type_of (wire_at ws 0).ty)) t → IsNumber forms names integer ty.Int
-      → Gives (AreMultiples (t ∷ ty.Int ∷ [])) (a_node 1 2) (a_lowered_node (Row simple.AScatter) ws 1 (elements_in forms ws ∷ Many integer ∷ []))
+      → Gives (AreMultiples forms names (t ∷ ty.Int ∷ [])) (a_node 1 2) (a_lowered_node (Row simple.AScatter) ws 1 (elements_in forms ws ∷ Many integer ∷ []))
   scatter-gives ws t e h i =
-      resized (AreMultiples (t ∷ ty.Int ∷ [])) (a_node (length ws) 2) (a_node 1 2) (a_lowered_node (Row simple.AScatter) ws 1 (elements_in forms ws ∷ Many integer ∷ []))
+      resized (AreMultiples forms names (t ∷ ty.Int ∷ [])) (a_node (length ws) 2) (a_node 1 2) (a_lowered_node (Row simple.AScatter) ws 1 (elements_in forms ws ∷ Many integer ∷ []))
       (record { nodes = refl; graphs = refl; largest = refl; ports = ap suc e; values = refl })
-      (row-gives (AreMultiples (t ∷ ty.Int ∷ [])) (Row simple.AScatter) ws 1 (elements_in forms ws ∷ Many integer ∷ []) refl (λ n. (h, (i, tt))))
+      (row-gives (AreMultiples forms names (t ∷ ty.Int ∷ [])) (Row simple.AScatter) ws 1 (elements_in forms ws ∷ Many integer ∷ []) refl (λ n. (h, (i, tt))))
 
-  elements-give : (ws : List Wire) (t : Ty) → length ws ≡ 1 → IsNumber forms names (element_of forms (type_of (wire_at ws 0).ty)) t → IsNumber forms names integer ty.Int → Gives (AreMultiples (t ∷ [])) (a_node 1 1) (generator_lowered forms source.Elements ws)
+  elements-give : (ws : List Wire) (t : Ty) → length ws ≡ 1 → IsNumber forms names (element_of forms (type_of (wire_at ws 0).ty)) t → IsNumber forms names integer ty.Int → Gives (AreMultiples forms names (t ∷ [])) (a_node 1 1) (generator_lowered forms source.Elements ws)
   elements-give ws t e h i =
-      resized (AreMultiples (t ∷ [])) (joined (a_node 1 2) (only 1)) (a_node 1 1) (generator_lowered forms source.Elements ws)
+      resized (AreMultiples forms names (t ∷ [])) (joined (a_node 1 2) (only 1)) (a_node 1 1) (generator_lowered forms source.Elements ws)
       (record { nodes = refl; graphs = refl; largest = refl; ports = refl; values = refl })
-      (then-gives (AreMultiples (t ∷ ty.Int ∷ [])) (AreMultiples (t ∷ [])) (a_node 1 2) (only 1) (a_lowered_node (Row simple.AScatter) ws 1 (elements_in forms ws ∷ Many integer ∷ [])) (λ os. only_wires (take_up 1 os)) (scatter-gives ws t e h i)
+      (then-gives (AreMultiples forms names (t ∷ ty.Int ∷ [])) (AreMultiples forms names (t ∷ [])) (a_node 1 2) (only 1) (a_lowered_node (Row simple.AScatter) ws 1 (elements_in forms ws ∷ Many integer ∷ [])) (λ os. only_wires (take_up 1 os)) (scatter-gives ws t e h i)
       (λ os to lo.
-      resized (AreMultiples (t ∷ [])) (only (length (take_up 1 os))) (only 1) (only_wires (take_up 1 os)) (record { nodes = refl; graphs = refl; largest = refl; ports = refl; values = taken 1 os (omega (arith, lo)) })
-      (only-gives (AreMultiples (t ∷ [])) (take_up 1 os) (first os to))))
+      resized (AreMultiples forms names (t ∷ [])) (only (length (take_up 1 os))) (only 1) (only_wires (take_up 1 os)) (record { nodes = refl; graphs = refl; largest = refl; ports = refl; values = taken 1 os (omega (arith, lo)) })
+      (only-gives (AreMultiples forms names (t ∷ [])) (take_up 1 os) (first os to))))
     where
-      first : (os : List Wire) → AreMultiples (t ∷ ty.Int ∷ []) os → AreMultiples (t ∷ []) (take_up 1 os)
+      first : (os : List Wire) → AreMultiples forms names (t ∷ ty.Int ∷ []) os → AreMultiples forms names (t ∷ []) (take_up 1 os)
       first [] h = absurd h
       first (o ∷ os) h = (h.0, tt)
 
-  generators-give : (ss : List Source) (tys xs : List Ty) → Goes ss tys xs → IsNumber forms names integer ty.Int → (ws : List Wire) → AreTyped forms names ws tys → Gives (AreMultiples xs) (generators_sized ss) (generators_lowered forms ss ws)
-  generators-give _ _ _ is.no_source i ws h = only-gives (AreMultiples []) [] tt
+  generators-give : (ss : List Source) (tys xs : List Ty) → Goes ss tys xs → IsNumber forms names integer ty.Int → (ws : List Wire) → AreTyped forms names ws tys → Gives (AreMultiples forms names xs) (generators_sized ss) (generators_lowered forms ss ws)
+  generators-give _ _ _ is.no_source i ws h = only-gives (AreMultiples forms names []) [] tt
   generators-give _ _ _ (is.over_range {ss = ss} {bounds = bounds} {names = xs} r) i ws h =
-      beside-gives (AreMultiples (ty.Int ∷ [])) (AreMultiples xs) (AreMultiples (ty.Int ∷ xs)) (a_node 2 1) (generators_sized ss) (a_lowered_node (Row simple.RangeGenerate) (take_up 2 ws) 1 (Many integer ∷ [])) (generators_lowered forms ss (drop 2 ws)) (λ vs us tv tu. multiples-both (ty.Int ∷ []) xs vs us tv tu)
-      (resized (AreMultiples (ty.Int ∷ [])) (a_node (length (take_up 2 ws)) 1) (a_node 2 1) (a_lowered_node (Row simple.RangeGenerate) (take_up 2 ws) 1 (Many integer ∷ []))
+      beside-gives (AreMultiples forms names (ty.Int ∷ [])) (AreMultiples forms names xs) (AreMultiples forms names (ty.Int ∷ xs)) (a_node 2 1) (generators_sized ss) (a_lowered_node (Row simple.RangeGenerate) (take_up 2 ws) 1 (Many integer ∷ [])) (generators_lowered forms ss (drop 2 ws)) (λ vs us tv tu. multiples-both forms names (ty.Int ∷ []) xs vs us tv tu)
+      (resized (AreMultiples forms names (ty.Int ∷ [])) (a_node (length (take_up 2 ws)) 1) (a_node 2 1) (a_lowered_node (Row simple.RangeGenerate) (take_up 2 ws) 1 (Many integer ∷ []))
       (record { nodes = refl; graphs = refl; largest = refl; ports = ap suc (taken 2 ws (let l = typed-length forms names ws (ty.Int ∷ ty.Int ∷ bounds) h in omega (arith, l))); values = refl })
-      (row-gives (AreMultiples (ty.Int ∷ [])) (Row simple.RangeGenerate) (take_up 2 ws) 1 (Many integer ∷ []) refl (λ n. (i, tt))))
+      (row-gives (AreMultiples forms names (ty.Int ∷ [])) (Row simple.RangeGenerate) (take_up 2 ws) 1 (Many integer ∷ []) refl (λ n. (i, tt))))
       (generators-give ss bounds xs r i (drop 2 ws) (typed-drop forms names (ty.Int ∷ ty.Int ∷ []) bounds ws 2 refl h))
   generators-give _ _ _ (is.over_array {ss = ss} {bounds = bounds} {names = xs} a r) i ws h =
       let first = typed-take forms names (ty.Arr a ∷ []) bounds ws 1 refl h in
-      beside-gives (AreMultiples (a ∷ [])) (AreMultiples xs) (AreMultiples (a ∷ xs)) (a_node 1 1) (generators_sized ss) (generator_lowered forms source.Elements (take_up 1 ws)) (generators_lowered forms ss (drop 1 ws)) (λ vs us tv tu. multiples-both (a ∷ []) xs vs us tv tu)
-      (elements-give (take_up 1 ws) a (typed-length forms names (take_up 1 ws) (ty.Arr a ∷ []) first) (array-elements forms names (type_of (wire_at (take_up 1 ws) 0).ty) a (the-number (wire_at (take_up 1 ws) 0).ty (ty.Arr a) (first-typed (take_up 1 ws) (ty.Arr a) first))) i)
+      beside-gives (AreMultiples forms names (a ∷ [])) (AreMultiples forms names xs) (AreMultiples forms names (a ∷ xs)) (a_node 1 1) (generators_sized ss) (generator_lowered forms source.Elements (take_up 1 ws)) (generators_lowered forms ss (drop 1 ws)) (λ vs us tv tu. multiples-both forms names (a ∷ []) xs vs us tv tu)
+      (elements-give (take_up 1 ws) a (typed-length forms names (take_up 1 ws) (ty.Arr a ∷ []) first) (array-elements forms names (type_of (wire_at (take_up 1 ws) 0).ty) a (the-number forms names (wire_at (take_up 1 ws) 0).ty (ty.Arr a) (first-typed forms names (take_up 1 ws) (ty.Arr a) first))) i)
       (generators-give ss bounds xs r i (drop 1 ws) (typed-drop forms names (ty.Arr a ∷ []) bounds ws 1 refl h))
   generators-give _ _ _ (is.over_stream {ss = ss} {bounds = bounds} {names = xs} a r) i ws h =
       let first = typed-take forms names (ty.Stream a ∷ []) bounds ws 1 refl h in
-      beside-gives (AreMultiples (a ∷ [])) (AreMultiples xs) (AreMultiples (a ∷ xs)) (a_node 1 1) (generators_sized ss) (generator_lowered forms source.Elements (take_up 1 ws)) (generators_lowered forms ss (drop 1 ws)) (λ vs us tv tu. multiples-both (a ∷ []) xs vs us tv tu)
-      (elements-give (take_up 1 ws) a (typed-length forms names (take_up 1 ws) (ty.Stream a ∷ []) first) (stream-elements forms names (type_of (wire_at (take_up 1 ws) 0).ty) a (the-number (wire_at (take_up 1 ws) 0).ty (ty.Stream a) (first-typed (take_up 1 ws) (ty.Stream a) first))) i)
+      beside-gives (AreMultiples forms names (a ∷ [])) (AreMultiples forms names xs) (AreMultiples forms names (a ∷ xs)) (a_node 1 1) (generators_sized ss) (generator_lowered forms source.Elements (take_up 1 ws)) (generators_lowered forms ss (drop 1 ws)) (λ vs us tv tu. multiples-both forms names (a ∷ []) xs vs us tv tu)
+      (elements-give (take_up 1 ws) a (typed-length forms names (take_up 1 ws) (ty.Stream a ∷ []) first) (stream-elements forms names (type_of (wire_at (take_up 1 ws) 0).ty) a (the-number forms names (wire_at (take_up 1 ws) 0).ty (ty.Stream a) (first-typed forms names (take_up 1 ws) (ty.Stream a) first))) i)
       (generators-give ss bounds xs r i (drop 1 ws) (typed-drop forms names (ty.Stream a ∷ []) bounds ws 1 refl h))
   generators-give _ _ _ (is.over_array_at {ss = ss} {bounds = bounds} {names = xs} a r) i ws h =
       let first = typed-take forms names (ty.Arr a ∷ []) bounds ws 1 refl h in
-      beside-gives (AreMultiples (a ∷ ty.Int ∷ [])) (AreMultiples xs) (AreMultiples (a ∷ ty.Int ∷ xs)) (a_node 1 2) (generators_sized ss) (generator_lowered forms source.Indexed (take_up 1 ws)) (generators_lowered forms ss (drop 1 ws)) (λ vs us tv tu. multiples-both (a ∷ ty.Int ∷ []) xs vs us tv tu)
-      (scatter-gives (take_up 1 ws) a (typed-length forms names (take_up 1 ws) (ty.Arr a ∷ []) first) (array-elements forms names (type_of (wire_at (take_up 1 ws) 0).ty) a (the-number (wire_at (take_up 1 ws) 0).ty (ty.Arr a) (first-typed (take_up 1 ws) (ty.Arr a) first))) i)
+      beside-gives (AreMultiples forms names (a ∷ ty.Int ∷ [])) (AreMultiples forms names xs) (AreMultiples forms names (a ∷ ty.Int ∷ xs)) (a_node 1 2) (generators_sized ss) (generator_lowered forms source.Indexed (take_up 1 ws)) (generators_lowered forms ss (drop 1 ws)) (λ vs us tv tu. multiples-both forms names (a ∷ ty.Int ∷ []) xs vs us tv tu)
+      (scatter-gives (take_up 1 ws) a (typed-length forms names (take_up 1 ws) (ty.Arr a ∷ []) first) (array-elements forms names (type_of (wire_at (take_up 1 ws) 0).ty) a (the-number forms names (wire_at (take_up 1 ws) 0).ty (ty.Arr a) (first-typed forms names (take_up 1 ws) (ty.Arr a) first))) i)
       (generators-give ss bounds xs r i (drop 1 ws) (typed-drop forms names (ty.Arr a ∷ []) bounds ws 1 refl h))
   generators-give _ _ _ (is.over_stream_at {ss = ss} {bounds = bounds} {names = xs} a r) i ws h =
       let first = typed-take forms names (ty.Stream a ∷ []) bounds ws 1 refl h in
-      beside-gives (AreMultiples (a ∷ ty.Int ∷ [])) (AreMultiples xs) (AreMultiples (a ∷ ty.Int ∷ xs)) (a_node 1 2) (generators_sized ss) (generator_lowered forms source.Indexed (take_up 1 ws)) (generators_lowered forms ss (drop 1 ws)) (λ vs us tv tu. multiples-both (a ∷ ty.Int ∷ []) xs vs us tv tu)
-      (scatter-gives (take_up 1 ws) a (typed-length forms names (take_up 1 ws) (ty.Stream a ∷ []) first) (stream-elements forms names (type_of (wire_at (take_up 1 ws) 0).ty) a (the-number (wire_at (take_up 1 ws) 0).ty (ty.Stream a) (first-typed (take_up 1 ws) (ty.Stream a) first))) i)
+      beside-gives (AreMultiples forms names (a ∷ ty.Int ∷ [])) (AreMultiples forms names xs) (AreMultiples forms names (a ∷ ty.Int ∷ xs)) (a_node 1 2) (generators_sized ss) (generator_lowered forms source.Indexed (take_up 1 ws)) (generators_lowered forms ss (drop 1 ws)) (λ vs us tv tu. multiples-both forms names (a ∷ ty.Int ∷ []) xs vs us tv tu)
+      (scatter-gives (take_up 1 ws) a (typed-length forms names (take_up 1 ws) (ty.Stream a ∷ []) first) (stream-elements forms names (type_of (wire_at (take_up 1 ws) 0).ty) a (the-number forms names (wire_at (take_up 1 ws) 0).ty (ty.Stream a) (first-typed forms names (take_up 1 ws) (ty.Stream a) first))) i)
       (generators-give ss bounds xs r i (drop 1 ws) (typed-drop forms names (ty.Stream a ∷ []) bounds ws 1 refl h))
 
   -- ---- the lower bound
@@ -209,7 +169,7 @@ module _ (forms : List Form) (names : List (List ℕ)) where
   limited-by : (ns : List ℕ) (tys : List Ty) (ws : List Wire) (t : Ty) → AreNumbers forms names ns (t ∷ tys) → AreTyped forms names ws (t ∷ tys) → is_array forms (type_of (wire_at ws 0).ty) ≡ first_array forms ns
   limited-by [] tys ws t h k = absurd h
   limited-by (n ∷ ns) tys [] t h k = absurd k
-  limited-by (n ∷ ns) tys (w ∷ ws) t h k = same-array forms names (type_of w.ty) n t (the-number w.ty t k.0) h.0
+  limited-by (n ∷ ns) tys (w ∷ ws) t h k = same-array forms names (type_of w.ty) n t (the-number forms names w.ty t k.0.0) h.0
 
   limited-at : (b : Bool) (w : Wire) → is_limit (if b then Limit w else Wired one) ≡ b
   limited-at true w = refl
@@ -238,7 +198,7 @@ module _ (forms : List Form) (names : List (List ℕ)) where
       let gs_ = generators_sized p.sources in
       let gh = generators-give p.sources tys xs goes i outer outer_typed 0 (suc q) in
       let seen = map into env ++ own_inputs 1 (map single (types g.values)) in
-      let seen_typed = typed-both forms names (map into env) (own_inputs 1 (map single (types g.values))) γ xs (typed-into forms names env γ a) (ones-typed xs g.values gh.known 0 1) in
+      let seen_typed = typed-both forms names (map into env) (own_inputs 1 (map single (types g.values))) γ xs (typed-into forms names env γ a) (ones-typed forms names xs g.values gh.known 0 1) in
       let seen_count : length seen ≡ n + gs_.values =
       let both = length-append (map into env) (own_inputs 1 (map single (types g.values))) in
       let own = length-own 1 (map single (types g.values)) in
@@ -262,18 +222,12 @@ module _ (forms : List Form) (names : List (List ℕ)) where
       let rh = subst (λ t. Gives Any (returns_sized t p.clauses (bz (n + gs_.values)).values (length ns)) (returns_lowered bound p.clauses own ns)) (limited-is p.sources tys xs goes bs nb outer outer_typed)
       (returns-give bound p.clauses own (bz (n + gs_.values)).values ns own_count) 0 (suc (q + size g + size b)) in
       whole-sized (Of forms names made) k q compound.ForAll (gs_ ∷ bz (n + gs_.values) ∷ rz ∷ []) (g ∷ b ∷ r ∷ []) (0 ∷ 1 ∷ 2 ∷ []) (length b.values) ns
-      (a_part gs_ (bz (n + gs_.values) ∷ rz ∷ []) g (b ∷ r ∷ []) (plainly (AreMultiples xs) gs_ g gh)
+      (a_part gs_ (bz (n + gs_.values) ∷ rz ∷ []) g (b ∷ r ∷ []) (plainly (AreMultiples forms names xs) gs_ g gh)
       (a_part (bz (n + gs_.values)) (rz ∷ []) b (r ∷ []) bh
       (a_part rz [] r [] rh no_part)))
       (typed-ports forms names ns made num (suc k) 1)
 
   -- ---- `for initial`
-
-  own-typed : (ts : List Ty) (ws : List Wire) → AreTyped forms names ws ts → (n port : ℕ) → AreTyped forms names (ports n port (types ws)) ts
-  own-typed [] [] h n port = tt
-  own-typed [] (w ∷ ws) h n port = absurd h
-  own-typed (t ∷ ts) [] h n port = absurd h
-  own-typed (t ∷ ts) (w ∷ ws) h n port = (h.0, own-typed ts ws h.1 n (suc port))
 
   extra-to : (γ : List Ty) (o : Option ℕ) (z : Sizing) (zs : List Sizing) (g : Lowers) (gs : List Lowers) → Becomes γ z g → EachTo forms names γ zs gs → EachTo forms names γ (extra_sized o z ++ zs) (extra o g ++ gs)
   extra-to γ None z zs g gs h r = each_more γ z zs g gs h r
@@ -359,7 +313,7 @@ module _ (forms : List Form) (names : List (List ℕ)) where
       let row = all_sized ez inside in
       let tys = types loop_wires in
       let seen = inner ++ own_inputs 1 tys in
-      let seen_typed = typed-both forms names inner (own_inputs 1 tys) γ loop inner_typed (own-typed loop loop_wires loop_typed 0 1) in
+      let seen_typed = typed-both forms names inner (own_inputs 1 tys) γ loop inner_typed (own-typed forms names loop loop_wires loop_typed 0 1) in
       let seen_count : length seen ≡ inside =
       let both = length-append inner (own_inputs 1 tys) in
       let own = length-own 1 tys in

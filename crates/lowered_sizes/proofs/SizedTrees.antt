@@ -29,18 +29,18 @@ use Rattle.lowering.specs.Choices.{type_of, applied, case_lowered}
 use Rattle.lowering.specs.Loops.{Phrase, own_inputs, product_lowered}
 use Rattle.lowering.specs.Phrases.{Kind, each as each_lowered, expr_lowered, kind_lowered, phrase, phrase_kind, lowers}
 use Rattle.lowering.specs.Programs.{stub, bodies, function_lowered}
-use Rattle.lowering.specs.TooMany.{most_nodes, most_graphs, most_ports, is_large, graph_ports, member_ports, header_ports, graphs_over, program_over}
+use Rattle.lowering.specs.TooMany.{most_nodes, most_graphs, most_ports, is_large, graph_ports, header_ports, graphs_over, program_over}
 use Rattle.lowered_units.specs.Fitting.{IsFitting}
 use Rattle.lowered_units.proofs.Kept.{inner-is}
 use Rattle.lowered_units.proofs.Programs.{has-basics}
 use Rattle.lowered_sizes.specs.Counting.{Sizing}
 use Rattle.lowered_sizes.specs.Forms.{all_sized, applied_sized, case_sized, product_sized, SizedPhrase, SizedKind, each, types_of, expr_sized, kind_sized, phrase_sized, kind_sizes, sizes}
 use Rattle.lowered_sizes.specs.Programs.{stub_sized, bodies_sized, function_sized, sizes_over, program_sized}
-use Rattle.lowered_sizes.proofs.Typed.{typed-ports, content-typed}
+use Rattle.lowered_units.proofs.Wired.{first-typed, the-number, typed-ports, content-typed}
 use Rattle.lowered_sizes.proofs.Sized.{Any, then-gives, largest_in, a_part, no_part, closed-parts}
 use Rattle.lowered_sizes.proofs.SizedForms.{Of, To, AllTo, to_none, to_more, EachTo, each_none, each_more, DefsTo, to_no_def, to_def, ArmsTo, no_arm, named_arm, other_arm}
 use Rattle.lowered_sizes.proofs.SizedForms as forms_are
-use Rattle.lowered_sizes.proofs.SizedLoops.{PhrasesTo, no_phrase, a_phrase, first-typed, the-number}
+use Rattle.lowered_sizes.proofs.SizedLoops.{PhrasesTo, no_phrase, a_phrase}
 use Rattle.lowered_sizes.proofs.SizedLoops as loops_are
 
 module _ (forms : List Form) (names : List (List ℕ)) (hs : List Header) (integers : IsNumber forms names integer ty.Int) where
@@ -249,4 +249,4 @@ module _ (forms : List Form) (names : List (List ℕ)) (hs : List Header) (integ
 
 pub program-sizes : (p : Program) → IsFitting p → program_sized p ≡ program_over p
 program-sizes p fit =
-    over-is p.types p.names fit.headers (number.integer (has-basics p.types fit.types).integers) fit.headers p.functions fit.tree.fits 1 0 (member_ports p.types + header_ports p.functions)
+    over-is p.types p.names fit.headers (number.integer (has-basics p.types fit.types).integers) fit.headers p.functions fit.tree.fits 1 0 (header_ports p.functions)

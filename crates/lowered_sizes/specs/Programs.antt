@@ -4,7 +4,7 @@ use Rattle.type_table.specs.declared.form.Form.{Form}
 use Rattle.typed_tree.specs.declared.expr.TypedExpr.{TypedExpr}
 use Rattle.typed_tree.specs.declared.program.Function.{Function}
 use Rattle.typed_tree.specs.declared.program.Program.{Program}
-use Rattle.lowering.specs.TooMany.{most_nodes, most_graphs, most_ports, member_ports, header_ports}
+use Rattle.lowering.specs.TooMany.{most_nodes, most_graphs, most_ports, header_ports}
 use Rattle.lowered_sizes.specs.declared.sizes.Sizes.{Sizes}
 use Rattle.lowered_sizes.specs.Counting.{Sizing, a_node, part}
 use Rattle.lowered_sizes.specs.Forms.{all_sized, sizes}
@@ -31,4 +31,4 @@ module _ (forms : List Form) where
       else sizes_over fs (graphs + s.graphs) (ports + s.ports)
 
 abbrev pub program_sized : Program → Option ℕ
-program_sized p = sizes_over p.types p.functions 0 (member_ports p.types + header_ports p.functions)
+program_sized p = sizes_over p.types p.functions 0 (header_ports p.functions)

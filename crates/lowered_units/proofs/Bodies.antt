@@ -16,7 +16,7 @@ use Rattle.lowering.specs.declared.graph.LoweredNode.{LoweredNode}
 use Rattle.lowering.specs.declared.graph.LoweredGraph.{LoweredGraph}
 use Rattle.lowering.specs.Graphs.{graph_lines}
 use Rattle.lowering.specs.Programs.{function_lowered, functions_lowered, graphs, graph_at}
-use Rattle.lowering.specs.TooMany.{most_nodes, most_graphs, types_over, program_over, too_many, member_ports, header_ports}
+use Rattle.lowering.specs.TooMany.{most_nodes, most_graphs, types_over, program_over, too_many, header_ports}
 use Rattle.lowering.specs.Types.{basics, needs}
 use Rattle.lowered_units.specs.Fitting.{HaveMembers, IsFitting}
 use Rattle.lowered_units.specs.Listed.{all_of}
@@ -121,7 +121,7 @@ module _ (p : Program) (u : Unit1) (fit : IsFitting p) (members : HaveMembers p.
   not-over = or-right (types_over (needs p) basics) (program_over p) within
 
   abbrev headers : ℕ
-  headers = member_ports p.types + header_ports p.functions
+  headers = header_ports p.functions
 
   few : AreFew (graphs p)
   few = few-graphs p.functions (functions_lowered p) 0 headers as-many not-over

@@ -10,15 +10,16 @@ use Rattle.lowering.specs.declared.feed.Feed.TheVariants.{Literal, Named, Absent
 use Rattle.lowering.specs.declared.feed.Carried.{Carried}
 use Rattle.lowering.specs.declared.feed.Carried.TheVariants.{One}
 use Rattle.lowering.specs.declared.feed.Wire.{Wire}
-use Rattle.lowering.specs.Feeds.{is_port, outside, outsides, has, with_new, distinct, place}
+use Rattle.lowering.specs.Feeds.{carried, is_port, outside, outsides, has, with_new, distinct, place}
 use Rattle.lowering.specs.declared.graph.Action.{Action}
 use Rattle.lowering.specs.declared.graph.Action.TheVariants.{Row, Call, Whole}
 use Rattle.lowering.specs.declared.graph.LoweredNode.{LoweredNode}
 use Rattle.lowering.specs.declared.graph.LoweredGraph.{LoweredGraph}
 use Rattle.lowering.specs.declared.graph.Lowered.{Lowered}
-use Rattle.lowering.specs.Graphs.{Lowering, only, joined, andthen, ports, a_node, used_by, used, uses, resolved, closed_wire, closed_wires, closed_nodes, closed_graphs, all_uses, inputs, numbers, size, whole, tag_case_on, new_graph, new_graphs}
+use Rattle.lowering.specs.Graphs.{Lowering, only, joined, andthen, ports, a_node, used_by, used, uses, resolved, closed_wire, closed_wires, closed_nodes, closed_graphs, all_uses, inputs, numbers, size, whole, tag_case_on, new_graph, new_graphs, graph_lines}
 use Rattle.lowering.specs.TooMany.{node_ports, all_node_ports, graph_ports}
 use Rattle.lowered_units.specs.Small.{IsSmallFeed, AreSmall, IsSmallGraph}
+use Rattle.lowered_units.proofs.Members.{EachLine, left-lines, right-lines}
 
 -- ---- counts
 
@@ -133,7 +134,7 @@ place-within (k ∷ ks) f = by (is_port k.feed f) (place-within ks f)
     by true h = omega arith
     by false h = omega (arith, h)
 
-module _ (most : ℕ) where
+module _ (most : ℕ) (Few : Carried → Type 0) where
   -- ---- ports and labels that are no more
 
   abbrev pub IsBelow : Feed → Type 0
@@ -158,9 +159,13 @@ module _ (most : ℕ) where
     pub graphs_small : AreSmallGraphs m.graphs
     pub values_below : AreBelow m.values
 
-  -- where there are so few ports
+  -- what lines carry is of types of few members
+  abbrev pub AreFew : List Carried → Type 0
+  AreFew cs = EachLine Few cs
+
+  -- where there are so few ports, and lines carry such types
   abbrev pub Keeps : Lowering → Type 0
-  Keeps f = (n q : ℕ) → n + weight (f n q) ≤ most → Kept (f n q)
+  Keeps f = (n q : ℕ) → n + weight (f n q) ≤ most → AreFew (f n q).lines → Kept (f n q)
 
   abbrev pub AllKept : List Lowered → Type 0
   AllKept [] = Unit {0}
@@ -188,7 +193,7 @@ module _ (most : ℕ) where
     ports-below n port (t ∷ ts) h k = ((h, omega (arith, k)), ports-below n (suc port) ts h (omega (arith, k)))
 
     pub only-keeps : (ws : List Wire) → AreBelow ws → Keeps (only ws)
-    only-keeps ws h n q e = record { used_few = omega arith; nodes_below = tt; graphs_small = tt; values_below = h }
+    only-keeps ws h n q e l = record { used_few = omega arith; nodes_below = tt; graphs_small = tt; values_below = h }
 
     joined-kept : (a b : Lowered) → Kept a → Kept b → Kept (joined a b)
     joined-kept a b x y = record {
@@ -201,14 +206,18 @@ module _ (most : ℕ) where
       values_below = y.values_below;
     }
 
-    pub then-keeps : (f : Lowering) (h : List Wire → Lowering) → Keeps f → ((ws : List Wire) → AreBelow ws → Keeps (h ws)) → Keeps (andthen f h)
-    then-keeps f h a b n q e =
+    -- and what is known of the first one's values
+    pub then-knows : (P : List Wire → Type 0) (f : Lowering) (h : List Wire → Lowering) → Keeps f → ((n q : ℕ) → P (f n q).values) → ((ws : List Wire) → P ws → AreBelow ws → Keeps (h ws)) → Keeps (andthen f h)
+    then-knows P f h a k b n q e l =
         let m = f n q in
-        let k = h m.values (n + length m.nodes) (q + length m.graphs) in
-        let both = weight-joined m k in
+        let r = h m.values (n + length m.nodes) (q + length m.graphs) in
+        let both = weight-joined m r in
         let few = nodes-count m.nodes in
-        let x = a n q (omega (arith, e, both)) in
-        joined-kept m k x (b m.values x.values_below (n + length m.nodes) (q + length m.graphs) (omega (arith, e, both, few)))
+        let x = a n q (omega (arith, e, both)) (left-lines Few m.lines r.lines l) in
+        joined-kept m r x (b m.values (k n q) x.values_below (n + length m.nodes) (q + length m.graphs) (omega (arith, e, both, few)) (right-lines Few m.lines r.lines l))
+
+    pub then-keeps : (f : Lowering) (h : List Wire → Lowering) → Keeps f → ((ws : List Wire) → AreBelow ws → Keeps (h ws)) → Keeps (andthen f h)
+    then-keeps f h a b = then-knows (λ ws. Unit {0}) f h a (λ n q. tt) (λ ws t. b ws)
 
     -- ---- nodes without graphs inside
 
@@ -226,13 +235,13 @@ module _ (most : ℕ) where
     nil-right xs = length-append xs [] ∙ omega arith
 
     pub node-keeps : (act : Action) (ins : List Wire) (port : ℕ) (ts : List Carried) → IsPlain act → AreBelow ins → port + length ts ≤ suc most → Keeps (a_node act ins port ts)
-    node-keeps act ins port ts h b k n q e =
+    node-keeps act ins port ts h b k n q e l =
         let w = plain-ports act ins h in
         record {
           used_few =
               let u = nil-right (used_by act ins) in
-              let l = used-one act ins in
-              omega (arith, w, u, l);
+              let one = used-one act ins in
+              omega (arith, w, u, one);
           nodes_below = ((omega (arith, e, w), b), tt);
           graphs_small = tt;
           values_below = ports-below (suc n) port ts (omega (arith, e, w)) k;
@@ -370,6 +379,16 @@ module _ (most : ℕ) where
           values_below = outputs-below n ts (omega (arith, few));
         }
 
-    pub new-kept : (q : ℕ) (fs : List Lowering) → AllKeep fs → inner (new_graphs q fs) ≤ most → AllKept (new_graphs q fs)
-    new-kept q [] h few = tt
-    new-kept q (f ∷ fs) h few = (h.0 0 (suc q) (omega (arith, few)), new-kept (q + size (new_graph f q)) fs h.1 (omega (arith, few)))
+    pub graph-few : (m : Lowered) (ms : List Lowered) → AreFew (graph_lines (m ∷ ms)) → AreFew m.lines × AreFew (graph_lines ms)
+    graph-few m ms l = (
+      left-lines Few m.lines (carried m.values) (left-lines Few (m.lines ++ carried m.values) (graph_lines ms) l),
+      right-lines Few (m.lines ++ carried m.values) (graph_lines ms) l,
+    )
+
+    pub new-kept : (q : ℕ) (fs : List Lowering) → AllKeep fs → inner (new_graphs q fs) ≤ most → AreFew (graph_lines (new_graphs q fs)) → AllKept (new_graphs q fs)
+    new-kept q [] h few l = tt
+    new-kept q (f ∷ fs) h few l =
+        let m = new_graph f q in
+        let rest = new_graphs (q + size m) fs in
+        let lines = graph-few m rest l in
+        (h.0 0 (suc q) (omega (arith, few)) lines.0, new-kept (q + size m) fs h.1 (omega (arith, few)) lines.1)

@@ -3,6 +3,8 @@ pub mod Nested
 pub mod NestedForms
 pub mod NestedTrees
 pub mod Counted
+pub mod Wired
+pub mod Members
 pub mod Kept
 pub mod KeptForms
 pub mod KeptTrees

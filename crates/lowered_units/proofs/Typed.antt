@@ -27,6 +27,7 @@ use Rattle.lowered_units.proofs.Built.{AreTypes, AllBuilt, no_graph, a_graph}
 use Rattle.lowered_units.proofs.BuiltTrees.{numbers-types}
 use Rattle.lowered_units.proofs.Canonical.{as_type, entry-is}
 use Rattle.lowered_units.proofs.Lines.{all-lines}
+use Rattle.lowered_units.proofs.Members.{few-entries}
 use Rattle.lowered_units.proofs.Ordered.{rising}
 use Rattle.lowered_units.proofs.Programs.{functions, basics as basic_types, program-built, function-count}
 use Rattle.lowered_units.proofs.Tabled.{IsSound, AreSound, IsWellTable, IsHeaded, AreIn, function-well, lines-well, basics-well}
@@ -87,23 +88,8 @@ module _ (p : Program) (fit : IsFitting p) (members : HaveMembers p.types) where
 
   -- ---- at most so many types
 
-  or-none : (a b : Option ℕ) → or_else a b ≡ None → a ≡ None
-  or-none None b e = refl
-  or-none (Some l) b e = absurd cc
-
-  few-needs : (ns : List Need) (ts : Table) → length ts ≤ most_types → types_over ns ts ≡ None → length (with_needs ns ts) ≤ most_types
-  few-needs [] ts h e = h
-  few-needs (n ∷ ns) ts h e = by (λ k. few-needs ns (n.enters ts) k) (nat_lt most_types (length (n.enters ts))) refl e
-    where
-      by : (length (n.enters ts) ≤ most_types → types_over ns (n.enters ts) ≡ None → length (with_needs ns (n.enters ts)) ≤ most_types) → (b : Bool) → nat_lt most_types (length (n.enters ts)) ≡ b → (if b then Some n.line else types_over ns (n.enters ts)) ≡ None → length (with_needs ns (n.enters ts)) ≤ most_types
-      by rest true k e = absurd cc
-      by rest false k e = rest (at-most k) e
-        where
-          at-most : nat_lt most_types (length (n.enters ts)) ≡ false → length (n.enters ts) ≤ most_types
-          at-most k = ltb-false most_types (length (n.enters ts)) k
-
   pub few-types : too_many p ≡ None → length (table p) ≤ most_types
-  few-types e = few-needs (needs p) basics (omega arith) (or-none (types_over (needs p) basics) (program_over p) e)
+  few-types e = few-entries p e
 
   -- ---- the types of the unit
 

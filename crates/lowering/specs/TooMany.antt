@@ -1,8 +1,6 @@
 -- Which programs have no unit, as its table or its graphs would be too large; the line is that of the function in which this shows.
 use Rattle.std.specs.Prelude.{ℕ, suc, ◌+◌, Bool, ◌||◌, nat_lt, List, [], ◌∷◌, length, Option, Some, None, if◌then◌else◌}
 use Rattle.std.specs.List.{list_any}
-use Rattle.type_table.specs.declared.form.Form.{Form}
-use Rattle.type_table.specs.Forms.{members_of}
 use Rattle.typed_tree.specs.declared.program.Function.{Function}
 use Rattle.typed_tree.specs.declared.program.Program.{Program}
 use Rattle.lowering.specs.declared.feed.Wire.{Wire}
@@ -37,7 +35,7 @@ types_over (n ∷ ns) ts = if nat_lt most_types (length (n.enters ts)) then Some
 abbrev pub is_large : Lowered → Bool
 is_large m = list_any (λ g. nat_lt most_nodes (length g.nodes)) (closed_graphs [] 0 0 (m ∷ []))
 
--- ---- ports, which have numbers
+-- ---- ports, which have numbers; those of fields and tags are no more than the types of a unit, where each is an entry
 
 -- A node counts one, and what fills its ports. Where it has graphs inside, what it gives counts in place of that, since it takes no
 -- more than these use.
@@ -53,11 +51,6 @@ all_node_ports (v ∷ vs) = node_ports v.action v.ins + all_node_ports vs
 abbrev pub graph_ports : List LoweredGraph → ℕ
 graph_ports [] = 0
 graph_ports (d ∷ ds) = all_node_ports d.nodes + length d.results + graph_ports ds
-
--- the fields and tags of types
-abbrev pub member_ports : List Form → ℕ
-member_ports [] = 0
-member_ports (f ∷ fs) = length (members_of f) + member_ports fs
 
 -- the parameters and results of functions
 abbrev pub header_ports : List Function → ℕ
@@ -80,7 +73,7 @@ or_else (Some l) other = Some l
 
 -- the line of the function in which graphs or ports show to be too large or too many
 abbrev pub program_over : Program → Option ℕ
-program_over p = graphs_over p.functions (functions_lowered p) 0 (member_ports p.types + header_ports p.functions)
+program_over p = graphs_over p.functions (functions_lowered p) 0 (header_ports p.functions)
 
 -- types are looked at first
 abbrev pub too_many : Program → Option ℕ

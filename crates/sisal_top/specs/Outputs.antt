@@ -14,6 +14,7 @@ use Rattle.run_words.specs.declared.command.CompileSet.{CompileSet}
 use Rattle.run_words.specs.declared.command.MeanSet.{MeanSet}
 use Rattle.run_words.specs.declared.command.RunSet.{RunSet}
 use Rattle.sisal_tree.specs.declared.unit.Unit as tree
+use Rattle.type_table.specs.Tables.{IsTable}
 use Rattle.typed_tree.specs.declared.program.Program.{Program}
 use Rattle.typed_tree.specs.Faults.{BreaksUnit}
 use Rattle.typed_tree.specs.Units.{IsTyped}
@@ -25,11 +26,13 @@ abbrev pub lines : List Val → List ℕ
 lines [] = []
 lines (v ∷ vs) = value_bytes v ++ 10 ∷ lines vs
 
--- these bytes are a unit that is this program, by the typing rules
+-- These bytes are a unit that is this program, by the typing rules. Its table begins with the basic types, and has each type once,
+-- behind its parts.
 pub record HasProgram (bytes : List ℕ) (program : Program) : Type 0 where
   pub unit : tree.Unit
   pub is : IsUnitOf bytes unit
   pub typed : IsTyped unit program
+  pub types : IsTable program.types
 
 -- these bytes are a unit that breaks a typing rule on a line
 pub record HasTypeFault (bytes : List ℕ) (rule line : ℕ) : Type 0 where

@@ -3,10 +3,9 @@ use Rattle.std.proofs.Common.{◌≡◌, ◌∙◌, ℕ, zero, suc, ◌+◌, ◌
 use Rattle.std.specs.Prelude.{◌||◌, nat_lt, if◌then◌else◌}
 use Rattle.std.proofs.Math.Seq.{drop-cons}
 use Rattle.type_table.specs.declared.form.Form.{Form}
-use Rattle.type_table.specs.Tables.{members_at}
 use Rattle.typed_tree.specs.declared.expr.TypedExpr.{TypedExpr}
 use Rattle.typed_tree.specs.declared.program.Function.{Function}
-use Rattle.lowering.specs.TooMany.{most_nodes, most_graphs, most_ports, member_ports}
+use Rattle.lowering.specs.TooMany.{most_nodes, most_graphs, most_ports}
 use Rattle.lowered_sizes.specs.declared.sizes.Sizes.{Sizes}
 use Rattle.lowered_sizes.specs.Counting.{beside, a_node, capped, capped_sizes}
 use Rattle.lowered_sizes.specs.Forms.{all_sized, sizes}
@@ -43,8 +42,3 @@ over-step forms fs i f g p lt here =
     let s = function_sized forms f in
     let further : suc i ≡ i + 1 = omega arith in
     ap (λ l. sizes_over forms l g p) cons ∙ ap (λ j. line_if (exceeds s g p) f.line (sizes_over forms (drop j fs) (g + s.graphs) (p + s.ports))) further
-
-pub members-step : (fs : List Form) (i : ℕ) → i < length fs → member_ports (drop i fs) ≡ length (members_at fs i) + member_ports (drop (suc i) fs)
-members-step [] i lt = absurd (omega (arith, lt))
-members-step (f ∷ fs) zero lt = refl
-members-step (f ∷ fs) (suc i) lt = members-step fs i (omega (arith, lt))

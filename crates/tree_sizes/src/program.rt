@@ -1,16 +1,15 @@
 //! The function in which the graphs of a program show to be too large or too many.
 ghost use Rattle.std.specs.Prelude.{◌≡◌, ℕ, ◌+◌, ◌||◌, nat_lt, List, length, map};
-ghost use Rattle.type_table.specs.Tables.{members_at};
 ghost use Rattle.lowered_sizes.specs.Forms.{all_sized};
 ghost use Rattle.lowered_sizes.specs.Programs.{function_sized, sizes_over, stub_sized};
 ghost use Rattle.lowered_units.specs.Fitting.{IsFitting};
-ghost use Rattle.lowering.specs.TooMany.{header_ports, member_ports, most_graphs, most_nodes, most_ports, program_over};
+ghost use Rattle.lowering.specs.TooMany.{header_ports, most_graphs, most_nodes, most_ports, program_over};
 ghost use Rattle.tree_sizes.specs.Capped.{Keeps, KeepsSizes};
 
 use crate::sums::{deeper, is_greater, part};
 use crate::walk::exprs;
 use lowered_sizes::{Sizes, sizes_are_exact};
-use type_table::{Types, members_of};
+use type_table::Types;
 use typed_tree::{Function, Program};
 
 /// An error of a type for each of so many results.
@@ -38,29 +37,6 @@ fn sizes_of(types: &Types, function: &Function) -> Sizes
         }
         None => part(stubs(function.results.len())),
     }
-}
-
-/// The fields or tags of the type of a place.
-fn member_count(types: &Types, place: usize) -> u128
-    ensures { Keeps result (length (members_at types.now place)) }
-{
-    match types.form_at(place) {
-        Some(form) => members_of(form).len() as u128,
-        None => 0,
-    }
-}
-
-/// The fields and tags of types.
-fn members(types: &Types) -> u128
-    ensures { Keeps result (member_ports types.now) }
-{
-    let mut sum = 0;
-    let mut at = types.len();
-    while at > 0 {
-        at -= 1;
-        sum = deeper(member_count(types, at), sum);
-    }
-    sum
 }
 
 /// The parameters and results of a function.
@@ -120,6 +96,5 @@ pub fn graphs_over(program: &Program) -> Option<u32>
 {
     sizes_are_exact();
     let functions = program.functions.as_slice();
-    let ports = deeper(members(&program.types), headers(functions));
-    over(&program.types, functions, ports)
+    over(&program.types, functions, headers(functions))
 }

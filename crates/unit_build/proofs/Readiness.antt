@@ -17,7 +17,7 @@ use Rattle.lowering.specs.declared.graph.LoweredGraph.{LoweredGraph}
 use Rattle.lowering.specs.declared.graph.Lowered.{Lowered}
 use Rattle.lowering.specs.Graphs.{size, closed, closed_graphs, graph_lines}
 use Rattle.lowering.specs.Programs.{function_lowered, functions_lowered, graphs}
-use Rattle.lowering.specs.TooMany.{most_graphs, types_over, member_ports, header_ports, program_over, too_many}
+use Rattle.lowering.specs.TooMany.{most_graphs, types_over, header_ports, program_over, too_many}
 use Rattle.lowering.specs.Types.{basics, needs}
 use Rattle.lowered_units.specs.Fitting.{IsFitting}
 use Rattle.lowered_units.specs.Small.{IsSmallFeed, AreSmall, IsSmallGraph}
@@ -107,7 +107,7 @@ module _ (p : Program) where
     not-over = or-right (types_over (needs p) basics) (program_over p) within
 
     abbrev headers : ℕ
-    headers = member_ports p.types + header_ports p.functions
+    headers = header_ports p.functions
 
     few-in-unit : length (graphs p) ≤ most_graphs
     few-in-unit = let e = few-in-all p.functions (functions_lowered p) 0 headers as-many (omega arith) not-over in omega (arith, e)

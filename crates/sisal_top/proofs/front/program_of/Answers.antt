@@ -3,7 +3,12 @@ use Rattle.sisal_top.proofs.Refusing.{checker_cause}
 use Rattle.sisal_top.proofs.front.program_of.Goals as goal
 
 pub returns-clause-program : goal.returns-clause-program
-returns-clause-program c = λ bytes is. record { unit = c.args.unit; is = is; typed = c.in_ok-program.ensures.typed (is_text bytes c.args.unit is) }
+returns-clause-program c = λ bytes is. record {
+  unit = c.args.unit;
+  is = is;
+  typed = c.in_ok-program.ensures.typed (is_text bytes c.args.unit is);
+  types = c.in_ok-program.ensures.types;
+}
 
 pub returns-clause-fits : goal.returns-clause-fits
 returns-clause-fits c = λ bytes is.

@@ -1,5 +1,5 @@
-use Rattle.std.proofs.Common.{◌∙◌, ◌+◌, ap}
-use Rattle.lowering.specs.TooMany.{header_ports, member_ports}
+use Rattle.std.proofs.Common.{◌∙◌, ap}
+use Rattle.lowering.specs.TooMany.{header_ports}
 use Rattle.lowered_sizes.specs.Counting.{capped}
 use Rattle.lowered_sizes.specs.Programs.{sizes_over}
 use Rattle.tree_sizes.proofs.program.graphs_over.Goals as goal
@@ -7,8 +7,7 @@ use Rattle.tree_sizes.proofs.program.graphs_over.Goals as goal
 pub returns : goal.returns
 returns c =
     let p = c.args.program.now in
-    let headers = c.headers.ensures ∙ ap (λ l. capped (header_ports l)) c.as_slice-functions.ensures in
-    let ports = c.deeper-ports.ensures (member_ports p.types) (header_ports p.functions) c.members.ensures headers in
-    c.over.ensures (member_ports p.types + header_ports p.functions) ports
-    ∙ ap (λ l. sizes_over p.types l 0 (member_ports p.types + header_ports p.functions)) c.as_slice-functions.ensures
+    let ports = c.headers.ensures ∙ ap (λ l. capped (header_ports l)) c.as_slice-functions.ensures in
+    c.over.ensures (header_ports p.functions) ports
+    ∙ ap (λ l. sizes_over p.types l 0 (header_ports p.functions)) c.as_slice-functions.ensures
     ∙ c.sizes_are_exact.ensures p c.requires.fits

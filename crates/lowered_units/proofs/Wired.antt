@@ -1,4 +1,4 @@
--- The wires of a fitting tree carry what its types say.
+-- Wires that carry what the types of a fitting tree say, each a literal or a port.
 use Rattle.std.proofs.Common.{◌≡◌, ℕ, zero, suc, ◌+◌, ◌<◌, inl, inr, Bool, true, false, List, [], ◌∷◌, ◌++◌, nat_eq, map, length, drop, slice_get, Contains, Option, Some, None, refl, sym, ap, subst, ◌∙◌, arith}
 use Rattle.std.specs.Prelude.{All, if◌then◌else◌, slice_set}
 use Rattle.std.proofs.lemmas.Bool.{eqb-true, eq-eqb}
@@ -18,16 +18,30 @@ use Rattle.typed_tree.specs.Types.{Member, IsNumber, AreMembers, AreNumbers}
 use Rattle.typed_tree.specs.Types as number
 use Rattle.meaning.specs.Meaning.{arm_place}
 use Rattle.fitting_trees.specs.Fitting.{IsChosen, TagsFit, Renews}
-use Rattle.lowering.specs.declared.feed.Feed.TheVariants.{Literal}
+use Rattle.lowering.specs.declared.feed.Feed.{Feed}
+use Rattle.lowering.specs.declared.feed.Feed.TheVariants.{Literal, Named, Absent, Port}
 use Rattle.lowering.specs.declared.feed.Carried.{Carried}
 use Rattle.lowering.specs.declared.feed.Carried.TheVariants.{One, Many, Callee}
 use Rattle.lowering.specs.declared.feed.Wire.{Wire}
-use Rattle.lowering.specs.Feeds.{wire, into}
+use Rattle.lowering.specs.Feeds.{wire, inside, into}
 use Rattle.lowering.specs.Graphs.{ports}
 use Rattle.lowering.specs.Operations.{wire_at}
-use Rattle.lowering.specs.Choices.{element_in, element_of, is_array, is_array_form, type_in, content_of, tag_named, first_tag}
-use Rattle.lowering.specs.Loops.{take_up, renew, renew_one}
+use Rattle.lowering.specs.Choices.{element_in, element_of, is_array, is_array_form, type_in, content_of, type_of, tag_named, first_tag}
+use Rattle.lowering.specs.Loops.{single, types, take_up, renew, renew_one}
 use Rattle.lowered_units.proofs.BuiltTrees.{out-bool, out-char, out-int, out-null, out-array, out-stream, out-record, out-union}
+
+-- what a line shows: a literal or a port
+abbrev pub IsShown : Feed → Type 0
+IsShown (Literal c) = Unit {0}
+IsShown (Named s) = ⊥
+IsShown Absent = ⊥
+IsShown (Port up n q) = Unit {0}
+
+shown-inside : (f : Feed) → IsShown f → IsShown (inside f)
+shown-inside (Literal c) h = h
+shown-inside (Named s) h = h
+shown-inside Absent h = h
+shown-inside (Port up n q) h = h
 
 module _ (forms : List Form) (names : List (List ℕ)) where
   abbrev pub IsTyped : Carried → Ty → Type 0
@@ -35,9 +49,12 @@ module _ (forms : List Form) (names : List (List ℕ)) where
   IsTyped (Many n) t = ⊥
   IsTyped (Callee f) t = ⊥
 
+  abbrev pub IsWired : Wire → Ty → Type 0
+  IsWired w t = IsTyped w.ty t × IsShown w.feed
+
   abbrev pub AreTyped : List Wire → List Ty → Type 0
   AreTyped [] [] = Unit {0}
-  AreTyped (w ∷ ws) (t ∷ ts) = IsTyped w.ty t × AreTyped ws ts
+  AreTyped (w ∷ ws) (t ∷ ts) = IsWired w t × AreTyped ws ts
   AreTyped [] (t ∷ ts) = ⊥
   AreTyped (w ∷ ws) [] = ⊥
 
@@ -59,13 +76,13 @@ module _ (forms : List Form) (names : List (List ℕ)) where
   typed-into [] [] h = h
   typed-into [] (t ∷ ts) h = absurd h
   typed-into (w ∷ ws) [] h = absurd h
-  typed-into (w ∷ ws) (t ∷ ts) h = (h.0, typed-into ws ts h.1)
+  typed-into (w ∷ ws) (t ∷ ts) h = ((h.0.0, shown-inside w.feed h.0.1), typed-into ws ts h.1)
 
-  pub typed-at : (ws : List Wire) (ts : List Ty) → AreTyped ws ts → (x : ℕ) (a : Ty) → slice_get ts x ≡ Some a → IsTyped (wire_at ws x).ty a
+  pub typed-at : (ws : List Wire) (ts : List Ty) → AreTyped ws ts → (x : ℕ) (a : Ty) → slice_get ts x ≡ Some a → IsWired (wire_at ws x) a
   typed-at [] [] h x a e = absurd cc
   typed-at [] (t ∷ ts) h x a e = absurd h
   typed-at (w ∷ ws) [] h x a e = absurd h
-  typed-at (w ∷ ws) (t ∷ ts) h zero a e = subst (IsTyped w.ty) (same_Some t a e) h.0
+  typed-at (w ∷ ws) (t ∷ ts) h zero a e = subst (IsWired w) (same_Some t a e) h.0
   typed-at (w ∷ ws) (t ∷ ts) h (suc x) a e = typed-at ws ts h.1 x a e
 
   -- behind the first so many
@@ -88,21 +105,70 @@ module _ (forms : List Form) (names : List (List ℕ)) where
   typed-ports [] [] h n port = tt
   typed-ports [] (t ∷ ts) h n port = absurd h
   typed-ports (x ∷ ns) [] h n port = absurd h
-  typed-ports (x ∷ ns) (t ∷ ts) h n port = (h.0, typed-ports ns ts h.1 n (suc port))
+  typed-ports (x ∷ ns) (t ∷ ts) h n port = ((h.0, tt), typed-ports ns ts h.1 n (suc port))
 
   pub typed-literals : (c : Constant) (ns : List ℕ) (ts : List Ty) → AreNumbers forms names ns ts → AreTyped (map (λ t. wire (Literal c) (One t)) ns) ts
   typed-literals c [] [] h = tt
   typed-literals c [] (t ∷ ts) h = absurd h
   typed-literals c (x ∷ ns) [] h = absurd h
-  typed-literals c (x ∷ ns) (t ∷ ts) h = (h.0, typed-literals c ns ts h.1)
+  typed-literals c (x ∷ ns) (t ∷ ts) h = ((h.0, tt), typed-literals c ns ts h.1)
+
+  -- ---- multiples
+
+  -- multiples of these types
+  abbrev pub IsMultiple : Carried → Ty → Type 0
+  IsMultiple (Many n) t = IsNumber forms names n t
+  IsMultiple (One n) t = ⊥
+  IsMultiple (Callee f) t = ⊥
+
+  abbrev pub AreMultiples : List Ty → List Wire → Type 0
+  AreMultiples [] [] = Unit {0}
+  AreMultiples (t ∷ ts) (w ∷ ws) = IsMultiple w.ty t × AreMultiples ts ws
+  AreMultiples [] (w ∷ ws) = ⊥
+  AreMultiples (t ∷ ts) [] = ⊥
+
+  pub multiples-both : (ts us : List Ty) (vs ws : List Wire) → AreMultiples ts vs → AreMultiples us ws → AreMultiples (ts ++ us) (vs ++ ws)
+  multiples-both [] us [] ws a b = b
+  multiples-both [] us (v ∷ vs) ws a b = absurd a
+  multiples-both (t ∷ ts) us [] ws a b = absurd a
+  multiples-both (t ∷ ts) us (v ∷ vs) ws a b = (a.0, multiples-both ts us vs ws a.1 b)
+
+  -- one of each
+  one-of : (c : Carried) (t : Ty) → IsMultiple c t → IsTyped (single c) t
+  one-of (Many n) t h = h
+  one-of (One n) t h = absurd h
+  one-of (Callee f) t h = absurd h
+
+  pub ones-typed : (ts : List Ty) (ws : List Wire) → AreMultiples ts ws → (n port : ℕ) → AreTyped (ports n port (map single (types ws))) ts
+  ones-typed [] [] h n port = tt
+  ones-typed [] (w ∷ ws) h n port = absurd h
+  ones-typed (t ∷ ts) [] h n port = absurd h
+  ones-typed (t ∷ ts) (w ∷ ws) h n port = ((one-of w.ty t h.0, tt), ones-typed ts ws h.1 n (suc port))
+
+  -- what the first bound of an array or a stream carries
+  pub first-typed : (ws : List Wire) (t : Ty) → AreTyped ws (t ∷ []) → IsTyped (wire_at ws 0).ty t
+  first-typed [] t h = absurd h
+  first-typed (w ∷ ws) t h = h.0.0
+
+  pub the-number : (c : Carried) (t : Ty) → IsTyped c t → IsNumber forms names (type_of c) t
+  the-number (One n) t h = h
+  the-number (Many n) t h = absurd h
+  the-number (Callee f) t h = absurd h
+
+  -- the own inputs of a graph that are of the types of these
+  pub own-typed : (ts : List Ty) (ws : List Wire) → AreTyped ws ts → (n port : ℕ) → AreTyped (ports n port (types ws)) ts
+  own-typed [] [] h n port = tt
+  own-typed [] (w ∷ ws) h n port = absurd h
+  own-typed (t ∷ ts) [] h n port = absurd h
+  own-typed (t ∷ ts) (w ∷ ws) h n port = ((h.0.0, tt), own-typed ts ws h.1 n (suc port))
 
   -- ---- names that a turn renews
 
-  typed-set : (ws : List Wire) (ts : List Ty) → AreTyped ws ts → (x : ℕ) (w : Wire) (a : Ty) → slice_get ts x ≡ Some a → IsTyped w.ty a → AreTyped (slice_set ws x w) ts
+  typed-set : (ws : List Wire) (ts : List Ty) → AreTyped ws ts → (x : ℕ) (w : Wire) (a : Ty) → slice_get ts x ≡ Some a → IsWired w a → AreTyped (slice_set ws x w) ts
   typed-set [] [] h x w a e k = absurd cc
   typed-set [] (t ∷ ts) h x w a e k = absurd h
   typed-set (v ∷ vs) [] h x w a e k = absurd h
-  typed-set (v ∷ vs) (t ∷ ts) h zero w a e k = (subst (IsTyped w.ty) (sym (same_Some t a e)) k, h.1)
+  typed-set (v ∷ vs) (t ∷ ts) h zero w a e k = (subst (IsWired w) (sym (same_Some t a e)) k, h.1)
   typed-set (v ∷ vs) (t ∷ ts) h (suc x) w a e k = (h.0, typed-set vs ts h.1 x w a e k)
 
   pub typed-renew : (loop : List Ty) (ds : List (Option ℕ)) (later : List Ty) → Renews loop ds later → (ws l : List Wire) → AreTyped ws later → AreTyped l loop → AreTyped (renew ds ws l) loop
