@@ -17,11 +17,11 @@ use Rattle.typed_tree.specs.declared.expr.Source.{Source}
 use Rattle.typed_tree.specs.declared.expr.Source.TheVariants as source
 use Rattle.typed_tree.specs.declared.expr.ClauseForm.{ClauseForm}
 use Rattle.typed_tree.specs.Types.{IsNumber, AreNumbers}
-use Rattle.fitting_trees.specs.Fitting.{Goes, AreMade, Renews}
+use Rattle.fitting_trees.specs.Fitting.{Goes, Renews}
 use Rattle.fitting_trees.specs.Fitting as is
 use Rattle.lowering.specs.declared.feed.Feed.TheVariants.{Named}
 use Rattle.lowering.specs.declared.feed.Carried.{Carried}
-use Rattle.lowering.specs.declared.feed.Carried.TheVariants.{One, Many, Callee}
+use Rattle.lowering.specs.declared.feed.Carried.TheVariants.{One, Many}
 use Rattle.lowering.specs.declared.feed.Wire.{Wire}
 use Rattle.lowering.specs.Feeds.{wire, into}
 use Rattle.lowering.specs.declared.graph.Action.TheVariants.{Row}
@@ -32,7 +32,7 @@ use Rattle.lowering.specs.Loops.{own_inputs, many, single, types, take_up, with_
 use Rattle.lowered_sizes.specs.declared.sizes.Sizes.{Sizes}
 use Rattle.lowered_sizes.specs.Counting.{Sizing, only, valued, joined, beside, a_node}
 use Rattle.lowered_sizes.specs.Forms.{all_sized, defs_sized, body_sized, not_sized, clauses_sized, fold_sized, returns_sized, generators_sized, first_array, is_limited, product_sized, SizedPhrase, extra_sized, extras_sized, test_sized, initial_sized}
-use Rattle.lowered_units.proofs.Wired.{IsTyped, AreTyped, AreMultiples, multiples-both, ones-typed, own-typed, first-typed, the-number, typed-length, typed-both, typed-into, typed-drop, typed-take, typed-ports, typed-renew, same-array, array-elements, stream-elements}
+use Rattle.lowered_units.proofs.Wired.{AreTyped, AreMultiples, multiples-both, ones-typed, own-typed, first-typed, the-number, typed-length, typed-both, typed-into, typed-drop, typed-take, typed-ports, typed-renew, same-array, array-elements, stream-elements}
 use Rattle.lowered_sizes.proofs.Sized.{Any, plainly, Gives, resized, only-gives, then-gives, beside-gives, row-gives, no_part, a_part, whole-sized}
 use Rattle.lowered_sizes.proofs.SizedForms.{Of, To, EachTo, each_none, each_more, DefsTo}
 use Rattle.lowered_sizes.proofs.SizedForms as forms_are

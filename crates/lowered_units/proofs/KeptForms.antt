@@ -37,10 +37,10 @@ use Rattle.lowering.specs.Feeds.{wire, inside, into, carried}
 use Rattle.lowering.specs.declared.graph.Action.TheVariants.{Row, Call}
 use Rattle.lowering.specs.Graphs.{Lowering, only, andthen, a_node, inputs, size, graph_lines, new_graph, new_graphs}
 use Rattle.lowering.specs.Operations.{Lowers, boolean, character, integer, one, all_lowered, defs_lowered, body_lowered, wire_at, row_lowered, constant_lowered, absents, reversed, at_place, changed, operation_lowered}
-use Rattle.lowering.specs.Choices.{element_of, is_array, content_of, tag_count, type_of, first_tag, selector_lowered, if_lowered, tag_case, arms_of, arm_names, arms_from, case_lowered, two_arms, truth, is_tag_lowered, applied}
+use Rattle.lowering.specs.Choices.{element_of, is_array, content_of, tag_count, type_of, first_tag, selector_lowered, if_lowered, tag_case, arms_of, arms_from, case_lowered, two_arms, truth, is_tag_lowered, applied}
 use Rattle.lowering.specs.Loops.{own_inputs, many, single, types, take_up, with_not, unless_places, clauses_lowered, reducer_name, grouping_of, span, Bound, Wired, Limit, fold_lowered, returns_lowered, width, elements_in, generator_lowered, generators_lowered, bound_of, product_lowered, Phrase, loop_lowered, loop_kind, loop_name, extra, extras, collected, renew, renew_one, test_lowered, row_of_turn, initial_lowered}
 use Rattle.lowering.specs.Phrases.{each, call_lowered}
-use Rattle.lowered_units.proofs.Kept.{inner, weight, IsBelow, AreBelow, Kept, Keeps, AllKept, AllKeep}
+use Rattle.lowered_units.proofs.Kept.{inner, weight, IsBelow, AreBelow, Kept, Keeps, AllKeep}
 use Rattle.lowered_units.proofs.Kept as keeping
 use Rattle.lowered_units.proofs.Members.{EachLine, left-lines, HasFew}
 use Rattle.lowered_units.proofs.Wired.{AreTyped, AreMultiples, multiples-both, ones-typed, own-typed, first-typed, the-number, typed-length, typed-both, typed-into, typed-drop, typed-take, typed-ports, typed-literals, typed-renew, array-elements, stream-elements}

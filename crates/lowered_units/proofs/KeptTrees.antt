@@ -48,7 +48,7 @@ use Rattle.lowered_units.specs.Small.{IsSmallGraph, HasSmallPorts}
 use Rattle.lowered_units.proofs.BuiltTrees.{out-bool, out-char, out-int, out-null, out-array, out-stream, out-record, out-union, numbers-length}
 use Rattle.lowered_units.proofs.Entries.{length-new}
 use Rattle.lowered_units.proofs.Forming.{few-over, or-right}
-use Rattle.lowered_units.proofs.Kept.{inner, inner-is, graphs-both, AllKept, AreSmallGraphs}
+use Rattle.lowered_units.proofs.Kept.{inner, inner-is, AllKept, AreSmallGraphs}
 use Rattle.lowered_units.proofs.Kept as keeping
 use Rattle.lowered_units.proofs.KeptForms.{Does, KeepsTo, GivesTo, EachKeep, AllKeepTo, keep_none, keep_more, DefsKeep, keep_no_def, keep_def, ArmsKeep, keep_no_arm, keep_named_arm, keep_arm, reach}
 use Rattle.lowered_units.proofs.KeptForms as forms_are
