@@ -55,7 +55,7 @@ module _ (most : ℕ) (two : 2 ≤ most) (fits : most + most + 2 ≤ 2 ^ 32) (fo
   at_least = omega (arith, two)
 
   abbrev pub Few : Carried → Type 0
-  Few c = HasFew forms names most c
+  Few = HasFew forms names most
 
   abbrev pub Of : List Ty → List Wire → Type 0
   Of tys ws = AreTyped forms names ws tys
@@ -177,7 +177,7 @@ module _ (most : ℕ) (two : 2 ≤ most) (fits : most + most + 2 ≤ 2 ^ 32) (fo
       typed-both forms names m.values rest.values tys others (k env t n q) (all-give γ gs others r env t (n + length m.nodes) (q + length m.graphs))
 
   defs-give : (γ : List Ty) (ds : List (List Lowers)) (δ : List Ty) → DefsKeep γ ds δ → GivesTo γ (γ ++ δ) (defs_lowered ds)
-  defs-give _ _ _ (keep_no_def γ) env t n q = subst (λ u. Of u env) (sym (append-nil γ)) t
+  defs-give _ _ _ (keep_no_def γ) env t = λ n q. subst (λ u. Of u env) (sym (append-nil γ)) t
   defs-give _ _ _ (keep_def γ d ds tys others h r) env t =
       known-gives tys (γ ++ (tys ++ others)) (all_lowered d env) (λ vs. defs_lowered ds (env ++ vs)) (all-give γ d tys h env t)
       (λ vs tv. subst (λ u. Gives u (defs_lowered ds (env ++ vs))) (append_assoc γ tys others) (defs-give (γ ++ tys) ds others r (env ++ vs) (typed-both forms names env vs γ tys t tv)))
@@ -279,7 +279,7 @@ module _ (most : ℕ) (two : 2 ≤ most) (fits : most + most + 2 ≤ 2 ^ 32) (fo
   operation-keeps operation.Rest ws t k h = row-keeps simple.RestValues ws (t ∷ []) at_least h
   operation-keeps operation.Record ws t k h = row-keeps simple.RBuild ws (t ∷ []) at_least h
   operation-keeps (operation.Union tag) ws t k h = row-keeps simple.RBuild (absents tag ++ ws) (t ∷ []) at_least (both (absents tag) ws (absents-below tag) h)
-  operation-keeps (operation.Field f) ws t k h n q e l =
+  operation-keeps (operation.Field f) ws t k h = λ n q e l.
       let few = k l in
       keeping.node-keeps most Few at_least fits (Row simple.RElements) ws (suc f) (One t ∷ []) tt h (omega (arith, few)) n q e l
   operation-keeps (operation.Change places) ws t k h =
@@ -373,7 +373,7 @@ module _ (most : ℕ) (two : 2 ≤ most) (fits : most + most + 2 ≤ 2 ^ 32) (fo
 
   -- the multiples of generators are of the types of their names
   generators-give : (ss : List Source) (tys xs : List Ty) → Goes ss tys xs → IsNumber forms names integer ty.Int → (ws : List Wire) → Of tys ws → (n q : ℕ) → AreMultiples forms names xs (generators_lowered forms ss ws n q).values
-  generators-give _ _ _ is.no_source i ws h n q = tt
+  generators-give _ _ _ is.no_source i ws h = λ n q. tt
   generators-give _ _ _ (is.over_range {ss = ss} {bounds = bounds} {names = xs} r) i ws h =
       beside-multiples source.Range ss ws (ty.Int ∷ []) xs (λ n q. (i, tt)) (generators-give ss bounds xs r i (drop 2 ws) (typed-drop forms names (ty.Int ∷ ty.Int ∷ []) bounds ws 2 refl h))
   generators-give _ _ _ (is.over_array {ss = ss} {bounds = bounds} {names = xs} a r) i ws h =
