@@ -99,7 +99,7 @@ module _ (most : ℕ) (two : 2 ≤ most) (fits : most + most + 2 ≤ 2 ^ 32) (fo
     keep_named_arm : (γ : List Ty) (named : ℕ) (g : List Lowers) (gs : List (List Lowers)) (a : Ty) (contents : List Ty) → EachKeep (γ ++ a ∷ []) g → ArmsKeep γ named gs contents → ArmsKeep γ (suc named) (g ∷ gs) (a ∷ contents)
     keep_arm : (γ : List Ty) (g : List Lowers) (gs : List (List Lowers)) → EachKeep γ g → ArmsKeep γ 0 gs [] → ArmsKeep γ 0 (g ∷ gs) []
 
-  pub each-of : (γ : List Ty) (gs : List Lowers) (tys : List Ty) → AllKeepTo γ gs tys → EachKeep γ gs
+  each-of : (γ : List Ty) (gs : List Lowers) (tys : List Ty) → AllKeepTo γ gs tys → EachKeep γ gs
   each-of _ _ _ (keep_none γ) = tt
   each-of _ _ _ (keep_more γ g gs tys others h k r) = (h, each-of γ gs others r)
 

@@ -219,7 +219,8 @@ module _ (most : ℕ) (two : 2 ≤ most) (fits : most + most + 2 ≤ 2 ^ 32) (fo
         keep_more γ (lowers forms t) (several ts) tys others x.keeps x.gives (all-fine γ ts others g)
 
     each-keep : (γ : List Ty) (es : List TypedExpr) (tys : List Ty) → AllFit (AreNumbers forms names) hs γ es tys → Each γ es
-    each-keep γ es tys f = forms_are.each-of most two fits forms names γ (several es) tys (all-fine γ es tys f)
+    each-keep γ _ _ is.no_more = tt
+    each-keep γ _ _ (is.more {tys = tys} {others = others} {t = t} {ts = ts} f g) = ((tree-keeps γ t tys f).keeps, each-keep γ ts others g)
 
     defs-keep : (γ : List Ty) (us : List (List TypedExpr)) (δ : List Ty) → DefsFit (AreNumbers forms names) hs γ us δ → DefsKeep most two fits forms names γ (several_lists us) δ
     defs-keep γ _ _ is.no_def = keep_no_def γ

@@ -126,7 +126,7 @@ module _ (forms : List Form) (names : List (List ℕ)) where
       let k = members-fine type f code (named forms names ms) ts w in
       let all = over-fine kind r ts k.0 in
       let more = over-fine kind r r.table (record { fine = k.0.fine; grown = omega arith; label = k.0.label }) in
-      let same = length-map ms (λ (m : Member). (get_or names m.name [], m.ty)) in
+      let same = length-map {B = Part} ms (λ (m : Member). (get_or names m.name [], m.ty)) in
       (all, omega (arith, k.1, k.0.label, more.grown, same))
 
   form-fine : (type : ℕ → Table → Labelled) → Labels type → (o : Option Form) (ts : Table) → IsFine ts → IsFineLabel ts (form_label forms names type o ts) × (length (members_if o) ≤ length (form_label forms names type o ts).table)
