@@ -11,7 +11,6 @@ use Rattle.typed_tree.specs.Types.{AreNumbers}
 use Rattle.typed_tree.specs.declared.program.Function.{Function}
 use Rattle.typed_tree.specs.declared.program.Program.{Program}
 use Rattle.mean_call.specs.Words.{AreRead, AreRefused}
-use Rattle.mean_call.specs.declared.entry.Entry.{Entry}
 use Rattle.mean_call.specs.declared.fault.ArgumentFault.{ArgumentFault}
 use Rattle.mean_call.specs.declared.fault.ArgumentFault.TheVariants as argument
 use Rattle.mean_call.specs.declared.fault.Refusal.{Refusal}
@@ -43,8 +42,8 @@ pub record IsEntry (p : Program) (word : List ℕ) (function : ℕ) (types : Lis
   pub called : entry_of p word ≡ Some function
   pub parameters : AreNumbers p.types p.names (params_of p function) types
 
-abbrev pub IsEntryIf : Program → List ℕ → Option Entry → Type 0
-IsEntryIf p word (Some e) = IsEntry p word e.function e.types
+abbrev pub IsEntryIf : Program → List ℕ → Option ℕ → Type 0
+IsEntryIf p word (Some function) = (types : List Ty) × IsEntry p word function types
 IsEntryIf p word None = (function : ℕ) (types : List Ty) → IsEntry p word function types → ⊥
 
 -- ---- the call

@@ -1,3 +1,4 @@
-pub mod Trees
+pub mod Table
+pub mod Known
 pub mod Words
 pub mod Calls

@@ -36,6 +36,13 @@ IsWordRefusal word t place (refusal.Argument (argument.Value k fault)) = (k ≡ 
 IsWordRefusal word t place refusal.NoMemory = Unit {0}
 IsWordRefusal word t place _ = ⊥
 
+-- what is answered for the fault of a word at a place
+abbrev pub refusal_of : ℕ → ValueFault → Refusal
+refusal_of place faults.NoMemory = refusal.NoMemory
+refusal_of place (faults.BadSpelling k) = refusal.Argument (argument.Value place (faults.BadSpelling k))
+refusal_of place (faults.WrongShape k) = refusal.Argument (argument.Value place (faults.WrongShape k))
+refusal_of place faults.TooLarge = refusal.Argument (argument.Value place faults.TooLarge)
+
 -- why as many words as types are refused
 abbrev pub AreMisread : List (List ℕ) → List Ty → Refusal → Type 0
 AreMisread words types (refusal.Argument (argument.Value k fault)) = IsFirstFault words types k fault

@@ -7,9 +7,10 @@ ghost use Rattle.mean_call.specs.Calls.{Gives, IsEntry, IsRefused};
 ghost use Rattle.mean_call.specs.Words.{AreRead};
 
 use crate::arguments::values_of_words;
-use crate::entry::find_entry;
+use crate::entry::{find_entry, params_of};
 use crate::fault::{ArgumentFault, Refusal};
 use crate::linking::unlinked;
+use crate::table::ProgramTypes;
 use flow_value::Items;
 use meaning_laws::plain_mean;
 use run_words::MeanSet;
@@ -25,11 +26,15 @@ pub fn evaluate(alloc: Global, program: &Program, set: &MeanSet) -> Result<Items
     if let Some(name) = unlinked(alloc, program)? {
         return Err(Refusal::Unlinked(name));
     }
-    let Some(entry) = find_entry(alloc, program, set.entry.as_slice())? else {
+    let Some(function) = find_entry(alloc, program, set.entry.as_slice())? else {
         return Err(Refusal::Argument(ArgumentFault::Entry));
     };
-    let args = values_of_words(alloc, set.values.as_slice(), entry.types.as_slice())?;
-    match plain_mean(alloc, program, entry.function, args, set.limit) {
+    let types = ProgramTypes {
+        table: &program.types,
+    };
+    let params = params_of(program, function);
+    let args = values_of_words(alloc, set.values.as_slice(), &types, params)?;
+    match plain_mean(alloc, program, function, args, set.limit) {
         Ok(found) => Ok(found.values),
         Err(MeanFault::TurnLimit) => Err(Refusal::TurnLimit),
         Err(MeanFault::NoMemory) => Err(Refusal::NoMemory),

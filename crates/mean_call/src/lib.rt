@@ -5,10 +5,10 @@ mod arguments;
 mod call;
 mod entry;
 mod fault;
+mod known;
 mod linking;
-mod trees;
+mod table;
 
 pub use arguments::values_of_words;
 pub use call::{evaluate, one_call};
 pub use fault::{ArgumentFault, Refusal};
-pub use trees::tree_of;

@@ -3,8 +3,7 @@ ghost use Rattle.std.specs.Prelude.{◌≡◌, IfOk, IsTrue, option_map, slice_g
 ghost use Rattle.std.specs.List.{find};
 ghost use Rattle.mean_call.specs.Calls.{is_elsewhere, unlinked};
 
-use crate::trees::name_of;
-use flow_value::{Name, NoMemory, Seq};
+use flow_value::{Name, NoMemory, Seq, item_at};
 use std::alloc::Global;
 use typed_tree::{Function, Program};
 
@@ -30,8 +29,8 @@ fn first_elsewhere(functions: &[Function]) -> Option<u32>
 fn spelling(alloc: Global, names: &[Name], number: u32) -> Result<Name, NoMemory>
     ensures { IfOk result (λ name. name ≡ unwrap_or (slice_get names.now number) []) }
 {
-    match name_of(alloc, names, number)? {
-        Some(name) => Ok(name),
+    match item_at(names, number as usize) {
+        Some(name) => Seq::from_slice(alloc, name.as_slice()),
         None => Ok(Seq::new(alloc)),
     }
 }

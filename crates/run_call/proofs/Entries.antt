@@ -7,12 +7,15 @@ use Rattle.flow_value.specs.declared.value.Val.{Val}
 use Rattle.if1_graph.specs.declared.graph.Graph.{Graph}
 use Rattle.if1_graph.specs.declared.graph.Graph.TheViews.{out-Graph}
 use Rattle.if1_graph.specs.declared.graph.Unit1.{Unit1}
-use Rattle.unit_entry.specs.Entries.{entry_of, is_called}
+use Rattle.unit_entry.specs.Entries.{entry_of, first_lacking, is_called}
 use Rattle.if1_valid.specs.Params.{function_in, function_of}
-use Rattle.mean_call.specs.Words.{AreRead}
+use Rattle.mean_call.specs.Words.{AreRead, AreRefused}
+use Rattle.mean_call.specs.declared.fault.ArgumentFault.TheVariants as argument
+use Rattle.mean_call.specs.declared.fault.Refusal.{Refusal}
+use Rattle.mean_call.specs.declared.fault.Refusal.TheVariants as refusal
 use Rattle.run_words.specs.declared.command.RunSet.{RunSet}
 use Rattle.unit_code.specs.Runs.{AreArguments}
-use Rattle.run_call.specs.Calls.{IsCall}
+use Rattle.run_call.specs.Calls.{IsCall, IsEntry, IsRefused}
 
 -- one of these graphs has the number that this one has
 by_number : (g : Graph) (gs : List Graph) (number : ℕ) (b : Bool) → eqb (out-Graph g).number number ≡ b → (b ≡ false → is_some (function_in gs number) ≡ true) → is_some (cond b (Some g) (function_in gs number)) ≡ true
@@ -44,3 +47,12 @@ as_many (w ∷ ws) (t ∷ ts) (v ∷ vs) r = ap suc (as_many ws ts vs r.1)
 -- the arguments of a call are as many as its function has
 pub are_arguments : (u : Unit1) (set : RunSet) (function : ℕ) (args : List Val) → IsCall u set function args → AreArguments u function args
 are_arguments u set function args c = (c.types, c.entry.arguments, as_many set.values c.types args c.read)
+
+-- the words are no values of the entry's arguments
+pub refused_words : (u : Unit1) (set : RunSet) (function : ℕ) (types : List Ty) (e : Refusal) → first_lacking u ≡ None → IsEntry u set.entry function types → AreRefused set.values types e → IsRefused u set e
+refused_words u set function types (refusal.Unlinked name) linked entry r = absurd r
+refused_words u set function types (refusal.Argument argument.Entry) linked entry r = absurd r
+refused_words u set function types (refusal.Argument (argument.Count wanted given)) linked entry r = record { linked = linked; function = function; types = types; entry = entry; refused = r }
+refused_words u set function types (refusal.Argument (argument.Value k fault)) linked entry r = record { linked = linked; function = function; types = types; entry = entry; refused = r }
+refused_words u set function types refusal.TurnLimit linked entry r = absurd r
+refused_words u set function types refusal.NoMemory linked entry r = tt

@@ -1,13 +1,15 @@
 //! Runs of the entry of a unit on words.
-ghost use Rattle.std.specs.Prelude.{◌≡◌, IfOk, IfErr, map};
+ghost use Rattle.std.specs.Prelude.{◌≡◌, IfOk, IfErr, None, Some, map};
 ghost use Rattle.graph_meaning.specs.Carried.{Value};
 ghost use Rattle.unit_code.specs.Codes.{IsCodeOfUnit};
+ghost use Rattle.unit_entry.specs.Entries.{entry_of, first_lacking};
 ghost use Rattle.unit_code.specs.Runs.{AreArguments, AreTotalsOf};
 ghost use Rattle.run_call.specs.Calls.{Gives, IsCall, IsRefused, IsStopped};
 
-use crate::entry::types_of;
 use flow_value::Items;
+use if1_arguments::{UnitTypes, arguments_of};
 use if1_sound::Sound;
+use if1_valid::Ready;
 use mean_call::{ArgumentFault, Refusal, values_of_words};
 use run_gate::Gate;
 use run_words::RunSet;
@@ -24,6 +26,19 @@ struct Call {
     args: Items,
 }
 
+/// The words as values of the arguments of the entry of a unit.
+fn arguments(alloc: Global, unit: &Ready, set: &RunSet, function: u32) -> Result<Items, Refusal>
+    requires entry { entry_of unit.now set.now.entry ≡ Some function }
+    requires linked { first_lacking unit.now ≡ None }
+    ensures call { IfOk result (IsCall unit.now set.now function) }
+    ensures refused { IfErr result (IsRefused unit.now set.now) }
+{
+    let sorts = unit.sorts();
+    let numbers = arguments_of(alloc, unit.unit(), sorts, function)?;
+    let types = UnitTypes { sorts };
+    values_of_words(alloc, set.values.as_slice(), &types, numbers.as_slice())
+}
+
 /// The entry of a unit, with the words as values of its arguments.
 fn call_of(alloc: Global, unit: Sound, set: &RunSet) -> Result<Call, Refusal>
     ensures same { IfOk result (λ c. c.unit ≡ unit) }
@@ -37,8 +52,7 @@ fn call_of(alloc: Global, unit: Sound, set: &RunSet) -> Result<Call, Refusal>
         return Err(Refusal::Argument(ArgumentFault::Entry));
     };
     let ready = unit.into_ready();
-    let types = types_of(alloc, &ready, set.entry.as_slice(), function)?;
-    let args = values_of_words(alloc, set.values.as_slice(), types.as_slice())?;
+    let args = arguments(alloc, &ready, set, function)?;
     Ok(Call {
         unit: Sound::of(ready),
         function,

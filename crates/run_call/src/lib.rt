@@ -3,7 +3,6 @@
 #![tactic(auto)]
 
 mod call;
-mod entry;
 mod laws;
 mod texts;
 
