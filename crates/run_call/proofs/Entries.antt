@@ -1,7 +1,9 @@
 -- The entry of a unit is one of its functions, and words that are read are as many as its arguments.
-use Rattle.std.proofs.Common.{◌≡◌, ℕ, suc, List, [], ◌∷◌, length, Bool, true, false, Option, Some, is_some, option_map, find, cond, eqb, refl, sym, ap, ◌∙◌}
+use Rattle.std.proofs.Common.{◌≡◌, ℕ, suc, List, [], ◌∷◌, length, Bool, true, false, Option, Some, None, is_some, option_map, find, cond, eqb, refl, sym, ap, ◌∙◌}
 use Rattle.std.proofs.lemmas.Bool.{eq-eqb}
 use Rattle.std.proofs.lemmas.Option.{same_Some}
+use Rattle.std.proofs.lemmas.Result.{IfErr-weaker, IfOk-weaker}
+use Rattle.std.specs.Prelude.{Result, IfOk, IfErr}
 use Rattle.flow_value.specs.declared.ty.Ty.{Ty}
 use Rattle.flow_value.specs.declared.value.Val.{Val}
 use Rattle.if1_graph.specs.declared.graph.Graph.{Graph}
@@ -56,3 +58,11 @@ refused_words u set function types (refusal.Argument (argument.Count wanted give
 refused_words u set function types (refusal.Argument (argument.Value k fault)) linked entry r = record { linked = linked; function = function; types = types; entry = entry; refused = r }
 refused_words u set function types refusal.TurnLimit linked entry r = absurd r
 refused_words u set function types refusal.NoMemory linked entry r = tt
+
+-- words at the types of the entry's arguments: the arguments of a call, or why there is none
+module _ (u : Unit1) (set : RunSet) (function : ℕ) (types : List Ty) (linked : first_lacking u ≡ None) (entry : IsEntry u set.entry function types) (r : Result (List Val) Refusal) where
+  pub called_with : IfOk r (AreRead set.values types) → IfOk r (IsCall u set function)
+  called_with = IfOk-weaker r (AreRead set.values types) (IsCall u set function) (λ vs read. record { linked = linked; types = types; entry = entry; read = read })
+
+  pub not_called : IfErr r (AreRefused set.values types) → IfErr r (IsRefused u set)
+  not_called = IfErr-weaker r (AreRefused set.values types) (IsRefused u set) (λ e. refused_words u set function types e linked entry)
