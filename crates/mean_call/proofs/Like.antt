@@ -1,15 +1,14 @@
 -- A number of a program's table stands for its type, whatever the names are.
-use Rattle.std.proofs.Common.{◌≡◌, ℕ, zero, suc, List, [], ◌∷◌, map, Option, Some, slice_get, refl, sym, ap, subst, ◌∙◌, rules}
+use Rattle.std.proofs.Common.{◌≡◌, ℕ, zero, suc, List, [], ◌∷◌, map, sym, ap, subst, rules}
 use Rattle.flow_value.specs.declared.ty.Ty.{Ty}
 use Rattle.flow_value.specs.declared.ty.Ty.TheVariants as ty
 use Rattle.flow_value.specs.declared.ty.Ty.TheOpen.{Ty-F}
 use Rattle.flow_value.specs.declared.ty.Ty.TheViews.{out-Ty, the_lemmas}
 use Rattle.type_table.specs.declared.form.Form.{Form}
-use Rattle.type_table.specs.declared.form.Form.TheVariants as form
 use Rattle.type_table.specs.declared.form.Member.{Member as NumberedMember}
 use Rattle.mean_call.specs.Table.{form_of, numbered}
 use Rattle.type_table.specs.Tables.{members_if}
-use Rattle.value_text.specs.Numbered.{AreLike, HasForm, IsLike, StandsFor, StandForAll}
+use Rattle.value_text.specs.Numbered.{AreLike, HasForm, IsLike, StandForAll}
 use Rattle.typed_tree.specs.Types.{Member, IsNumber, boolean, character, integer, null, array, stream, a_record, a_union, AreMembers, no_member, a_member, AreNumbers}
 
 out-bool : out-Ty ty.Bool ≡ Ty-F.Bool

@@ -20,9 +20,6 @@ pub record Decides (words : List (List ℕ)) (types : List Ty) (i : ℕ) (done :
   pub read : (vs : List Val) → AreRead (drop i words) (drop i types) vs → AreRead words types (done ++ vs)
   pub refused : (k : ℕ) (fault : ValueFault) → IsFirstFault (drop i words) (drop i types) (suc k) fault → IsFirstFault words types (i + suc k) fault
 
-pub decides_first : (words : List (List ℕ)) (types : List Ty) → Decides words types 0 []
-decides_first words types = record { read = λ vs p. p; refused = λ k fault p. let e : suc k ≡ 0 + suc k = omega arith in subst (λ n. IsFirstFault words types n fault) e p }
-
 cut : {X : Type 0} (xs : List X) (i : ℕ) (x : X) → i < length xs → x ≡ get_or xs i x → drop i xs ≡ x ∷ drop (i + 1) xs
 cut xs i x within is = drop-cons xs i x within ∙ ap (λ y. y ∷ drop (suc i) xs) (sym is) ∙ ap (λ k. x ∷ drop k xs) (sym (add-one i))
 

@@ -1,15 +1,11 @@
 -- What a number of a table stands for, by its form.
-use Rattle.std.proofs.Common.{◌≡◌, ◌<◌, ℕ, ◌+◌, List, [], ◌∷◌, ◌++◌, All, map, drop, drop-cons, add-one, length, get_or, Option, Some, None, slice_get, refl, sym, ap, subst, ◌∙◌, append_assoc, arith}
-use Rattle.std.specs.Option.{option_map}
-use Rattle.std.proofs.lemmas.List.{get_or-map, append-nil, length-map}
+use Rattle.std.proofs.Common.{◌≡◌, ℕ, List, [], ◌∷◌, Option, Some, None, slice_get, refl, sym, subst}
 use Rattle.flow_value.specs.declared.ty.Ty.{Ty}
 use Rattle.flow_value.specs.declared.ty.Ty.TheVariants as ty
 use Rattle.type_table.specs.declared.form.Form.{Form}
 use Rattle.type_table.specs.declared.form.Form.TheVariants as form
 use Rattle.type_table.specs.declared.form.Member.{Member as NumberedMember}
-use Rattle.type_table.specs.Forms.{parts}
-use Rattle.type_table.specs.Tables.{IsTable}
-use Rattle.typed_tree.specs.Types.{Member, IsNumber, boolean, character, integer, null, array, stream, a_record, a_union, AreMembers, no_member, a_member, AreNumbers}
+use Rattle.typed_tree.specs.Types.{Member, IsNumber, boolean, character, integer, null, array, stream, a_record, a_union, AreMembers, no_member, a_member}
 
 -- an element of this type, or these fields
 pub record HasPart (forms : List Form) (names : List (List ℕ)) (made : Ty → Ty) (m : ℕ) (t : Ty) : Type 0 where
@@ -52,16 +48,6 @@ pub no_form : (forms : List Form) (names : List (List ℕ)) (n : ℕ) → slice_
 no_form forms names n h t p = standing_at forms names n None h t p
 
 -- ---- members
-
--- the types of the parts of a form stand before it
-pub part_before : (forms : List Form) (n m : ℕ) (f : Form) → IsTable forms → slice_get forms n ≡ Some f → parts f ≡ m ∷ [] → m < n
-part_before forms n m f table h e = (subst (All (λ t. t < n)) e (table.well.after_parts n f h)) 0 0 (omega arith)
-
-pub before : (forms : List Form) (n : ℕ) (f : Form) (ms : List NumberedMember) → IsTable forms → slice_get forms n ≡ Some f → parts f ≡ map (λ m. m.ty) ms → All (λ m. m.ty < n) ms
-before forms n f ms table h e = λ k d within.
-    let over : All (λ t. t < n) (map (λ m. m.ty) ms) = subst (All (λ t. t < n)) e (table.well.after_parts n f h) in
-    let there : k < length (map (λ m. m.ty) ms) = subst (λ l. k < l) (sym (length-map ms (λ m. m.ty))) within in
-    subst (λ t. t < n) (get_or-map (λ m. m.ty) ms k d d.ty within) (over k d.ty there)
 
 pub record HasFirst (forms : List Form) (names : List (List ℕ)) (m : NumberedMember) (ms : List NumberedMember) (fs : List Member) : Type 0 where
   pub name : List ℕ

@@ -1,5 +1,5 @@
 -- The numbers that are known are those that stand for types.
-use Rattle.std.proofs.Common.{◌≡◌, ◌<◌, ◌≤◌, ℕ, zero, suc, ◌+◌, Bool, true, false, ◌&&◌, nat_lt, List, [], ◌∷◌, ◌++◌, All, map, drop, length, Option, Some, None, slice_get, slice_index_or, refl, sym, ap, subst, ◌∙◌, append_assoc, arith}
+use Rattle.std.proofs.Common.{◌≡◌, ◌<◌, ◌≤◌, ℕ, zero, suc, ◌+◌, Bool, true, false, ◌&&◌, nat_lt, List, [], ◌∷◌, ◌++◌, All, map, drop, length, Some, None, slice_get, refl, sym, ap, subst, ◌∙◌, append_assoc, arith}
 use Rattle.std.specs.List.{list_all}
 use Rattle.std.proofs.lemmas.Bool.{ltb-true, ltb-false}
 use Rattle.flow_value.specs.declared.ty.Ty.{Ty}
@@ -7,12 +7,11 @@ use Rattle.flow_value.specs.declared.ty.Ty.TheVariants as ty
 use Rattle.type_table.specs.declared.form.Form.{Form}
 use Rattle.type_table.specs.declared.form.Form.TheVariants as form
 use Rattle.type_table.specs.declared.form.Member.{Member as NumberedMember}
-use Rattle.type_table.specs.Forms.{parts}
 use Rattle.type_table.specs.Tables.{IsTable, IsOver}
 use Rattle.typed_tree.specs.Types.{Member, IsNumber, boolean, character, integer, null, array, stream, a_record, a_union, AreMembers, no_member, a_member, AreNumbers}
 use Rattle.typed_tree.specs.declared.program.Program.{Program}
 use Rattle.mean_call.specs.Known.{is_known, is_known_member, is_known_form, known_onto, known_types}
-use Rattle.mean_call.specs.Calls.{IsEntryIf, IsEntry, params_of}
+use Rattle.mean_call.specs.Calls.{IsEntryIf, params_of}
 use Rattle.std.proofs.lemmas.Option.{same_Some}
 use Rattle.typed_tree.specs.Entries.{entry_of}
 use Rattle.mean_call.proofs.Standing.{standing_at, fielding, no_form}
@@ -212,12 +211,6 @@ module _ (p : Program) (word : List ℕ) (function : ℕ) (called : entry_of p w
   unknown_entry e = λ f types h.
       let same : f ≡ function = same_Some f function (sym h.called ∙ called) in
       some_unknown p.types p.names table (params_of p function) e types (subst (λ f. AreNumbers p.types p.names (params_of p f) types) same h.parameters)
-
-pub no_entry : (p : Program) (word : List ℕ) → entry_of p word ≡ None → IsEntryIf p word None
-no_entry p word e = λ f types h. none_spelled_entry f (sym e ∙ h.called)
-  where
-    none_spelled_entry : (f : ℕ) → None ≡ Some f → ⊥
-    none_spelled_entry f e = cc
 
 -- ---- one look at each
 

@@ -1,5 +1,5 @@
 -- The types of a program's table as types by number.
-use Rattle.std.specs.Prelude.{ℕ, List, map, Option, Some, None, slice_get}
+use Rattle.std.specs.Prelude.{List, map, Option, Some, None, slice_get}
 use Rattle.value_text.specs.Numbered.{Numbered}
 use Rattle.value_text.specs.declared.type_form.TypeForm.{TypeForm}
 use Rattle.value_text.specs.declared.type_form.TypeForm.TheVariants as of

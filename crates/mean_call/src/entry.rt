@@ -5,7 +5,7 @@ ghost use Rattle.mean_call.specs.Calls.{params_of, IsEntryIf};
 use crate::known::{are_known, known_types};
 use flow_value::{NoMemory, item_at};
 use std::alloc::Global;
-use typed_tree::{Function, Program};
+use typed_tree::Program;
 
 /// The numbers of the types of a function's parameters.
 pub fn params_of(program: &Program, function: u32) -> &[u32]

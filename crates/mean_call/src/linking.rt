@@ -1,5 +1,5 @@
 //! Functions whose bodies stand in other texts.
-ghost use Rattle.std.specs.Prelude.{◌≡◌, IfOk, IsTrue, option_map, slice_get, unwrap_or, []};
+ghost use Rattle.std.specs.Prelude.{◌≡◌, IfOk, option_map, slice_get, unwrap_or, []};
 ghost use Rattle.std.specs.List.{find};
 ghost use Rattle.mean_call.specs.Calls.{is_elsewhere, unlinked};
 

@@ -1,4 +1,4 @@
-use Rattle.std.proofs.Common.{◌≡◌, ◌∙◌, sym, ap, subst}
+use Rattle.std.proofs.Common.{◌∙◌, sym, ap, subst}
 use Rattle.std.specs.Prelude.{Result, Err}
 use Rattle.flow_value.specs.declared.value.Val.{Val}
 use Rattle.value_text.specs.declared.fault.ValueFault.{ValueFault}

@@ -1,4 +1,4 @@
-use Rattle.std.proofs.Common.{◌≡◌, ◌∙◌, refl, sym, length, arith}
+use Rattle.std.proofs.Common.{◌≡◌, refl, sym, length, arith}
 use Rattle.mean_call.proofs.Reading.{as_many, misread_all}
 use Rattle.mean_call.proofs.arguments.values_of_words.Goals as goal
 

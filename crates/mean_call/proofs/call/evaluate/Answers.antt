@@ -1,5 +1,4 @@
-use Rattle.std.proofs.Common.{◌≡◌, ◌∙◌, List, Option, Some, None, sym, ap, subst}
-use Rattle.flow_value.specs.declared.ty.Ty.{Ty}
+use Rattle.std.proofs.Common.{◌∙◌, Some, sym, subst}
 use Rattle.value_text.specs.Numbered.{StandForAll}
 use Rattle.mean_call.specs.Calls.{IsEntry, IsEntryIf, IsRefused, params_of}
 use Rattle.mean_call.specs.Table.{numbered}

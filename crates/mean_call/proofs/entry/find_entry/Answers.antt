@@ -1,4 +1,4 @@
-use Rattle.std.proofs.Common.{◌≡◌, ◌∙◌, length, sym, ap}
+use Rattle.std.proofs.Common.{◌∙◌, length, sym, ap}
 use Rattle.std.specs.List.{list_all}
 use Rattle.mean_call.specs.Known.{is_known, known_types}
 use Rattle.mean_call.proofs.ToldTypes.{known_entry, unknown_entry}
