@@ -1,4 +1,6 @@
 pub mod Fronts
+pub mod Lengths
 pub mod Lexed
 pub mod Refusing
+pub mod Replies
 pub mod Writes

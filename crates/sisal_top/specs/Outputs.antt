@@ -19,7 +19,7 @@ use Rattle.typed_tree.specs.declared.program.Program.{Program}
 use Rattle.typed_tree.specs.Faults.{BreaksUnit}
 use Rattle.typed_tree.specs.Units.{IsTyped}
 use Rattle.value_text.specs.Printed.{value_bytes}
-use Rattle.sisal_top.specs.Program.{IsUnitOf}
+use Rattle.sisal_top.specs.Program.{Fits, IsUnitOf}
 
 -- each value on a line of its own, ended by a line feed
 abbrev pub lines : List Val → List ℕ
@@ -82,7 +82,7 @@ pub record HasGraphs (bytes : List ℕ) (u : Unit1) : Type 0 where
 
 -- the unit that runs: that of the program, or of the IF1 text
 abbrev pub RunsUnit : (if1 : Bool) → List ℕ → Unit1 → Type 0
-RunsUnit true bytes u = IsIf1Of bytes u
+RunsUnit true bytes u = Fits bytes × IsIf1Of bytes u
 RunsUnit false bytes u = HasGraphs bytes u
 
 -- the line of the totals of a run: its firings, the leaves that it copied, and the elements that it wrote

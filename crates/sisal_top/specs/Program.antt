@@ -1,5 +1,5 @@
 -- Which texts are units of the grammar, and which words ask to read the text.
-use Rattle.std.specs.Prelude.{◌≡◌, ◌≤◌, ◌⊎◌, ℕ, false, List, Ok, Err}
+use Rattle.std.specs.Prelude.{◌≡◌, ◌≤◌, ◌⊎◌, ℕ, false, List, length, Ok, Err}
 use Rattle.run_words.specs.Words.{IsCommand}
 use Rattle.run_words.specs.declared.command.Command.{Command}
 use Rattle.run_words.specs.declared.command.Command.TheVariants as command
@@ -17,8 +17,8 @@ use Rattle.sisal_parse.specs.Units.{outline}
 use Rattle.sisal_tree.specs.Depth.{depth_of}
 use Rattle.sisal_tree.specs.declared.unit.Unit as tree
 use Rattle.sisal_top.specs.Status.{of_lexer}
-use Rattle.sisal_top.specs.declared.status.Status.{Status}
 use Rattle.sisal_top.specs.declared.status.Status.TheVariants as status
+use Rattle.sisal_top.specs.declared.status.SyntaxFault.{SyntaxFault}
 use Rattle.sisal_top.specs.declared.status.SyntaxFault.TheVariants as syntax
 
 -- these bytes are this unit, which nests at most 200 deep
@@ -27,23 +27,31 @@ pub record IsUnitOf (bytes : List ℕ) (u : tree.Unit) : Type 0 where
   pub spelled : Spells unit (placed 0 u.tokens.list) (outline u)
   pub shallow : depth_of u.items ≤ 200
 
--- these bytes have no tokens: there are too many, or the first fault of a token leads to this status
-abbrev pub HasNoTokens : List ℕ → Status → Type 0
-HasNoTokens bytes refusal = (e : LexFault) × (tokens_of bytes ≡ Err e) × (of_lexer e ≡ refusal)
+-- the most bytes of a text
+abbrev pub most_bytes : ℕ
+most_bytes = 4194304
+
+-- a text that is not too long
+abbrev pub Fits : List ℕ → Type 0
+Fits bytes = length bytes ≤ most_bytes
+
+-- these bytes have no tokens, and this is the first fault of one
+abbrev pub HasNoTokens : List ℕ → SyntaxFault → Type 0
+HasNoTokens bytes f = (e : LexFault) × (tokens_of bytes ≡ Err e) × (of_lexer e ≡ status.Syntax f)
 
 -- these tokens are no unit, or one that nests too deep
-abbrev pub IsBadUnit : List Token → Status → Type 0
-IsBadUnit ts (status.Syntax (syntax.Token number line)) = IsFirstBad ts number line
-IsBadUnit ts (status.Syntax (syntax.TooDeep line)) = IsTooDeep ts line
+abbrev pub IsBadUnit : List Token → SyntaxFault → Type 0
+IsBadUnit ts (syntax.Token number line) = IsFirstBad ts number line
+IsBadUnit ts (syntax.TooDeep line) = IsTooDeep ts line
 IsBadUnit ts _ = ⊥
 
 -- these bytes have tokens that are no unit
-abbrev pub HasNoUnit : List ℕ → Status → Type 0
-HasNoUnit bytes refusal = (tokens : Tokens) × (tokens_of bytes ≡ Ok tokens) × IsBadUnit tokens.list refusal
+abbrev pub HasNoUnit : List ℕ → SyntaxFault → Type 0
+HasNoUnit bytes f = (tokens : Tokens) × (tokens_of bytes ≡ Ok tokens) × IsBadUnit tokens.list f
 
--- this is why these bytes are refused
-abbrev pub IsRefused : List ℕ → Status → Type 0
-IsRefused bytes refusal = HasNoTokens bytes refusal ⊎ HasNoUnit bytes refusal
+-- this is why these bytes are no unit
+abbrev pub IsRefused : List ℕ → SyntaxFault → Type 0
+IsRefused bytes f = HasNoTokens bytes f ⊎ HasNoUnit bytes f
 
 -- `run` by one worker in the usual order, of the graphs as they are, without a trace
 abbrev pub IsPlain : RunSet → Type 0

@@ -1,5 +1,5 @@
 //! The call that does all that the program does.
-ghost use Rattle.std.specs.Prelude.{◌≡◌, ◌≢◌, ◌⊎◌, ◌↔◌, ℕ, List, false, take, map, Some, Ok, Err, IfOk, IfErr, OnOk, IsTrue};
+ghost use Rattle.std.specs.Prelude.{◌≡◌, ◌≢◌, ◌⊎◌, ◌↔◌, ◌<◌, ℕ, List, false, length, take, map, Some, Ok, Err, IfOk, IfErr, OnOk, IsTrue};
 ghost use Rattle.flow_io.specs.Bytes.{TakesOff, IsAtEnd, AddsOn};
 ghost use Rattle.flow_io.specs.Count.{HasRisen};
 ghost use Rattle.run_words.specs.Commands.{bytes_of};
@@ -7,8 +7,8 @@ ghost use Rattle.run_words.specs.declared.command.Command.TheVariants as command
 ghost use Rattle.sisal_top.specs.Answer.{Answers, Gives, IsUsage, Replies};
 ghost use Rattle.sisal_top.specs.Lines.{line_of};
 ghost use Rattle.sisal_top.specs.Outputs.{HasGraphs, RunsUnit};
-ghost use Rattle.sisal_top.specs.Program.{AskToRead, IsBuilt, IsPlain, IsRefused, ReadsText};
-ghost use Rattle.sisal_top.specs.Refusals.{IsEarly, IsOfBytes, IsReply, IsUnread};
+ghost use Rattle.sisal_top.specs.Program.{AskToRead, Fits, IsBuilt, IsPlain, ReadsText, most_bytes};
+ghost use Rattle.sisal_top.specs.Refusals.{IsEarly, IsOfBytes, IsOverrun, IsReply, IsUnread};
 
 use crate::front::typed;
 use crate::lines::report;
@@ -47,8 +47,10 @@ fn is_built(set: &CompileSet) -> bool
 /// Reads the text to its end.
 fn read<S: Source>(alloc: Global, text: &mut S) -> Result<Text, Status>
     ensures bytes { IfOk result (λ bytes. TakesOff (S.left text.old) bytes (S.left text.new)) }
+    ensures few { IfOk result Fits }
     ensures to_the_end { OnOk result (IsAtEnd (S.left text.new)) }
-    ensures too_long { result ≡ Err Status.TooLong → (told : List ℕ) → S.left text.old ≡ Some told → IsRefused told Status.TooLong }
+    ensures overrun { result ≡ Err Status.TooLong → IsOverrun (S.left text.old) (S.left text.new) }
+    ensures too_long { result ≡ Err Status.TooLong → (told : List ℕ) → S.left text.old ≡ Some told → most_bytes < length told }
     ensures fault { result ≡ Err Status.ReadFault → HasRisen (S.faults text.old) (S.faults text.new) }
     ensures no_fault { result ≢ Err Status.ReadFault → S.faults text.new ≡ S.faults text.old }
     ensures refused { IfErr result IsUnread }
@@ -65,6 +67,7 @@ fn read<S: Source>(alloc: Global, text: &mut S) -> Result<Text, Status>
 fn unit_of_program(alloc: Global, set: &RunSet, bytes: &[u8]) -> Result<Sound, Status>
     requires plain { IsPlain set.now }
     requires sisal { set.now.if1 ≡ false }
+    requires few { Fits bytes.now }
     ensures unit { IfOk result (HasGraphs bytes.now) }
     ensures refused { IfErr result (λ s. Replies (command.Run set.now) bytes.now (Err s)) }
     ensures of_bytes { IfErr result IsOfBytes }
@@ -78,6 +81,7 @@ fn unit_of_program(alloc: Global, set: &RunSet, bytes: &[u8]) -> Result<Sound, S
 /// The unit of graphs that a text is, as SISAL or as IF1, with the marks with which it runs.
 fn unit_to_run(alloc: Global, set: &RunSet, bytes: &[u8]) -> Result<Sound, Status>
     requires plain { IsPlain set.now }
+    requires few { Fits bytes.now }
     ensures unit { IfOk result (RunsUnit set.now.if1 bytes.now) }
     ensures refused { IfErr result (λ s. Replies (command.Run set.now) bytes.now (Err s)) }
     ensures of_bytes { IfErr result IsOfBytes }
@@ -92,7 +96,8 @@ fn unit_to_run(alloc: Global, set: &RunSet, bytes: &[u8]) -> Result<Sound, Statu
 
 /// What is printed of a run of the unit that a text is.
 fn results<G: Gate>(alloc: Global, set: &RunSet, bytes: &[u8], gate: &G) -> Result<Text, Status>
-    requires { IsPlain set.now }
+    requires plain { IsPlain set.now }
+    requires few { Fits bytes.now }
     ensures replies { Replies (command.Run set.now) bytes.now result }
     ensures of_bytes { IfErr result IsOfBytes }
 {
@@ -112,6 +117,7 @@ fn run_text<S: Source, G: Gate>(
     requires { IsPlain set.now }
     ensures replies { (told : List ℕ) → S.left text.old ≡ Some told → Replies (command.Run set.now) told result }
     ensures reply { IfErr result IsReply }
+    ensures overrun { result ≡ Err Status.TooLong → IsOverrun (S.left text.old) (S.left text.new) }
     ensures to_the_end { OnOk result (IsAtEnd (S.left text.new)) }
     ensures read { IfErr result (λ s. IsUnread s ⊎ IsAtEnd (S.left text.new)) }
     ensures fault { result ≡ Err Status.ReadFault → HasRisen (S.faults text.old) (S.faults text.new) }
@@ -123,6 +129,7 @@ fn run_text<S: Source, G: Gate>(
 
 /// What the program that a text is prints by the meaning of its source.
 fn meaning(alloc: Global, set: &MeanSet, bytes: &[u8]) -> Result<Text, Status>
+    requires few { Fits bytes.now }
     ensures replies { Replies (command.Mean set.now) bytes.now result }
     ensures of_bytes { IfErr result IsOfBytes }
 {
@@ -136,6 +143,7 @@ fn meaning(alloc: Global, set: &MeanSet, bytes: &[u8]) -> Result<Text, Status>
 fn mean<S: Source>(alloc: Global, set: &MeanSet, text: &mut S) -> Result<Text, Status>
     ensures replies { (told : List ℕ) → S.left text.old ≡ Some told → Replies (command.Mean set.now) told result }
     ensures reply { IfErr result IsReply }
+    ensures overrun { result ≡ Err Status.TooLong → IsOverrun (S.left text.old) (S.left text.new) }
     ensures to_the_end { OnOk result (IsAtEnd (S.left text.new)) }
     ensures read { IfErr result (λ s. IsUnread s ⊎ IsAtEnd (S.left text.new)) }
     ensures fault { result ≡ Err Status.ReadFault → HasRisen (S.faults text.old) (S.faults text.new) }
@@ -147,7 +155,8 @@ fn mean<S: Source>(alloc: Global, set: &MeanSet, text: &mut S) -> Result<Text, S
 
 /// What is printed of the graphs of the program that a text is.
 fn graphs(alloc: Global, set: &CompileSet, bytes: &[u8]) -> Result<Text, Status>
-    requires { IsBuilt set.now }
+    requires built { IsBuilt set.now }
+    requires few { Fits bytes.now }
     ensures replies { Replies (command.Compile set.now) bytes.now result }
     ensures of_bytes { IfErr result IsOfBytes }
 {
@@ -161,6 +170,7 @@ fn compile_text<S: Source>(alloc: Global, set: &CompileSet, text: &mut S) -> Res
     requires { IsBuilt set.now }
     ensures replies { (told : List ℕ) → S.left text.old ≡ Some told → Replies (command.Compile set.now) told result }
     ensures reply { IfErr result IsReply }
+    ensures overrun { result ≡ Err Status.TooLong → IsOverrun (S.left text.old) (S.left text.new) }
     ensures to_the_end { OnOk result (IsAtEnd (S.left text.new)) }
     ensures read { IfErr result (λ s. IsUnread s ⊎ IsAtEnd (S.left text.new)) }
     ensures fault { result ≡ Err Status.ReadFault → HasRisen (S.faults text.old) (S.faults text.new) }
@@ -172,6 +182,7 @@ fn compile_text<S: Source>(alloc: Global, set: &CompileSet, text: &mut S) -> Res
 
 /// The canonical text of the unit that a text is.
 fn written(alloc: Global, bytes: &[u8]) -> Result<Text, Status>
+    requires few { Fits bytes.now }
     ensures replies { Replies command.If1 bytes.now result }
     ensures of_bytes { IfErr result IsOfBytes }
 {
@@ -183,6 +194,7 @@ fn written(alloc: Global, bytes: &[u8]) -> Result<Text, Status>
 fn if1<S: Source>(alloc: Global, text: &mut S) -> Result<Text, Status>
     ensures replies { (told : List ℕ) → S.left text.old ≡ Some told → Replies command.If1 told result }
     ensures reply { IfErr result IsReply }
+    ensures overrun { result ≡ Err Status.TooLong → IsOverrun (S.left text.old) (S.left text.new) }
     ensures to_the_end { OnOk result (IsAtEnd (S.left text.new)) }
     ensures read { IfErr result (λ s. IsUnread s ⊎ IsAtEnd (S.left text.new)) }
     ensures fault { result ≡ Err Status.ReadFault → HasRisen (S.faults text.old) (S.faults text.new) }
@@ -199,11 +211,13 @@ fn perform<S: Source, G: Gate>(
     text: &mut S,
     gate: &G,
 ) -> Result<Text, Status>
-    ensures replies { (told : List ℕ) → S.left text.old ≡ Some told → Replies command told result }
+    ensures replies { (told : List ℕ) → (ReadsText command → S.left text.old ≡ Some told) → Replies command told result }
     ensures reply { IfErr result IsReply }
+    ensures overrun { result ≡ Err Status.TooLong → IsOverrun (S.left text.old) (S.left text.new) }
     ensures to_the_end { ReadsText command → OnOk result (IsAtEnd (S.left text.new)) }
     ensures read { ReadsText command → IfErr result (λ s. IsUnread s ⊎ IsAtEnd (S.left text.new)) }
     ensures unread { ¬ ReadsText command → S.left text.new ≡ S.left text.old }
+    ensures unfailed { ¬ ReadsText command → S.faults text.new ≡ S.faults text.old }
     ensures fault { result ≡ Err Status.ReadFault → HasRisen (S.faults text.old) (S.faults text.new) }
     ensures no_fault { result ≢ Err Status.ReadFault → S.faults text.new ≡ S.faults text.old }
 {
@@ -238,12 +252,14 @@ fn prepare<S: Source, G: Gate>(
     text: &mut S,
     gate: &G,
 ) -> Result<Text, Status>
-    ensures gives { (told : List ℕ) → S.left text.old ≡ Some told → Gives (bytes_of words.now) told result }
+    ensures gives { (told : List ℕ) → (AskToRead (bytes_of words.now) → S.left text.old ≡ Some told) → Gives (bytes_of words.now) told result }
     ensures usage { IfErr result (IsUsage (bytes_of words.now)) }
     ensures early { IfErr result IsEarly }
+    ensures overrun { result ≡ Err Status.TooLong → IsOverrun (S.left text.old) (S.left text.new) }
     ensures to_the_end { AskToRead (bytes_of words.now) → OnOk result (IsAtEnd (S.left text.new)) }
     ensures read { AskToRead (bytes_of words.now) → IfErr result (λ s. IsUnread s ⊎ IsAtEnd (S.left text.new)) }
     ensures unread { ¬ AskToRead (bytes_of words.now) → S.left text.new ≡ S.left text.old }
+    ensures unfailed { ¬ AskToRead (bytes_of words.now) → S.faults text.new ≡ S.faults text.old }
     ensures fault { result ≡ Err Status.ReadFault → HasRisen (S.faults text.old) (S.faults text.new) }
     ensures no_fault { result ≢ Err Status.ReadFault → S.faults text.new ≡ S.faults text.old }
 {
@@ -261,8 +277,9 @@ pub fn sisal<S: Source, O: Sink, E: Sink, G: Gate>(
     err: &mut E,
     gate: &G,
 ) -> Status
+    // Words that do not ask to read are answered so whatever the text is.
     ensures answers { (told : List ℕ)
-        → S.left text.old ≡ Some told
+        → (AskToRead (bytes_of words.now) → S.left text.old ≡ Some told)
         → Answers (bytes_of words.now) told result (O.taken out.old) (O.taken out.new) }
     ensures usage { IsUsage (bytes_of words.now) result }
     ensures read_fault { result ≡ Status.ReadFault → HasRisen (S.faults text.old) (S.faults text.new) }
@@ -271,11 +288,13 @@ pub fn sisal<S: Source, O: Sink, E: Sink, G: Gate>(
     ensures no_write_fault { result ≢ Status.WriteFault → O.faults out.new ≡ O.faults out.old }
     ensures prefix { result ≡ Status.WriteFault
         → (told : List ℕ)
-        → S.left text.old ≡ Some told
+        → (AskToRead (bytes_of words.now) → S.left text.old ≡ Some told)
         → ((printed : List ℕ) × Gives (bytes_of words.now) told (Ok printed) × ((n : ℕ) × AddsOn (O.taken out.old) (take n printed) (O.taken out.new))) }
     ensures untouched { IsEarly result → O.taken out.new ≡ O.taken out.old }
     ensures to_the_end { AskToRead (bytes_of words.now) → IsUnread result ⊎ IsAtEnd (S.left text.new) }
+    ensures too_long { result ≡ Status.TooLong → IsOverrun (S.left text.old) (S.left text.new) }
     ensures unread { ¬ AskToRead (bytes_of words.now) → S.left text.new ≡ S.left text.old }
+    ensures unfailed { ¬ AskToRead (bytes_of words.now) → S.faults text.new ≡ S.faults text.old }
 
     // The sink of errors takes the line of the status, which is empty after `Done`.
     ensures line { ¬ HasRisen (E.faults err.old) (E.faults err.new) → AddsOn (E.taken err.old) (line_of result) (E.taken err.new) }

@@ -2,7 +2,7 @@
 ghost use Rattle.std.specs.Prelude.{ℕ, List, IfOk, IfErr};
 ghost use Rattle.lowered_units.specs.Fitting.{IsFitting};
 ghost use Rattle.sisal_top.specs.Outputs.{HasProgram};
-ghost use Rattle.sisal_top.specs.Program.{IsUnitOf};
+ghost use Rattle.sisal_top.specs.Program.{Fits, IsUnitOf};
 ghost use Rattle.sisal_top.specs.Refusals.{IsCause, IsNoProgram};
 
 use crate::status::Status;
@@ -16,6 +16,7 @@ use typed_tree::Program;
 
 /// The unit that a text is.
 fn unit_of(alloc: Global, text: &[u8]) -> Result<Unit, Status>
+    requires { Fits text.now }
     ensures unit { IfOk result (IsUnitOf text.now) }
     ensures refused { IfErr result (IsCause text.now) }
 {
@@ -26,6 +27,7 @@ fn unit_of(alloc: Global, text: &[u8]) -> Result<Unit, Status>
 
 /// The typed program of the unit that a text is.
 pub fn typed(alloc: Global, text: &[u8]) -> Result<Program, Status>
+    requires { Fits text.now }
     ensures program { IfOk result (HasProgram text.now) }
     ensures fits { IfOk result IsFitting }
     ensures refused { IfErr result (IsNoProgram text.now) }

@@ -10,4 +10,4 @@ mod texts;
 
 pub use call::sisal;
 pub use lines::report;
-pub use status::{Status, SyntaxFault};
+pub use status::{CallFault, Status, SyntaxFault, TextFault, UnitFault, UsageFault};

@@ -4,13 +4,9 @@ ghost use Rattle.flow_io.specs.Bytes.{AddsOn};
 ghost use Rattle.flow_io.specs.Count.{HasRisen};
 ghost use Rattle.sisal_top.specs.Lines.{Takes, argument_line, if1_line, line_of, marks_line, node_line, numbered_line, placed_line, plain_line, syntax_line, usage_line, value_line};
 
-use crate::status::{Status, SyntaxFault};
+use crate::status::{CallFault, Status, SyntaxFault, TextFault, UnitFault, UsageFault};
 use flow_io::{Failed, Sink, write_all};
-use if1_graph::If1Fault;
 use itoa::Buffer;
-use mean_call::ArgumentFault;
-use run_words::WordFault;
-use value_text::ValueFault;
 
 /// Writes words.
 fn write_words<E: Sink>(err: &mut E, words: &[u8]) -> Result<(), Failed>
@@ -149,27 +145,26 @@ fn write_node<E: Sink>(err: &mut E, words: &[u8], graph: u32, node: u32) -> Resu
 }
 
 /// Writes the line of a fault of an IF1 text or its unit.
-fn write_if1<E: Sink>(err: &mut E, fault: If1Fault) -> Result<(), Failed>
+fn write_if1<E: Sink>(err: &mut E, fault: UnitFault) -> Result<(), Failed>
     ensures takes { Takes result (E.taken err.old) (if1_line fault) (E.taken err.new) }
     ensures fault { OnErr result (HasRisen (E.faults err.old) (E.faults err.new)) }
     ensures no_fault { OnOk result (E.faults err.new ≡ E.faults err.old) }
 {
     match fault {
-        If1Fault::BadLine(line) => write_numbered(err, b"sisal: if1 1 line ", u64::from(line)),
-        If1Fault::Unknown(line) => write_numbered(err, b"sisal: if1 2 line ", u64::from(line)),
-        If1Fault::Real(line) => write_numbered(err, b"sisal: if1 3 line ", u64::from(line)),
-        If1Fault::Unclosed => write_words(err, b"sisal: if1 4\n"),
-        If1Fault::Cycle { graph, node } => write_node(err, b"sisal: if1 5 graph ", graph, node),
-        If1Fault::Ports { graph, node } => write_node(err, b"sisal: if1 6 graph ", graph, node),
-        If1Fault::TypeOf { graph, node } => write_node(err, b"sisal: if1 7 graph ", graph, node),
-        If1Fault::Marks {
+        UnitFault::BadLine(line) => write_numbered(err, b"sisal: if1 1 line ", u64::from(line)),
+        UnitFault::Unknown(line) => write_numbered(err, b"sisal: if1 2 line ", u64::from(line)),
+        UnitFault::Real(line) => write_numbered(err, b"sisal: if1 3 line ", u64::from(line)),
+        UnitFault::Unclosed => write_words(err, b"sisal: if1 4\n"),
+        UnitFault::Cycle { graph, node } => write_node(err, b"sisal: if1 5 graph ", graph, node),
+        UnitFault::Ports { graph, node } => write_node(err, b"sisal: if1 6 graph ", graph, node),
+        UnitFault::TypeOf { graph, node } => write_node(err, b"sisal: if1 7 graph ", graph, node),
+        UnitFault::Marks {
             graph,
             node,
             port,
             reader,
         } => write_marks(err, graph, node, port, reader),
-        If1Fault::TooMany(line) => write_numbered(err, b"sisal: if1 9 line ", u64::from(line)),
-        If1Fault::NoMemory => write_words(err, b"sisal: no memory\n"),
+        UnitFault::TooMany(line) => write_numbered(err, b"sisal: if1 9 line ", u64::from(line)),
     }
 }
 
@@ -189,53 +184,51 @@ fn write_typing<E: Sink>(err: &mut E, rule: u8, line: u32) -> Result<(), Failed>
 }
 
 /// Writes the line of an argument that is no value of its parameter's type.
-fn write_value<E: Sink>(err: &mut E, argument: usize, fault: ValueFault) -> Result<(), Failed>
+fn write_value<E: Sink>(err: &mut E, argument: usize, fault: TextFault) -> Result<(), Failed>
     ensures takes { Takes result (E.taken err.old) (value_line argument fault) (E.taken err.new) }
     ensures fault { OnErr result (HasRisen (E.faults err.old) (E.faults err.new)) }
     ensures no_fault { OnOk result (E.faults err.new ≡ E.faults err.old) }
 {
     let words = b"sisal: argument ";
     match fault {
-        ValueFault::BadSpelling(byte) => {
+        TextFault::BadSpelling(byte) => {
             write_placed(err, words, argument as u64, b" value 1 byte ", byte as u64)
         }
-        ValueFault::WrongShape(byte) => {
+        TextFault::WrongShape(byte) => {
             write_placed(err, words, argument as u64, b" value 2 byte ", byte as u64)
         }
-        ValueFault::TooLarge => write_placed(err, words, argument as u64, b" value ", 3),
-        ValueFault::NoMemory => write_words(err, b"sisal: no memory\n"),
+        TextFault::TooLarge => write_placed(err, words, argument as u64, b" value ", 3),
     }
 }
 
 /// Writes the line of a fault of the entry or an argument.
-fn write_argument<E: Sink>(err: &mut E, fault: ArgumentFault) -> Result<(), Failed>
+fn write_argument<E: Sink>(err: &mut E, fault: CallFault) -> Result<(), Failed>
     ensures takes { Takes result (E.taken err.old) (argument_line fault) (E.taken err.new) }
     ensures fault { OnErr result (HasRisen (E.faults err.old) (E.faults err.new)) }
     ensures no_fault { OnOk result (E.faults err.new ≡ E.faults err.old) }
 {
     match fault {
-        ArgumentFault::Entry => write_words(err, b"sisal: argument entry\n"),
-        ArgumentFault::Count { wanted, given } => {
+        CallFault::Entry => write_words(err, b"sisal: argument entry\n"),
+        CallFault::Count { wanted, given } => {
             let words = b"sisal: argument count wanted ";
             write_placed(err, words, wanted as u64, b" given ", given as u64)
         }
-        ArgumentFault::Value { argument, fault } => write_value(err, argument, fault),
+        CallFault::Value { argument, fault } => write_value(err, argument, fault),
     }
 }
 
 /// Writes the line of a fault of the words.
-fn write_usage<E: Sink>(err: &mut E, fault: WordFault) -> Result<(), Failed>
+fn write_usage<E: Sink>(err: &mut E, fault: UsageFault) -> Result<(), Failed>
     ensures takes { Takes result (E.taken err.old) (usage_line fault) (E.taken err.new) }
     ensures fault { OnErr result (HasRisen (E.faults err.old) (E.faults err.new)) }
     ensures no_fault { OnOk result (E.faults err.new ≡ E.faults err.old) }
 {
     match fault {
-        WordFault::Unknown(word) => write_numbered(err, b"sisal: usage 2 word ", word as u64),
-        WordFault::Repeated(word) => write_numbered(err, b"sisal: usage 3 word ", word as u64),
-        WordFault::NotANumber(word) => write_numbered(err, b"sisal: usage 4 word ", word as u64),
-        WordFault::OutOfRange(word) => write_numbered(err, b"sisal: usage 5 word ", word as u64),
-        WordFault::Missing => write_words(err, b"sisal: usage 1\n"),
-        WordFault::NoMemory => write_words(err, b"sisal: usage 1\n"),
+        UsageFault::Unknown(word) => write_numbered(err, b"sisal: usage 2 word ", word as u64),
+        UsageFault::Repeated(word) => write_numbered(err, b"sisal: usage 3 word ", word as u64),
+        UsageFault::NotANumber(word) => write_numbered(err, b"sisal: usage 4 word ", word as u64),
+        UsageFault::OutOfRange(word) => write_numbered(err, b"sisal: usage 5 word ", word as u64),
+        UsageFault::Missing => write_words(err, b"sisal: usage 1\n"),
     }
 }
 
@@ -284,7 +277,7 @@ fn write_line<E: Sink>(err: &mut E, status: &Status) -> Result<(), Failed>
         Status::TurnLimit => write_words(err, b"sisal: turn limit\n"),
         Status::TooLong => write_words(err, b"sisal: text too long\n"),
         Status::Later => write_words(err, b"sisal: not built yet\n"),
-        _ => write_words(err, b""),
+        Status::Done => write_words(err, b""),
     }
 }
 

@@ -23,3 +23,6 @@ returns-in-TooLong-clause-takes g c = rw c.in-TooLong.is c.write_words-in-TooLon
 
 pub returns-in-Later-clause-takes : goal.returns-in-Later-clause-takes
 returns-in-Later-clause-takes g c = rw c.in-Later.is c.write_words-in-Later.ensures.takes
+
+pub returns-in-Done-clause-takes : goal.returns-in-Done-clause-takes
+returns-in-Done-clause-takes g c = rw c.in-Done.is c.write_words-in-Done.ensures.takes

@@ -14,6 +14,3 @@ returns-in-OutOfRange-clause-takes g c = rw c.in-OutOfRange.is c.write_numbered-
 
 pub returns-in-Missing-clause-takes : goal.returns-in-Missing-clause-takes
 returns-in-Missing-clause-takes g c = rw c.in-Missing.is c.write_words.ensures.takes
-
-pub returns-in-NoMemory-clause-takes : goal.returns-in-NoMemory-clause-takes
-returns-in-NoMemory-clause-takes g c = rw c.in-NoMemory.is c.write_words-in-NoMemory.ensures.takes

@@ -8,6 +8,3 @@ returns-in-WrongShape-clause-takes g c = rw c.in-WrongShape.is c.write_placed-in
 
 pub returns-in-TooLarge-clause-takes : goal.returns-in-TooLarge-clause-takes
 returns-in-TooLarge-clause-takes g c = rw c.in-TooLarge.is c.write_placed-in-TooLarge.ensures.takes
-
-pub returns-in-NoMemory-clause-takes : goal.returns-in-NoMemory-clause-takes
-returns-in-NoMemory-clause-takes g c = rw c.in-NoMemory.is c.write_words.ensures.takes
