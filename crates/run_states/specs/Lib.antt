@@ -1,0 +1,15 @@
+pub mod Standing
+pub mod Phases
+pub mod Runs
+pub mod Events
+pub mod Waiting
+pub mod Paths
+pub mod Takers
+pub mod Graphs
+pub mod Values
+pub mod Storing
+pub mod Moving
+pub mod Leasing
+pub mod Pacing
+pub mod Sliced
+pub mod Laws
