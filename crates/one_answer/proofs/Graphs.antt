@@ -1,0 +1,23 @@
+-- A typed program has one unit of graphs.
+use Rattle.std.proofs.Common.{◌≡◌, ◌∙◌, ℕ, Bool, true, false, List, Option, Some, None, sym}
+use Rattle.compile_call.specs.Calls.{IsCompiled, PrintsBy}
+use Rattle.compile_call.specs.Laws.{IsOneText}
+use Rattle.lowering.specs.TooMany.{too_many}
+use Rattle.lowered_units.specs.Laws.{IsOneUnit}
+use Rattle.typed_tree.specs.declared.program.Program.{Program}
+use Rattle.one_answer.specs.Laws.{AreGraphsOnce}
+
+within_either : (o : Option ℕ) (line : ℕ) → o ≡ None → o ≡ Some line → ⊥
+within_either o line a b = let e : None ≡ Some line = sym a ∙ b in cc
+
+compiled : (dot why : Bool) (p : Program) (t : List ℕ) → dot ≡ false → why ≡ false → PrintsBy dot why p t → IsCompiled p t
+compiled true why p t d w x = cc
+compiled false true p t d w x = cc
+compiled false false p t d w x = x
+
+pub graphs_once : IsOneUnit → IsOneText → AreGraphsOnce
+graphs_once units texts = record {
+  units = λ p u v a b. units p u v a.translated b.translated;
+  texts = λ p set s t d w a b. texts p s t (compiled set.dot set.why p s d w a) (compiled set.dot set.why p t d w b);
+  within = λ p u line a b. within_either (too_many p) line a.within b;
+}

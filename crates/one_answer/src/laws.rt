@@ -1,0 +1,53 @@
+//! The laws.
+ghost use Rattle.one_answer.specs.Laws.{AreGraphsOnce, CompleteLaw, IsRunOnce, OneAnswerLaw};
+
+use compile_call::a_program_has_one_text;
+use if1_marks::no_marks_are_sound;
+use if1_read::accepted_has_no_fault;
+use lowered_units::a_program_is_one_unit;
+use one_meaning::{a_program_answers_once, typed_trees_answer_alike, words_are_read_or_refused};
+use run_call::{no_run_passes_the_limit, words_have_one_run};
+use run_words::words_have_one_meaning;
+use sisal_grammar::one_unit;
+use typing_unique::a_unit_that_breaks_a_rule_is_no_program;
+
+/// A unit of graphs has one answer to the words of `run`.
+pub fn a_run_answers_once()
+    ensures { IsRunOnce }
+{
+    words_have_one_run();
+    no_run_passes_the_limit();
+    words_are_read_or_refused();
+}
+
+/// A typed program has one unit of graphs and one text of it, or is past a limit.
+pub fn graphs_answer_once()
+    ensures { AreGraphsOnce }
+{
+    a_program_is_one_unit();
+    a_program_has_one_text();
+}
+
+/// Words and the bytes of a text have one answer, but for want of memory and faults of the source.
+/// Of an IF1 text this is said where it gives at most one unit, and not of `run` and `compile` of a
+/// SISAL text.
+pub fn words_and_texts_have_one_answer()
+    ensures { OneAnswerLaw }
+{
+    words_have_one_meaning();
+    one_unit();
+    a_unit_that_breaks_a_rule_is_no_program();
+    a_program_answers_once();
+    typed_trees_answer_alike();
+    accepted_has_no_fault();
+    no_marks_are_sound();
+    a_run_answers_once();
+}
+
+/// Where words and a text have a result, it is printed, unless memory is wanting or the outside
+/// failed.
+pub fn results_are_printed()
+    ensures { CompleteLaw }
+{
+    words_and_texts_have_one_answer();
+}
