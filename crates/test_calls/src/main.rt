@@ -12,7 +12,7 @@
 //! must print comes from a separate implementation.
 #![tactic(auto)]
 
-ghost use Rattle.std.specs.Prelude.{◌<◌};
+ghost use Rattle.std.specs.Prelude.{◌≡◌, ◌<◌};
 
 use flow_io::{MemSink, MemSource, Plan};
 use flow_value::{NoMemory, Seq};
