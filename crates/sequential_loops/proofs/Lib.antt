@@ -7,3 +7,4 @@ pub mod PutSteps
 pub mod KeepSteps
 pub mod SpreadSteps
 pub mod EachSteps
+pub mod OverSteps

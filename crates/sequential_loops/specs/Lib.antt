@@ -5,3 +5,4 @@ pub mod Putting
 pub mod Spreading
 pub mod Iterating
 pub mod Moving
+pub mod Keeping
