@@ -18,11 +18,15 @@ use run_cells::{Boxed, Cell, Seen, element};
 use std::alloc::Global;
 use step_code::Collect;
 
-/// A collection of no values.
-pub fn nothing(alloc: Global, collect: Collect) -> Result<Cell, NoMemory>
+/// A collection of no values, with room for so many where each row puts one.
+pub fn nothing(alloc: Global, collect: Collect, room: usize) -> Result<Cell, NoMemory>
     ensures { IfOk result (λ c. held c ≡ stored.Owns (none_in (collect_in collect))) }
 {
     match collect {
+        Collect::Sifts { mask: None, .. } => {
+            let none = Val::Stream(Seq::with_room(alloc, room)?);
+            Ok(Cell::Many(Boxed::new(alloc, none)?))
+        }
         Collect::Sifts { .. } => {
             let none = Val::Stream(Seq::new(alloc));
             Ok(Cell::Many(Boxed::new(alloc, none)?))

@@ -163,7 +163,7 @@ fn started(
     ensures size { length cells.new.items ≡ length cells.old.items }
 {
     if begins {
-        let none = nothing(alloc, collect)?;
+        let none = nothing(alloc, collect, 0)?;
         Ok(none)
     } else {
         Ok(lift(cells, place))
