@@ -1,6 +1,6 @@
-mod Crossing
-mod Fields
+pub mod Crossing
+pub mod Fields
 pub mod Lists
-mod Rows
+pub mod Rows
 mod Shells
 pub mod Words

@@ -1,0 +1,6 @@
+mod AtPlaces
+mod Crossing
+mod Fields
+mod Lending
+pub mod Rows
+mod Vecs

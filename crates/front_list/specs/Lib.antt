@@ -1,0 +1,4 @@
+pub mod Ownership
+pub mod Places
+pub mod Rows
+pub mod formers
