@@ -1,4 +1,5 @@
 //! The work of the crate `bench_places` with a `Vec` of an enum of 40 bytes.
+use std::collections::VecDeque;
 use std::env;
 use std::hint::black_box;
 
@@ -35,12 +36,22 @@ fn change_ends(mut v: Vec<Val>, steps: i64) -> Vec<Val> {
     v
 }
 
+fn change_front(v: Vec<Val>, steps: i64) -> Vec<Val> {
+    let mut q = VecDeque::from(v);
+    for i in 0..steps {
+        q.push_front(Val::Int(black_box(i)));
+        black_box(q.pop_front());
+    }
+    Vec::from(q)
+}
+
 fn main() {
     assert!(std::mem::size_of::<Val>() == 40);
-    let (mut ends, mut count, mut steps) = (false, 4, SHORT);
+    let (mut ends, mut front, mut count, mut steps) = (false, false, 4, SHORT);
     for arg in env::args() {
         match arg.as_str() {
             "ends" => ends = true,
+            "front" => front = true,
             "some" => count = 4096,
             "many" => count = 4_000_000,
             "long" => steps = LONG,
@@ -48,7 +59,13 @@ fn main() {
         }
     }
     let array = vec![Val::Int(7); count];
-    let v = if ends { change_ends(array, steps) } else { replace_often(array, steps) };
+    let v = if ends {
+        change_ends(array, steps)
+    } else if front {
+        change_front(array, steps)
+    } else {
+        replace_often(array, steps)
+    };
     let second = match v[1] {
         Val::Int(n) => n,
         _ => 0,

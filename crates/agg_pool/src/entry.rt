@@ -8,7 +8,7 @@ ghost use Rattle.segment.specs.Runs.{part, spliced};
 ghost use Rattle.agg_pool.specs.Entries.{IsWholeAnd, IfWhole, IsPartsAnd, IfParts, IsIdle};
 ghost use Rattle.agg_pool.specs.declared.entry.Entry.TheVariants as entry;
 
-use flow_value::{Seq, Span, Val};
+use flow_value::{Items, Span, Val};
 use lease::{Lease, Owner};
 use segment::{Room, Segment};
 use std::marker::Model;
@@ -40,7 +40,7 @@ impl Building {
         ensures none_out { result.out ≡ 0 }
     {
         let Building { room, mut place } = self;
-        let items = Seq::from_vec(room.seal());
+        let items = Items::from_vec(room.seal());
         drop(Box::replace(&mut place, Val::Arr(Span::made(lo, items))));
         Owner::new(place)
     }

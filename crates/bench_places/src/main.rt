@@ -1,13 +1,13 @@
 //! Updates in place, for a script to time. It prints what was done.
 //!
-//! Arguments: what to do (`replace`, or `ends`), how many elements there are (`few`, `some` or
+//! Arguments: what to do (`replace`, `ends` or `front`), how many elements there are (`few`, `some` or
 //! `many`), and `long` for much of it.
 #![tactic(auto)]
 
 use flow_value::{NoMemory, Operand, Shape, Val};
 use if1_graph::Simple;
 use node_ops::fire_one;
-use place_ops::{add_high_taken, fire_taken, update_taken};
+use place_ops::{add_high_taken, extend_taken, fire_taken, update_taken};
 use std::alloc::Global;
 use std::{env, io};
 
@@ -21,6 +21,8 @@ enum Work {
     Replace,
     // An element is added at the end and taken off again.
     Ends,
+    // An element is added at the front and taken off again.
+    Front,
 }
 
 /// An array of so many sevens from 1.
@@ -50,6 +52,16 @@ fn change_ends(array: Val, steps: i64) -> Result<Val, NoMemory> {
     Ok(array)
 }
 
+fn change_front(alloc: Global, array: Val, steps: i64) -> Result<Val, NoMemory> {
+    let mut array = array;
+    for i in 0..steps {
+        let mut ins = [Operand::Owned(Val::Int(i))];
+        extend_taken(alloc, Simple::AAddL, &mut array, &mut ins)?;
+        fire_taken(Simple::ARemL, &mut array, &mut []);
+    }
+    Ok(array)
+}
+
 /// The second element and the number of elements.
 fn told(array: &Val) -> (i64, usize) {
     match array {
@@ -66,6 +78,7 @@ fn run(alloc: Global, work: Work, count: i64, steps: i64) -> Result<(i64, usize)
     let changed = match work {
         Work::Replace => replace_often(array, steps),
         Work::Ends => change_ends(array, steps)?,
+        Work::Front => change_front(alloc, array, steps)?,
     };
     Ok(told(&changed))
 }
@@ -77,6 +90,7 @@ fn main(rt: HostRuntime) -> io::Result<()> {
     for arg in env::args(&rt)? {
         match arg.as_str() {
             "ends" => work = Work::Ends,
+            "front" => work = Work::Front,
             "some" => count = 4096,
             "many" => count = 4_000_000,
             "long" => steps = LONG,

@@ -3,6 +3,7 @@ ghost use Rattle.std.specs.Prelude.{◌≡◌};
 ghost use Rattle.mean_call.specs.declared.fault.Refusal.TheVariants as refusal;
 
 use flow_value::{Name, NoMemory};
+use std::alloc::AllocError;
 use value_text::ValueFault;
 
 /// Why the entry or an argument is refused.
@@ -37,6 +38,14 @@ pub enum Refusal {
     TurnLimit,
     /// Want of memory.
     NoMemory,
+}
+
+impl From<AllocError> for Refusal {
+    ghost from_gives = { λ _ r. r ≡ refusal.NoMemory };
+
+    fn from(_e: AllocError) -> Refusal {
+        Refusal::NoMemory
+    }
 }
 
 impl From<NoMemory> for Refusal {

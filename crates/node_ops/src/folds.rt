@@ -118,8 +118,8 @@ fn fold_all(alloc: Global, folding: Folding, lo: i64, items: Items) -> Result<Va
     ensures { IfOk result (λ v. v ≡ fold_value folding lo (each_kept items)) }
 {
     let mut clause = Clause::new(alloc, folding);
-    let mut values = items.into_vec().into_iter();
-    while let Some(value) = values.next() {
+    let mut values = items;
+    while let Some(value) = values.take_first() {
         clause.put(value, Keep::Kept)?;
     }
     Ok(clause.done(lo))
@@ -135,9 +135,9 @@ fn fold_masked(
     ensures { IfOk result (λ v. v ≡ fold_value folding lo (masked items masks.now)) }
 {
     let mut clause = Clause::new(alloc, folding);
-    let mut values = items.into_vec().into_iter();
+    let mut values = items;
     for mask in masks {
-        match values.next() {
+        match values.take_first() {
             Some(value) => clause.put(value, keep(Masking::When, mask))?,
             None => return Ok(clause.done(lo)),
         }

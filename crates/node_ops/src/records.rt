@@ -56,13 +56,11 @@ fn only_item(items: Items) -> Option<Val>
 pub fn stream_from(alloc: Global, ins: &mut [Operand<'_>]) -> Result<Val, NoMemory>
     ensures { IfOk result (λ v. v ≡ single_value Single.Streamed (map operand_value ins.old)) }
 {
-    let mut items = values(alloc, ins)?.into_vec();
-    if items.is_empty() {
-        return Ok(Val::Err(Cause::Explicit));
-    }
-    match items.remove(0) {
-        Val::Err(cause) => Ok(Val::Err(cause)),
-        _ => Ok(stream_of(Items::from_vec(items))),
+    let mut items = values(alloc, ins)?;
+    match items.take_first() {
+        None => Ok(Val::Err(Cause::Explicit)),
+        Some(Val::Err(cause)) => Ok(Val::Err(cause)),
+        Some(_) => Ok(stream_of(items)),
     }
 }
 

@@ -67,9 +67,9 @@ fn before_first(a: Array, v: Val) -> Result<Val, NoMemory>
     }
     match lo.checked_sub(1) {
         Some(lower) => {
-            let mut longer = items.into_vec();
-            longer.insert(0, v)?;
-            Ok(array_of(lower, Items::from_vec(longer)))
+            let mut longer = items;
+            longer.add_first(v)?;
+            Ok(array_of(lower, longer))
         }
         None => Ok(Val::Err(Cause::Bounds)),
     }

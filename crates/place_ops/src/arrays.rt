@@ -130,19 +130,11 @@ fn part(items: Items, from: usize, count: usize) -> Items
     requires { from + count ≤ length items }
     ensures { result ≡ take count (drop from items) }
 {
-    let mut kept = items.into_vec();
+    let mut kept = items;
+    let _length = kept.len();
     kept.truncate(from + count);
-    cut_front(&mut kept, from);
-    Items::from_vec(kept)
-}
-
-fn cut_front(items: &mut Vec<Val>, from: usize)
-    requires { from ≤ length items.old.items }
-    ensures { items.new.items ≡ drop from items.old.items }
-{
-    if from > 0 {
-        drop(items.drain(..from));
-    }
+    kept.drop_first(from);
+    kept
 }
 
 // ---- the operands by their kinds

@@ -131,7 +131,7 @@ fn behind_first(items: Items) -> Items
     requires { 0 < length items }
     ensures { result ≡ drop 1 items }
 {
-    let mut kept = items.into_vec();
-    drop(kept.remove(0));
-    Items::from_vec(kept)
+    let mut kept = items;
+    kept.drop_first(1);
+    kept
 }

@@ -2,24 +2,24 @@
 ghost use Rattle.std.specs.Prelude.{◌≡◌, ◌∷◌, [], ◌++◌, IfOk, OnOk};
 ghost use Rattle.flow_value.specs.declared.value.Val.TheVariants as val;
 
-use flow_value::{Array, Items, NoMemory, Seq, Val, copy};
+use flow_value::{Array, Items, NoMemory, Val, copy};
 use std::alloc::Global;
 
 /// Equal values, in the same order.
 pub fn copies_of(alloc: Global, items: &[Val]) -> Result<Items, NoMemory>
     ensures { IfOk result (λ vs. vs ≡ items.now) }
 {
-    let mut copies = Vec::with_capacity(alloc, items.len())?;
+    let mut copies = Items::with_room(alloc, items.len())?;
     for item in items {
         put_copy(alloc, &mut copies, item)?;
     }
-    Ok(Seq::from_vec(copies))
+    Ok(copies)
 }
 
 /// Puts a copy of a value behind others; an integer goes there at once where there is room.
 #[inline(always)]
-fn put_copy(alloc: Global, copies: &mut Vec<Val>, item: &Val) -> Result<(), NoMemory>
-    ensures { OnOk result (copies.new.items ≡ copies.old.items ++ item.now ∷ []) }
+fn put_copy(alloc: Global, copies: &mut Items, item: &Val) -> Result<(), NoMemory>
+    ensures { OnOk result (copies.new ≡ copies.old ++ item.now ∷ []) }
 {
     match item {
         Val::Int(n) => put_int(copies, *n),
@@ -29,51 +29,46 @@ fn put_copy(alloc: Global, copies: &mut Vec<Val>, item: &Val) -> Result<(), NoMe
 }
 
 #[inline(always)]
-fn put_int(copies: &mut Vec<Val>, n: i64) -> Result<(), NoMemory>
-    ensures { OnOk result (copies.new.items ≡ copies.old.items ++ val.Int n ∷ []) }
+fn put_int(copies: &mut Items, n: i64) -> Result<(), NoMemory>
+    ensures { OnOk result (copies.new ≡ copies.old ++ val.Int n ∷ []) }
 {
-    if copies.len() < copies.capacity() {
-        copies.push_reserved(Val::Int(n));
-        Ok(())
-    } else {
-        copies.push(Val::Int(n))?;
-        Ok(())
-    }
+    copies.add(Val::Int(n))?;
+    Ok(())
 }
 
 #[inline(never)]
-fn put_any(alloc: Global, copies: &mut Vec<Val>, item: &Val) -> Result<(), NoMemory>
-    ensures { OnOk result (copies.new.items ≡ copies.old.items ++ item.now ∷ []) }
+fn put_any(alloc: Global, copies: &mut Items, item: &Val) -> Result<(), NoMemory>
+    ensures { OnOk result (copies.new ≡ copies.old ++ item.now ∷ []) }
 {
     let value = copy(alloc, item)?;
-    copies.push(value)?;
+    copies.add(value)?;
     Ok(())
 }
 
 // ---- arrays among them
 
 #[inline(never)]
-fn put_row(alloc: Global, copies: &mut Vec<Val>, row: &Array) -> Result<(), NoMemory>
-    ensures { OnOk result (copies.new.items ≡ copies.old.items ++ val.Arr row.now ∷ []) }
+fn put_row(alloc: Global, copies: &mut Items, row: &Array) -> Result<(), NoMemory>
+    ensures { OnOk result (copies.new ≡ copies.old ++ val.Arr row.now ∷ []) }
 {
     let items = copies_in_row(alloc, row.as_slice())?;
-    copies.push(Val::Arr(Array::made(row.lo(), items)))?;
+    copies.add(Val::Arr(Array::made(row.lo(), items)))?;
     Ok(())
 }
 
 fn copies_in_row(alloc: Global, items: &[Val]) -> Result<Items, NoMemory>
     ensures { IfOk result (λ vs. vs ≡ items.now) }
 {
-    let mut copies = Vec::with_capacity(alloc, items.len())?;
+    let mut copies = Items::with_room(alloc, items.len())?;
     for item in items {
         put_in_row(alloc, &mut copies, item)?;
     }
-    Ok(Seq::from_vec(copies))
+    Ok(copies)
 }
 
 #[inline(always)]
-fn put_in_row(alloc: Global, copies: &mut Vec<Val>, item: &Val) -> Result<(), NoMemory>
-    ensures { OnOk result (copies.new.items ≡ copies.old.items ++ item.now ∷ []) }
+fn put_in_row(alloc: Global, copies: &mut Items, item: &Val) -> Result<(), NoMemory>
+    ensures { OnOk result (copies.new ≡ copies.old ++ item.now ∷ []) }
 {
     match item {
         Val::Int(n) => put_int(copies, *n),

@@ -13,7 +13,7 @@ ghost use Rattle.sequential_loops.specs.Behind.{behind_held, failing_held};
 
 use crate::columns::value_copied;
 use crate::lengths::places_in;
-use flow_value::{Cause, Items, NoMemory, Seq, Val};
+use flow_value::{Cause, Items, NoMemory, Val};
 use run_cells::{Boxed, Cell, Seen, element};
 use std::alloc::Global;
 use step_code::Collect;
@@ -28,7 +28,7 @@ pub fn nothing(alloc: Global, collect: Collect, room: usize) -> Result<Cell, NoM
             Ok(Cell::Many(Boxed::new(alloc, none)?))
         }
         Collect::Sifts { .. } => {
-            let none = Val::Stream(Seq::new(alloc));
+            let none = Val::Stream(Items::new(alloc));
             Ok(Cell::Many(Boxed::new(alloc, none)?))
         }
         Collect::Final { .. } => Ok(Cell::Error(Cause::Empty)),
@@ -89,7 +89,7 @@ fn range_with(alloc: Global, many: u32, lo: i64, v: Val) -> Result<Cell, NoMemor
 fn list_of(alloc: Global, multiple: Seen<'_>) -> Result<Items, NoMemory>
     ensures { IfOk result (λ xs. xs ≡ items (seen_value multiple.entry)) }
 {
-    let mut list = Seq::new(alloc);
+    let mut list = Items::new(alloc);
     for place in 0..places_in(multiple) {
         let value = value_copied(alloc, element(multiple, place))?;
         list.add(value)?;

@@ -171,7 +171,8 @@ fn choose<'a>(
 fn first_value(values: Items) -> Val
     ensures { result ≡ value_at values 0 }
 {
-    match values.into_vec().into_iter().next() {
+    let mut left = values;
+    match left.take_first() {
         Some(v) => v,
         None => Val::Err(Cause::Explicit),
     }

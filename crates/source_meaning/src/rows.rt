@@ -1,6 +1,5 @@
 //! The clauses of a loop.
 ghost use Rattle.std.specs.Prelude.{◌≡◌, ◌+◌, List, ◌∷◌, drop, IfOk, OnOk};
-ghost use Rattle.std.specs.Vec.Iter.{into_iter_items};
 ghost use Rattle.loop_folds.specs.Clauses.{Cell};
 ghost use Rattle.loop_folds.specs.Masks.{keep_of};
 ghost use Rattle.meaning.specs.Rows.{no_rows, span, with_row, made};
@@ -10,7 +9,6 @@ ghost use Rattle.source_meaning.specs.Loops.{with_cells_from};
 use flow_value::{Cause, Items, NoMemory, Val};
 use loop_folds::{Clause, Keep, Masking, keep};
 use std::alloc::Global;
-use std::vec::IntoIter;
 use typed_tree::ClauseForm;
 
 /// The clauses of a loop before its first place.
@@ -26,10 +24,10 @@ pub fn no_rows(alloc: Global, forms: &[ClauseForm]) -> Result<Vec<Clause>, NoMem
 
 /// The value of a clause at a place, and what its mask says of it, from the front of the values
 /// that are left.
-fn next_cell(left: &mut IntoIter<Val>, masking: Masking) -> (Val, Keep)
-    ensures value { result.0 ≡ value_at (into_iter_items left.old) 0 }
-    ensures said { result.1 ≡ keep_of masking (value_at (into_iter_items left.old) 1) }
-    ensures left { into_iter_items left.new ≡ drop (span masking) (into_iter_items left.old) }
+fn next_cell(left: &mut Items, masking: Masking) -> (Val, Keep)
+    ensures value { result.0 ≡ value_at left.old 0 }
+    ensures said { result.1 ≡ keep_of masking (value_at left.old 1) }
+    ensures left { left.new ≡ drop (span masking) left.old }
 {
     let v = next_value(left);
     match masking {
@@ -42,11 +40,11 @@ fn next_cell(left: &mut IntoIter<Val>, masking: Masking) -> (Val, Keep)
 }
 
 /// The first of the values that are left.
-fn next_value(left: &mut IntoIter<Val>) -> Val
-    ensures value { result ≡ value_at (into_iter_items left.old) 0 }
-    ensures left { into_iter_items left.new ≡ drop 1 (into_iter_items left.old) }
+fn next_value(left: &mut Items) -> Val
+    ensures value { result ≡ value_at left.old 0 }
+    ensures left { left.new ≡ drop 1 left.old }
 {
-    match left.next() {
+    match left.take_first() {
         Some(v) => v,
         None => Val::Err(Cause::Explicit),
     }
@@ -70,7 +68,7 @@ pub fn add_row(
 ) -> Result<(), NoMemory>
     ensures { OnOk result (clauses.new.items ≡ with_row forms.now clauses.old.items values) }
 {
-    let mut left = values.into_vec().into_iter();
+    let mut left = values;
     for (place, form) in forms.iter().enumerate() {
         let (v, said) = next_cell(&mut left, form.masking);
         put_at(clauses, place, v, said)?;

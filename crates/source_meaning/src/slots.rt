@@ -38,7 +38,7 @@ pub fn add_values(items: &mut Items, given: Given) -> Result<(), NoMemory>
 {
     match given {
         Given::Nothing => Ok(()),
-        Given::One(v) => items.add(v),
+        Given::One(v) => Ok(items.add(v)?),
         Given::Many(more) => match items.append(more) {
             Ok(()) => Ok(()),
             Err(_) => Err(NoMemory),
@@ -60,7 +60,8 @@ pub fn add_slots(slots: &mut Seq<Slot>, given: Given) -> Result<(), NoMemory>
 fn add_each(slots: &mut Seq<Slot>, values: Items) -> Result<(), NoMemory>
     ensures { OnOk result ((env : List Val) → slot_values env slots.new ≡ slot_values env slots.old ++ values) }
 {
-    for v in values.into_vec() {
+    let mut left = values;
+    while let Some(v) = left.take_first() {
         slots.add(Slot::Value(v))?;
     }
     Ok(())

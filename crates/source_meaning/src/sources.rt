@@ -219,15 +219,15 @@ fn add_names_of(
     ensures { OnOk result (made.new ≡ made.old ++ names_of source first.now place) }
 {
     match source {
-        Source::Range => made.add(number_in(first, place)),
+        Source::Range => Ok(made.add(number_in(first, place))?),
         Source::Elements => {
             let v = element_at(alloc, first, place)?;
-            made.add(v)
+            Ok(made.add(v)?)
         }
         Source::Indexed => {
             let v = element_at(alloc, first, place)?;
             made.add(v)?;
-            made.add(index_in(first, place))
+            Ok(made.add(index_in(first, place))?)
         }
     }
 }

@@ -113,9 +113,9 @@ fn aggregate(alloc: Global, stack: &mut Vec<Val>, word: &str) -> Result<Option<V
     };
     let (lo, count) = numbers(word);
     match *kind {
-        b'[' => Ok(Some(array_of(lo, taken_off(stack, count)?))),
-        b'{' => Ok(Some(Val::Stream(taken_off(stack, count)?))),
-        b'<' => Ok(Some(Val::Rec(taken_off(stack, count)?))),
+        b'[' => Ok(Some(array_of(lo, taken_off(alloc, stack, count)?))),
+        b'{' => Ok(Some(Val::Stream(taken_off(alloc, stack, count)?))),
+        b'<' => Ok(Some(Val::Rec(taken_off(alloc, stack, count)?))),
         b'(' => union_of(alloc, stack, count),
         b'c' => Ok(u8::try_from(count).ok().map(Val::Char)),
         _ => Ok(None),
@@ -132,9 +132,13 @@ fn numbers(word: &str) -> (i64, u32) {
     )
 }
 
-fn taken_off(stack: &mut Vec<Val>, count: u32) -> Result<Items, NoMemory> {
+fn taken_off(alloc: Global, stack: &mut Vec<Val>, count: u32) -> Result<Items, NoMemory> {
     let from = stack.len().saturating_sub(count as usize);
-    Ok(Items::from_vec(stack.split_off(from)?))
+    let mut items = Items::new(alloc);
+    for v in stack.split_off(from)? {
+        items.add(v)?;
+    }
+    Ok(items)
 }
 
 fn union_of(alloc: Global, stack: &mut Vec<Val>, tag: u32) -> Result<Option<Val>, NoMemory> {

@@ -7,7 +7,7 @@ ghost use Rattle.run_store.specs.Stored as stored;
 ghost use Rattle.run_cells.specs.Held.{held};
 ghost use Rattle.sequential.specs.Agrees.{owned_all};
 
-use flow_value::{Cause, Items, NoMemory, Seq, Val};
+use flow_value::{Cause, Items, NoMemory, Val};
 use run_cells::{Cell, cell_of};
 use std::alloc::Global;
 
@@ -16,7 +16,8 @@ pub fn cells_of(alloc: Global, values: Items) -> Result<Vec<Cell>, NoMemory>
     ensures { IfOk result (λ cs. map held cs.items ≡ map stored.Owns (map Value values)) }
 {
     let mut cells = Vec::new(alloc);
-    for value in values.into_vec() {
+    let mut left = values;
+    while let Some(value) = left.take_first() {
         cells.push(cell_of(alloc, value)?)?;
     }
     Ok(cells)
@@ -26,7 +27,7 @@ pub fn cells_of(alloc: Global, values: Items) -> Result<Vec<Cell>, NoMemory>
 pub fn values_of(alloc: Global, cells: Vec<Cell>) -> Result<Items, NoMemory>
     ensures { IfOk result (λ vs. vs ≡ map val_of (owned_all cells.items)) }
 {
-    let mut values = Seq::with_room(alloc, cells.len())?;
+    let mut values = Items::with_room(alloc, cells.len())?;
     for cell in cells {
         values.add(value_of(cell))?;
     }

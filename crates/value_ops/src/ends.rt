@@ -83,9 +83,9 @@ fn low_before(alloc: Global, a: Placed<'_>, v: Value<'_>) -> Result<Val, NoMemor
 fn with_low(alloc: Global, items: Listed<'_>, v: Value<'_>) -> Result<Items, NoMemory>
     ensures { IfOk result (λ vs. vs ≡ value_of v.entry ∷ items_of items.entry) }
 {
-    let mut longer = kept_items(alloc, items)?.into_vec();
-    longer.insert(0, kept(alloc, v)?)?;
-    Ok(Items::from_vec(longer))
+    let mut longer = kept_items(alloc, items)?;
+    longer.add_first(kept(alloc, v)?)?;
+    Ok(longer)
 }
 
 /// The array without its last element.

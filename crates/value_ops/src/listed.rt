@@ -59,7 +59,7 @@ pub fn kept_item(alloc: Global, items: Listed<'_>, place: usize) -> Result<Val, 
 {
     match items {
         Listed::Lent(vs) => copy(alloc, &vs[place]),
-        Listed::Owned(vs) => Ok(vs.into_vec().swap_remove(place)),
+        Listed::Owned(vs) => Ok(vs.into_item(place)),
     }
 }
 
@@ -83,19 +83,9 @@ fn part_in_place(items: Items, from: usize, count: usize) -> Items
     requires { from + count ≤ length items }
     ensures { result ≡ take count (drop from items) }
 {
-    let mut kept = items.into_vec();
+    let mut kept = items;
+    let _length = kept.len();
     kept.truncate(from + count);
-    cut_front(&mut kept, from);
-    Items::from_vec(kept)
-}
-
-fn cut_front(items: &mut Vec<Val>, from: usize)
-    requires { from ≤ length items.old.items }
-    ensures { items.new.items ≡ drop from items.old.items }
-{
-    if from == 1 {
-        drop(items.remove(0));
-    } else if from > 0 {
-        drop(items.drain(..from));
-    }
+    kept.drop_first(from);
+    kept
 }

@@ -1,10 +1,9 @@
 use Rattle.std.proofs.Common.{◌≡◌, ◌++◌, drop}
-use Rattle.std.specs.Vec.Iter.{into_iter_items}
 use Rattle.graph_meaning.specs.NodeValues.{masked}
 use Rattle.node_ops.proofs.folds.fold_masked.Given as goal
 
 abbrev pub invariant-loop-mask : goal.invariant-loop-mask
 invariant-loop-mask l = record {
-  cells : l.clause.cells ++ masked (into_iter_items l.values) (drop l.mask-index l.masks) ≡ masked l.fn.items l.masks;
+  cells : l.clause.cells ++ masked l.values (drop l.mask-index l.masks) ≡ masked l.fn.items l.masks;
   folding : l.clause.folding ≡ l.fn.folding;
 }

@@ -2,4 +2,4 @@ use Rattle.std.proofs.Common.{◌≡◌, take}
 use Rattle.sequential.proofs.copying.copies_in_row.Given as goal
 
 abbrev pub invariant-loop-item : goal.invariant-loop-item
-invariant-loop-item l = l.copies.items ≡ take l.item-index l.items
+invariant-loop-item l = l.copies ≡ take l.item-index l.items

@@ -1,5 +1,4 @@
 use Rattle.std.proofs.Common.{◌≡◌, drop}
-use Rattle.std.specs.Vec.Iter.{into_iter_items}
 use Rattle.meaning.specs.Rows.{cells_in, with_row}
 use Rattle.source_meaning.specs.Loops.{with_cells_from}
 use Rattle.source_meaning.proofs.rows.add_row.Given as goal
@@ -7,5 +6,5 @@ use Rattle.source_meaning.proofs.rows.add_row.Given as goal
 -- the clauses that have their values, with those that are still to have them, are all
 abbrev pub invariant-loop-place : goal.invariant-loop-place
 invariant-loop-place l =
-    with_cells_from l.place l.clauses.items (cells_in (drop l.place l.forms) (into_iter_items l.left))
-    ≡ with_row l.forms l.initial.clauses.items (into_iter_items l.initial.left)
+    with_cells_from l.place l.clauses.items (cells_in (drop l.place l.forms) l.left)
+    ≡ with_row l.forms l.initial.clauses.items l.initial.left
