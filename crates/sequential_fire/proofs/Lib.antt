@@ -13,3 +13,4 @@ pub mod ElementSteps
 pub mod PartRows
 pub mod RangeRows
 pub mod SparseSteps
+pub mod SumRows

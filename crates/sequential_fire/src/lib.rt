@@ -14,6 +14,7 @@ mod parts;
 mod ranges;
 mod routes;
 mod sparse;
+mod summing;
 mod taking;
 mod updating;
 

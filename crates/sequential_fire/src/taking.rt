@@ -17,11 +17,13 @@ ghost use Rattle.sequential_fire.specs.Taking.{GivesCell, IsFired, CanBe};
 
 use crate::given::{Wants, given, wanted_at};
 use crate::outputs::output_of;
+use crate::summing::summed;
 use flow_value::{Cause, NoMemory, Operand as Given, Shape, Val, owned};
 use if1_graph::Simple;
 use node_ops::fire_one;
 use place_ops::{extend_taken, fire_taken};
 use run_cells::{Boxed, Cell, cell_of, owned_by};
+use sequential::give_up;
 use std::alloc::Global;
 use std::mem;
 
@@ -103,8 +105,36 @@ fn copied_out<'a>(alloc: Global, wants: Wants, cell: &Cell) -> Result<Given<'a>,
     Ok(or_absent(owned(alloc, given(alloc, wants, owned_by(cell))?)?))
 }
 
-/// A cell with the output of a node on what these cells own, which is moved into it.
+/// A cell with the output of a node on what these cells own, which is moved into it. A sum of integers
+/// is made where they stand.
 fn remade(
+    alloc: Global,
+    row: Simple,
+    shape: Shape,
+    loaded: &mut Vec<Cell>,
+) -> Result<Cell, NoMemory>
+    requires one { HasOneOutput row }
+    requires ports { length loaded.old.items < 4294967296 }
+    ensures { IfOk result (λ c. IsFired row shape loaded.old.items c) }
+{
+    match summed(row, loaded.as_slice()) {
+        Some(sum) => {
+            last_goes(loaded);
+            let cell = cell_of(alloc, sum)?;
+            Ok(cell)
+        }
+        None => made_anew(alloc, row, shape, loaded),
+    }
+}
+
+/// Lets what the last cell had go.
+fn last_goes(loaded: &mut Vec<Cell>) {
+    if let Some(cell) = loaded.pop() {
+        give_up(cell);
+    }
+}
+
+fn made_anew(
     alloc: Global,
     row: Simple,
     shape: Shape,

@@ -1,7 +1,7 @@
 use Rattle.std.proofs.Common.{map, length, ap, ◌∙◌, arith}
 use Rattle.flow_value.specs.Lent.{operand_value}
 use Rattle.sequential_fire.proofs.TakeSteps.{remade-is}
-use Rattle.sequential_fire.proofs.taking.remade.Goals as goal
+use Rattle.sequential_fire.proofs.taking.made_anew.Goals as goal
 
 pub fire_one-requires-clause-ports : goal.fire_one-requires-clause-ports
 fire_one-requires-clause-ports c =
