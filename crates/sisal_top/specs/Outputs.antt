@@ -6,6 +6,7 @@ use Rattle.mean_call.specs.declared.fault.Refusal.{Refusal}
 use Rattle.compile_call.specs.Calls.{HasUnit, Prints as PrintsOf}
 use Rattle.if1_graph.specs.declared.graph.Unit1.{Unit1}
 use Rattle.lowering.specs.TooMany.{too_many}
+use Rattle.lowered_units.specs.Fitting.{IsFitting}
 use Rattle.marks_made.specs.Units.{marks_of}
 use Rattle.run_call.specs.Calls.{Gives as GivesRun, IsRefused as HasNoTotals}
 use Rattle.run_call.specs.Texts.{IsUnitOf as IsIf1Of}
@@ -72,10 +73,11 @@ HasNoGraphs bytes rule line = HasTypeFault bytes rule line ⊎ ((rule ≡ 24) ×
 
 -- ---- runs
 
--- these bytes have a typed program within the limits, and this is its unit of graphs with the marks that are made
+-- these bytes have a typed program that fits, within the limits, and this is its unit of graphs with the marks that are made
 pub record HasGraphs (bytes : List ℕ) (u : Unit1) : Type 0 where
   pub program : Program
   pub typed : HasProgram bytes program
+  pub fitting : IsFitting program
   pub unit : Unit1
   pub has : HasUnit program unit
   pub is : u ≡ marks_of unit
