@@ -24,7 +24,7 @@ pub fn nothing(alloc: Global, collect: Collect, room: usize) -> Result<Cell, NoM
 {
     match collect {
         Collect::Sifts { mask: None, .. } => {
-            let none = Val::Stream(Seq::with_room(alloc, room)?);
+            let none = Val::Stream(Items::with_room(alloc, room)?);
             Ok(Cell::Many(Boxed::new(alloc, none)?))
         }
         Collect::Sifts { .. } => {
