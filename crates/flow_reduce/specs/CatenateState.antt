@@ -1,5 +1,5 @@
 -- What `Catenate` keeps of a list.
-use Rattle.std.specs.Prelude.{◌≡◌, ℕ, ◌^◌, ◌≤◌, ℤ, Bool, ◌||◌, List, [], ◌∷◌, ◌++◌, Option, Some, None, refl}
+use Rattle.std.specs.Prelude.{◌≡◌, ℕ, ◌^◌, ◌<◌, ℤ, Bool, ◌||◌, List, [], ◌∷◌, ◌++◌, Option, Some, None, refl}
 use Rattle.std.specs.List.{list_any, flat_map}
 use Rattle.std.specs.Coded.{Coded, code_by, coded×, coded_ℤ, coded_bool, coded_list, coded_option}
 use Rattle.std.proofs.Common.{sym, ◌∙◌, ap}
@@ -31,7 +31,7 @@ catenate_code s c =
     (λ _. refl)
 
 abbrev pub IsCounted : ℕ → Type 0
-IsCounted n = n ≤ 2 ^ 62
+IsCounted n = n < 2 ^ 64
 
 abbrev pub state_of : List Val → CatenateState
 state_of vs = catenate_state (seen_of is_no_list vs) (first_bound vs) (list_any is_stream vs) (kept (flat_map elements_of vs))

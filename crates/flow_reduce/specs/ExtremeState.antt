@@ -1,5 +1,5 @@
 -- What `Least` and `Greatest` keep of a list.
-use Rattle.std.specs.Prelude.{◌≡◌, ℕ, ◌+◌, ◌^◌, ◌≤◌, ℤ, List, [], ◌∷◌, ◌++◌, Option, Some, None, refl}
+use Rattle.std.specs.Prelude.{◌≡◌, ℕ, ◌+◌, ◌^◌, ◌<◌, ℤ, List, [], ◌∷◌, ◌++◌, Option, Some, None, refl}
 use Rattle.std.specs.Int.{int_max, int_min}
 use Rattle.std.proofs.Common.{sym, ◌∙◌, ap, arith}
 use Rattle.std.proofs.lemmas.Int.{ints, clamps}
@@ -19,7 +19,7 @@ abbrev pub extreme_state : Seen → Option ℤ → ExtremeState
 extreme_state s z = record { seen = s; extreme = z }
 
 abbrev pub IsCounted : ℕ → Type 0
-IsCounted n = n ≤ 2 ^ 62
+IsCounted n = n < 2 ^ 64
 
 abbrev pub state_of : (ℤ → ℤ → ℤ) → List Val → ExtremeState
 state_of f vs = extreme_state (seen_of is_no_integer vs) (extreme_of f vs)

@@ -1,5 +1,5 @@
 -- What `Gather` keeps of a list.
-use Rattle.std.specs.Prelude.{◌≡◌, ℕ, ◌+◌, ◌^◌, ◌≤◌, List, [], ◌++◌, length, refl}
+use Rattle.std.specs.Prelude.{◌≡◌, ℕ, ◌+◌, ◌^◌, ◌<◌, List, [], ◌++◌, length, refl}
 use Rattle.std.specs.Coded.{Coded, code_by, coded×, coded_ℕ, coded_list}
 use Rattle.std.proofs.Common.{length-append}
 use Rattle.flow_value.specs.declared.value.Val.{Val}
@@ -17,7 +17,7 @@ abbrev pub gathered_code : Coded Val → Coded GatherState
 gathered_code c = code_by (ℕ × List Val) (coded× coded_ℕ (coded_list c)) (λ g. (g.count, g.items)) (λ p. gathered p.0 p.1) (λ _. refl)
 
 abbrev pub IsCounted : ℕ → Type 0
-IsCounted n = n ≤ 2 ^ 62
+IsCounted n = n < 2 ^ 64
 
 abbrev pub state_of : List Val → GatherState
 state_of vs = gathered (length vs) (kept vs)

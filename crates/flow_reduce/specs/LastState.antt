@@ -1,5 +1,5 @@
 -- What `Last` keeps of a list.
-use Rattle.std.specs.Prelude.{◌≡◌, ℕ, ◌+◌, ◌^◌, ◌≤◌, List, [], ◌∷◌, ◌++◌, length, Option, Some, None, refl}
+use Rattle.std.specs.Prelude.{◌≡◌, ℕ, ◌+◌, ◌^◌, ◌<◌, List, [], ◌∷◌, ◌++◌, length, Option, Some, None, refl}
 use Rattle.std.specs.Coded.{Coded, code_by, coded×, coded_ℕ, coded_option}
 use Rattle.std.proofs.Common.{sym, ◌∙◌, ap, length-append}
 use Rattle.flow_value.specs.declared.value.Val.{Val}
@@ -17,7 +17,7 @@ abbrev pub last_code : Coded Val → Coded LastState
 last_code c = code_by (ℕ × Option Val) (coded× coded_ℕ (coded_option c)) (λ s. (s.count, s.last)) (λ p. last_state p.0 p.1) (λ _. refl)
 
 abbrev pub IsCounted : ℕ → Type 0
-IsCounted n = n ≤ 2 ^ 62
+IsCounted n = n < 2 ^ 64
 
 abbrev pub state_of : List Val → LastState
 state_of vs = last_state (length vs) (last_of vs)

@@ -1,5 +1,5 @@
 -- What `Product` keeps of a list.
-use Rattle.std.specs.Prelude.{◌≡◌, ℕ, ◌^◌, ◌≤◌, ℤ, List, [], ◌++◌, Option}
+use Rattle.std.specs.Prelude.{◌≡◌, ℕ, ◌^◌, ◌<◌, ℤ, List, [], ◌++◌, Option}
 use Rattle.flow_value.specs.declared.value.Val.{Val}
 use Rattle.flow_reduce.specs.declared.seen.Seen.{Seen}
 use Rattle.flow_reduce.specs.Elements.{is_no_integer}
@@ -18,7 +18,7 @@ abbrev pub product_state : Seen → Option ℤ → ProductState
 product_state s z = record { seen = s; factor = z }
 
 pub record IsProduct (n : ℕ) (z : Option ℤ) : Type 0 where
-  pub few : n ≤ 2 ^ 62
+  pub few : n < 2 ^ 64
   pub small : IsClamped z
 
 abbrev pub state_of : List Val → ProductState

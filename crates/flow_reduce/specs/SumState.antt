@@ -1,5 +1,5 @@
 -- What `Sum` keeps of a list.
-use Rattle.std.specs.Prelude.{◌≡◌, ℕ, ◌*◌, ◌^◌, ◌≤◌, ℤ, ◌+ℤ◌, unsigned_abs, List, [], ◌∷◌, ◌++◌}
+use Rattle.std.specs.Prelude.{◌≡◌, ℕ, ◌*◌, ◌^◌, ◌<◌, ◌≤◌, ℤ, ◌+ℤ◌, unsigned_abs, List, [], ◌∷◌, ◌++◌}
 use Rattle.std.proofs.Common.{arith}
 use Rattle.std.proofs.lemmas.Int.{ints}
 use Rattle.flow_value.specs.declared.value.Val.{Val}
@@ -19,7 +19,7 @@ sum_state s z = record { seen = s; total = z }
 
 -- each of n integers of 64 bits adds at most 2^63
 pub record IsBounded (n : ℕ) (z : ℤ) : Type 0 where
-  pub few : n ≤ 2 ^ 62
+  pub few : n < 2 ^ 64
   pub small : unsigned_abs z ≤ n * 2 ^ 63
 
 abbrev pub state_of : List Val → SumState

@@ -1,5 +1,5 @@
 //! What a reduction is.
-ghost use Rattle.std.specs.Prelude.{◌≡◌, ℕ, Bool, IsTrue, IsErr, ◌+◌, ◌^◌, ◌<◌, ◌≤◌, List, [], ◌∷◌, ◌++◌, OnOk, IfErr};
+ghost use Rattle.std.specs.Prelude.{◌≡◌, ℕ, Bool, IsTrue, IsErr, ◌+◌, ◌^◌, ◌<◌, List, [], ◌∷◌, ◌++◌, OnOk, IfErr};
 ghost use Rattle.flow_value.specs.declared.value.Val.{Val};
 ghost use Rattle.flow_reduce.specs.Laws.{JoinLaws};
 
@@ -37,7 +37,7 @@ pub trait Reduction: Sized {
     /// Adds one element at the end. On want of memory the element comes back, and the reduction
     /// is as it was.
     fn put(&mut self, v: Val) -> Result<(), Val>
-        requires { count self.old < 2 ^ 62 }
+        requires { count self.old + 1 < 2 ^ 64 }
         ensures added { OnOk result ((xs : List Val) → stands self.old xs → stands self.new (xs ++ v ∷ [])) }
         ensures counted { OnOk result (count self.new ≡ count self.old + 1) }
         ensures refused { IfErr result (λ back. (back ≡ v) × (self.new ≡ self.old)) }
@@ -46,7 +46,7 @@ pub trait Reduction: Sized {
     /// Adds the elements of `later` at the end. On want of memory `later` comes back, and the
     /// reduction is as it was.
     fn join(&mut self, later: Self) -> Result<(), Self>
-        requires { count self.old + count later ≤ 2 ^ 62 }
+        requires { count self.old + count later < 2 ^ 64 }
         ensures added { OnOk result ((xs : List Val) (ys : List Val) → stands self.old xs → stands later ys → stands self.new (xs ++ ys)) }
         ensures counted { OnOk result (count self.new ≡ count self.old + count later) }
         ensures same { OnOk result (self.new ≡ joined self.old later) }

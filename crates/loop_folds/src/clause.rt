@@ -1,5 +1,5 @@
 //! The values of one clause.
-ghost use Rattle.std.specs.Prelude.{◌≡◌, ◌<◌, ◌^◌, List, [], ◌∷◌, ◌++◌, None, OnOk, OnErr};
+ghost use Rattle.std.specs.Prelude.{◌≡◌, ◌+◌, ◌<◌, ◌^◌, List, [], ◌∷◌, ◌++◌, None, OnOk, OnErr};
 ghost use Rattle.loop_folds.specs.Clauses.{Cell, no_cells, fold_value};
 ghost use Rattle.loop_folds.specs.Makings.{folding_of, counted, IsMaking};
 
@@ -10,9 +10,6 @@ use flow_value::{Cause, NoMemory, Seq, Val};
 use std::alloc::Global;
 use std::marker::Model;
 use std::snapshot::Snapshot;
-
-// How many values a clause can have.
-const MOST_CELLS: usize = 4611686018427387903;
 
 /// The values of one clause of a loop so far, as far as they matter: a reduction keeps no list, and
 /// an array or a stream one value more than it may have. Contracts see what the clause makes of its
@@ -54,19 +51,16 @@ impl Clause {
     }
 
     /// Adds a value at the end. A value that is not kept, or that follows a mask that is an error, is
-    /// let go at once. On want of memory, and past 2^62 - 1 values, it is refused, and all is as it
-    /// was.
+    /// let go at once. On want of memory it is refused, and all is as it was.
     pub fn put(&mut self, v: Val, keep: Keep) -> Result<(), NoMemory>
         ensures added { OnOk result (self.new.cells ≡ self.old.cells ++ (v, keep) ∷ []) }
         ensures folding { self.new.folding ≡ self.old.folding }
         ensures refused { OnErr result (self.new ≡ self.old) }
     {
         let before = self.cells.len();
-        if before >= MOST_CELLS {
-            return Err(NoMemory);
-        }
         let cell = (v, keep);
         self.cells.add(Snapshot::of(&cell))?;
+        let _counted = self.cells.len();
         let (value, said) = cell;
         match put_cell(&mut self.failure, &mut self.making, value, said) {
             Ok(()) => Ok(()),
@@ -102,7 +96,7 @@ fn put_cell(
     v: Val,
     keep: Keep,
 ) -> Result<(), NoMemory>
-    requires { failure.old ≡ None → counted making.old < 2 ^ 62 }
+    requires { failure.old ≡ None → counted making.old + 1 < 2 ^ 64 }
     ensures added { OnOk result ((cells : List Cell) → IsMaking failure.old making.old cells → IsMaking failure.new making.new (cells ++ (v, keep) ∷ [])) }
     ensures folding { folding_of making.new ≡ folding_of making.old }
     ensures refused { OnErr result ((failure.new ≡ failure.old) × (making.new ≡ making.old)) }

@@ -53,7 +53,7 @@ impl Making {
 
     /// Adds a value at the end. On want of memory all is as it was.
     pub fn put(&mut self, v: Val) -> Result<(), NoMemory>
-        requires { counted self.old < 2 ^ 62 }
+        requires { counted self.old + 1 < 2 ^ 64 }
         ensures added { OnOk result ((vs : List Val) → Stands self.old vs → Stands self.new (vs ++ v ∷ [])) }
         ensures folding { folding_of self.new ≡ folding_of self.old }
         ensures refused { OnErr result (self.new ≡ self.old) }
@@ -101,7 +101,7 @@ fn keep_item(items: &mut Items, v: Val) -> Result<(), NoMemory>
 
 /// Adds a value at the end of a reduction. On want of memory it is as it was.
 fn put_at_end<R: Reduction>(reduction: &mut R, v: Val) -> Result<(), NoMemory>
-    requires { R.count reduction.old < 2 ^ 62 }
+    requires { R.count reduction.old + 1 < 2 ^ 64 }
     ensures added { OnOk result ((vs : List Val) → R.stands reduction.old vs → R.stands reduction.new (vs ++ v ∷ [])) }
     ensures refused { OnErr result (reduction.new ≡ reduction.old) }
 {
@@ -113,7 +113,7 @@ fn put_at_end<R: Reduction>(reduction: &mut R, v: Val) -> Result<(), NoMemory>
 
 /// Adds a stream at the end. On want of memory all is as it was.
 fn put_stream(none: &mut Option<Items>, streams: &mut Catenate, v: Val) -> Result<(), NoMemory>
-    requires { streams.old.seen.count < 2 ^ 62 }
+    requires { streams.old.seen.count + 1 < 2 ^ 64 }
     ensures added { OnOk result ((vs : List Val) → streams.old ≡ state_of vs → streams.new ≡ state_of (vs ++ v ∷ [])) }
     ensures none { none.new ≡ (if is_ok result then None else none.old) }
     ensures refused { OnErr result (streams.new ≡ streams.old) }
