@@ -9,3 +9,4 @@ pub mod Runners
 pub mod Quiet
 pub mod Replies
 pub mod Complete
+pub mod Again

@@ -7,6 +7,7 @@ use Rattle.run_words.specs.declared.command.RunSet.{RunSet}
 use Rattle.run_words.specs.declared.fault.WordFault.{WordFault}
 use Rattle.if1_marks.specs.Laws.{IsUnmarkedSound}
 use Rattle.if1_read.specs.Laws.{AcceptedHasNoFault}
+use Rattle.if1_unique.specs.Laws.{IsOneUnit}
 use Rattle.sisal_grammar.specs.declared.value.Outline.{Outline}
 use Rattle.sisal_grammar.specs.declared.value.Placed.{Placed}
 use Rattle.sisal_grammar.specs.Phrases.{unit}
@@ -20,7 +21,7 @@ use Rattle.sisal_top.specs.declared.status.Status.{Status}
 use Rattle.sisal_top.specs.declared.status.Status.TheVariants as status
 use Rattle.sisal_top.specs.declared.status.UsageFault.{UsageFault}
 use Rattle.sisal_top.specs.declared.status.UsageFault.TheVariants as usage
-use Rattle.one_answer.specs.Alike.{same, AreOne, Tells, MakesGraphs, AskForGraphs, IsOneUnit}
+use Rattle.one_answer.specs.Alike.{same, AreOne, Tells, MakesGraphs, AskForGraphs}
 use Rattle.one_answer.specs.Laws.{IsRunOnce, OneAnswerLaw}
 use Rattle.one_answer.proofs.Syntaxes.{alike_if, unit_one, unit_refused}
 use Rattle.one_answer.proofs.Sources.{mean_one}
@@ -85,32 +86,32 @@ words_reply words bytes (Err status.Later) p t = asked p.0 (Err status.Later) p.
 words_reply words bytes (Err (status.Unlinked name)) p t = asked p.0 (Err (status.Unlinked name)) p.1 p.2
 
 module _ (grammar : (tokens : List Placed) (o p : Outline) → Spells unit tokens o → Spells unit tokens p → o ≡ p)
-    (no_program : NoProgramLaw) (moved : AreAnswersMoved) (program : IsProgramOnce) (accepted : AcceptedHasNoFault) (unmarked : IsUnmarkedSound) (runs : IsRunOnce) where
-  runs_one : (set : RunSet) (bytes : List ℕ) (r s : Result (List ℕ) Status) → ¬ MakesGraphs (command.Run set) → IsOneUnit bytes → Replies (command.Run set) bytes r → Replies (command.Run set) bytes s
+    (no_program : NoProgramLaw) (moved : AreAnswersMoved) (program : IsProgramOnce) (accepted : AcceptedHasNoFault) (one : IsOneUnit) (unmarked : IsUnmarkedSound) (runs : IsRunOnce) where
+  runs_one : (set : RunSet) (bytes : List ℕ) (r s : Result (List ℕ) Status) → ¬ MakesGraphs (command.Run set) → Replies (command.Run set) bytes r → Replies (command.Run set) bytes s
       → Tells r → Tells s → IsPlain set ⊎ (¬ IsPlain set) → AreOne r s
-  runs_one set bytes r s n one p q t w (inl plain) =
+  runs_one set bytes r s n p q t w (inl plain) =
       let i = is_true set.if1 (λ e. n (plain, e)) in
-      run_one accepted bytes one unmarked runs set r s (run_reply set bytes r i plain p t) (run_reply set bytes s i plain q w)
-  runs_one set bytes r s n one p q t w (inr never) = both_later r s (run_later set bytes r never p t) (run_later set bytes s never q w)
+      run_one accepted one bytes unmarked runs set r s (run_reply set bytes r i plain p t) (run_reply set bytes s i plain q w)
+  runs_one set bytes r s n p q t w (inr never) = both_later r s (run_later set bytes r never p t) (run_later set bytes s never q w)
 
-  replies_one : (c : Command) (bytes : List ℕ) (r s : Result (List ℕ) Status) → ¬ MakesGraphs c → IsOneUnit bytes → Replies c bytes r → Replies c bytes s → Tells r → Tells s → AreOne r s
-  replies_one (command.Run set) bytes r s n one p q t w = runs_one set bytes r s n one p q t w (plain_or_not set bytes r p t)
-  replies_one (command.Compile set) bytes r s n one p q t w = both_later r s (compile_later set bytes r n p t) (compile_later set bytes s n q w)
-  replies_one command.Link bytes r s n one p q t w = both_later r s (link_later bytes r p t) (link_later bytes s q w)
-  replies_one (command.Verify set) bytes r s n one p q t w = both_later r s (verify_later set bytes r p t) (verify_later set bytes s q w)
-  replies_one (command.Again set) bytes r s n one p q t w = both_later r s (again_later set bytes r p t) (again_later set bytes s q w)
-  replies_one command.If1 bytes r s n one p q t w = if1_one accepted bytes one r s (if1_reply bytes r p t) (if1_reply bytes s q w)
-  replies_one (command.Mean set) bytes r s n one p q t w =
+  replies_one : (c : Command) (bytes : List ℕ) (r s : Result (List ℕ) Status) → ¬ MakesGraphs c → Replies c bytes r → Replies c bytes s → Tells r → Tells s → AreOne r s
+  replies_one (command.Run set) bytes r s n p q t w = runs_one set bytes r s n p q t w (plain_or_not set bytes r p t)
+  replies_one (command.Compile set) bytes r s n p q t w = both_later r s (compile_later set bytes r n p t) (compile_later set bytes s n q w)
+  replies_one command.Link bytes r s n p q t w = both_later r s (link_later bytes r p t) (link_later bytes s q w)
+  replies_one (command.Verify set) bytes r s n p q t w = both_later r s (verify_later set bytes r p t) (verify_later set bytes s q w)
+  replies_one (command.Again set) bytes r s n p q t w = both_later r s (again_later set bytes r p t) (again_later set bytes s q w)
+  replies_one command.If1 bytes r s n p q t w = if1_one accepted one bytes r s (if1_reply bytes r p t) (if1_reply bytes s q w)
+  replies_one (command.Mean set) bytes r s n p q t w =
       mean_one (unit_one grammar) (unit_refused grammar) no_program moved program set bytes r s (mean_reply set bytes r p t) (mean_reply set bytes s q w)
-  replies_one (command.Gen k) bytes r s n one p q t w =
+  replies_one (command.Gen k) bytes r s n p q t w =
       let x = gen_ok k bytes r p t in
       let y = gen_ok k bytes s q w in
       both_ok r s x.0 y.0 x.1 y.1 (x.2 ∙ sym y.2)
-  replies_one command.Help bytes r s n one p q t w =
+  replies_one command.Help bytes r s n p q t w =
       let x = help_ok bytes r p t in
       let y = help_ok bytes s q w in
       both_ok r s x.0 y.0 x.1 y.1 (x.2 ∙ sym y.2)
-  replies_one command.Version bytes r s n one p q t w =
+  replies_one command.Version bytes r s n p q t w =
       let x = version_ok bytes r p t in
       let y = version_ok bytes s q w in
       both_ok r s x.0 y.0 x.1 y.1 (x.2 ∙ sym y.2)
@@ -118,13 +119,13 @@ module _ (grammar : (tokens : List Placed) (o p : Outline) → Spells unit token
   module _ (one_command : (words : List (List ℕ)) (a b : Command) → IsCommand words a → IsCommand words b → a ≡ b)
       (one_fault : (words : List (List ℕ)) (a b : WordFault) → HasFault words a → HasFault words b → a ≡ b)
       (not_both : (words : List (List ℕ)) (c : Command) (f : WordFault) → IsCommand words c → HasFault words f → ⊥) where
-    words_one : (words : List (List ℕ)) (bytes : List ℕ) (r s : Result (List ℕ) Status) → ¬ AskForGraphs words → IsOneUnit bytes → WordsReply words bytes r → WordsReply words bytes s → Tells r → Tells s → AreOne r s
-    words_one words bytes _ _ n one (wrong f p) (wrong g q) t w =
+    words_one : (words : List (List ℕ)) (bytes : List ℕ) (r s : Result (List ℕ) Status) → ¬ AskForGraphs words → WordsReply words bytes r → WordsReply words bytes s → Tells r → Tells s → AreOne r s
+    words_one words bytes _ _ n (wrong f p) (wrong g q) t w =
         alike_if (status.Usage f) (status.Usage g) (sym (usage_back f) ∙ ap of_words (one_fault words (word_fault f) (word_fault g) p q) ∙ usage_back g)
-    words_one words bytes _ _ n one (wrong f p) (asked c s is q) t w = absurd (not_both words c (word_fault f) is p)
-    words_one words bytes _ _ n one (asked c r is p) (wrong g q) t w = absurd (not_both words c (word_fault g) is q)
-    words_one words bytes _ _ n one (asked c r is p) (asked d s at q) t w =
-        replies_one d bytes r s (λ m. n (d, at, m)) one (subst (λ x. Replies x bytes r) (one_command words c d is at) p) q t w
+    words_one words bytes _ _ n (wrong f p) (asked c s is q) t w = absurd (not_both words c (word_fault f) is p)
+    words_one words bytes _ _ n (asked c r is p) (wrong g q) t w = absurd (not_both words c (word_fault g) is q)
+    words_one words bytes _ _ n (asked c r is p) (asked d s at q) t w =
+        replies_one d bytes r s (λ m. n (d, at, m)) (subst (λ x. Replies x bytes r) (one_command words c d is at) p) q t w
 
     pub answers_one : OneAnswerLaw
-    answers_one words bytes r s n one p q t w = words_one words bytes r s n one (words_reply words bytes r p t) (words_reply words bytes s q w) t w
+    answers_one words bytes r s n p q t w = words_one words bytes r s n (words_reply words bytes r p t) (words_reply words bytes s q w) t w

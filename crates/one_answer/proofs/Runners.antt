@@ -1,4 +1,4 @@
--- What `if1` and `run --if1` answer to bytes that give at most one unit is one.
+-- What `if1` and `run --if1` answer to bytes is one.
 use Rattle.std.proofs.Common.{◌≡◌, ◌≢◌, ◌<◌, ◌∙◌, ℕ, Bool, true, false, List, ◌++◌, Result, Ok, Err, length, refl, sym, ap, subst, arith, if◌then◌else◌}
 use Rattle.if1_call.specs.Calls.{IsCanonicalOf, IsRefusedFor}
 use Rattle.if1_graph.specs.declared.graph.Unit1.{Unit1}
@@ -7,6 +7,7 @@ use Rattle.if1_graph.specs.Ready.{IsReady}
 use Rattle.if1_marks.specs.Laws.{IsUnmarkedSound}
 use Rattle.if1_marks.specs.Sound.{IsSound}
 use Rattle.if1_read.specs.Laws.{AcceptedHasNoFault}
+use Rattle.if1_unique.specs.Laws.{IsOneUnit}
 use Rattle.marks_made.specs.Units.{marks_of}
 use Rattle.mean_call.specs.declared.fault.Refusal.{Refusal}
 use Rattle.mean_call.specs.declared.fault.Refusal.TheVariants as refusal
@@ -21,7 +22,7 @@ use Rattle.sisal_top.specs.Status.{if1_fault, of_refusal}
 use Rattle.sisal_top.specs.declared.status.Status.{Status}
 use Rattle.sisal_top.specs.declared.status.Status.TheVariants as status
 use Rattle.sisal_top.specs.declared.status.UnitFault.{UnitFault}
-use Rattle.one_answer.specs.Alike.{same, AreOne, IsOneUnit}
+use Rattle.one_answer.specs.Alike.{same, AreOne}
 use Rattle.one_answer.specs.Laws.{IsRunOnce}
 use Rattle.one_answer.proofs.Marked.{no_lists, no_takers}
 use Rattle.one_answer.proofs.Syntaxes.{alike_if}
@@ -43,19 +44,19 @@ pub data RunReply (set : RunSet) (bytes : List ℕ) : Result (List ℕ) Status �
   ran : (out : List ℕ) (u : Unit1) (t : Totals) → Fits bytes → IsIf1Of bytes u → GivesRun u set t → out ≡ lines t.results ++ totals_if set.stats t → RunReply set bytes (Ok out)
   stopped : (r : Refusal) (s : Status) (u : Unit1) → r ≢ refusal.NoMemory → Fits bytes → IsIf1Of bytes u → HasNoTotals u set r → of_refusal r ≡ s → RunReply set bytes (Err s)
 
-module _ (accepted : AcceptedHasNoFault) (bytes : List ℕ) (one : IsOneUnit bytes) where
+module _ (accepted : AcceptedHasNoFault) (one : IsOneUnit) (bytes : List ℕ) where
   canonical_one : (s t : List ℕ) → IsCanonicalOf bytes s → IsCanonicalOf bytes t → s ≡ t
-  canonical_one s t a b = a.is ∙ ap if1_text (one a.unit b.unit a.read b.read) ∙ sym b.is
+  canonical_one s t a b = a.is ∙ ap if1_text (one bytes a.unit b.unit a.read b.read) ∙ sym b.is
 
   canonical_refused : (s : List ℕ) (f : UnitFault) → IsCanonicalOf bytes s → IsRefusedFor bytes (if1_fault f) → ⊥
-  canonical_refused s f a p = ready_refused accepted bytes f one p a.unit a.read a.ready a.sound
+  canonical_refused s f a p = ready_refused accepted one bytes f p a.unit a.read a.ready a.sound
 
   pub if1_one : (r s : Result (List ℕ) Status) → If1Reply bytes r → If1Reply bytes s → AreOne r s
   if1_one _ _ (long h) (long k) = same
   if1_one _ _ (long h) (faulty f k p) = absurd (long_fits bytes h k)
   if1_one _ _ (long h) (printed out k p) = absurd (long_fits bytes h k)
   if1_one _ _ (faulty f h p) (long k) = absurd (long_fits bytes k h)
-  if1_one _ _ (faulty f h p) (faulty g k q) = faults_one accepted bytes f g one p q
+  if1_one _ _ (faulty f h p) (faulty g k q) = faults_one accepted one bytes f g p q
   if1_one _ _ (faulty f h p) (printed out k q) = absurd (canonical_refused out f q p)
   if1_one _ _ (printed out h p) (long k) = absurd (long_fits bytes k h)
   if1_one _ _ (printed out h p) (faulty f k q) = absurd (canonical_refused out f p q)
@@ -63,7 +64,7 @@ module _ (accepted : AcceptedHasNoFault) (bytes : List ℕ) (one : IsOneUnit byt
 
   module _ (unmarked : IsUnmarkedSound) (once : IsRunOnce) (set : RunSet) where
     units_one : (u v : Unit1) → IsIf1Of bytes u → IsIf1Of bytes v → u ≡ v
-    units_one u v a b = a.is ∙ ap with_marks (one a.unit b.unit a.read b.read) ∙ sym b.is
+    units_one u v a b = a.is ∙ ap with_marks (one bytes a.unit b.unit a.read b.read) ∙ sym b.is
 
     own_sound : (u v : Unit1) → IsReady v → u ≡ with_marks v → IsSound u → IsSound v
     own_sound u v r is s = by (has_marks v) refl (subst IsSound is s)
@@ -73,7 +74,7 @@ module _ (accepted : AcceptedHasNoFault) (bytes : List ℕ) (one : IsOneUnit byt
         by false e s = unmarked v r (no_takers v e) (no_lists v e)
 
     unit_refused : (f : UnitFault) (u : Unit1) → IsIf1Of bytes u → IsRefusedFor bytes (if1_fault f) → ⊥
-    unit_refused f u a p = ready_refused accepted bytes f one p a.unit a.read a.ready (own_sound u a.unit a.ready a.is a.sound)
+    unit_refused f u a p = ready_refused accepted one bytes f p a.unit a.read a.ready (own_sound u a.unit a.ready a.is a.sound)
 
     ran_one : (out other : List ℕ) (u v : Unit1) (s t : Totals) → IsIf1Of bytes u → IsIf1Of bytes v → GivesRun u set s → GivesRun v set t
         → out ≡ lines s.results ++ totals_if set.stats s → other ≡ lines t.results ++ totals_if set.stats t → out ≡ other
@@ -89,7 +90,7 @@ module _ (accepted : AcceptedHasNoFault) (bytes : List ℕ) (one : IsOneUnit byt
     run_one _ _ (too_long h) (ran out u t k a p e) = absurd (long_fits bytes h k)
     run_one _ _ (too_long h) (stopped r s u n k a p e) = absurd (long_fits bytes h k)
     run_one _ _ (no_unit f h p) (too_long k) = absurd (long_fits bytes k h)
-    run_one _ _ (no_unit f h p) (no_unit g k q) = faults_one accepted bytes f g one p q
+    run_one _ _ (no_unit f h p) (no_unit g k q) = faults_one accepted one bytes f g p q
     run_one _ _ (no_unit f h p) (ran out u t k a q e) = absurd (unit_refused f u a p)
     run_one _ _ (no_unit f h p) (stopped r s u n k a q e) = absurd (unit_refused f u a p)
     run_one _ _ (ran out u t h a p e) (too_long k) = absurd (long_fits bytes k h)

@@ -1,4 +1,4 @@
--- Why an IF1 text is refused, where it gives at most one unit.
+-- Why an IF1 text is refused.
 use Rattle.std.proofs.Common.{◌≡◌, ◌≤◌, ◌<◌, ◌∙◌, ℕ, List, ◌∷◌, All, Contains, refl, sym, ap, subst, arith, ◌⊎◌, inl, inr}
 use Rattle.std.proofs.lemmas.List.Elements.{All-contains, Contains-append_right}
 use Rattle.if1_graph.specs.declared.graph.Graph.TheViews.{out-Graph}
@@ -14,6 +14,7 @@ use Rattle.if1_read.specs.Faults.{rows_of, rank, NamesFault, IsUnclosed}
 use Rattle.if1_read.specs.Laws.{AcceptedHasNoFault}
 use Rattle.if1_read.specs.declared.fault.Kind.{Kind}
 use Rattle.if1_read.specs.declared.fault.Kind.TheVariants.{Bad, Unknown, Real, TooMany}
+use Rattle.if1_unique.specs.Laws.{IsOneUnit}
 use Rattle.if1_call.specs.Calls.{IsRefusedFor}
 use Rattle.mark_check.specs.Entries.{IsFirst, IsWrong, entries}
 use Rattle.mark_check.specs.Least.{IsLeastOf}
@@ -25,7 +26,7 @@ use Rattle.sisal_top.specs.Status.{if1_fault}
 use Rattle.sisal_top.specs.declared.status.Status.TheVariants as status
 use Rattle.sisal_top.specs.declared.status.UnitFault.{UnitFault}
 use Rattle.sisal_top.specs.declared.status.UnitFault.TheVariants as unit
-use Rattle.one_answer.specs.Alike.{AreAlike, cycles, ports, types, IsOneUnit}
+use Rattle.one_answer.specs.Alike.{AreAlike, cycles, ports, types}
 use Rattle.one_answer.proofs.Firsts.{first_one}
 use Rattle.one_answer.proofs.Syntaxes.{alike_if}
 
@@ -172,30 +173,30 @@ stage text (unit.Ports g n) p = a_unit p.unit p.read (bad_ports p.refused)
 stage text (unit.TypeOf g n) p = a_unit p.unit p.read (bad_types p.refused.0 p.refused.1)
 stage text (unit.Marks g n o r) p = a_unit p.unit p.read (bad_marks p.ready p.first p.unsound)
 
-module _ (accepted : AcceptedHasNoFault) (text : List ℕ) where
+module _ (accepted : AcceptedHasNoFault) (one : IsOneUnit) (text : List ℕ) where
   no_line : (u : Unit1) (n : ℕ) (k : Kind) → ReadsIf1 text u → NamesFault (rows_of text) n k → ⊥
   no_line u n k r p = (accepted text u r).0 n k p.fault
 
-  stages_one : (f g : UnitFault) → IsOneUnit text → Stage text f → Stage text g → AreAlike (status.If1 f) (status.If1 g)
-  stages_one f g one (a_line n k e p) (a_line m j d q) = alike_if (status.If1 f) (status.If1 g) (ap status.If1 (sym e ∙ named_one text n m k j p q ∙ d))
-  stages_one f g one (a_line n k e p) (unclosed d q) = absurd (q.clean n k p.fault)
-  stages_one f g one (a_line n k e p) (a_unit u r v) = absurd (no_line u n k r p)
-  stages_one f g one (unclosed e p) (a_line n k d q) = absurd (p.clean n k q.fault)
-  stages_one f g one (unclosed e p) (unclosed d q) = alike_if (status.If1 f) (status.If1 g) (ap status.If1 (sym e ∙ d))
-  stages_one f g one (unclosed e p) (a_unit u r v) = absurd ((accepted text u r).1 p)
-  stages_one f g one (a_unit u r v) (a_line n k d q) = absurd (no_line u n k r q)
-  stages_one f g one (a_unit u r v) (unclosed d q) = absurd ((accepted text u r).1 q)
-  stages_one f g one (a_unit u r v) (a_unit w s x) = verdict_one w f g (subst (λ z. Verdict z f) (one u w r s) v) x
+  stages_one : (f g : UnitFault) → Stage text f → Stage text g → AreAlike (status.If1 f) (status.If1 g)
+  stages_one f g (a_line n k e p) (a_line m j d q) = alike_if (status.If1 f) (status.If1 g) (ap status.If1 (sym e ∙ named_one text n m k j p q ∙ d))
+  stages_one f g (a_line n k e p) (unclosed d q) = absurd (q.clean n k p.fault)
+  stages_one f g (a_line n k e p) (a_unit u r v) = absurd (no_line u n k r p)
+  stages_one f g (unclosed e p) (a_line n k d q) = absurd (p.clean n k q.fault)
+  stages_one f g (unclosed e p) (unclosed d q) = alike_if (status.If1 f) (status.If1 g) (ap status.If1 (sym e ∙ d))
+  stages_one f g (unclosed e p) (a_unit u r v) = absurd ((accepted text u r).1 p)
+  stages_one f g (a_unit u r v) (a_line n k d q) = absurd (no_line u n k r q)
+  stages_one f g (a_unit u r v) (unclosed d q) = absurd ((accepted text u r).1 q)
+  stages_one f g (a_unit u r v) (a_unit w s x) = verdict_one w f g (subst (λ z. Verdict z f) (one text u w r s) v) x
 
   -- a text is refused for one fault
-  pub faults_one : (f g : UnitFault) → IsOneUnit text → IsRefusedFor text (if1_fault f) → IsRefusedFor text (if1_fault g) → AreAlike (status.If1 f) (status.If1 g)
-  faults_one f g one p q = stages_one f g one (stage text f p) (stage text g q)
+  pub faults_one : (f g : UnitFault) → IsRefusedFor text (if1_fault f) → IsRefusedFor text (if1_fault g) → AreAlike (status.If1 f) (status.If1 g)
+  faults_one f g p q = stages_one f g (stage text f p) (stage text g q)
 
-  ready_stage : (f : UnitFault) → IsOneUnit text → Stage text f → (u : Unit1) → ReadsIf1 text u → IsReady u → ¬ IsSound u
-  ready_stage f one (a_line n k e p) u r y = absurd (no_line u n k r p)
-  ready_stage f one (unclosed e p) u r y = absurd ((accepted text u r).1 p)
-  ready_stage f one (a_unit w s v) u r y = ready_verdict u f y (subst (λ z. Verdict z f) (one w u s r) v)
+  ready_stage : (f : UnitFault) → Stage text f → (u : Unit1) → ReadsIf1 text u → IsReady u → ¬ IsSound u
+  ready_stage f (a_line n k e p) u r y = absurd (no_line u n k r p)
+  ready_stage f (unclosed e p) u r y = absurd ((accepted text u r).1 p)
+  ready_stage f (a_unit w s v) u r y = ready_verdict u f y (subst (λ z. Verdict z f) (one text w u s r) v)
 
   -- a text that gives a ready unit is refused for its marks alone
-  pub ready_refused : (f : UnitFault) → IsOneUnit text → IsRefusedFor text (if1_fault f) → (u : Unit1) → ReadsIf1 text u → IsReady u → ¬ IsSound u
-  ready_refused f one p u r y = ready_stage f one (stage text f p) u r y
+  pub ready_refused : (f : UnitFault) → IsRefusedFor text (if1_fault f) → (u : Unit1) → ReadsIf1 text u → IsReady u → ¬ IsSound u
+  ready_refused f p u r y = ready_stage f (stage text f p) u r y

@@ -1,8 +1,6 @@
 -- When two answers are one: the same bytes, or refusals with the same numbers in their lines, but where the definitions let any be
 -- named of several.
 use Rattle.std.specs.Prelude.{◌≡◌, ℕ, false, List, Result, Ok, Err}
-use Rattle.if1_graph.specs.declared.graph.Unit1.{Unit1}
-use Rattle.if1_graph.specs.Reads.{ReadsIf1}
 use Rattle.run_words.specs.Words.{IsCommand}
 use Rattle.run_words.specs.declared.command.Command.{Command}
 use Rattle.run_words.specs.declared.command.Command.TheVariants as command
@@ -42,7 +40,3 @@ MakesGraphs _ = ⊥
 
 abbrev pub AskForGraphs : List (List ℕ) → Type 0
 AskForGraphs words = (c : Command) × IsCommand words c × MakesGraphs c
-
--- a text that gives at most one unit by the text form of IF1
-abbrev pub IsOneUnit : List ℕ → Type 0
-IsOneUnit text = (u v : Unit1) → ReadsIf1 text u → ReadsIf1 text v → u ≡ v

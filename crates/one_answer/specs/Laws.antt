@@ -7,23 +7,31 @@ use Rattle.lowering.specs.TooMany.{too_many}
 use Rattle.mean_call.specs.declared.fault.Refusal.{Refusal}
 use Rattle.mean_call.specs.declared.fault.Refusal.TheVariants as refusal
 use Rattle.run_call.specs.Calls.{Gives as GivesRun, IsRefused as HasNoTotals}
+use Rattle.run_words.specs.Words.{IsCommand}
+use Rattle.run_words.specs.declared.command.Command.TheVariants as command
 use Rattle.run_words.specs.declared.command.CompileSet.{CompileSet}
 use Rattle.run_words.specs.declared.command.RunSet.{RunSet}
 use Rattle.typed_tree.specs.declared.program.Program.{Program}
 use Rattle.unit_code.specs.declared.runs.Totals.{Totals}
 use Rattle.sisal_top.specs.Answer.{Answers, Gives}
+use Rattle.sisal_top.specs.Program.{Fits}
 use Rattle.sisal_top.specs.declared.status.Status.{Status}
 use Rattle.sisal_top.specs.declared.status.Status.TheVariants as status
-use Rattle.one_answer.specs.Alike.{AreOne, Tells, AskForGraphs, IsOneUnit}
+use Rattle.one_answer.specs.Alike.{AreOne, Tells, AskForGraphs}
 
 -- words and bytes give one thing, but where graphs are made of a SISAL text
 abbrev pub OneAnswerLaw : Type 0
-OneAnswerLaw = (words : List (List ℕ)) (bytes : List ℕ) (r s : Result (List ℕ) Status) → ¬ AskForGraphs words → IsOneUnit bytes → Gives words bytes r → Gives words bytes s → Tells r → Tells s → AreOne r s
+OneAnswerLaw = (words : List (List ℕ)) (bytes : List ℕ) (r s : Result (List ℕ) Status) → ¬ AskForGraphs words → Gives words bytes r → Gives words bytes s → Tells r → Tells s → AreOne r s
 
 -- where they give bytes, these are printed, unless memory is wanting or the outside failed
 abbrev pub CompleteLaw : Type 0
-CompleteLaw = (words : List (List ℕ)) (bytes printed : List ℕ) (s : Status) (before after : Option (List ℕ)) → ¬ AskForGraphs words → IsOneUnit bytes → Gives words bytes (Ok printed)
+CompleteLaw = (words : List (List ℕ)) (bytes printed : List ℕ) (s : Status) (before after : Option (List ℕ)) → ¬ AskForGraphs words → Gives words bytes (Ok printed)
     → Answers words bytes s before after → s ≢ status.ReadFault → s ≢ status.WriteFault → ((s ≡ status.Done) × AddsOn before printed after) ⊎ (s ≡ status.NoMemory)
+
+-- what `if1` prints of a text it prints of that again, and gives nothing else, where it is not too long to be read
+abbrev pub IsPrintedAgain : Type 0
+IsPrintedAgain = (words : List (List ℕ)) (bytes printed : List ℕ) → IsCommand words command.If1 → Gives words bytes (Ok printed) → Fits printed
+    → Gives words printed (Ok printed) × ((r : Result (List ℕ) Status) → Gives words printed r → Tells r → r ≡ Ok printed)
 
 -- a unit has one answer to the words of `run`, but for want of memory
 pub record IsRunOnce : Type 0 where

@@ -1,9 +1,17 @@
 //! The laws.
-ghost use Rattle.one_answer.specs.Laws.{AreGraphsOnce, CompleteLaw, IsRunOnce, OneAnswerLaw};
+ghost use Rattle.one_answer.specs.Laws.{
+  AreGraphsOnce,
+  CompleteLaw,
+  IsPrintedAgain,
+  IsRunOnce,
+  OneAnswerLaw,
+};
 
 use compile_call::a_program_has_one_text;
 use if1_marks::no_marks_are_sound;
 use if1_read::accepted_has_no_fault;
+use if1_unique::an_if1_text_gives_one_unit;
+use if1_write::written_is_read;
 use lowered_units::a_program_is_one_unit;
 use one_meaning::{a_program_answers_once, typed_trees_answer_alike, words_are_read_or_refused};
 use run_call::{no_run_passes_the_limit, words_have_one_run};
@@ -29,8 +37,7 @@ pub fn graphs_answer_once()
 }
 
 /// Words and the bytes of a text have one answer, but for want of memory and faults of the source.
-/// Of an IF1 text this is said where it gives at most one unit, and not of `run` and `compile` of a
-/// SISAL text.
+/// This is not said of `run` and `compile` of a SISAL text.
 pub fn words_and_texts_have_one_answer()
     ensures { OneAnswerLaw }
 {
@@ -40,6 +47,7 @@ pub fn words_and_texts_have_one_answer()
     a_program_answers_once();
     typed_trees_answer_alike();
     accepted_has_no_fault();
+    an_if1_text_gives_one_unit();
     no_marks_are_sound();
     a_run_answers_once();
 }
@@ -49,5 +57,15 @@ pub fn words_and_texts_have_one_answer()
 pub fn results_are_printed()
     ensures { CompleteLaw }
 {
+    words_and_texts_have_one_answer();
+}
+
+/// What `if1` prints of a text it prints of that again, and gives nothing else, where it is not too
+/// long to be read.
+pub fn what_if1_prints_stays()
+    ensures { IsPrintedAgain }
+{
+    words_have_one_meaning();
+    written_is_read();
     words_and_texts_have_one_answer();
 }

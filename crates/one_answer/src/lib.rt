@@ -5,5 +5,6 @@
 mod laws;
 
 pub use laws::{
-    a_run_answers_once, graphs_answer_once, results_are_printed, words_and_texts_have_one_answer,
+    a_run_answers_once, graphs_answer_once, results_are_printed, what_if1_prints_stays,
+    words_and_texts_have_one_answer,
 };
