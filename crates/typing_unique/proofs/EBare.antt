@@ -1,4 +1,4 @@
--- Two typed trees of one expression, over any two tables of types, are one but for the numbers of types.
+-- Two typed trees of one expression, over any two tables of types, are one where numbers of one type are given one number.
 use Rattle.std.proofs.Common.{◌≡◌, inl, inr, ℕ, List, [], ◌∷◌, ◌++◌, length, Option, Some, None, refl, sym, ap, subst, ◌∙◌}
 use Rattle.std.proofs.lemmas.Option.{same_Some}
 use Rattle.name_scope.specs.Newest.{newest}
@@ -30,7 +30,7 @@ use Rattle.typed_tree.specs.Typing as rule
 use Rattle.typed_tree.specs.Typing.{Signature, Known, IsFunction, Has, IsTag, tags_from, AreChoices, Chooses, names_in, names_of, loop_of, named_arms, with_content, Types, AreTyped, Replaces, HasFields, Defines, Crosses, Generates, AreClauses, IsMask, AreArms, IsOtherwise}
 use Rattle.typing_unique.specs.Fair.{AreOnce, AreProper, IsFair}
 use Rattle.typing_unique.specs.Inverted.{at_table, IsProperScope}
-use Rattle.typing_unique.specs.Bare.{bare, bare_kind, bares, bare_lists}
+use Rattle.typing_unique.specs.Bare.{renumbered_all, renumbered_lists}
 use Rattle.typing_unique.specs.InvertedTree.{HasTree, IsNameTree, IsGroupTree, IsCallTree, IsConvertTree, IsIsErrorTree, IsIsTagTree, IsPrefixTree, IsBinaryTree, IsSelectTree, IsUpdateTree, IsFieldTree, IsReplaceTree, IsArrayTree, IsStreamTree, IsRecordTree, IsUnionTree, IsLetTree, IsIfTree, IsTagCaseTree, IsInitialTree, IsFirstTree, IsNewFieldTree, IsChangedTree, IsDefinitionTree, IsBodyTree, IsInsideTree, IsInnerLoopTree, IsCrossedTree, IsRangeTree, IsElementsTree, IsClauseTree, IsArmTree, IsTestedTree}
 use Rattle.typing_unique.proofs.EViews.{out_constant, out_name, out_old, out_group, out_call, out_convert, out_error_of, out_is_error, out_is_tag, out_prefix, out_binary, out_select, out_update, out_field, out_replace, out_empty_array, out_stream, out_a_record, out_union, out_let, out_if}
 use Rattle.typing_unique.proofs.ETreeViews.{view, view_array, view_case, view_product, view_initial, first_of, fields_of, changed_of, definitions_of, view_definitions, crossed_of, generated_of, view_generators, clauses_of, view_clauses, arms_of, view_arms, mask_of}
@@ -41,7 +41,7 @@ use Rattle.typing_unique.proofs.EOne.{one_call, one_content, one_type, all_one, 
 use Rattle.typing_unique.proofs.EParts.{tags_are}
 use Rattle.typing_unique.proofs.EInverted.{some_group, has_in, function_in, built_in_in, tags_in}
 use Rattle.typing_unique.proofs.ETreeParts.{one_forms, one_choices}
-use Rattle.typing_unique.proofs.EBareParts.{same_bare, more, single, pair, more_lists, both, both_lists, group, call, apply, let_in, choice, tags_case, product, initial}
+use Rattle.typing_unique.proofs.EBareParts.{Agree, Same, AllSame, ListsSame, same_bare, constant, value, more, single, pair, more_lists, both, both_lists, group, call, apply, let_in, choice, tags_case, product, initial}
 
 same_level : (i j : ℕ) (a b : Ty) → At i a ≡ At j b → i ≡ j
 same_level i j a b e = cc
@@ -51,6 +51,7 @@ one_level : (x i j : ℕ) (a b : Ty) (names : List (ℕ × Meaning)) → newest 
 one_level x i j a b names p q = same_level i j a b (same_Some (At i a) (At j b) (sym p ∙ q))
 
 module _ (k : Known) (f1 f2 : List Form) (denotes : Written → Ty → Type 0) (misnames : Written → ℕ → ℕ → Type 0) (fair : IsFair k denotes misnames)
+    (m1 m2 : ℕ → ℕ) (agree : Agree m1 m2 f1 f2 k.spellings)
     (numbered : (x n m : ℕ) (f g : Signature) → IsFunction k x n f → IsFunction k x m g → n ≡ m) where
   -- ---- types again
 
@@ -90,27 +91,27 @@ module _ (k : Known) (f1 f2 : List Form) (denotes : Written → Ty → Type 0) (
 
   mutual
     pub one_shape : (s : Scope) (e : Expr) (t : TypedExpr) (tys : List Ty) → Types (at_table k f1) denotes s e t tys → IsProperScope s
-        → (u : TypedExpr) (others : List Ty) → tys ≡ others → Types (at_table k f2) denotes s e u others → bare t ≡ bare u
+        → (u : TypedExpr) (others : List Ty) → tys ≡ others → Types (at_table k f2) denotes s e u others → Same m1 m2 t u
     one_shape s _ _ _ (rule.constant {l = l} {c = c} {ns = ns} n) sc u others same q =
         let v : HasTree (at_table k f2) denotes l (node.Constant c) u others = view (at_table k f2) denotes s l (tree.Constant c) (ExprKind-F.Constant c) u others (out_constant c) q in
-        same_bare k f1 f2 denotes l ns (node.Constant c) (node.Constant c) u (constant_type c ∷ []) others n same v refl
+        same_bare m1 m2 k f1 f2 agree denotes l ns (node.Constant c) (node.Constant c) u (constant_type c ∷ []) others n same v (constant m1 m2 c)
     one_shape s _ _ _ (rule.name {l = l} {x = x} {level = level} {a = a} {ns = ns} h n) sc u others same q =
         let v : IsNameTree (at_table k f2) denotes s.names l x u others = view (at_table k f2) denotes s l (tree.Name x) (ExprKind-F.Name x) u others (out_name x) q in
-        same_bare k f1 f2 denotes l ns (node.Value level) (node.Value v.level) u (a ∷ []) others n same v.tree
-        (ap (λ i. bare_kind (node.Value i)) (one_level x level v.level a v.type s.names h v.there))
+        same_bare m1 m2 k f1 f2 agree denotes l ns (node.Value level) (node.Value v.level) u (a ∷ []) others n same v.tree
+        (value m1 m2 level v.level (one_level x level v.level a v.type s.names h v.there))
     one_shape s _ _ _ (rule.old {l = l} {x = x} {level = level} {a = a} {ns = ns} h n) sc u others same q =
         let v : IsNameTree (at_table k f2) denotes s.olds l x u others = view (at_table k f2) denotes s l (tree.Old x) (ExprKind-F.Old x) u others (out_old x) q in
-        same_bare k f1 f2 denotes l ns (node.Value level) (node.Value v.level) u (a ∷ []) others n same v.tree
-        (ap (λ i. bare_kind (node.Value i)) (one_level x level v.level a v.type s.olds h v.there))
+        same_bare m1 m2 k f1 f2 agree denotes l ns (node.Value level) (node.Value v.level) u (a ∷ []) others n same v.tree
+        (value m1 m2 level v.level (one_level x level v.level a v.type s.olds h v.there))
     one_shape s _ _ _ (rule.group {l = l} {e = e} {t = t} {tys = tys} {ns = ns} p n) sc u others same q =
         let v : IsGroupTree (at_table k f2) denotes s l e u others = view (at_table k f2) denotes s l (tree.Group e) (ExprKind-F.Group e) u others (out_group e) q in
-        same_bare k f1 f2 denotes l ns (node.Group (t ∷ [])) (node.Group (v.part ∷ [])) u tys others n same v.tree
-        (group (t ∷ []) (v.part ∷ []) (single t v.part (one_shape s e t tys p sc v.part others same v.typed)))
+        same_bare m1 m2 k f1 f2 agree denotes l ns (node.Group (t ∷ [])) (node.Group (v.part ∷ [])) u tys others n same v.tree
+        (group m1 m2 (t ∷ []) (v.part ∷ []) (single m1 m2 t v.part (one_shape s e t tys p sc v.part others same v.typed)))
     one_shape s _ _ _ (rule.call {l = l} {x = x} {n = i} {f = f} {es = es} {ts = ts} {ns = ns} h p n) sc u others same q =
         let v : IsCallTree (at_table k f2) denotes s l x es u others = view (at_table k f2) denotes s l (tree.Call x es) (ExprKind-F.Call x es) u others (out_call x es) q in
         elim v [
-          | inl c ↦ same_bare k f1 f2 denotes l ns (node.Call i ts) (node.Call c.place c.exprs) u f.results others n same c.tree
-              (call i c.place ts c.exprs (numbered x i c.place f c.function (function_in k f1 x i f h) (function_in k f2 x c.place c.function c.there))
+          | inl c ↦ same_bare m1 m2 k f1 f2 agree denotes l ns (node.Call i ts) (node.Call c.place c.exprs) u f.results others n same c.tree
+              (call m1 m2 i c.place ts c.exprs (numbered x i c.place f c.function (function_in k f1 x i f h) (function_in k f2 x c.place c.function c.there))
               (all_shapes s es ts f.params p sc c.exprs c.function.params c.typed))
           | inr c ↦ absurd (fair.own x i f c.call (function_in k f1 x i f h) (built_in_in k f2 x c.call c.there))
         ]
@@ -118,108 +119,110 @@ module _ (k : Known) (f1 f2 : List Form) (denotes : Written → Ty → Type 0) (
         let v : IsCallTree (at_table k f2) denotes s l x es u others = view (at_table k f2) denotes s l (tree.Call x es) (ExprKind-F.Call x es) u others (out_call x es) q in
         elim v [
           | inl c ↦ absurd (fair.own x c.place c.function b (function_in k f2 x c.place c.function c.there) (built_in_in k f1 x b h))
-          | inr c ↦ same_bare k f1 f2 denotes l ns (node.Apply (built_in_operation b) ts) (node.Apply (built_in_operation c.call) c.exprs) u (a ∷ []) others n same c.tree
-              (apply (built_in_operation b) (built_in_operation c.call) ts c.exprs (ap built_in_operation (one_call k x b c.call (built_in_in k f1 x b h) (built_in_in k f2 x c.call c.there)))
+          | inr c ↦ same_bare m1 m2 k f1 f2 agree denotes l ns (node.Apply (built_in_operation b) ts) (node.Apply (built_in_operation c.call) c.exprs) u (a ∷ []) others n same c.tree
+              (apply m1 m2 (built_in_operation b) (built_in_operation c.call) ts c.exprs (ap built_in_operation (one_call k x b c.call (built_in_in k f1 x b h) (built_in_in k f2 x c.call c.there)))
               (all_shapes s es ts tys p sc c.exprs c.operands c.typed))
         ]
     one_shape s _ _ _ (rule.convert {l = l} {a = a} {c = c} {e = e} {t = t} {ns = ns} p h n) sc u others same q =
         let v : IsConvertTree (at_table k f2) denotes s l c e u others = view (at_table k f2) denotes s l (tree.Convert c e) (ExprKind-F.Convert c e) u others (out_convert c e) q in
-        same_bare k f1 f2 denotes l ns (node.Apply (convert_operation c) (t ∷ [])) (node.Apply (convert_operation c) (v.part ∷ [])) u (scalar_type c ∷ []) others n same v.tree
-        (apply (convert_operation c) (convert_operation c) (t ∷ []) (v.part ∷ []) refl
-        (single t v.part (one_shape s e t (a ∷ []) p sc v.part (v.type ∷ []) (type_of s e t (a ∷ []) p sc v.part (v.type ∷ []) v.typed) v.typed)))
+        same_bare m1 m2 k f1 f2 agree denotes l ns (node.Apply (convert_operation c) (t ∷ [])) (node.Apply (convert_operation c) (v.part ∷ [])) u (scalar_type c ∷ []) others n same v.tree
+        (apply m1 m2 (convert_operation c) (convert_operation c) (t ∷ []) (v.part ∷ []) refl
+        (single m1 m2 t v.part (one_shape s e t (a ∷ []) p sc v.part (v.type ∷ []) (type_of s e t (a ∷ []) p sc v.part (v.type ∷ []) v.typed) v.typed)))
     one_shape s _ _ _ (rule.error_of {l = l} {a = a} {w = w} {ns = ns} h n) sc u others same q =
         let v : HasTree (at_table k f2) denotes l (node.Apply operation.Error []) u others = view (at_table k f2) denotes s l (tree.ErrorOf w) (ExprKind-F.ErrorOf w) u others (out_error_of w) q in
-        same_bare k f1 f2 denotes l ns (node.Apply operation.Error []) (node.Apply operation.Error []) u (a ∷ []) others n same v refl
+        same_bare m1 m2 k f1 f2 agree denotes l ns (node.Apply operation.Error []) (node.Apply operation.Error []) u (a ∷ []) others n same v
+        (apply m1 m2 operation.Error operation.Error [] [] refl refl)
     one_shape s _ _ _ (rule.is_error {l = l} {a = a} {e = e} {t = t} {ns = ns} p n) sc u others same q =
         let v : IsIsErrorTree (at_table k f2) denotes s l e u others = view (at_table k f2) denotes s l (tree.IsError e) (ExprKind-F.IsError e) u others (out_is_error e) q in
-        same_bare k f1 f2 denotes l ns (node.Apply (operation.Unary unary.IsError) (t ∷ [])) (node.Apply (operation.Unary unary.IsError) (v.part ∷ [])) u (ty.Bool ∷ []) others n same v.tree
-        (apply (operation.Unary unary.IsError) (operation.Unary unary.IsError) (t ∷ []) (v.part ∷ []) refl
-        (single t v.part (one_shape s e t (a ∷ []) p sc v.part (v.type ∷ []) (type_of s e t (a ∷ []) p sc v.part (v.type ∷ []) v.typed) v.typed)))
+        same_bare m1 m2 k f1 f2 agree denotes l ns (node.Apply (operation.Unary unary.IsError) (t ∷ [])) (node.Apply (operation.Unary unary.IsError) (v.part ∷ [])) u (ty.Bool ∷ []) others n same v.tree
+        (apply m1 m2 (operation.Unary unary.IsError) (operation.Unary unary.IsError) (t ∷ []) (v.part ∷ []) refl
+        (single m1 m2 t v.part (one_shape s e t (a ∷ []) p sc v.part (v.type ∷ []) (type_of s e t (a ∷ []) p sc v.part (v.type ∷ []) v.typed) v.typed)))
     one_shape s _ _ _ (rule.is_tag {l = l} {x = x} {place = place} {content = content} {ms = ms} {e = e} {t = t} {ns = ns} p h n) sc u others same q =
         let v : IsIsTagTree (at_table k f2) denotes s l x e u others = view (at_table k f2) denotes s l (tree.IsTag x e) (ExprKind-F.IsTag x e) u others (out_is_tag x e) q in
         let type = type_of s e t (ty.Uni ms ∷ []) p sc v.part (ty.Uni v.members ∷ []) v.typed in
-        same_bare k f1 f2 denotes l ns (node.Apply (operation.IsTag place) (t ∷ [])) (node.Apply (operation.IsTag v.place) (v.part ∷ [])) u (ty.Bool ∷ []) others n same v.tree
-        (apply (operation.IsTag place) (operation.IsTag v.place) (t ∷ []) (v.part ∷ []) (ap operation.IsTag
+        same_bare m1 m2 k f1 f2 agree denotes l ns (node.Apply (operation.IsTag place) (t ∷ [])) (node.Apply (operation.IsTag v.place) (v.part ∷ [])) u (ty.Bool ∷ []) others n same v.tree
+        (apply m1 m2 (operation.IsTag place) (operation.IsTag v.place) (t ∷ []) (v.part ∷ []) (ap operation.IsTag
         (place_of ms v.members x place v.place content v.content (tags_once s e t ms p sc).1 (same_union ms v.members (same_first (ty.Uni ms) (ty.Uni v.members) [] [] type)) h v.has))
-        (single t v.part (one_shape s e t (ty.Uni ms ∷ []) p sc v.part (ty.Uni v.members ∷ []) type v.typed)))
+        (single m1 m2 t v.part (one_shape s e t (ty.Uni ms ∷ []) p sc v.part (ty.Uni v.members ∷ []) type v.typed)))
     one_shape s _ _ _ (rule.prefix {l = l} {o = o} {e = e} {t = t} {ns = ns} p n) sc u others same q =
         let v : IsPrefixTree (at_table k f2) denotes s l o e u others = view (at_table k f2) denotes s l (tree.Prefix o e) (ExprKind-F.Prefix o e) u others (out_prefix o e) q in
-        same_bare k f1 f2 denotes l ns (node.Apply (prefix_operation o) (t ∷ [])) (node.Apply (prefix_operation o) (v.part ∷ [])) u (prefix_type o ∷ []) others n same v.tree
-        (apply (prefix_operation o) (prefix_operation o) (t ∷ []) (v.part ∷ []) refl (single t v.part (one_shape s e t (prefix_type o ∷ []) p sc v.part (prefix_type o ∷ []) refl v.typed)))
+        same_bare m1 m2 k f1 f2 agree denotes l ns (node.Apply (prefix_operation o) (t ∷ [])) (node.Apply (prefix_operation o) (v.part ∷ [])) u (prefix_type o ∷ []) others n same v.tree
+        (apply m1 m2 (prefix_operation o) (prefix_operation o) (t ∷ []) (v.part ∷ []) refl (single m1 m2 t v.part (one_shape s e t (prefix_type o ∷ []) p sc v.part (prefix_type o ∷ []) refl v.typed)))
     one_shape s _ _ _ (rule.binary {l = l} {a = a} {o = o} {e = e} {f = f} {t = t} {u = r} {ns = ns} p w h n) sc u others same q =
         let v : IsBinaryTree (at_table k f2) denotes s l o e f u others = view (at_table k f2) denotes s l (tree.Binary o e f) (ExprKind-F.Binary o e f) u others (out_binary o e f) q in
         let type = type_of s e t (a ∷ []) p sc v.left (v.type ∷ []) v.typed_left in
-        same_bare k f1 f2 denotes l ns (node.Apply (binary_operation o) (t ∷ r ∷ [])) (node.Apply (binary_operation o) (v.left ∷ v.right ∷ [])) u (binary_type o a ∷ []) others n same v.tree
-        (apply (binary_operation o) (binary_operation o) (t ∷ r ∷ []) (v.left ∷ v.right ∷ []) refl
-        (pair t r v.left v.right (one_shape s e t (a ∷ []) p sc v.left (v.type ∷ []) type v.typed_left) (one_shape s f r (a ∷ []) w sc v.right (v.type ∷ []) type v.typed_right)))
+        same_bare m1 m2 k f1 f2 agree denotes l ns (node.Apply (binary_operation o) (t ∷ r ∷ [])) (node.Apply (binary_operation o) (v.left ∷ v.right ∷ [])) u (binary_type o a ∷ []) others n same v.tree
+        (apply m1 m2 (binary_operation o) (binary_operation o) (t ∷ r ∷ []) (v.left ∷ v.right ∷ []) refl
+        (pair m1 m2 t r v.left v.right (one_shape s e t (a ∷ []) p sc v.left (v.type ∷ []) type v.typed_left) (one_shape s f r (a ∷ []) w sc v.right (v.type ∷ []) type v.typed_right)))
     one_shape s _ _ _ (rule.select {l = l} {a = a} {e = e} {i = i} {t = t} {u = r} {ns = ns} p w n) sc u others same q =
         let v : IsSelectTree (at_table k f2) denotes s l e i u others = view (at_table k f2) denotes s l (tree.Select e i) (ExprKind-F.Select e i) u others (out_select e i) q in
         let type = type_of s e t (ty.Arr a ∷ []) p sc v.array (ty.Arr v.element ∷ []) v.typed_array in
-        same_bare k f1 f2 denotes l ns (node.Apply operation.Element (t ∷ r ∷ [])) (node.Apply operation.Element (v.array ∷ v.index ∷ [])) u (a ∷ []) others n same v.tree
-        (apply operation.Element operation.Element (t ∷ r ∷ []) (v.array ∷ v.index ∷ []) refl
-        (pair t r v.array v.index (one_shape s e t (ty.Arr a ∷ []) p sc v.array (ty.Arr v.element ∷ []) type v.typed_array) (one_shape s i r (ty.Int ∷ []) w sc v.index (ty.Int ∷ []) refl v.typed_index)))
+        same_bare m1 m2 k f1 f2 agree denotes l ns (node.Apply operation.Element (t ∷ r ∷ [])) (node.Apply operation.Element (v.array ∷ v.index ∷ [])) u (a ∷ []) others n same v.tree
+        (apply m1 m2 operation.Element operation.Element (t ∷ r ∷ []) (v.array ∷ v.index ∷ []) refl
+        (pair m1 m2 t r v.array v.index (one_shape s e t (ty.Arr a ∷ []) p sc v.array (ty.Arr v.element ∷ []) type v.typed_array) (one_shape s i r (ty.Int ∷ []) w sc v.index (ty.Int ∷ []) refl v.typed_index)))
     one_shape s _ _ _ (rule.update {l = l} {a = a} {e = e} {i = i} {f = f} {t = t} {u = r} {v = y} {ns = ns} p w d n) sc u others same q =
         let v : IsUpdateTree (at_table k f2) denotes s l e i f u others = view (at_table k f2) denotes s l (tree.Update e i f) (ExprKind-F.Update e i f) u others (out_update e i f) q in
         let type = type_of s e t (ty.Arr a ∷ []) p sc v.array (ty.Arr v.element ∷ []) v.typed_array in
         let content = type_of s f y (a ∷ []) d sc v.value (v.element ∷ []) v.typed_value in
-        same_bare k f1 f2 denotes l ns (node.Apply operation.Update (t ∷ r ∷ y ∷ [])) (node.Apply operation.Update (v.array ∷ v.index ∷ v.value ∷ [])) u (ty.Arr a ∷ []) others n same v.tree
-        (apply operation.Update operation.Update (t ∷ r ∷ y ∷ []) (v.array ∷ v.index ∷ v.value ∷ []) refl
-        (more t v.array (r ∷ y ∷ []) (v.index ∷ v.value ∷ []) (one_shape s e t (ty.Arr a ∷ []) p sc v.array (ty.Arr v.element ∷ []) type v.typed_array)
-        (pair r y v.index v.value (one_shape s i r (ty.Int ∷ []) w sc v.index (ty.Int ∷ []) refl v.typed_index) (one_shape s f y (a ∷ []) d sc v.value (v.element ∷ []) content v.typed_value))))
+        same_bare m1 m2 k f1 f2 agree denotes l ns (node.Apply operation.Update (t ∷ r ∷ y ∷ [])) (node.Apply operation.Update (v.array ∷ v.index ∷ v.value ∷ [])) u (ty.Arr a ∷ []) others n same v.tree
+        (apply m1 m2 operation.Update operation.Update (t ∷ r ∷ y ∷ []) (v.array ∷ v.index ∷ v.value ∷ []) refl
+        (more m1 m2 t v.array (r ∷ y ∷ []) (v.index ∷ v.value ∷ []) (one_shape s e t (ty.Arr a ∷ []) p sc v.array (ty.Arr v.element ∷ []) type v.typed_array)
+        (pair m1 m2 r y v.index v.value (one_shape s i r (ty.Int ∷ []) w sc v.index (ty.Int ∷ []) refl v.typed_index) (one_shape s f y (a ∷ []) d sc v.value (v.element ∷ []) content v.typed_value))))
     one_shape s _ _ _ (rule.field {l = l} {x = x} {place = place} {content = content} {ms = ms} {e = e} {t = t} {ns = ns} p h n) sc u others same q =
         let v : IsFieldTree (at_table k f2) denotes s l e x u others = view (at_table k f2) denotes s l (tree.Field e x) (ExprKind-F.Field e x) u others (out_field e x) q in
         let type = type_of s e t (ty.Rec ms ∷ []) p sc v.part (ty.Rec v.members ∷ []) v.typed in
-        same_bare k f1 f2 denotes l ns (node.Apply (operation.Field place) (t ∷ [])) (node.Apply (operation.Field v.place) (v.part ∷ [])) u (content ∷ []) others n same v.tree
-        (apply (operation.Field place) (operation.Field v.place) (t ∷ []) (v.part ∷ []) (ap operation.Field
+        same_bare m1 m2 k f1 f2 agree denotes l ns (node.Apply (operation.Field place) (t ∷ [])) (node.Apply (operation.Field v.place) (v.part ∷ [])) u (content ∷ []) others n same v.tree
+        (apply m1 m2 (operation.Field place) (operation.Field v.place) (t ∷ []) (v.part ∷ []) (ap operation.Field
         (place_of ms v.members x place v.place content v.content (once_in s e t ms p sc) (same_record ms v.members (same_first (ty.Rec ms) (ty.Rec v.members) [] [] type)) h v.has))
-        (single t v.part (one_shape s e t (ty.Rec ms ∷ []) p sc v.part (ty.Rec v.members ∷ []) type v.typed)))
+        (single m1 m2 t v.part (one_shape s e t (ty.Rec ms ∷ []) p sc v.part (ty.Rec v.members ∷ []) type v.typed)))
     one_shape s _ _ _ (rule.replace {l = l} {ms = ms} {e = e} {t = t} {vs = vs} {places = places} {us = ts} {ns = ns} p r d n) sc u others same q =
         let v : IsReplaceTree (at_table k f2) denotes s l e vs u others = view (at_table k f2) denotes s l (tree.Replace e vs) (ExprKind-F.Replace e vs) u others (out_replace e vs) q in
         let type = type_of s e t (ty.Rec ms ∷ []) p sc v.part (ty.Rec v.members ∷ []) v.typed in
         let members : ms ≡ v.members = same_record ms v.members (same_first (ty.Rec ms) (ty.Rec v.members) [] [] type) in
         let changed = changed_shapes s ms vs places ts r (once_in s e t ms p sc) sc v.places v.exprs (subst (λ m. Replaces (at_table k f2) denotes s m vs v.places v.exprs) (sym members) v.replaces) in
-        same_bare k f1 f2 denotes l ns (node.Apply (operation.Change places) (t ∷ ts)) (node.Apply (operation.Change v.places) (v.part ∷ v.exprs)) u (ty.Rec ms ∷ []) others n same v.tree
-        (apply (operation.Change places) (operation.Change v.places) (t ∷ ts) (v.part ∷ v.exprs) (ap operation.Change changed.0)
-        (more t v.part ts v.exprs (one_shape s e t (ty.Rec ms ∷ []) p sc v.part (ty.Rec v.members ∷ []) type v.typed) changed.1))
+        same_bare m1 m2 k f1 f2 agree denotes l ns (node.Apply (operation.Change places) (t ∷ ts)) (node.Apply (operation.Change v.places) (v.part ∷ v.exprs)) u (ty.Rec ms ∷ []) others n same v.tree
+        (apply m1 m2 (operation.Change places) (operation.Change v.places) (t ∷ ts) (v.part ∷ v.exprs) (ap operation.Change changed.0)
+        (more m1 m2 t v.part ts v.exprs (one_shape s e t (ty.Rec ms ∷ []) p sc v.part (ty.Rec v.members ∷ []) type v.typed) changed.1))
     one_shape s _ _ _ (rule.empty_array {l = l} {x = x} a {ns = ns} h n) sc u others same q =
         let v : HasTree (at_table k f2) denotes l (node.Apply operation.EmptyArray []) u others = view (at_table k f2) denotes s l (tree.Array (Some x) None) (ExprKind-F.Array (Some x) None) u others (out_empty_array (Some x)) q in
-        same_bare k f1 f2 denotes l ns (node.Apply operation.EmptyArray []) (node.Apply operation.EmptyArray []) u (ty.Arr a ∷ []) others n same v refl
+        same_bare m1 m2 k f1 f2 agree denotes l ns (node.Apply operation.EmptyArray []) (node.Apply operation.EmptyArray []) u (ty.Arr a ∷ []) others n same v
+        (apply m1 m2 operation.EmptyArray operation.EmptyArray [] [] refl refl)
     one_shape s _ _ _ (rule.array {l = l} {a = a} {tys = tys} {x = x} {low = low} {t = t} {es = es} {ts = ts} {ns = ns} p r all h d n) sc u others same q =
         let v : IsArrayTree (at_table k f2) denotes s l low es u others = view_array (at_table k f2) denotes s l x low es u others q in
-        same_bare k f1 f2 denotes l ns (node.Apply operation.Array (t ∷ ts)) (node.Apply operation.Array (v.bound ∷ v.exprs)) u (ty.Arr a ∷ []) others n same v.tree
-        (apply operation.Array operation.Array (t ∷ ts) (v.bound ∷ v.exprs) refl
-        (more t v.bound ts v.exprs (one_shape s low t (ty.Int ∷ []) p sc v.bound (ty.Int ∷ []) refl v.lower) (all_shapes s es ts (a ∷ tys) r sc v.exprs v.made v.typed)))
+        same_bare m1 m2 k f1 f2 agree denotes l ns (node.Apply operation.Array (t ∷ ts)) (node.Apply operation.Array (v.bound ∷ v.exprs)) u (ty.Arr a ∷ []) others n same v.tree
+        (apply m1 m2 operation.Array operation.Array (t ∷ ts) (v.bound ∷ v.exprs) refl
+        (more m1 m2 t v.bound ts v.exprs (one_shape s low t (ty.Int ∷ []) p sc v.bound (ty.Int ∷ []) refl v.lower) (all_shapes s es ts (a ∷ tys) r sc v.exprs v.made v.typed)))
     one_shape s _ _ _ (rule.empty_stream {l = l} {x = x} a {ns = ns} h n) sc u others same q =
         let v : IsStreamTree (at_table k f2) denotes s l [] u others = view (at_table k f2) denotes s l (tree.Stream (Some x) []) (ExprKind-F.Stream (Some x) []) u others (out_stream (Some x) []) q in
         let none : v.exprs ≡ [] = first_of (at_table k f2) denotes s [] v.exprs v.made v.typed in
-        same_bare k f1 f2 denotes l ns (node.Apply operation.Stream []) (node.Apply operation.Stream v.exprs) u (ty.Stream a ∷ []) others n same v.tree
-        (ap (λ z. bare_kind (node.Apply operation.Stream z)) (sym none))
+        same_bare m1 m2 k f1 f2 agree denotes l ns (node.Apply operation.Stream []) (node.Apply operation.Stream v.exprs) u (ty.Stream a ∷ []) others n same v.tree
+        (apply m1 m2 operation.Stream operation.Stream [] v.exprs refl (ap (renumbered_all m2) (sym none)))
     one_shape s _ _ _ (rule.stream {l = l} {a = a} {tys = tys} {x = x} {es = es} {ts = ts} {ns = ns} r all h d n) sc u others same q =
         let v : IsStreamTree (at_table k f2) denotes s l es u others = view (at_table k f2) denotes s l (tree.Stream x es) (ExprKind-F.Stream x es) u others (out_stream x es) q in
-        same_bare k f1 f2 denotes l ns (node.Apply operation.Stream ts) (node.Apply operation.Stream v.exprs) u (ty.Stream a ∷ []) others n same v.tree
-        (apply operation.Stream operation.Stream ts v.exprs refl (all_shapes s es ts (a ∷ tys) r sc v.exprs v.made v.typed))
+        same_bare m1 m2 k f1 f2 agree denotes l ns (node.Apply operation.Stream ts) (node.Apply operation.Stream v.exprs) u (ty.Stream a ∷ []) others n same v.tree
+        (apply m1 m2 operation.Stream operation.Stream ts v.exprs refl (all_shapes s es ts (a ∷ tys) r sc v.exprs v.made v.typed))
     one_shape s _ _ _ (rule.a_record {l = l} {x = x} {ms = ms} {vs = vs} {ts = ts} {ns = ns} p d h deep n) sc u others same q =
         let v : IsRecordTree (at_table k f2) denotes s l vs u others = view (at_table k f2) denotes s l (tree.Record x vs) (ExprKind-F.Record x vs) u others (out_a_record x vs) q in
-        same_bare k f1 f2 denotes l ns (node.Apply operation.Record ts) (node.Apply operation.Record v.exprs) u (ty.Rec ms ∷ []) others n same v.tree
-        (apply operation.Record operation.Record ts v.exprs refl (fields_shapes s vs ts ms p sc v.exprs v.members v.typed))
+        same_bare m1 m2 k f1 f2 agree denotes l ns (node.Apply operation.Record ts) (node.Apply operation.Record v.exprs) u (ty.Rec ms ∷ []) others n same v.tree
+        (apply m1 m2 operation.Record operation.Record ts v.exprs refl (fields_shapes s vs ts ms p sc v.exprs v.members v.typed))
     one_shape s _ _ _ (rule.union {l = l} {x = x} {tag = tag} {place = place} {content = content} {ms = ms} {e = e} {t = t} {ns = ns} h has p n) sc u others same q =
         let v : IsUnionTree (at_table k f2) denotes s l x tag e u others = view (at_table k f2) denotes s l (tree.Union x tag e) (ExprKind-F.Union x tag e) u others (out_union x tag e) q in
         let members : ms ≡ v.members = same_union ms v.members (same_Some (ty.Uni ms) (ty.Uni v.members) (sym h ∙ v.named)) in
-        same_bare k f1 f2 denotes l ns (node.Apply (operation.Union place) (t ∷ [])) (node.Apply (operation.Union v.place) (v.part ∷ [])) u (ty.Uni ms ∷ []) others n same v.tree
-        (apply (operation.Union place) (operation.Union v.place) (t ∷ []) (v.part ∷ [])
+        same_bare m1 m2 k f1 f2 agree denotes l ns (node.Apply (operation.Union place) (t ∷ [])) (node.Apply (operation.Union v.place) (v.part ∷ [])) u (ty.Uni ms ∷ []) others n same v.tree
+        (apply m1 m2 (operation.Union place) (operation.Union v.place) (t ∷ []) (v.part ∷ [])
         (ap operation.Union (place_of ms v.members tag place v.place content v.content (union_proper ms (fair.types x (ty.Uni ms) h)).1 members has v.has))
-        (single t v.part (one_shape s e t (content ∷ []) p sc v.part (v.content ∷ []) (type_of s e t (content ∷ []) p sc v.part (v.content ∷ []) v.typed) v.typed)))
+        (single m1 m2 t v.part (one_shape s e t (content ∷ []) p sc v.part (v.content ∷ []) (type_of s e t (content ∷ []) p sc v.part (v.content ∷ []) v.typed) v.typed)))
     one_shape s _ _ _ (rule.let_in {after = after} {l = l} {ds = ds} {us = us} {made = made} {tys = tys} {es = es} {ts = ts} {ns = ns} p d r n) sc u others same q =
         let v : IsLetTree (at_table k f2) denotes s l ds es u others = view (at_table k f2) denotes s l (tree.Let ds es) (ExprKind-F.Let ds es) u others (out_let ds es) q in
         let behind = definitions_one k f1 f2 denotes misnames fair s ds us made after p sc v.values v.made v.after v.defines in
-        same_bare k f1 f2 denotes l ns (node.Let us ts) (node.Let v.values v.exprs) u tys others n same v.tree
-        (let_in us v.values ts v.exprs (definitions_shapes s ds us made after p sc v.values v.made v.after v.defines)
+        same_bare m1 m2 k f1 f2 agree denotes l ns (node.Let us ts) (node.Let v.values v.exprs) u tys others n same v.tree
+        (let_in m1 m2 us v.values ts v.exprs (definitions_shapes s ds us made after p sc v.values v.made v.after v.defines)
         (all_shapes after es ts tys r (definitions_proper k f1 denotes misnames fair s ds us made after p sc).1 v.exprs others
         (subst (λ z. AreTyped (at_table k f2) denotes z es v.exprs others) (sym behind.1) v.typed)))
     one_shape s _ _ _ (rule.if_else {l = l} {c = c} {t = t} {es = es} {fs = fs} {ts = ts} {us = us} {tys = tys} {ns = ns} p r w n) sc u others same q =
         let v : IsIfTree (at_table k f2) denotes s l c es fs u others = view (at_table k f2) denotes s l (tree.If c es fs) (ExprKind-F.If c es fs) u others (out_if c es fs) q in
-        same_bare k f1 f2 denotes l ns (node.If (t ∷ []) ts us) (node.If (v.test ∷ []) v.yes v.no_exprs) u tys others n same v.tree
-        (choice (t ∷ []) (v.test ∷ []) ts v.yes us v.no_exprs (single t v.test (one_shape s c t (ty.Bool ∷ []) p sc v.test (ty.Bool ∷ []) refl v.typed_test))
+        same_bare m1 m2 k f1 f2 agree denotes l ns (node.If (t ∷ []) ts us) (node.If (v.test ∷ []) v.yes v.no_exprs) u tys others n same v.tree
+        (choice m1 m2 (t ∷ []) (v.test ∷ []) ts v.yes us v.no_exprs (single m1 m2 t v.test (one_shape s c t (ty.Bool ∷ []) p sc v.test (ty.Bool ∷ []) refl v.typed_test))
         (all_shapes s es ts tys r sc v.yes others v.typed_yes) (all_shapes s fs us tys w sc v.no_exprs others v.typed_no))
     one_shape s _ _ _ (rule.tag_case {l = l} {ms = ms} {x = x} {e = e} {t = t} {arms = arms} {typed_arms = us} {last = last} {tags = tags} {choices = choices} {ns = ns} {tys = tys} {other = other} p r d all o c n) sc u others same q =
         let v : IsTagCaseTree (at_table k f2) denotes s l x e arms other u others = view_case (at_table k f2) denotes s l x e arms other u others q in
@@ -230,13 +233,13 @@ module _ (k : Known) (f1 f2 : List Form) (denotes : Written → Ty → Type 0) (
         subst (λ m. AreArms (at_table k f2) denotes s x m tys arms v.typed_arms v.tags) (sym members) (subst (λ z. AreArms (at_table k f2) denotes s x v.members z arms v.typed_arms v.tags) (sym same) v.are_arms) in
         let tagged : tags ≡ v.tags = tags_are k f1 denotes s x ms tys arms us tags r ∙ sym (tags_are k f2 denotes s x ms tys arms v.typed_arms v.tags again) in
         let chosen : choices ≡ v.choices = choices_one tags v.tags ms v.members choices v.choices tagged members fit.1 c v.chooses in
-        same_bare k f1 f2 denotes l ns (node.Case (record { named = named_arms x arms; choices = choices; others = length arms }) (t ∷ []) (us ++ last))
+        same_bare m1 m2 k f1 f2 agree denotes l ns (node.Case (record { named = named_arms x arms; choices = choices; others = length arms }) (t ∷ []) (us ++ last))
         (node.Case (record { named = named_arms x arms; choices = v.choices; others = length arms }) (v.part ∷ []) (v.typed_arms ++ v.last)) u tys others n same v.tree
-        (tags_case (record { named = named_arms x arms; choices = choices; others = length arms }) (record { named = named_arms x arms; choices = v.choices; others = length arms })
+        (tags_case m1 m2 (record { named = named_arms x arms; choices = choices; others = length arms }) (record { named = named_arms x arms; choices = v.choices; others = length arms })
         (t ∷ []) (v.part ∷ []) (us ++ last) (v.typed_arms ++ v.last)
         (ap (λ i. record { named = named_arms x arms; choices = i; others = length arms }) chosen)
-        (single t v.part (one_shape s e t (ty.Uni ms ∷ []) p sc v.part (ty.Uni v.members ∷ []) type v.typed))
-        (both_lists us v.typed_arms last v.last (arms_shapes s x ms tys arms us tags r fit.1 fit.2 sc v.typed_arms v.tags again) (otherwise_shapes s tys other last o sc others v.last v.otherwise)))
+        (single m1 m2 t v.part (one_shape s e t (ty.Uni ms ∷ []) p sc v.part (ty.Uni v.members ∷ []) type v.typed))
+        (both_lists m1 m2 us v.typed_arms last v.last (arms_shapes s x ms tys arms us tags r fit.1 fit.2 sc v.typed_arms v.tags again) (otherwise_shapes s tys other last o sc others v.last v.otherwise)))
     one_shape s _ t tys (rule.for_product {l = l} {gs = gs} {ds = ds} {cs = cs} p) sc u others same q =
         crossed_shapes s l gs ds cs t tys p sc u others same (view_product (at_table k f2) denotes s l gs ds cs u others q)
     one_shape s _ _ _ (rule.for_initial {started = started} {turned = after} {l = l} {first = first} {later = later} {tys = tys} {ns = ns} is_first is_until {test = test} {t = t} {ds = ds} {es = es} {us = us} {vs = vs} {cs = cs} {forms = clauses} {ts = ts} p d r w e keeps c n) sc u others same q =
@@ -247,59 +250,59 @@ module _ (k : Known) (f1 f2 : List Form) (denotes : Written → Ty → Type 0) (
         subst (λ z. Defines (at_table k f2) denotes (in_turn (loop_of s ds first) (targets es) z) es v.renewed v.later v.turned) (sym begun.1)
         (subst (λ f. Defines (at_table k f2) denotes (in_turn (loop_of s ds f) (targets es) v.started) es v.renewed v.later v.turned) (sym begun.0) v.turns) in
         let made = clauses_shapes started cs clauses ts tys c fit.1 v.clauses v.exprs others (subst (λ z. AreClauses (at_table k f2) denotes z cs v.clauses v.exprs others) (sym begun.1) v.results) in
-        same_bare k f1 f2 denotes l ns
+        same_bare m1 m2 k f1 f2 agree denotes l ns
         (node.Initial (record { is_first = is_first; is_until = is_until; renewed = renewals (loop_of s ds first) s.height (targets es); clauses = clauses }) us (t ∷ []) vs ts)
         (node.Initial (record { is_first = is_first; is_until = is_until; renewed = renewals (loop_of s ds v.first) s.height (targets es); clauses = v.clauses }) v.values (v.part ∷ []) v.renewed v.exprs) u tys others n same v.tree
-        (initial (record { is_first = is_first; is_until = is_until; renewed = renewals (loop_of s ds first) s.height (targets es); clauses = clauses })
+        (initial m1 m2 (record { is_first = is_first; is_until = is_until; renewed = renewals (loop_of s ds first) s.height (targets es); clauses = clauses })
         (record { is_first = is_first; is_until = is_until; renewed = renewals (loop_of s ds v.first) s.height (targets es); clauses = v.clauses }) us v.values (t ∷ []) (v.part ∷ []) vs v.renewed ts v.exprs
         (ap (λ (f : List Ty). record { is_first = is_first; is_until = is_until; renewed = renewals (loop_of s ds f) s.height (targets es); clauses = clauses }) begun.0
         ∙ ap (λ (z : List ClauseForm). record { is_first = is_first; is_until = is_until; renewed = renewals (loop_of s ds v.first) s.height (targets es); clauses = z }) made.0)
         (definitions_shapes s ds us first started p sc v.values v.first v.started v.defines)
-        (single t v.part (one_shape started test t (ty.Bool ∷ []) r fit.1 v.part (ty.Bool ∷ []) refl (subst (λ z. Types (at_table k f2) denotes z test v.part (ty.Bool ∷ [])) (sym begun.1) v.typed_test)))
+        (single m1 m2 t v.part (one_shape started test t (ty.Bool ∷ []) r fit.1 v.part (ty.Bool ∷ []) refl (subst (λ z. Types (at_table k f2) denotes z test v.part (ty.Bool ∷ [])) (sym begun.1) v.typed_test)))
         (definitions_shapes (in_turn (loop_of s ds first) (targets es) started) es vs later after w (turn_proper s started ds first (targets es) fit.0 fit.1) v.renewed v.later v.turned turns)
         made.1)
 
     pub all_shapes : (s : Scope) (es : List Expr) (ts : List TypedExpr) (tys : List Ty) → AreTyped (at_table k f1) denotes s es ts tys → IsProperScope s
-        → (us : List TypedExpr) (others : List Ty) → AreTyped (at_table k f2) denotes s es us others → bares ts ≡ bares us
-    all_shapes s _ _ _ rule.no_more sc us others q = let e : us ≡ [] = first_of (at_table k f2) denotes s [] us others q in ap bares (sym e)
+        → (us : List TypedExpr) (others : List Ty) → AreTyped (at_table k f2) denotes s es us others → AllSame m1 m2 ts us
+    all_shapes s _ _ _ rule.no_more sc us others q = let e : us ≡ [] = first_of (at_table k f2) denotes s [] us others q in ap (renumbered_all m2) (sym e)
     all_shapes s _ _ _ (rule.more {e = e} {t = t} {tys = tys} {others = rest} {es = es} {ts = ts} p r) sc us others q =
         let v : IsFirstTree (at_table k f2) denotes s e es us = first_of (at_table k f2) denotes s (e ∷ es) us others q in
-        more t v.first ts v.trees (one_shape s e t tys p sc v.first v.made (type_of s e t tys p sc v.first v.made v.typed) v.typed) (all_shapes s es ts rest r sc v.trees v.others v.later)
-        ∙ ap bares (sym v.is)
+        more m1 m2 t v.first ts v.trees (one_shape s e t tys p sc v.first v.made (type_of s e t tys p sc v.first v.made v.typed) v.typed) (all_shapes s es ts rest r sc v.trees v.others v.later)
+        ∙ ap (renumbered_all m2) (sym v.is)
 
     pub fields_shapes : (s : Scope) (vs : List FieldValue) (ts : List TypedExpr) (ms : List Member) → HasFields (at_table k f1) denotes s vs ts ms → IsProperScope s
-        → (us : List TypedExpr) (others : List Member) → HasFields (at_table k f2) denotes s vs us others → bares ts ≡ bares us
-    fields_shapes s _ _ _ rule.no_member sc us others q = let e : us ≡ [] = fields_of (at_table k f2) denotes s [] us others q in ap bares (sym e)
+        → (us : List TypedExpr) (others : List Member) → HasFields (at_table k f2) denotes s vs us others → AllSame m1 m2 ts us
+    fields_shapes s _ _ _ rule.no_member sc us others q = let e : us ≡ [] = fields_of (at_table k f2) denotes s [] us others q in ap (renumbered_all m2) (sym e)
     fields_shapes s _ _ _ (rule.a_member {n = n} {a = a} {e = e} {t = t} {vs = vs} {ts = ts} {ms = ms} h p r) sc us others q =
         let v : IsNewFieldTree (at_table k f2) denotes s (record { field = n; value = e }) vs us = fields_of (at_table k f2) denotes s (record { field = n; value = e } ∷ vs) us others q in
-        more t v.first ts v.trees (one_shape s e t (a ∷ []) p sc v.first (v.type ∷ []) (type_of s e t (a ∷ []) p sc v.first (v.type ∷ []) v.typed) v.typed)
-        (fields_shapes s vs ts ms r sc v.trees v.others v.later) ∙ ap bares (sym v.is)
+        more m1 m2 t v.first ts v.trees (one_shape s e t (a ∷ []) p sc v.first (v.type ∷ []) (type_of s e t (a ∷ []) p sc v.first (v.type ∷ []) v.typed) v.typed)
+        (fields_shapes s vs ts ms r sc v.trees v.others v.later) ∙ ap (renumbered_all m2) (sym v.is)
 
     pub changed_shapes : (s : Scope) (ms : List Member) (vs : List FieldValue) (places : List ℕ) (ts : List TypedExpr) → Replaces (at_table k f1) denotes s ms vs places ts → AreOnce ms → IsProperScope s
-        → (others : List ℕ) (us : List TypedExpr) → Replaces (at_table k f2) denotes s ms vs others us → (places ≡ others) × (bares ts ≡ bares us)
-    changed_shapes s ms _ _ _ rule.no_field once sc others us q = let v : (others ≡ []) × (us ≡ []) = changed_of (at_table k f2) denotes s ms [] others us q in (sym v.0, ap bares (sym v.1))
+        → (others : List ℕ) (us : List TypedExpr) → Replaces (at_table k f2) denotes s ms vs others us → (places ≡ others) × (AllSame m1 m2 ts us)
+    changed_shapes s ms _ _ _ rule.no_field once sc others us q = let v : (others ≡ []) × (us ≡ []) = changed_of (at_table k f2) denotes s ms [] others us q in (sym v.0, ap (renumbered_all m2) (sym v.1))
     changed_shapes s ms _ _ _ (rule.a_field {n = n} {place = place} {a = a} {e = e} {t = t} {vs = vs} {places = places} {us = ts} h p r) once sc others us q =
         let v : IsChangedTree (at_table k f2) denotes s ms (record { field = n; value = e }) vs others us = changed_of (at_table k f2) denotes s ms (record { field = n; value = e } ∷ vs) others us q in
         let rest = changed_shapes s ms vs places ts r once sc v.others v.trees v.later in (
           ap (λ i. i ∷ places) (place_of ms ms n.name place v.place a v.type once refl h v.has) ∙ ap (λ l. v.place ∷ l) rest.0 ∙ sym v.is_places,
-          more t v.first ts v.trees (one_shape s e t (a ∷ []) p sc v.first (v.type ∷ []) (type_of s e t (a ∷ []) p sc v.first (v.type ∷ []) v.typed) v.typed) rest.1
-              ∙ ap bares (sym v.is_trees),
+          more m1 m2 t v.first ts v.trees (one_shape s e t (a ∷ []) p sc v.first (v.type ∷ []) (type_of s e t (a ∷ []) p sc v.first (v.type ∷ []) v.typed) v.typed) rest.1
+              ∙ ap (renumbered_all m2) (sym v.is_trees),
         )
 
     pub definitions_shapes : (s : Scope) (ds : List Def) (us : List (List TypedExpr)) (tys : List Ty) (after : Scope) → Defines (at_table k f1) denotes s ds us tys after → IsProperScope s
-        → (ws : List (List TypedExpr)) (others : List Ty) (later : Scope) → Defines (at_table k f2) denotes s ds ws others later → bare_lists us ≡ bare_lists ws
-    definitions_shapes s _ _ _ _ rule.no_def sc ws others later q = let e : ws ≡ [] = definitions_of (at_table k f2) denotes s [] ws others later q in ap bare_lists (sym e)
+        → (ws : List (List TypedExpr)) (others : List Ty) (later : Scope) → Defines (at_table k f2) denotes s ds ws others later → ListsSame m1 m2 us ws
+    definitions_shapes s _ _ _ _ rule.no_def sc ws others later q = let e : ws ≡ [] = definitions_of (at_table k f2) denotes s [] ws others later q in ap (renumbered_lists m2) (sym e)
     definitions_shapes s _ _ _ after (rule.a_def xs {es = es} {ts = ts} {tys = tys} {others = rest} {ds = ds} {us = us} p t r) sc ws others later q =
         let v : IsDefinitionTree (at_table k f2) denotes s xs es ds ws later = view_definitions (at_table k f2) denotes s xs es ds ws others later q in
         let made : tys ≡ v.made = types_of s es ts tys p sc v.exprs v.made v.typed in
         let behind : Defines (at_table k f2) denotes (define_all (names_in xs) tys s) ds v.rest v.others later =
         subst (λ m. Defines (at_table k f2) denotes (define_all (names_in xs) m s) ds v.rest v.others later) (sym made) v.later in
-        more_lists ts v.exprs us v.rest (all_shapes s es ts tys p sc v.exprs v.made v.typed)
+        more_lists m1 m2 ts v.exprs us v.rest (all_shapes s es ts tys p sc v.exprs v.made v.typed)
         (definitions_shapes (define_all (names_in xs) tys s) ds us rest after r (defined_proper (names_in xs) tys s (all_proper k f1 denotes misnames fair s es ts tys p sc) sc) v.rest v.others later behind)
-        ∙ ap bare_lists (sym v.is)
+        ∙ ap (renumbered_lists m2) (sym v.is)
 
     pub crossed_shapes : (s : Scope) (l : ℕ) (gs : List (List Generator)) (ds : List Def) (cs : List Clause) (t : TypedExpr) (tys : List Ty) → Crosses (at_table k f1) denotes s l gs ds cs t tys → IsProperScope s
-        → (u : TypedExpr) (others : List Ty) → tys ≡ others → Crosses (at_table k f2) denotes s l gs ds cs u others → bare t ≡ bare u
+        → (u : TypedExpr) (others : List Ty) → tys ≡ others → Crosses (at_table k f2) denotes s l gs ds cs u others → Same m1 m2 t u
     crossed_shapes s l _ ds cs _ tys (rule.one_group {inside = inside} {names = names} {ns = ns} {tys = made} {made = defined} {g = g} {sources = sources} {bounds = bounds} {us = values} {forms = clauses} {ts = ts} p d r e c n) sc u others same q =
         let v : IsCrossedTree (at_table k f2) denotes s l g [] ds cs u others = crossed_of (at_table k f2) denotes s l (g ∷ []) ds cs u others q in
         let named = generated_one k f1 f2 denotes misnames fair s g sources bounds names made p sc v.sources v.bounds v.names v.made v.generates in
@@ -311,9 +314,9 @@ module _ (k : Known) (f1 f2 : List Form) (denotes : Written → Ty → Type 0) (
         let behind = definitions_one k f1 f2 denotes misnames fair (define_all names made s) ds values defined inside r started body.values body.made body.inside body.defines in
         let results = clauses_shapes inside cs clauses ts tys c (definitions_proper k f1 denotes misnames fair (define_all names made s) ds values defined inside r started).1 body.clauses body.exprs others
         (subst (λ z. AreClauses (at_table k f2) denotes z cs body.clauses body.exprs others) (sym behind.1) body.results) in
-        same_bare k f1 f2 denotes l ns (node.Product (record { sources = sources; clauses = clauses }) bounds values ts)
+        same_bare m1 m2 k f1 f2 agree denotes l ns (node.Product (record { sources = sources; clauses = clauses }) bounds values ts)
         (node.Product (record { sources = v.sources; clauses = body.clauses }) v.bounds body.values body.exprs) u tys others n same body.tree
-        (product (record { sources = sources; clauses = clauses }) (record { sources = v.sources; clauses = body.clauses }) bounds v.bounds values body.values ts body.exprs
+        (product m1 m2 (record { sources = sources; clauses = clauses }) (record { sources = v.sources; clauses = body.clauses }) bounds v.bounds values body.values ts body.exprs
         (ap (λ (z : List Source). record { sources = z; clauses = clauses }) over.0 ∙ ap (λ (z : List ClauseForm). record { sources = v.sources; clauses = z }) results.0) over.1
         (definitions_shapes (define_all names made s) ds values defined inside r started body.values body.made body.inside body.defines) results.1)
     crossed_shapes s l _ ds cs _ tys (rule.a_group {names = names} {ns = ns} {tys = made} {inner = inner} {g = g} {gs = gs} {sources = sources} {bounds = bounds} {forms = clauses} {t = t} p d r f n) sc u others same q =
@@ -327,74 +330,74 @@ module _ (k : Known) (f1 f2 : List Form) (denotes : Written → Ty → Type 0) (
         (subst (λ x. IsInnerLoopTree (at_table k f2) denotes (define_all x v.made s) l gs ds cs v.sources v.bounds u others) (sym named.0) w) in
         let started = defined_proper names made s (generated_proper k f1 denotes misnames fair s g sources bounds names made p sc) sc in
         let results : inner ≡ loop.inner = crossed_one k f1 f2 denotes misnames fair (define_all names made s) l gs ds cs t inner r started loop.part loop.inner loop.crosses in
-        same_bare k f1 f2 denotes l ns (node.Product (record { sources = sources; clauses = clauses }) bounds [] (t ∷ []))
+        same_bare m1 m2 k f1 f2 agree denotes l ns (node.Product (record { sources = sources; clauses = clauses }) bounds [] (t ∷ []))
         (node.Product (record { sources = v.sources; clauses = loop.clauses }) v.bounds [] (loop.part ∷ [])) u tys others n same loop.tree
-        (product (record { sources = sources; clauses = clauses }) (record { sources = v.sources; clauses = loop.clauses }) bounds v.bounds [] [] (t ∷ []) (loop.part ∷ [])
+        (product m1 m2 (record { sources = sources; clauses = clauses }) (record { sources = v.sources; clauses = loop.clauses }) bounds v.bounds [] [] (t ∷ []) (loop.part ∷ [])
         (ap (λ (z : List Source). record { sources = z; clauses = clauses }) over.0
         ∙ ap (λ (z : List ClauseForm). record { sources = v.sources; clauses = z }) (one_forms cs inner loop.inner clauses loop.clauses tys others results f loop.folds)) over.1 refl
-        (single t loop.part (crossed_shapes (define_all names made s) l gs ds cs t inner r started loop.part loop.inner results loop.crosses)))
+        (single m1 m2 t loop.part (crossed_shapes (define_all names made s) l gs ds cs t inner r started loop.part loop.inner results loop.crosses)))
 
     pub generated_shapes : (s : Scope) (gs : List Generator) (sources : List Source) (bounds : List TypedExpr) (names : List ℕ) (tys : List Ty) → Generates (at_table k f1) denotes s gs sources bounds names tys
         → IsProperScope s → (sources2 : List Source) (bounds2 : List TypedExpr) (names2 : List ℕ) (others : List Ty) → Generates (at_table k f2) denotes s gs sources2 bounds2 names2 others
-        → (sources ≡ sources2) × (bares bounds ≡ bares bounds2)
+        → (sources ≡ sources2) × (AllSame m1 m2 bounds bounds2)
     generated_shapes s _ _ _ _ _ rule.no_generator sc sources2 bounds2 names2 others q =
-        let v : (sources2 ≡ []) × (bounds2 ≡ []) = generated_of (at_table k f2) denotes s [] sources2 bounds2 names2 others q in (sym v.0, ap bares (sym v.1))
+        let v : (sources2 ≡ []) × (bounds2 ≡ []) = generated_of (at_table k f2) denotes s [] sources2 bounds2 names2 others q in (sym v.0, ap (renumbered_all m2) (sym v.1))
     generated_shapes s _ _ _ _ _ (rule.range n {e = e} {f = f} {t = t} {u = u} {names = names} {tys = tys} {gs = gs} {sources = sources} {bounds = bounds} p r w) sc sources2 bounds2 names2 others q =
         let v : IsRangeTree (at_table k f2) denotes s e f gs sources2 bounds2 = view_generators (at_table k f2) denotes s n e (Some f) None gs sources2 bounds2 names2 others q in
         let rest = generated_shapes s gs sources bounds names tys w sc v.others v.rest v.names v.types v.later in (
           ap (λ l. source.Range ∷ l) rest.0 ∙ sym v.is_sources,
-          more t v.from (u ∷ bounds) (v.to ∷ v.rest) (one_shape s e t (ty.Int ∷ []) p sc v.from (ty.Int ∷ []) refl v.typed_from)
-              (more u v.to bounds v.rest (one_shape s f u (ty.Int ∷ []) r sc v.to (ty.Int ∷ []) refl v.typed_to) rest.1)
-              ∙ ap bares (sym v.is_bounds),
+          more m1 m2 t v.from (u ∷ bounds) (v.to ∷ v.rest) (one_shape s e t (ty.Int ∷ []) p sc v.from (ty.Int ∷ []) refl v.typed_from)
+              (more m1 m2 u v.to bounds v.rest (one_shape s f u (ty.Int ∷ []) r sc v.to (ty.Int ∷ []) refl v.typed_to) rest.1)
+              ∙ ap (renumbered_all m2) (sym v.is_bounds),
         )
     generated_shapes s _ _ _ _ _ (rule.elements n {a = a} {b = b} {e = e} {t = t} {names = names} {tys = tys} {gs = gs} {sources = sources} {bounds = bounds} p h w) sc sources2 bounds2 names2 others q =
         let v : IsElementsTree (at_table k f2) denotes s e None gs sources2 bounds2 = view_generators (at_table k f2) denotes s n e None None gs sources2 bounds2 names2 others q in
         let rest = generated_shapes s gs sources bounds names tys w sc v.others v.rest v.names v.types v.later in (
           ap (λ l. source.Elements ∷ l) rest.0 ∙ sym v.is_sources,
-          more t v.part bounds v.rest (one_shape s e t (a ∷ []) p sc v.part (v.whole ∷ []) (type_of s e t (a ∷ []) p sc v.part (v.whole ∷ []) v.typed) v.typed) rest.1
-              ∙ ap bares (sym v.is_bounds),
+          more m1 m2 t v.part bounds v.rest (one_shape s e t (a ∷ []) p sc v.part (v.whole ∷ []) (type_of s e t (a ∷ []) p sc v.part (v.whole ∷ []) v.typed) v.typed) rest.1
+              ∙ ap (renumbered_all m2) (sym v.is_bounds),
         )
     generated_shapes s _ _ _ _ _ (rule.indexed n {i = i} {a = a} {b = b} {e = e} {t = t} {names = names} {tys = tys} {gs = gs} {sources = sources} {bounds = bounds} p h w) sc sources2 bounds2 names2 others q =
         let v : IsElementsTree (at_table k f2) denotes s e (Some i) gs sources2 bounds2 = view_generators (at_table k f2) denotes s n e None (Some i) gs sources2 bounds2 names2 others q in
         let rest = generated_shapes s gs sources bounds names tys w sc v.others v.rest v.names v.types v.later in (
           ap (λ l. source.Indexed ∷ l) rest.0 ∙ sym v.is_sources,
-          more t v.part bounds v.rest (one_shape s e t (a ∷ []) p sc v.part (v.whole ∷ []) (type_of s e t (a ∷ []) p sc v.part (v.whole ∷ []) v.typed) v.typed) rest.1
-              ∙ ap bares (sym v.is_bounds),
+          more m1 m2 t v.part bounds v.rest (one_shape s e t (a ∷ []) p sc v.part (v.whole ∷ []) (type_of s e t (a ∷ []) p sc v.part (v.whole ∷ []) v.typed) v.typed) rest.1
+              ∙ ap (renumbered_all m2) (sym v.is_bounds),
         )
 
     pub clauses_shapes : (s : Scope) (cs : List Clause) (clauses : List ClauseForm) (ts : List TypedExpr) (tys : List Ty) → AreClauses (at_table k f1) denotes s cs clauses ts tys → IsProperScope s
-        → (clauses2 : List ClauseForm) (us : List TypedExpr) (others : List Ty) → AreClauses (at_table k f2) denotes s cs clauses2 us others → (clauses ≡ clauses2) × (bares ts ≡ bares us)
+        → (clauses2 : List ClauseForm) (us : List TypedExpr) (others : List Ty) → AreClauses (at_table k f2) denotes s cs clauses2 us others → (clauses ≡ clauses2) × (AllSame m1 m2 ts us)
     clauses_shapes s _ _ _ _ rule.no_clause sc clauses2 us others q =
-        let v : (clauses2 ≡ []) × (us ≡ []) = clauses_of (at_table k f2) denotes s [] clauses2 us others q in (sym v.0, ap bares (sym v.1))
+        let v : (clauses2 ≡ []) × (us ≡ []) = clauses_of (at_table k f2) denotes s [] clauses2 us others q in (sym v.0, ap (renumbered_all m2) (sym v.1))
     clauses_shapes s _ _ _ _ (rule.a_clause l {kind = kind} {a = a} {b = b} {e = e} {t = t} {m = m} {masks = masks} {cs = cs} {forms = clauses} {ts = ts} {tys = tys} p h d w r) sc clauses2 us others q =
         let v : IsClauseTree (at_table k f2) denotes s kind e m cs clauses2 us = view_clauses (at_table k f2) denotes s l kind e m cs clauses2 us others q in
         let type = type_of s e t (a ∷ []) p sc v.part (v.value ∷ []) v.typed in
         let rest = clauses_shapes s cs clauses ts tys r sc v.clauses v.exprs v.others v.later in (
           ap (λ z. clause_form kind z m ∷ clauses) (same_first a v.value [] [] type) ∙ ap (λ l. clause_form kind v.value m ∷ l) rest.0 ∙ sym v.is_forms,
-          more t v.part (masks ++ ts) (v.masks ++ v.exprs) (one_shape s e t (a ∷ []) p sc v.part (v.value ∷ []) type v.typed)
-              (both masks v.masks ts v.exprs (mask_shapes s m masks w sc v.masks v.mask) rest.1)
-              ∙ ap bares (sym v.is_trees),
+          more m1 m2 t v.part (masks ++ ts) (v.masks ++ v.exprs) (one_shape s e t (a ∷ []) p sc v.part (v.value ∷ []) type v.typed)
+              (both m1 m2 masks v.masks ts v.exprs (mask_shapes s m masks w sc v.masks v.mask) rest.1)
+              ∙ ap (renumbered_all m2) (sym v.is_trees),
         )
 
-    pub mask_shapes : (s : Scope) (m : Option Mask) (ts : List TypedExpr) → IsMask (at_table k f1) denotes s m ts → IsProperScope s → (us : List TypedExpr) → IsMask (at_table k f2) denotes s m us → bares ts ≡ bares us
-    mask_shapes s _ _ rule.no_mask sc us q = let e : us ≡ [] = mask_of (at_table k f2) denotes s None us q in ap bares (sym e)
+    pub mask_shapes : (s : Scope) (m : Option Mask) (ts : List TypedExpr) → IsMask (at_table k f1) denotes s m ts → IsProperScope s → (us : List TypedExpr) → IsMask (at_table k f2) denotes s m us → AllSame m1 m2 ts us
+    mask_shapes s _ _ rule.no_mask sc us q = let e : us ≡ [] = mask_of (at_table k f2) denotes s None us q in ap (renumbered_all m2) (sym e)
     mask_shapes s _ _ (rule.a_mask {is_unless = is_unless} {e = e} {t = t} p) sc us q =
         let v : IsTestedTree (at_table k f2) denotes s (record { is_unless = is_unless; test = e }) us = mask_of (at_table k f2) denotes s (Some (record { is_unless = is_unless; test = e })) us q in
-        single t v.part (one_shape s e t (ty.Bool ∷ []) p sc v.part (ty.Bool ∷ []) refl v.typed) ∙ ap bares (sym v.is)
+        single m1 m2 t v.part (one_shape s e t (ty.Bool ∷ []) p sc v.part (ty.Bool ∷ []) refl v.typed) ∙ ap (renumbered_all m2) (sym v.is)
 
     pub arms_shapes : (s : Scope) (x : Option ℕ) (ms : List Member) (tys : List Ty) (arms : List Arm) (us : List (List TypedExpr)) (tags : List (List ℕ)) → AreArms (at_table k f1) denotes s x ms tys arms us tags
-        → AreOnce ms → AreProper ms → IsProperScope s → (ws : List (List TypedExpr)) (tags2 : List (List ℕ)) → AreArms (at_table k f2) denotes s x ms tys arms ws tags2 → bare_lists us ≡ bare_lists ws
+        → AreOnce ms → AreProper ms → IsProperScope s → (ws : List (List TypedExpr)) (tags2 : List (List ℕ)) → AreArms (at_table k f2) denotes s x ms tys arms ws tags2 → ListsSame m1 m2 us ws
     arms_shapes s x ms tys _ _ _ rule.no_arm once m sc ws tags2 q =
-        let v : (ws ≡ []) × (tags2 ≡ []) = arms_of (at_table k f2) denotes s x ms tys [] ws tags2 q in ap bare_lists (sym v.0)
+        let v : (ws ≡ []) × (tags2 ≡ []) = arms_of (at_table k f2) denotes s x ms tys [] ws tags2 q in ap (renumbered_lists m2) (sym v.0)
     arms_shapes s x ms tys _ _ _ (rule.an_arm l content names {es = es} {ts = ts} {arms = arms} {typed_arms = us} {tags = tags} o t p r) once m sc ws tags2 q =
         let v : IsArmTree (at_table k f2) denotes s x ms tys names es arms ws tags2 = view_arms (at_table k f2) denotes s x ms tys l names es arms ws tags2 q in
         let same : content ≡ v.content = one_content k ms content v.content (names_of names) once (no_names_of names o) (tags_in k f1 ms content (names_of names) t) (tags_in k f2 ms v.content (names_of names) v.contents) in
         let tag = first_tag k ms content (names_of names) (no_names_of names o) (tags_in k f1 ms content (names_of names) t) in
         let inside = content_defined x content s (content_proper k ms tag.0 tag.1.0 content m tag.1.1) sc in
-        more_lists ts v.exprs us v.rest (all_shapes (with_content x content s) es ts tys p inside v.exprs tys (subst (λ c. AreTyped (at_table k f2) denotes (with_content x c s) es v.exprs tys) (sym same) v.typed))
-        (arms_shapes s x ms tys arms us tags r once m sc v.rest v.others v.later) ∙ ap bare_lists (sym v.is_trees)
+        more_lists m1 m2 ts v.exprs us v.rest (all_shapes (with_content x content s) es ts tys p inside v.exprs tys (subst (λ c. AreTyped (at_table k f2) denotes (with_content x c s) es v.exprs tys) (sym same) v.typed))
+        (arms_shapes s x ms tys arms us tags r once m sc v.rest v.others v.later) ∙ ap (renumbered_lists m2) (sym v.is_trees)
 
     pub otherwise_shapes : (s : Scope) (tys : List Ty) (other : Option (List Expr)) (last : List (List TypedExpr)) → IsOtherwise (at_table k f1) denotes s tys other last → IsProperScope s
-        → (others : List Ty) (last2 : List (List TypedExpr)) → IsOtherwise (at_table k f2) denotes s others other last2 → bare_lists last ≡ bare_lists last2
+        → (others : List Ty) (last2 : List (List TypedExpr)) → IsOtherwise (at_table k f2) denotes s others other last2 → ListsSame m1 m2 last last2
     otherwise_shapes s tys _ _ rule.no_otherwise sc others _ rule.no_otherwise = refl
     otherwise_shapes s tys _ _ (rule.otherwise {es = es} {ts = ts} p) sc others _ (rule.otherwise {ts = us} q) = ap (λ z. z ∷ []) (all_shapes s es ts tys p sc us others q)

@@ -15,5 +15,5 @@ pub use expr_laws::{
 pub use unit_laws::{
     a_unit_has_one_list_of_functions, a_unit_is_one_program, a_unit_is_one_typed_tree,
     a_unit_that_breaks_a_rule_is_no_program, a_written_type_is_one_type,
-    typed_trees_have_one_shape, what_misnames_is_no_type,
+    typed_trees_are_one_where_numbers_agree, typed_trees_have_one_shape, what_misnames_is_no_type,
 };

@@ -1,5 +1,5 @@
 //! The laws on written types and whole units.
-ghost use Rattle.typing_unique.specs.Bare.{OneShapeLaw};
+ghost use Rattle.typing_unique.specs.Bare.{OneRenumberedLaw, OneShapeLaw};
 ghost use Rattle.typing_unique.specs.UnitLaws.{OneDenotedLaw, NoneDenotedLaw, OneDeclaredLaw, OneTypingLaw, NoProgramLaw, OneTreeLaw};
 
 /// Tokens begin with one written type at most, and it denotes one type.
@@ -36,4 +36,10 @@ pub fn a_unit_is_one_typed_tree()
 /// types.
 pub fn typed_trees_have_one_shape()
     ensures { OneShapeLaw }
+{}
+
+/// Two typed trees of one unit, over any two tables of types, are one tree where numbers of one
+/// type are given one number.
+pub fn typed_trees_are_one_where_numbers_agree()
+    ensures { OneRenumberedLaw }
 {}

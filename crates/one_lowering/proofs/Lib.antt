@@ -1,0 +1,10 @@
+pub mod Moved
+pub mod Tables
+pub mod Forms
+pub mod Loops
+pub mod Turns
+pub mod Trees
+pub mod Labels
+pub mod Programs
+pub mod Merged
+pub mod Units
