@@ -1,0 +1,4 @@
+pub mod Budgets
+pub mod Trees
+pub mod Sums
+pub mod Bounded
