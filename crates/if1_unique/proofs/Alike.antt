@@ -1,21 +1,19 @@
 -- Two graphs of the same nodes and edges differ in their numbers alone.
-use Rattle.std.proofs.Common.{◌≡◌, ℕ, Bool, List, [], ◌∷◌, map, Option, refl, sym, ap, subst, ◌∙◌}
+use Rattle.std.proofs.Common.{◌≡◌, ℕ, List, map, refl, sym, ap, subst, ◌∙◌}
 use Rattle.std.specs.Prelude.{filter, ◌==◌}
 use Rattle.if1_graph.specs.declared.graph.Graph.{Graph}
 use Rattle.if1_graph.specs.declared.graph.Graph.TheViews.{out-Graph}
-use Rattle.if1_graph.specs.declared.graph.Node.{Node, out-Node}
+use Rattle.if1_graph.specs.declared.graph.Node.{Node}
 use Rattle.if1_graph.specs.declared.graph.Edge.{Edge}
 use Rattle.if1_graph.specs.declared.graph.Origin.{Origin}
 use Rattle.if1_graph.specs.declared.graph.Origin.TheVariants.{Port, Lit}
-use Rattle.if1_graph.specs.declared.graph.TypeEntry.{TypeEntry}
 use Rattle.if1_graph.specs.declared.graph.Unit1.{Unit1}
-use Rattle.if1_graph.specs.declared.row.Want.{Want}
 use Rattle.if1_graph.specs.Types.{entry_at}
 use Rattle.if1_graph.specs.Units.{label_of, Home, Place}
 use Rattle.if1_graph.specs.Formed.{want_at, IsGraph}
 use Rattle.if1_graph.specs.Normal.{canonical_as, canonical_origin, canonical_edge, IsNormalGraph}
 use Rattle.if1_graph.specs.Reads.{into_port, IsGraphOf}
-use Rattle.if1_read.specs.Like.{IsSameNode, IsLike, AreNodesLike, AreLike, no_node, node, graph}
+use Rattle.if1_read.specs.Like.{IsLike, AreNodesLike, no_node, node, graph}
 use Rattle.if1_read.specs.Made.{Each, none, more}
 use Rattle.if1_read.proofs.Likeness.{Pairs, want_like}
 use Rattle.if1_unique.proofs.Ordered.{each_filter}

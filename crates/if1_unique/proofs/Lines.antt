@@ -1,6 +1,6 @@
 -- The lines of graphs are read in one way.
-use Rattle.std.proofs.Common.{◌≡◌, ℕ, zero, suc, Bool, false, List, [], ◌∷◌, ◌++◌, length, refl, sym, ap, subst, ◌∙◌, append_assoc, append-nil}
-use Rattle.std.specs.Prelude.{All, Contains}
+use Rattle.std.proofs.Common.{◌≡◌, ℕ, suc, Bool, false, List, [], ◌∷◌, ◌++◌, length, refl, sym, subst, ◌∙◌, append_assoc}
+use Rattle.std.specs.Prelude.{All}
 use Rattle.std.proofs.lemmas.List.Elements.{All-head, All-tail}
 use Rattle.if1_line.specs.declared.line.Line.{Line}
 use Rattle.if1_line.specs.declared.line.Line.TheVariants as line
@@ -10,9 +10,9 @@ use Rattle.if1_graph.specs.declared.graph.Node.{Node, out-Node}
 use Rattle.if1_graph.specs.declared.graph.Edge.{Edge}
 use Rattle.if1_graph.specs.declared.graph.Origin.TheVariants.{Port, Lit}
 use Rattle.if1_graph.specs.declared.graph.Unit1.{Unit1}
-use Rattle.if1_graph.specs.Units.{label_of, Home, Function, Inside, Place}
+use Rattle.if1_graph.specs.Units.{label_of, Home, Function, Inside}
 use Rattle.if1_graph.specs.Reads.{GivesBody, GivesParts, GivesUnit, IsGraphOf, IsSimpleNode, IsCompoundNode, edge_of, no_line, simple, compound, edge, literal, no_part, part, no_graph, import, function}
-use Rattle.if1_read.specs.Like.{IsSameNode, IsLike, AreLike, no_graph as no_like, more as more_like}
+use Rattle.if1_read.specs.Like.{IsSameNode, AreLike, no_graph as no_like, more as more_like}
 use Rattle.if1_read.specs.Made.{Each, none, more}
 use Rattle.if1_read.proofs.Likeness.{Pairs}
 use Rattle.if1_read.proofs.Same.{all_here, same_contains}

@@ -1,13 +1,11 @@
 -- Types by label, nodes by label and edges by port are found again from those of each label and port.
-use Rattle.std.proofs.Common.{◌≡◌, ℕ, zero, suc, ◌<◌, ◌≤◌, Bool, true, ◌&&◌, List, map, length, get_or, inl, inr, ◌⊎◌, refl, sym, ap, subst, ◌∙◌, arith}
+use Rattle.std.proofs.Common.{◌≡◌, ℕ, ◌<◌, ◌≤◌, Bool, true, ◌&&◌, List, map, inl, inr, ◌⊎◌, refl, arith}
 use Rattle.std.specs.Prelude.{AllPairs, filter, ◌==◌}
 use Rattle.std.specs.List.Sorted.{IsStrictlyIncreasing}
 use Rattle.std.proofs.lemmas.Bool.{eq-eqb, eqb-true, and_parts, and_from}
 use Rattle.std.proofs.lemmas.List.{get_or-map, length-map}
 use Rattle.std.proofs.lemmas.List.Kept.{AllPairs-from_increasing}
 use Rattle.if1_graph.specs.declared.graph.Edge.{Edge}
-use Rattle.if1_graph.specs.declared.graph.Node.{Node, out-Node}
-use Rattle.if1_graph.specs.declared.graph.TypeEntry.{TypeEntry}
 use Rattle.if1_graph.specs.Normal.{Precedes}
 use Rattle.if1_graph.specs.Reads.{into_port}
 use Rattle.if1_read.specs.Made.{Each}

@@ -1,13 +1,12 @@
 -- Graphs that differ in their numbers alone are the same, since where each of them stands tells its number.
-use Rattle.std.proofs.Common.{◌≡◌, ℕ, zero, suc, ◌+◌, Bool, true, false, cond, List, [], ◌∷◌, ◌++◌, map, take, sum, refl, sym, ap, subst, ◌∙◌, arith, append_assoc}
+use Rattle.std.proofs.Common.{◌≡◌, ℕ, zero, suc, ◌+◌, Bool, true, false, cond, List, ◌∷◌, ◌++◌, map, take, sum, refl, sym, ap, ◌∙◌, arith}
 use Rattle.std.specs.Prelude.{Contains, filter, nat_lt}
 use Rattle.std.specs.List.{flat_map}
 use Rattle.if1_graph.specs.declared.graph.Graph.{Graph}
 use Rattle.if1_graph.specs.declared.graph.Graph.TheViews.{out-Graph, roll-Graph, roll-Node, roll-out-Graph, roll-out-Node}
-use Rattle.if1_graph.specs.declared.graph.Graph.TheOpen.{Graph-F, Node-F}
 use Rattle.if1_graph.specs.declared.graph.Node.{Node, out-Node}
 use Rattle.if1_graph.specs.declared.graph.Unit1.{Unit1}
-use Rattle.if1_graph.specs.Units.{size, sizes, label_of, size_before, graphs_before, Home, Function, Inside, Place}
+use Rattle.if1_graph.specs.Units.{size, sizes, label_of, size_before, graphs_before, Home, Function, Inside}
 use Rattle.if1_read.specs.Like.{IsSameGraph, IsSameNode, IsLike, AreNodesLike, AreLike, no_node, node, no_graph, more, graph}
 use Rattle.if1_read.specs.Counted.{node_size}
 use Rattle.if1_read.proofs.Numbering.{sum_cons, size_of, size_of_node}

@@ -1,15 +1,12 @@
 -- A text gives at most one unit.
-use Rattle.std.proofs.Common.{◌≡◌, ℕ, List, [], ◌∷◌, map, Option, Some, refl, sym, ap, subst, ◌∙◌}
-use Rattle.std.specs.Prelude.{All, filter, ◌==◌}
+use Rattle.std.proofs.Common.{◌≡◌, List, [], ◌∷◌, map, Some, refl, sym, subst, ◌∙◌}
+use Rattle.std.specs.Prelude.{filter}
 use Rattle.if1_line.specs.declared.line.Line.{Line}
-use Rattle.if1_line.specs.Lines.{lines_in}
-use Rattle.if1_line.specs.Reading.{line_of}
 use Rattle.if1_graph.specs.declared.graph.TypeEntry.{TypeEntry}
 use Rattle.if1_graph.specs.declared.graph.Unit1.{Unit1}
-use Rattle.if1_graph.specs.Units.{places}
 use Rattle.if1_graph.specs.Formed.{IsFormed}
 use Rattle.if1_graph.specs.Normal.{IsNormal}
-use Rattle.if1_graph.specs.Reads.{is_of_graph, LinesGive, ReadsIf1}
+use Rattle.if1_graph.specs.Reads.{is_of_graph, LinesGive}
 use Rattle.if1_unique.specs.Laws.{IsOneUnit}
 use Rattle.if1_unique.proofs.Held.{HoldFrom, unit_held}
 use Rattle.if1_unique.proofs.Listed.{rising_same}
