@@ -21,14 +21,14 @@ use std::alloc::Global;
 
 /// The unit whose derivation these steps are: they are taken from the last to the first, so that the
 /// values of a production's symbols lie on top of a stack when its turn comes. Takes time and memory
-/// in proportion to the number of steps, and no stack of calls. `NoMemory` also where there are 2^32
-/// tokens or more.
+/// in proportion to the number of steps, and no stack of calls.
 pub fn outline_of(alloc: Global, steps: &[Step], tokens: &[Token]) -> Result<Outline, NoMemory>
-    requires { Derives
+    requires derived { Derives
         language
         (Rule 0 ∷ [])
         (map class_of (map (λ t. t.kind) tokens.now))
         steps.now }
+    requires few { length tokens.now < 4294967295 }
     ensures { IfOk result (λ o.
         run sisal plan steps.now (placed 0 tokens.now) ≡ Some (Value.AnOutline o ∷ [])) }
 {
@@ -38,11 +38,12 @@ pub fn outline_of(alloc: Global, steps: &[Step], tokens: &[Token]) -> Result<Out
 
 /// The values of the steps of a derivation of the tokens, taken from the last to the first.
 fn values_of(alloc: Global, steps: &[Step], tokens: &[Token]) -> Result<Values, NoMemory>
-    requires { Derives
+    requires derived { Derives
         language
         (Rule 0 ∷ [])
         (map class_of (map (λ t. t.kind) tokens.now))
         steps.now }
+    requires few { length tokens.now < 4294967295 }
     ensures { IfOk result (λ w. run sisal plan steps.now (placed 0 tokens.now) ≡ Some w) }
 {
     let mut values = Values::new(alloc);
@@ -64,19 +65,17 @@ fn values_of(alloc: Global, steps: &[Step], tokens: &[Token]) -> Result<Values, 
 
 /// The token at a place, with its place.
 fn token_at(alloc: Global, tokens: &[Token], place: usize) -> Result<Placed, NoMemory>
-    requires { place < length tokens.now }
+    requires there { place < length tokens.now }
+    requires few { length tokens.now < 4294967295 }
     ensures { IfOk result (λ t. t ≡ slice_index_or (placed 0 tokens.now) place nowhere) }
 {
     let token = &tokens[place];
     let kind = copy_of(alloc, &token.kind)?;
-    match u32::try_from(place) {
-        Ok(place) => Ok(Placed {
-            place,
-            kind,
-            line: token.line,
-        }),
-        Err(_) => Err(NoMemory),
-    }
+    Ok(Placed {
+        place: place as u32,
+        kind,
+        line: token.line,
+    })
 }
 
 /// A copy of what a token is.

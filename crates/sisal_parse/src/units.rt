@@ -50,11 +50,12 @@ pub fn parse(alloc: Global, tokens: Tokens) -> Result<Unit, ParseFault>
 
 /// The unit of a derivation, if it is not too deep.
 fn outline_within(alloc: Global, steps: &[Step], tokens: &[Token]) -> Result<Outline, ParseFault>
-    requires { Derives
+    requires derived { Derives
         language
         (Rule 0 ∷ [])
         (map class_of (map (λ t. t.kind) tokens.now))
         steps.now }
+    requires few { length tokens.now < 4294967295 }
     ensures spelled { IfOk result (λ o. Spells unit (placed 0 tokens.now) o) }
     ensures shallow { IfOk result (λ o. depth_of o.items ≤ 200) }
     ensures syntax { IfErr result (λ e. SyntaxFault tokens.now e) }

@@ -9,14 +9,14 @@ use Rattle.sisal_build.proofs.build.outline_of.Goals as goal
 
 pub take_outline-requires : goal.take_outline-requires
 take_outline-requires c =
-    let f : Final c.args.steps.now c.args.tokens.now = final c.args.steps.now c.args.tokens.now c.requires in
+    let f : Final c.args.steps.now c.args.tokens.now = final c.args.steps.now c.args.tokens.now c.requires.derived in
     let r : run sisal plan c.args.steps.now (placed 0 c.args.tokens.now) ≡ Some c.in_ok-values.values = c.in_ok-values.ensures in
     let one : c.in_ok-values.values ≡ AnOutline f.outline ∷ [] = same_some (sym r ∙ f.means) in
     rw one (tt, tt)
 
 pub returns : goal.returns
 returns c =
-    let f : Final c.args.steps.now c.args.tokens.now = final c.args.steps.now c.args.tokens.now c.requires in
+    let f : Final c.args.steps.now c.args.tokens.now = final c.args.steps.now c.args.tokens.now c.requires.derived in
     let r : run sisal plan c.args.steps.now (placed 0 c.args.tokens.now) ≡ Some c.in_ok-values.values = c.in_ok-values.ensures in
     let one : c.in_ok-values.values ≡ AnOutline f.outline ∷ [] = same_some (sym r ∙ f.means) in
     let taken : c.in_ok-values.values ≡ AnOutline c.take_outline.result ∷ c.take_outline.new.self = c.take_outline.ensures.value in

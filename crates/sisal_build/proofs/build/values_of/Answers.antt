@@ -27,7 +27,7 @@ all_read es ts d = reads_all (derived es ts d) ∙ map_length (λ t. class_of t.
 
 pub loop-k-init : goal.loop-k-init
 loop-k-init c =
-    let all : reads c.args.steps.now ≡ length c.args.tokens.now = all_read c.args.steps.now c.args.tokens.now c.requires ∙ placed_length c.args.tokens.now 0 in
+    let all : reads c.args.steps.now ≡ length c.args.tokens.now = all_read c.args.steps.now c.args.tokens.now c.requires.derived ∙ placed_length c.args.tokens.now 0 in
     let many : length (placed 0 c.args.tokens.now) ≤ length c.args.tokens.now = omega (arith, placed_length c.args.tokens.now 0) in
     record {
       within = omega arith;
@@ -37,28 +37,28 @@ loop-k-init c =
 
 pub overflow_sub-left : goal.overflow_sub-left
 overflow_sub-left c =
-    let t : ReadTurn sisal plan c.args.steps.now (placed 0 c.args.tokens.now) c.loop-k.k c.loop-k.left c.loop-k.values nowhere = read_turn sisal plan c.args.steps.now (placed 0 c.args.tokens.now) c.loop-k.k c.loop-k.left c.loop-k.values nowhere c.loop-k-test.true c.loop-k.invariant.within (all_read c.args.steps.now c.args.tokens.now c.requires) c.in-Read.is c.loop-k.invariant.place c.loop-k.invariant.values in
+    let t : ReadTurn sisal plan c.args.steps.now (placed 0 c.args.tokens.now) c.loop-k.k c.loop-k.left c.loop-k.values nowhere = read_turn sisal plan c.args.steps.now (placed 0 c.args.tokens.now) c.loop-k.k c.loop-k.left c.loop-k.values nowhere c.loop-k-test.true c.loop-k.invariant.within (all_read c.args.steps.now c.args.tokens.now c.requires.derived) c.in-Read.is c.loop-k.invariant.place c.loop-k.invariant.values in
     t.some
 
-pub token_at-requires : goal.token_at-requires
-token_at-requires c =
-    let t : ReadTurn sisal plan c.args.steps.now (placed 0 c.args.tokens.now) c.loop-k.k c.loop-k.left c.loop-k.values nowhere = read_turn sisal plan c.args.steps.now (placed 0 c.args.tokens.now) c.loop-k.k c.loop-k.left c.loop-k.values nowhere c.loop-k-test.true c.loop-k.invariant.within (all_read c.args.steps.now c.args.tokens.now c.requires) c.in-Read.is c.loop-k.invariant.place c.loop-k.invariant.values in
+pub token_at-requires-clause-there : goal.token_at-requires-clause-there
+token_at-requires-clause-there c =
+    let t : ReadTurn sisal plan c.args.steps.now (placed 0 c.args.tokens.now) c.loop-k.k c.loop-k.left c.loop-k.values nowhere = read_turn sisal plan c.args.steps.now (placed 0 c.args.tokens.now) c.loop-k.k c.loop-k.left c.loop-k.values nowhere c.loop-k-test.true c.loop-k.invariant.within (all_read c.args.steps.now c.args.tokens.now c.requires.derived) c.in-Read.is c.loop-k.invariant.place c.loop-k.invariant.values in
     subst (λ n. c.loop-k.left - 1 < n) (placed_length c.args.tokens.now 0) t.within
 
 pub loop-k-preserved-in-Continue-branch-2 : goal.loop-k-preserved-in-Continue-branch-2
 loop-k-preserved-in-Continue-branch-2 c =
-    let t : ReadTurn sisal plan c.args.steps.now (placed 0 c.args.tokens.now) c.loop-k.k c.loop-k.left c.loop-k.values nowhere = read_turn sisal plan c.args.steps.now (placed 0 c.args.tokens.now) c.loop-k.k c.loop-k.left c.loop-k.values nowhere c.loop-k-test.true c.loop-k.invariant.within (all_read c.args.steps.now c.args.tokens.now c.requires) c.in-Read.is c.loop-k.invariant.place c.loop-k.invariant.values in
+    let t : ReadTurn sisal plan c.args.steps.now (placed 0 c.args.tokens.now) c.loop-k.k c.loop-k.left c.loop-k.values nowhere = read_turn sisal plan c.args.steps.now (placed 0 c.args.tokens.now) c.loop-k.k c.loop-k.left c.loop-k.values nowhere c.loop-k-test.true c.loop-k.invariant.within (all_read c.args.steps.now c.args.tokens.now c.requires.derived) c.in-Read.is c.loop-k.invariant.place c.loop-k.invariant.values in
     let made : c.push.new.self ≡ AToken c.in_ok-token-in-Read.token ∷ c.loop-k.values = c.in_ok-push-in-Read.ensures in
     let same : c.in_ok-token-in-Read.token ≡ get_or (placed 0 c.args.tokens.now) (c.loop-k.left - 1) nowhere = c.in_ok-token-in-Read.ensures in
     record { within = omega arith; place = t.place; values = t.values ∙ ap (λ s. Some s) (ap (λ k. AToken k ∷ c.loop-k.values) (sym same) ∙ sym made) }
 
 pub perform-requires : goal.perform-requires
 perform-requires c =
-    let t : OpenTurn sisal plan c.args.steps.now (placed 0 c.args.tokens.now) c.loop-k.k c.loop-k.left c.in-Open.production c.loop-k.values = open_turn language sisal plan plan_typed (Rule 0 ∷ []) c.args.steps.now (placed 0 c.args.tokens.now) c.loop-k.k c.loop-k.left c.in-Open.production c.loop-k.values (derived c.args.steps.now c.args.tokens.now c.requires) c.loop-k-test.true c.loop-k.invariant.within c.in-Open.is c.loop-k.invariant.place c.loop-k.invariant.values in
+    let t : OpenTurn sisal plan c.args.steps.now (placed 0 c.args.tokens.now) c.loop-k.k c.loop-k.left c.in-Open.production c.loop-k.values = open_turn language sisal plan plan_typed (Rule 0 ∷ []) c.args.steps.now (placed 0 c.args.tokens.now) c.loop-k.k c.loop-k.left c.in-Open.production c.loop-k.values (derived c.args.steps.now c.args.tokens.now c.requires.derived) c.loop-k-test.true c.loop-k.invariant.within c.in-Open.is c.loop-k.invariant.place c.loop-k.invariant.values in
     rw c.action_of.ensures (tops (args (plan.action c.in-Open.production)) c.loop-k.values t.top)
 
 pub loop-k-preserved : goal.loop-k-preserved
 loop-k-preserved c =
-    let t : OpenTurn sisal plan c.args.steps.now (placed 0 c.args.tokens.now) c.loop-k.k c.loop-k.left c.in-Open.production c.loop-k.values = open_turn language sisal plan plan_typed (Rule 0 ∷ []) c.args.steps.now (placed 0 c.args.tokens.now) c.loop-k.k c.loop-k.left c.in-Open.production c.loop-k.values (derived c.args.steps.now c.args.tokens.now c.requires) c.loop-k-test.true c.loop-k.invariant.within c.in-Open.is c.loop-k.invariant.place c.loop-k.invariant.values in
+    let t : OpenTurn sisal plan c.args.steps.now (placed 0 c.args.tokens.now) c.loop-k.k c.loop-k.left c.in-Open.production c.loop-k.values = open_turn language sisal plan plan_typed (Rule 0 ∷ []) c.args.steps.now (placed 0 c.args.tokens.now) c.loop-k.k c.loop-k.left c.in-Open.production c.loop-k.values (derived c.args.steps.now c.args.tokens.now c.requires.derived) c.loop-k-test.true c.loop-k.invariant.within c.in-Open.is c.loop-k.invariant.place c.loop-k.invariant.values in
     let made : Some c.perform.new.stack ≡ perform sisal c.action_of.result c.loop-k.values = c.in_ok-perform-in-Open.ensures in
     record { within = omega arith; place = t.place; values = t.values ∙ (ap (λ a. perform sisal a c.loop-k.values) (sym c.action_of.ensures) ∙ sym made) }
