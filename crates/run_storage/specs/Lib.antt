@@ -1,0 +1,4 @@
+pub mod Carrying
+pub mod Marked
+pub mod Lending
+pub mod Scattering
