@@ -1,5 +1,5 @@
 -- What `if1` prints stays as it is.
-use Rattle.std.proofs.Common.{◌≡◌, ℕ, List, Result, Ok, Err, sym, ap, subst, ◌∙◌}
+use Rattle.std.proofs.Common.{◌≡◌, ℕ, List, Result, Ok, Err, sym, ap, subst}
 use Rattle.if1_call.specs.Calls.{IsCanonicalOf}
 use Rattle.if1_graph.specs.Reads.{ReadsIf1}
 use Rattle.if1_write.specs.Laws.{WrittenIsRead}
@@ -8,7 +8,7 @@ use Rattle.run_words.specs.declared.command.Command.{Command}
 use Rattle.run_words.specs.declared.command.Command.TheVariants as command
 use Rattle.sisal_top.specs.Answer.{Gives, Replies}
 use Rattle.sisal_top.specs.declared.status.Status.{Status}
-use Rattle.one_answer.specs.Alike.{AreOne, Tells, MakesGraphs, AskForGraphs}
+use Rattle.one_answer.specs.Alike.{AreOne, MakesGraphs, AskForGraphs}
 use Rattle.one_answer.specs.Laws.{OneAnswerLaw, IsPrintedAgain}
 
 canonical_again : WrittenIsRead → (bytes printed : List ℕ) → IsCanonicalOf bytes printed → IsCanonicalOf printed printed
