@@ -5,10 +5,14 @@ use Rattle.if1_graph.specs.declared.graph.Edge.{Edge}
 use Rattle.if1_graph.specs.Formed.{IsGraph}
 use Rattle.if1_graph.specs.Ports.{ArePortsRight}
 use Rattle.if1_graph.specs.Units.{places, number_of, ends}
+use Rattle.if1_graph.specs.declared.graph.Graph.TheViews.{out-Graph}
+use Rattle.if1_marks.specs.Owned.{is_owned}
+use Rattle.if1_marks.specs.Sound.{IsTakerRight, AreMarksRight}
 use Rattle.if1_marks.proofs.Taken.{taker-last}
 use Rattle.graph_meaning.specs.Carried.{Carried}
 use Rattle.graph_meaning.specs.Demand.{Net, Network, Cut, WaitsFor, straight, through}
 use Rattle.graph_meaning.specs.Entered.{IsIn}
+use Rattle.graph_meaning.specs.Histories.{is_claimed, is_made}
 use Rattle.graph_meaning.specs.Laws.{run_of}
 use Rattle.graph_meaning.specs.Networks.{network}
 use Rattle.graph_meaning.proofs.Numbers.{found-by-number}
@@ -18,8 +22,9 @@ use Rattle.run_states.specs.Storing.{Kept, Owning, Owned, Lent, IsAtWork}
 use Rattle.run_states.specs.Moving.{IsInput}
 use Rattle.run_states.specs.Graphs.{IsGraphOf}
 use Rattle.run_states.specs.Waiting.{WaitsIn, straight as waits_straight, through as waits_through}
+use Rattle.run_states.proofs.Leasing.{none-leased}
 use Rattle.run_states.proofs.Users.{users-done}
-use Rattle.run_storage.specs.Marked.{AreTakersAlone, AreEmptiedUnowned, AreInputsMarked}
+use Rattle.run_storage.specs.Marked.{AreTakersAlone, DoTakersLeaseNothing, AreEmptiedUnowned, AreInputsMarked}
 use Rattle.run_storage.proofs.Carrying.{none-some, this-port}
 
 -- ---- who reads
@@ -48,6 +53,14 @@ takers-alone cut u g ins is limit h table root f x stores p is-cut ready sound s
     let here = subst (λ (net : Net). WaitsFor net.nodes e.node r.edge.node) (sym (found-by-number u ready.formed p there)) waits-for in
     let done = users-done (run_of cut (network u) g ins) limit h table root f e.node r.edge.node x stands at in-x begun (waits-in cut (network u) (number_of p) is x graph here) in
     not-working (x.states l) (ap x.states (sym r.node) ∙ done)
+
+pub takers-lease-nothing : DoTakersLeaseNothing
+takers-lease-nothing cut u g ins is limit h table root f x stores p is-cut ready sound stands stand at there graph marked e a key in-edges takes from not-0 in-x begun cell =
+    let right = All-contains (AreMarksRight u) (places u) p sound there in
+    let taker = All-contains (λ e. e.takes ≡ true → IsTakerRight u p e) (out-Graph p.graph).edges e right.takers in-edges takes in
+    let own = marked.owned a (subst (λ o. is_owned u p o ≡ true) from taker.may.1) in
+    let alone = takers-alone cut u g ins is limit h table root f x stores p is-cut ready sound stands at there graph marked.reads e a in-edges takes from not-0 in-x begun in
+    (own, none-leased (run_of cut (network u) g ins) (is_claimed h) (is_made h) table root stores f x a key stands.stands stand at cell own alone)
 
 -- ---- what was taken
 

@@ -6,6 +6,7 @@ use Rattle.if1_graph.specs.declared.graph.Origin.TheVariants as origin
 use Rattle.if1_graph.specs.declared.graph.Unit1.{Unit1}
 use Rattle.if1_graph.specs.Ready.{IsReady}
 use Rattle.if1_graph.specs.Units.{Place, places, number_of}
+use Rattle.if1_marks.specs.Owned.{is_owned}
 use Rattle.if1_marks.specs.Sound.{IsSound}
 use Rattle.graph_meaning.specs.Carried.{Carried}
 use Rattle.graph_meaning.specs.Demand.{Cut, IsCut}
@@ -16,6 +17,7 @@ use Rattle.graph_meaning.specs.Networks.{network}
 use Rattle.run_states.specs.Standing.{Live, Table}
 use Rattle.run_states.specs.Storing.{Kept, Port, Owned, Lent, Store, IsRead, StoresStand, NoReader}
 use Rattle.run_states.specs.Moving.{DifferAt, IsUnowned, IsInput}
+use Rattle.run_states.specs.Leasing.{leases}
 use Rattle.run_states.specs.Runs.{RunStands}
 use Rattle.run_states.specs.Graphs.{IsGraphOf}
 use Rattle.run_states.specs.Waiting.{HasBegun}
@@ -52,6 +54,30 @@ AreTakersAlone = (cut : Cut) (u : Unit1) (g : ℕ) (ins is : List Carried) (limi
     → IsIn e.node x.labels
     → HasBegun x e.node
     → NoReader table stores f x a
+
+-- the store goes by the marks: what the rules say that a port owns it owns, and ports are read along edges that do not take
+pub record IsMarkedStore (u : Unit1) (p : Place) (store : Store) : Type 0 where
+  pub reads : AreReadsOf p store
+  pub owned : (a : Port) → is_owned u p (origin.Port a.0 a.1) ≡ true → store.owning a ≡ Owned
+
+-- So the port that the taker takes owns what it has, and no lease of that is out.
+abbrev pub DoTakersLeaseNothing : Type 0
+DoTakersLeaseNothing = (cut : Cut) (u : Unit1) (g : ℕ) (ins is : List Carried) (limit : ℕ) (h : History) (table : Table) (root f : ℕ) (x : Live) (stores : ℕ → Store) (p : Place) → IsCut cut → IsReady u → IsSound u
+    → RunStands (run_of cut (network u) g ins) limit h table root
+    → StoresStand table stores
+    → table f ≡ Some x
+    → Contains (places u) p
+    → IsGraphOf cut (network u) (number_of p) is x
+    → IsMarkedStore u p (stores f)
+    → (e : Edge) (a : Port) (key : ℕ)
+    → Contains (out-Graph p.graph).edges e
+    → e.takes ≡ true
+    → e.from ≡ origin.Port a.0 a.1
+    → e.node ≢ 0
+    → IsIn e.node x.labels
+    → HasBegun x e.node
+    → (stores f).cell a ≡ Some (Kept key)
+    → ((stores f).owning a ≡ Owned) × ((n : ℕ) → leases key table stores n ≡ 0)
 
 -- ---- what was taken
 

@@ -1,9 +1,9 @@
 -- The leases that AScatters keep once they are done, until their ForAll leaves.
 use Rattle.std.specs.Prelude.{◌≡◌, ℕ, Bool, true, false, Some, None}
 use Rattle.graph_meaning.specs.Histories.{Run}
-use Rattle.run_states.specs.Standing.{Test, State, Live, Table, TableStands, changed}
-use Rattle.run_states.specs.Storing.{Cell, Kept, Port, Owned, Store, IsAtWork, StoresStand, NoReader, Holds}
-use Rattle.run_states.specs.Moving.{IsNotWithin, DifferAt, IsUnowned}
+use Rattle.run_states.specs.Standing.{Test, State, Live, Table, TableStands, with_state, put}
+use Rattle.run_states.specs.Storing.{Kept, Port, Owned, Store, IsAtWork, StoresStand, NoReader, Holds}
+use Rattle.run_states.specs.Moving.{DifferAt, IsUnowned}
 
 -- whether an edge takes from this port, of the live graph at each place
 abbrev pub Takers : Type 0
@@ -30,15 +30,15 @@ IsNoneScattered = (run : Run) (c m : Test) (table : Table) (root : ℕ) (stores 
     → table g ≡ Some y
     → ¬ Scatters table stores takers y g l key
 
--- Open, and the contract of no law: these leases are kept where a state changes and the node is still at work, and where an empty port
--- is filled by an aggregate of which no AScatter keeps a lease.
-pub record AreScattersKept (table : Table) (stores : ℕ → Store) (takers : Takers) (f l key : ℕ) (x : Live) (s : State) : Type 0 where
-  pub moved : (g n : ℕ) (y : Live) → table g ≡ Some y → Scatters table stores takers y g n key → (z : Live) × (changed table f x l s 0 None g ≡ Some z) × Scatters (changed table f x l s 0 None) stores takers z g n key
-  pub filled : (others : ℕ → Store) (a : Port) (c : Cell) → DifferAt stores others f a → (stores f).cell a ≡ None → (others f).cell a ≡ Some c → ¬ (c ≡ Kept key)
-      → (g n : ℕ) (y : Live)
-      → table g ≡ Some y
-      → Scatters table stores takers y g n key
-      → Scatters table others takers y g n key
+-- These leases stay what they are where a state changes and its node is still at work, where an empty port is filled by what is not of
+-- this key, and where a graph is left, be it that of the generator.
+pub record AreScattersKept (table : Table) (stores : ℕ → Store) (takers : Takers) (g n key : ℕ) (y : Live) : Type 0 where
+  pub moved : (f l : ℕ) (x : Live) (s : State) → table f ≡ Some x → IsAtWork s → (z : Live) × (put table f (Some (with_state x l s)) g ≡ Some z) × Scatters (put table f (Some (with_state x l s))) stores takers z g n key
+  pub filled : (others : ℕ → Store) (f : ℕ) (a : Port) → DifferAt stores others f a → (stores f).cell a ≡ None → ¬ ((others f).cell a ≡ Some (Kept key)) → Scatters table others takers y g n key
+  pub left : (f : ℕ) → ¬ (g ≡ f) → Scatters (put table f None) stores takers y g n key
 
 abbrev pub AreAllScattersKept : Type 0
-AreAllScattersKept = (table : Table) (stores : ℕ → Store) (takers : Takers) (f l key : ℕ) (x : Live) (s : State) → StoresStand table stores → table f ≡ Some x → IsAtWork s → IsNotWithin s → AreScattersKept table stores takers f l key x s
+AreAllScattersKept = (table : Table) (stores : ℕ → Store) (takers : Takers) (g n key : ℕ) (y : Live) → StoresStand table stores
+    → table g ≡ Some y
+    → Scatters table stores takers y g n key
+    → AreScattersKept table stores takers g n key y

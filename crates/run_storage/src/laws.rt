@@ -1,8 +1,8 @@
 //! The laws of what live graphs keep in their ports.
 ghost use Rattle.run_storage.specs.Carrying.{AreAllPortsKept, AreAllToldCarried};
 ghost use Rattle.run_storage.specs.Lending.{AreAllOperandsFirst, AreInputsLent};
-ghost use Rattle.run_storage.specs.Marked.{AreTakersAlone, AreEmptiedUnowned, AreInputsMarked};
-ghost use Rattle.run_storage.specs.Scattering.{IsNoneScattered};
+ghost use Rattle.run_storage.specs.Marked.{AreTakersAlone, DoTakersLeaseNothing, AreEmptiedUnowned, AreInputsMarked};
+ghost use Rattle.run_storage.specs.Scattering.{IsNoneScattered, AreAllScattersKept};
 
 /// What each filled port holds is what it carries by the definition of record, at the beginning and after each
 /// event.
@@ -49,4 +49,15 @@ pub fn inputs_are_lent_by_operands()
 /// of what the port has.
 pub fn no_scattered_lease_is_out()
     ensures { IsNoneScattered }
+{}
+
+/// These leases are kept where a state changes and its node is still at work, where a port is filled, and where a
+/// graph is left.
+pub fn scattered_leases_are_kept()
+    ensures { AreAllScattersKept }
+{}
+
+/// The port that a taker takes owns what it has, and no lease of that is out in any live graph.
+pub fn takers_lease_nothing()
+    ensures { DoTakersLeaseNothing }
 {}
