@@ -46,7 +46,7 @@ module _ (u : Network) (w : Weights) where
 
 module _ (cut : Cut) (u : Network) (is-cut : IsCut cut) (orderly : AreOrderly u) (w : Weights) where
   -- iterations whose cost a depth gives add some number
-  rows-add : (m h : ℕ) (rows : List (List Carried)) (c : ℕ) → slice_cost (λ is. tree cut m u h is) rows ≡ Some c → RowsSum u w h rows
+  pub rows-add : (m h : ℕ) (rows : List (List Carried)) (c : ℕ) → slice_cost (λ is. tree cut m u h is) rows ≡ Some c → RowsSum u w h rows
   rows-add m h [] c e = record { sum = 0; far = 0; adds = λ n le. of_no_row n h }
   rows-add m h (is ∷ rows) c e =
       let a = plus-left (plus (Some 1) (cost (tree cut m u h is))) (slice_cost (λ is. tree cut m u h is) rows) c e in
@@ -241,7 +241,7 @@ module _ (cut : Cut) (u : Network) (is-cut : IsCut cut) (orderly : AreOrderly u)
       none e = cc
 
   -- what the own item of a compound node adds
-  whole-own : (g : ℕ) (ins : List Carried) (v : Vertex) (form : Form) (ks : List Carried) → at_label (u g).nodes v.label ≡ Some v → v.kind ≡ Whole form → Operands u g ins v ks → (f : First) → first form ks ≡ f → (c : ℕ) → FirstAdds cut u w f c → ItemAdds cut u w g ins (Node v.label) c
+  pub whole-own : (g : ℕ) (ins : List Carried) (v : Vertex) (form : Form) (ks : List Carried) → at_label (u g).nodes v.label ≡ Some v → v.kind ≡ Whole form → Operands u g ins v ks → (f : First) → first form ks ≡ f → (c : ℕ) → FirstAdds cut u w f c → ItemAdds cut u w g ins (Node v.label) c
   whole-own g ins v form ks at kind given f e c adds =
       record { node = v; found = at; adds = subst (λ z. KindAdds cut u w g ins v z c) (sym kind) (record { operands = ks; given = given; adds = subst (λ z. FirstAdds cut u w z c) (sym e) adds }) }
 

@@ -1,3 +1,4 @@
 pub mod Once
 pub mod Items
 pub mod Along
+pub mod Each

@@ -110,6 +110,13 @@ module _ (cut : Cut) (u : Network) (w : Weights) where
 abbrev pub DoItemsAddOnce : Type 0
 DoItemsAddOnce = (cut : Cut) (u : Network) (w : Weights) (g : ℕ) (ins : List Carried) (i : Item) (a b : ℕ) → ItemAdds cut u w g ins i a → ItemAdds cut u w g ins i b → a ≡ b
 
+-- of a whole tree each item adds some number
+abbrev pub DoItemsAdd : Type 0
+DoItemsAdd = (cut : Cut) (u : Network) (w : Weights) (g : ℕ) (ins : List Carried) (n : ℕ) → IsCut cut → AreOrderly u → IsGiven (tree cut n u g ins)
+    → (i : Item) (o : Option ℕ)
+    → Has (tree cut n u g ins) i o
+    → (c : ℕ) × ItemAdds cut u w g ins i c
+
 -- Where a depth gives the whole tree, and each of its items adds what is said, the graph adds their sum and what its results do.
 abbrev pub AreSumsOfItems : Type 0
 AreSumsOfItems = (cut : Cut) (u : Network) (w : Weights) (g : ℕ) (ins rs : List Carried) (n : ℕ) (adds : Item → ℕ) → IsCut cut → AreOrderly u → IsGiven (tree cut n u g ins)

@@ -1,8 +1,13 @@
 //! The laws of what items add.
-ghost use Rattle.run_sums.specs.Adds.{DoItemsAddOnce, AreSumsOfItems};
+ghost use Rattle.run_sums.specs.Adds.{DoItemsAdd, DoItemsAddOnce, AreSumsOfItems};
 ghost use Rattle.run_sums.specs.Along.{AreSumsAlong};
 
-/// An item adds one number.
+/// Each item of a whole tree adds some number,
+pub fn items_of_whole_runs_add()
+    ensures { DoItemsAdd }
+{}
+
+/// and an item adds one.
 pub fn items_add_once()
     ensures { DoItemsAddOnce }
 {}

@@ -4,4 +4,4 @@
 
 mod laws;
 
-pub use laws::{finished_items_add_up, items_add_once, sums_are_of_items};
+pub use laws::{finished_items_add_up, items_add_once, items_of_whole_runs_add, sums_are_of_items};
