@@ -8,7 +8,7 @@ use Rattle.run_words.specs.declared.command.Command.{Command}
 use Rattle.run_words.specs.declared.command.Command.TheVariants as command
 use Rattle.sisal_top.specs.Answer.{Gives, Replies}
 use Rattle.sisal_top.specs.declared.status.Status.{Status}
-use Rattle.one_answer.specs.Alike.{AreOne, MakesGraphs, AskForGraphs}
+use Rattle.one_answer.specs.Alike.{AreOne, IsLoose, AskLoosely}
 use Rattle.one_answer.specs.Laws.{OneAnswerLaw, IsPrintedAgain}
 
 canonical_again : WrittenIsRead → (bytes printed : List ℕ) → IsCanonicalOf bytes printed → IsCanonicalOf printed printed
@@ -28,5 +28,5 @@ pub printed_again : WrittenIsRead → ((words : List (List ℕ)) (a b : Command)
 printed_again written one_command one words bytes printed is g fits =
     let asks = subst (λ c. Replies c bytes (Ok printed)) (one_command words g.0 command.If1 g.1 is) g.2 in
     let again : Gives words printed (Ok printed) = (command.If1, is, (fits, canonical_again written bytes printed asks.1)) in
-    let no_graphs : ¬ AskForGraphs words = λ a. subst MakesGraphs (one_command words a.0 command.If1 a.1 is) a.2 in
+    let no_graphs : ¬ AskLoosely words = λ a. subst IsLoose (one_command words a.0 command.If1 a.1 is) a.2 in
     (again, λ r h t. same_reply r printed (one words printed r (Ok printed) no_graphs h again t tt))

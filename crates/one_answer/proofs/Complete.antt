@@ -3,11 +3,11 @@ use Rattle.std.proofs.Common.{◌≡◌, ℕ, List, Option, Ok, Err, refl, subst
 use Rattle.flow_io.specs.Bytes.{AddsOn}
 use Rattle.sisal_top.specs.Answer.{Answers, Gives}
 use Rattle.sisal_top.specs.declared.status.Status.TheVariants as status
-use Rattle.one_answer.specs.Alike.{AskForGraphs}
+use Rattle.one_answer.specs.Alike.{AskLoosely}
 use Rattle.one_answer.specs.Laws.{CompleteLaw, OneAnswerLaw}
 
 module _ (one : OneAnswerLaw) where
-  done : (words : List (List ℕ)) (bytes printed : List ℕ) (before after : Option (List ℕ)) → ¬ AskForGraphs words → Gives words bytes (Ok printed)
+  done : (words : List (List ℕ)) (bytes printed : List ℕ) (before after : Option (List ℕ)) → ¬ AskLoosely words → Gives words bytes (Ok printed)
       → Answers words bytes status.Done before after → AddsOn before printed after
   done words bytes printed before after n g a =
       let e : a.0 ≡ printed = one words bytes (Ok a.0) (Ok printed) n a.1 g tt tt in

@@ -7,10 +7,10 @@ use Rattle.lowered_units.specs.Laws.{IsOneUnit}
 use Rattle.typed_tree.specs.declared.program.Program.{Program}
 use Rattle.one_answer.specs.Laws.{AreGraphsOnce}
 
-within_either : (o : Option ℕ) (line : ℕ) → o ≡ None → o ≡ Some line → ⊥
+pub within_either : (o : Option ℕ) (line : ℕ) → o ≡ None → o ≡ Some line → ⊥
 within_either o line a b = let e : None ≡ Some line = sym a ∙ b in cc
 
-compiled : (dot why : Bool) (p : Program) (t : List ℕ) → dot ≡ false → why ≡ false → PrintsBy dot why p t → IsCompiled p t
+pub compiled : (dot why : Bool) (p : Program) (t : List ℕ) → dot ≡ false → why ≡ false → PrintsBy dot why p t → IsCompiled p t
 compiled true why p t d w x = cc
 compiled false true p t d w x = cc
 compiled false false p t d w x = x

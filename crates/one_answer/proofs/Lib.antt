@@ -6,6 +6,7 @@ pub mod Runs
 pub mod Graphs
 pub mod Sources
 pub mod Runners
+pub mod Texts
 pub mod Quiet
 pub mod Replies
 pub mod Complete

@@ -1,5 +1,5 @@
 -- Replies of commands that read no text, and replies by stages.
-use Rattle.std.proofs.Common.{◌≡◌, ◌≢◌, ℕ, Bool, true, false, List, Result, Ok, Err, refl}
+use Rattle.std.proofs.Common.{◌≡◌, ◌≢◌, ℕ, Bool, true, false, List, Result, Ok, Err, refl, ◌⊎◌, inl, inr}
 use Rattle.mean_call.specs.declared.fault.Refusal.{Refusal}
 use Rattle.mean_call.specs.declared.fault.Refusal.TheVariants as refusal
 use Rattle.run_words.specs.declared.command.AgainSet.{AgainSet}
@@ -8,7 +8,7 @@ use Rattle.run_words.specs.declared.command.CompileSet.{CompileSet}
 use Rattle.run_words.specs.declared.command.MeanSet.{MeanSet}
 use Rattle.run_words.specs.declared.command.RunSet.{RunSet}
 use Rattle.sisal_top.specs.Answer.{Asks, Replies}
-use Rattle.sisal_top.specs.Outputs.{RunsUnit, HasNoRun}
+use Rattle.sisal_top.specs.Outputs.{HasNoGraphs, HasGraphs, RunsUnit, HasNoRun}
 use Rattle.run_call.specs.Texts.{IsUnitOf as IsIf1Of}
 use Rattle.if1_graph.specs.declared.graph.Unit1.{Unit1}
 use Rattle.sisal_top.specs.Program.{Fits, IsBuilt, IsPlain}
@@ -21,6 +21,8 @@ use Rattle.sisal_top.specs.declared.status.TextFault.TheVariants as text
 use Rattle.one_answer.specs.Alike.{Tells}
 use Rattle.one_answer.proofs.Sources.{MeanReply, long, bad, broken, printed, stopped}
 use Rattle.one_answer.proofs.Runners as unit
+use Rattle.one_answer.proofs.Texts as source
+use Rattle.one_answer.proofs.Graphs.{compiled}
 
 -- the status of a fault is that which carries it
 pub back : (f : CallFault) → of_argument (argument_fault f) ≡ status.Argument f
@@ -222,3 +224,49 @@ run_later set bytes (Err status.TurnLimit) n p t = absurd (n p.0)
 run_later set bytes (Err status.TooLong) n p t = absurd (n p.0)
 run_later set bytes (Err status.Later) n p t = refl
 run_later set bytes (Err (status.Unlinked name)) n p t = absurd (n p.0)
+
+-- ---- graphs of a SISAL text
+
+no_graphs : (bytes : List ℕ) (Rest : Result (List ℕ) Status → Type 0) (rule line : ℕ) → HasNoGraphs bytes rule line → source.TextReply bytes Rest (Err (status.Typing rule line))
+no_graphs bytes Rest rule line (inl b) = source.broken rule line b
+no_graphs bytes Rest rule line (inr o) = source.over rule line o.1
+
+-- the unit of a SISAL text
+sisal_unit : (b : Bool) (bytes : List ℕ) (u : Unit1) → b ≡ false → RunsUnit b bytes u → HasGraphs bytes u
+sisal_unit false bytes u e p = p
+sisal_unit true bytes u e p = cc
+
+no_text_run : (set : RunSet) (bytes : List ℕ) → set.if1 ≡ false → (r : Refusal) (s : Status) → r ≢ refusal.NoMemory → HasNoRun set bytes r → of_refusal r ≡ s → source.TextReply bytes (source.RunRest set bytes) (Err s)
+no_text_run set bytes i r s n p e = source.made (Err s) (source.stopped r s p.unit n (sisal_unit set.if1 bytes p.unit i p.runs) p.refused e)
+
+pub text_run_reply : (set : RunSet) (bytes : List ℕ) (r : Result (List ℕ) Status) → set.if1 ≡ false → IsPlain set → Replies (command.Run set) bytes r → Tells r → source.TextReply bytes (source.RunRest set bytes) r
+text_run_reply set bytes (Ok out) i plain p t = source.made (Ok out) (source.ran out p.1.unit p.1.totals (sisal_unit set.if1 bytes p.1.unit i p.1.runs) p.1.given p.1.is)
+text_run_reply set bytes (Err status.Done) i plain p t = absurd p
+text_run_reply set bytes (Err (status.Usage f)) i plain p t = absurd p
+text_run_reply set bytes (Err status.ReadFault) i plain p t = absurd t
+text_run_reply set bytes (Err status.WriteFault) i plain p t = absurd p
+text_run_reply set bytes (Err status.NoMemory) i plain p t = absurd t
+text_run_reply set bytes (Err (status.Syntax f)) i plain p t = source.bad f p.1
+text_run_reply set bytes (Err (status.Typing rule line)) i plain p t = no_graphs bytes (source.RunRest set bytes) rule line p.1
+text_run_reply set bytes (Err (status.If1 f)) i plain p t = absurd (true_false set.if1 p.0.1 i)
+text_run_reply set bytes (Err (status.Argument f)) i plain p t = no_text_run set bytes i (refusal.Argument (argument_fault f)) (status.Argument f) (no_memory_argument f) p.1 (back f)
+text_run_reply set bytes (Err status.TurnLimit) i plain p t = no_text_run set bytes i refusal.TurnLimit status.TurnLimit (λ e. cc e) p.1 refl
+text_run_reply set bytes (Err status.TooLong) i plain p t = source.long p.1
+text_run_reply set bytes (Err status.Later) i plain p t = absurd (p plain)
+text_run_reply set bytes (Err (status.Unlinked name)) i plain p t = no_text_run set bytes i (refusal.Unlinked name) (status.Unlinked name) (λ e. cc e) p.1 refl
+
+pub compile_reply : (set : CompileSet) (bytes : List ℕ) (r : Result (List ℕ) Status) → set.dot ≡ false → set.why ≡ false → IsBuilt set → Replies (command.Compile set) bytes r → Tells r → source.TextReply bytes (source.CompileRest bytes) r
+compile_reply set bytes (Ok out) d w built p t = source.made (Ok out) (source.printed out p.1.program p.1.typed (compiled set.dot set.why p.1.program out d w p.1.is))
+compile_reply set bytes (Err status.Done) d w built p t = absurd p
+compile_reply set bytes (Err (status.Usage f)) d w built p t = absurd p
+compile_reply set bytes (Err status.ReadFault) d w built p t = absurd t
+compile_reply set bytes (Err status.WriteFault) d w built p t = absurd p
+compile_reply set bytes (Err status.NoMemory) d w built p t = absurd t
+compile_reply set bytes (Err (status.Syntax f)) d w built p t = source.bad f p.1
+compile_reply set bytes (Err (status.Typing rule line)) d w built p t = no_graphs bytes (source.CompileRest bytes) rule line p.1
+compile_reply set bytes (Err (status.If1 f)) d w built p t = absurd p
+compile_reply set bytes (Err (status.Argument f)) d w built p t = absurd p
+compile_reply set bytes (Err status.TurnLimit) d w built p t = absurd p
+compile_reply set bytes (Err status.TooLong) d w built p t = source.long p.1
+compile_reply set bytes (Err status.Later) d w built p t = absurd (p built)
+compile_reply set bytes (Err (status.Unlinked name)) d w built p t = absurd p

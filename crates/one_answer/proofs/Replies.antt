@@ -3,6 +3,7 @@ use Rattle.std.proofs.Common.{◌≡◌, ◌∙◌, ℕ, Bool, true, false, List
 use Rattle.run_words.specs.Words.{IsCommand, HasFault}
 use Rattle.run_words.specs.declared.command.Command.{Command}
 use Rattle.run_words.specs.declared.command.Command.TheVariants as command
+use Rattle.run_words.specs.declared.command.CompileSet.{CompileSet}
 use Rattle.run_words.specs.declared.command.RunSet.{RunSet}
 use Rattle.run_words.specs.declared.fault.WordFault.{WordFault}
 use Rattle.if1_marks.specs.Laws.{IsUnmarkedSound}
@@ -13,20 +14,22 @@ use Rattle.sisal_grammar.specs.declared.value.Placed.{Placed}
 use Rattle.sisal_grammar.specs.Phrases.{unit}
 use Rattle.sisal_grammar.specs.Spells.{Spells}
 use Rattle.typing_unique.specs.UnitLaws.{NoProgramLaw}
+use Rattle.one_lowering.specs.Laws.{IsOneLowering}
 use Rattle.one_meaning.specs.Laws.{AreAnswersMoved, IsProgramOnce}
 use Rattle.sisal_top.specs.Answer.{Gives, Replies}
-use Rattle.sisal_top.specs.Program.{IsPlain}
+use Rattle.sisal_top.specs.Program.{IsBuilt, IsPlain}
 use Rattle.sisal_top.specs.Status.{of_words, word_fault}
 use Rattle.sisal_top.specs.declared.status.Status.{Status}
 use Rattle.sisal_top.specs.declared.status.Status.TheVariants as status
 use Rattle.sisal_top.specs.declared.status.UsageFault.{UsageFault}
 use Rattle.sisal_top.specs.declared.status.UsageFault.TheVariants as usage
-use Rattle.one_answer.specs.Alike.{same, AreOne, Tells, MakesGraphs, AskForGraphs}
-use Rattle.one_answer.specs.Laws.{IsRunOnce, OneAnswerLaw}
+use Rattle.one_answer.specs.Alike.{same, AreOne, Tells, IsLoose, AskLoosely}
+use Rattle.one_answer.specs.Laws.{AreGraphsOnce, IsRunOnce, OneAnswerLaw}
 use Rattle.one_answer.proofs.Syntaxes.{alike_if, unit_one, unit_refused}
 use Rattle.one_answer.proofs.Sources.{mean_one}
 use Rattle.one_answer.proofs.Runners.{if1_one, run_one}
-use Rattle.one_answer.proofs.Quiet.{gen_ok, help_ok, version_ok, link_later, verify_later, again_later, compile_later, mean_reply, if1_reply, run_reply, run_later}
+use Rattle.one_answer.proofs.Texts.{text_run_one, compile_one}
+use Rattle.one_answer.proofs.Quiet.{gen_ok, help_ok, version_ok, link_later, verify_later, again_later, compile_later, mean_reply, if1_reply, run_reply, run_later, text_run_reply, compile_reply}
 
 both_ok : (r s : Result (List ℕ) Status) (a b : List ℕ) → r ≡ Ok a → s ≡ Ok b → a ≡ b → AreOne r s
 both_ok r s a b e f g = subst (λ x. AreOne x s) (sym e) (subst (λ x. AreOne (Ok a) x) (sym f) g)
@@ -34,9 +37,9 @@ both_ok r s a b e f g = subst (λ x. AreOne x s) (sym e) (subst (λ x. AreOne (O
 both_later : (r s : Result (List ℕ) Status) → r ≡ Err status.Later → s ≡ Err status.Later → AreOne r s
 both_later r s e f = subst (λ x. AreOne x s) (sym e) (subst (λ x. AreOne (Err status.Later) x) (sym f) same)
 
-is_true : (b : Bool) → (b ≡ false → ⊥) → b ≡ true
-is_true true n = refl
-is_true false n = absurd (n refl)
+is_false : (b : Bool) → (b ≡ true → ⊥) → b ≡ false
+is_false false n = refl
+is_false true n = absurd (n refl)
 
 -- a reply of `run` tells whether it is plain
 plain_or_not : (set : RunSet) (bytes : List ℕ) (r : Result (List ℕ) Status) → Replies (command.Run set) bytes r → Tells r → IsPlain set ⊎ (¬ IsPlain set)
@@ -54,6 +57,23 @@ plain_or_not set bytes (Err status.TurnLimit) p t = inl p.0
 plain_or_not set bytes (Err status.TooLong) p t = inl p.0
 plain_or_not set bytes (Err status.Later) p t = inr p
 plain_or_not set bytes (Err (status.Unlinked name)) p t = inl p.0
+
+-- a reply of `compile` tells whether it is built
+built_or_not : (set : CompileSet) (bytes : List ℕ) (r : Result (List ℕ) Status) → Replies (command.Compile set) bytes r → Tells r → IsBuilt set ⊎ (¬ IsBuilt set)
+built_or_not set bytes (Ok out) p t = inl p.0
+built_or_not set bytes (Err status.Done) p t = absurd p
+built_or_not set bytes (Err (status.Usage f)) p t = absurd p
+built_or_not set bytes (Err status.ReadFault) p t = absurd t
+built_or_not set bytes (Err status.WriteFault) p t = absurd p
+built_or_not set bytes (Err status.NoMemory) p t = absurd t
+built_or_not set bytes (Err (status.Syntax f)) p t = inl p.0
+built_or_not set bytes (Err (status.Typing rule line)) p t = inl p.0
+built_or_not set bytes (Err (status.If1 f)) p t = absurd p
+built_or_not set bytes (Err (status.Argument f)) p t = absurd p
+built_or_not set bytes (Err status.TurnLimit) p t = absurd p
+built_or_not set bytes (Err status.TooLong) p t = inl p.0
+built_or_not set bytes (Err status.Later) p t = inr p
+built_or_not set bytes (Err (status.Unlinked name)) p t = absurd p
 
 -- ---- words
 
@@ -86,17 +106,30 @@ words_reply words bytes (Err status.Later) p t = asked p.0 (Err status.Later) p.
 words_reply words bytes (Err (status.Unlinked name)) p t = asked p.0 (Err (status.Unlinked name)) p.1 p.2
 
 module _ (grammar : (tokens : List Placed) (o p : Outline) → Spells unit tokens o → Spells unit tokens p → o ≡ p)
-    (no_program : NoProgramLaw) (moved : AreAnswersMoved) (program : IsProgramOnce) (accepted : AcceptedHasNoFault) (one : IsOneUnit) (unmarked : IsUnmarkedSound) (runs : IsRunOnce) where
-  runs_one : (set : RunSet) (bytes : List ℕ) (r s : Result (List ℕ) Status) → ¬ MakesGraphs (command.Run set) → Replies (command.Run set) bytes r → Replies (command.Run set) bytes s
-      → Tells r → Tells s → IsPlain set ⊎ (¬ IsPlain set) → AreOne r s
-  runs_one set bytes r s n p q t w (inl plain) =
-      let i = is_true set.if1 (λ e. n (plain, e)) in
-      run_one accepted one bytes unmarked runs set r s (run_reply set bytes r i plain p t) (run_reply set bytes s i plain q w)
-  runs_one set bytes r s n p q t w (inr never) = both_later r s (run_later set bytes r never p t) (run_later set bytes s never q w)
+    (no_program : NoProgramLaw) (moved : AreAnswersMoved) (program : IsProgramOnce) (accepted : AcceptedHasNoFault) (one : IsOneUnit) (unmarked : IsUnmarkedSound) (runs : IsRunOnce) (lowered : IsOneLowering) (graphs : AreGraphsOnce) where
+  plain_one : (set : RunSet) (bytes : List ℕ) (r s : Result (List ℕ) Status) → Replies (command.Run set) bytes r → Replies (command.Run set) bytes s → Tells r → Tells s → IsPlain set → AreOne r s
+  plain_one set bytes r s p q t w plain = by set.if1 refl
+    where
+      by : (b : Bool) → set.if1 ≡ b → AreOne r s
+      by true i = run_one accepted one bytes unmarked runs set r s (run_reply set bytes r i plain p t) (run_reply set bytes s i plain q w)
+      by false i =
+          text_run_one (unit_one grammar) (unit_refused grammar) no_program lowered graphs bytes runs set r s (text_run_reply set bytes r i plain p t) (text_run_reply set bytes s i plain q w)
 
-  replies_one : (c : Command) (bytes : List ℕ) (r s : Result (List ℕ) Status) → ¬ MakesGraphs c → Replies c bytes r → Replies c bytes s → Tells r → Tells s → AreOne r s
-  replies_one (command.Run set) bytes r s n p q t w = runs_one set bytes r s n p q t w (plain_or_not set bytes r p t)
-  replies_one (command.Compile set) bytes r s n p q t w = both_later r s (compile_later set bytes r n p t) (compile_later set bytes s n q w)
+  runs_one : (set : RunSet) (bytes : List ℕ) (r s : Result (List ℕ) Status) → Replies (command.Run set) bytes r → Replies (command.Run set) bytes s → Tells r → Tells s → IsPlain set ⊎ (¬ IsPlain set) → AreOne r s
+  runs_one set bytes r s p q t w (inl plain) = plain_one set bytes r s p q t w plain
+  runs_one set bytes r s p q t w (inr never) = both_later r s (run_later set bytes r never p t) (run_later set bytes s never q w)
+
+  compiles_one : (set : CompileSet) (bytes : List ℕ) (r s : Result (List ℕ) Status) → ¬ IsLoose (command.Compile set) → Replies (command.Compile set) bytes r → Replies (command.Compile set) bytes s
+      → Tells r → Tells s → IsBuilt set ⊎ (¬ IsBuilt set) → AreOne r s
+  compiles_one set bytes r s n p q t w (inl built) =
+      let d = is_false set.dot (λ e. n (built, inl e)) in
+      let y = is_false set.why (λ e. n (built, inr e)) in
+      compile_one (unit_one grammar) (unit_refused grammar) no_program lowered graphs bytes r s (compile_reply set bytes r d y built p t) (compile_reply set bytes s d y built q w)
+  compiles_one set bytes r s n p q t w (inr never) = both_later r s (compile_later set bytes r never p t) (compile_later set bytes s never q w)
+
+  replies_one : (c : Command) (bytes : List ℕ) (r s : Result (List ℕ) Status) → ¬ IsLoose c → Replies c bytes r → Replies c bytes s → Tells r → Tells s → AreOne r s
+  replies_one (command.Run set) bytes r s n p q t w = runs_one set bytes r s p q t w (plain_or_not set bytes r p t)
+  replies_one (command.Compile set) bytes r s n p q t w = compiles_one set bytes r s n p q t w (built_or_not set bytes r p t)
   replies_one command.Link bytes r s n p q t w = both_later r s (link_later bytes r p t) (link_later bytes s q w)
   replies_one (command.Verify set) bytes r s n p q t w = both_later r s (verify_later set bytes r p t) (verify_later set bytes s q w)
   replies_one (command.Again set) bytes r s n p q t w = both_later r s (again_later set bytes r p t) (again_later set bytes s q w)
@@ -119,7 +152,7 @@ module _ (grammar : (tokens : List Placed) (o p : Outline) → Spells unit token
   module _ (one_command : (words : List (List ℕ)) (a b : Command) → IsCommand words a → IsCommand words b → a ≡ b)
       (one_fault : (words : List (List ℕ)) (a b : WordFault) → HasFault words a → HasFault words b → a ≡ b)
       (not_both : (words : List (List ℕ)) (c : Command) (f : WordFault) → IsCommand words c → HasFault words f → ⊥) where
-    words_one : (words : List (List ℕ)) (bytes : List ℕ) (r s : Result (List ℕ) Status) → ¬ AskForGraphs words → WordsReply words bytes r → WordsReply words bytes s → Tells r → Tells s → AreOne r s
+    words_one : (words : List (List ℕ)) (bytes : List ℕ) (r s : Result (List ℕ) Status) → ¬ AskLoosely words → WordsReply words bytes r → WordsReply words bytes s → Tells r → Tells s → AreOne r s
     words_one words bytes _ _ n (wrong f p) (wrong g q) t w =
         alike_if (status.Usage f) (status.Usage g) (sym (usage_back f) ∙ ap of_words (one_fault words (word_fault f) (word_fault g) p q) ∙ usage_back g)
     words_one words bytes _ _ n (wrong f p) (asked c s is q) t w = absurd (not_both words c (word_fault f) is p)

@@ -1,10 +1,10 @@
 -- When two answers are one: the same bytes, or refusals with the same numbers in their lines, but where the definitions let any be
 -- named of several.
-use Rattle.std.specs.Prelude.{◌≡◌, ℕ, false, List, Result, Ok, Err}
+use Rattle.std.specs.Prelude.{◌≡◌, ◌⊎◌, ℕ, true, List, Result, Ok, Err}
 use Rattle.run_words.specs.Words.{IsCommand}
 use Rattle.run_words.specs.declared.command.Command.{Command}
 use Rattle.run_words.specs.declared.command.Command.TheVariants as command
-use Rattle.sisal_top.specs.Program.{IsBuilt, IsPlain}
+use Rattle.sisal_top.specs.Program.{IsBuilt}
 use Rattle.sisal_top.specs.declared.status.Status.{Status}
 use Rattle.sisal_top.specs.declared.status.Status.TheVariants as status
 use Rattle.sisal_top.specs.declared.status.SyntaxFault.TheVariants as syntax
@@ -32,11 +32,10 @@ Tells (Err status.NoMemory) = ⊥
 Tells (Err status.ReadFault) = ⊥
 Tells _ = Unit {0}
 
--- the commands that make graphs of a SISAL text
-abbrev pub MakesGraphs : Command → Type 0
-MakesGraphs (command.Run set) = IsPlain set × (set.if1 ≡ false)
-MakesGraphs (command.Compile set) = IsBuilt set
-MakesGraphs _ = ⊥
+-- `compile` of a drawing or with notes, of which the definitions let several be printed
+abbrev pub IsLoose : Command → Type 0
+IsLoose (command.Compile set) = IsBuilt set × ((set.dot ≡ true) ⊎ (set.why ≡ true))
+IsLoose _ = ⊥
 
-abbrev pub AskForGraphs : List (List ℕ) → Type 0
-AskForGraphs words = (c : Command) × IsCommand words c × MakesGraphs c
+abbrev pub AskLoosely : List (List ℕ) → Type 0
+AskLoosely words = (c : Command) × IsCommand words c × IsLoose c

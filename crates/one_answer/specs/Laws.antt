@@ -17,15 +17,15 @@ use Rattle.sisal_top.specs.Answer.{Answers, Gives}
 use Rattle.sisal_top.specs.Program.{Fits}
 use Rattle.sisal_top.specs.declared.status.Status.{Status}
 use Rattle.sisal_top.specs.declared.status.Status.TheVariants as status
-use Rattle.one_answer.specs.Alike.{AreOne, Tells, AskForGraphs}
+use Rattle.one_answer.specs.Alike.{AreOne, Tells, AskLoosely}
 
--- words and bytes give one thing, but where graphs are made of a SISAL text
+-- words and bytes give one thing, but where a drawing or notes are asked for
 abbrev pub OneAnswerLaw : Type 0
-OneAnswerLaw = (words : List (List ℕ)) (bytes : List ℕ) (r s : Result (List ℕ) Status) → ¬ AskForGraphs words → Gives words bytes r → Gives words bytes s → Tells r → Tells s → AreOne r s
+OneAnswerLaw = (words : List (List ℕ)) (bytes : List ℕ) (r s : Result (List ℕ) Status) → ¬ AskLoosely words → Gives words bytes r → Gives words bytes s → Tells r → Tells s → AreOne r s
 
 -- where they give bytes, these are printed, unless memory is wanting or the outside failed
 abbrev pub CompleteLaw : Type 0
-CompleteLaw = (words : List (List ℕ)) (bytes printed : List ℕ) (s : Status) (before after : Option (List ℕ)) → ¬ AskForGraphs words → Gives words bytes (Ok printed)
+CompleteLaw = (words : List (List ℕ)) (bytes printed : List ℕ) (s : Status) (before after : Option (List ℕ)) → ¬ AskLoosely words → Gives words bytes (Ok printed)
     → Answers words bytes s before after → s ≢ status.ReadFault → s ≢ status.WriteFault → ((s ≡ status.Done) × AddsOn before printed after) ⊎ (s ≡ status.NoMemory)
 
 -- what `if1` prints of a text it prints of that again, and gives nothing else, where it is not too long to be read

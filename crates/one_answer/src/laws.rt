@@ -13,6 +13,7 @@ use if1_read::accepted_has_no_fault;
 use if1_unique::an_if1_text_gives_one_unit;
 use if1_write::written_is_read;
 use lowered_units::a_program_is_one_unit;
+use one_lowering::typed_trees_are_lowered_alike;
 use one_meaning::{a_program_answers_once, typed_trees_answer_alike, words_are_read_or_refused};
 use run_call::{no_run_passes_the_limit, words_have_one_run};
 use run_words::words_have_one_meaning;
@@ -37,7 +38,7 @@ pub fn graphs_answer_once()
 }
 
 /// Words and the bytes of a text have one answer, but for want of memory and faults of the source.
-/// This is not said of `run` and `compile` of a SISAL text.
+/// Of `compile` this is said without `--dot` and `--why`.
 pub fn words_and_texts_have_one_answer()
     ensures { OneAnswerLaw }
 {
@@ -50,6 +51,8 @@ pub fn words_and_texts_have_one_answer()
     an_if1_text_gives_one_unit();
     no_marks_are_sound();
     a_run_answers_once();
+    typed_trees_are_lowered_alike();
+    graphs_answer_once();
 }
 
 /// Where words and a text have a result, it is printed, unless memory is wanting or the outside
