@@ -2,3 +2,4 @@ pub mod Carrying
 pub mod Marked
 pub mod Lending
 pub mod Scattering
+pub mod Owning

@@ -2,6 +2,7 @@
 ghost use Rattle.run_storage.specs.Carrying.{AreAllPortsKept, AreAllToldCarried};
 ghost use Rattle.run_storage.specs.Lending.{AreAllOperandsFirst, AreInputsLent};
 ghost use Rattle.run_storage.specs.Marked.{AreTakersAlone, DoTakersLeaseNothing, AreEmptiedUnowned, AreInputsMarked};
+ghost use Rattle.run_storage.specs.Owning.{AreAllTakenOwned};
 ghost use Rattle.run_storage.specs.Scattering.{IsNoneScattered, AreAllScattersKept};
 
 /// What each filled port holds is what it carries by the definition of record, at the beginning and after each
@@ -60,4 +61,9 @@ pub fn scattered_leases_are_kept()
 /// The port that a taker takes owns what it has, and no lease of that is out in any live graph.
 pub fn takers_lease_nothing()
     ensures { DoTakersLeaseNothing }
+{}
+
+/// What a node takes the function that it calls owns, and each of its parts that uses it, but for a selector.
+pub fn taken_inputs_are_owned()
+    ensures { AreAllTakenOwned }
 {}
