@@ -14,4 +14,4 @@ pub use laws::{opening_is_spelled, read_is_spelled, text_is_read, written_is_rea
 pub use line::{EntryForm, Line, entry_form};
 pub use lines::next_line;
 pub use read::read_line;
-pub use write::{opening, write_line};
+pub use write::{opening, write_close, write_line};

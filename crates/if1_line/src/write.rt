@@ -3,6 +3,7 @@ ghost use Rattle.std.specs.Prelude.{◌≡◌, ◌++◌, ◌∷◌, [], ◌≤�
 ghost use Rattle.if1_line.specs.Entries.{entry_form};
 ghost use Rattle.if1_line.specs.Spelling.{number, name_part, take_part, before_part, entry_parts, function_letter, line_text, node_pragmas, after_blanks, after_commas, text_of, opening};
 ghost use Rattle.if1_line.specs.Parts.{Quoted};
+ghost use Rattle.if1_line.specs.declared.line.Line.TheVariants as line;
 
 use crate::line::{EntryForm, Line, entry_form};
 use flow_value::{NoMemory, Text};
@@ -22,6 +23,15 @@ fn put_number(n: u32, to: &mut Text) -> Result<(), NoMemory>
 {
     to.extend(b" ")?;
     put_decimal(n, to)
+}
+
+/// Adds a count behind a blank.
+fn put_count(n: usize, to: &mut Text) -> Result<(), NoMemory>
+    ensures { OnOk result (to.new ≡ to.old ++ after_blanks (number n ∷ [])) }
+{
+    to.extend(b" ")?;
+    let mut buffer = Buffer::new();
+    to.extend(buffer.format(n).as_bytes())
 }
 
 /// Adds numbers, each behind a blank.
@@ -125,6 +135,24 @@ fn put_lists(assoc: &[u32], name: &[u8], before: &[u32], to: &mut Text) -> Resul
     put_node_pragmas(name, before, to)
 }
 
+/// Adds the line with which a compound node ends, without the line feed that ends the line.
+#[tactic(auto, using(crate::proofs::Written::after_blanks_append))]
+fn put_close(
+    label: u32,
+    op: u32,
+    graphs: usize,
+    assoc: &[u32],
+    before: &[u32],
+    name: &[u8],
+    to: &mut Text,
+) -> Result<(), NoMemory>
+    ensures { OnOk result (to.new ≡ to.old ++ line_text (line.Close label op graphs assoc.now before.now name.now)) }
+{
+    put_head(b'}', &[label, op], to)?;
+    put_count(graphs, to)?;
+    put_lists(assoc, name, before, to)
+}
+
 fn function_letter(exported: bool) -> u8
     ensures { result ≡ function_letter exported }
 {
@@ -210,8 +238,16 @@ fn put_line(line: &Line, to: &mut Text) -> Result<(), NoMemory>
             before,
             name,
         } => {
-            put_head(b'}', &[*label, *op, *count], to)?;
-            put_lists(assoc.as_slice(), name.as_slice(), before.as_slice(), to)
+            let graphs = *count as usize;
+            put_close(
+                *label,
+                *op,
+                graphs,
+                assoc.as_slice(),
+                before.as_slice(),
+                name.as_slice(),
+                to,
+            )
         }
     }
 }
@@ -224,6 +260,26 @@ pub fn write_line(line: &Line, to: &mut Text) -> Result<(), NoMemory>
 {
     let mut piece = to.fresh();
     put_line(line, &mut piece)?;
+    piece.extend(b"\n")?;
+    to.extend(piece.as_slice())
+}
+
+/// Appends the line with which a compound node of so many graphs ends, however many they are. Where
+/// memory is wanting, `to` is as before.
+pub fn write_close(
+    label: u32,
+    op: u32,
+    graphs: usize,
+    assoc: &[u32],
+    before: &[u32],
+    name: &[u8],
+    to: &mut Text,
+) -> Result<(), NoMemory>
+    ensures ok { OnOk result (to.new ≡ to.old ++ text_of (line.Close label op graphs assoc.now before.now name.now ∷ [])) }
+    ensures err { OnErr result (to.new ≡ to.old) }
+{
+    let mut piece = to.fresh();
+    put_close(label, op, graphs, assoc, before, name, &mut piece)?;
     piece.extend(b"\n")?;
     to.extend(piece.as_slice())
 }

@@ -1,5 +1,5 @@
 //! Units as they are written.
-ghost use Rattle.std.specs.Prelude.{◌≡◌, ◌++◌, ◌==◌, OnOk, IfOk, IsTrue, filter, length};
+ghost use Rattle.std.specs.Prelude.{◌≡◌, ◌++◌, ◌==◌, OnOk, IfOk, IsTrue, filter};
 ghost use Rattle.std.specs.List.{flat_map};
 ghost use Rattle.std.specs.List.Sorted.{IsNonDecreasingBy};
 ghost use Rattle.if1_graph.specs.Lines.{edge_line, if1_text};
@@ -8,15 +8,14 @@ ghost use Rattle.if1_write.specs.Texts.{rank_of, entry_text, import_text, edge_t
 use crate::order::{are_in_order, edges_near};
 use flow_value::{Name, NoMemory, Numbers, Text};
 use if1_graph::{Edge, Graph, Node, Origin, TypeEntry, Unit1, compound_of};
-use if1_line::{Line, opening, write_line};
+use if1_line::{Line, opening, write_close, write_line};
 use std::alloc::Global;
 
 /// The canonical text of a unit: types, functions of other units, and then each function, with its nodes
 /// in order, each followed by what leads into it, and the results last (IF1 Reference Manual 1.0, M-170,
 /// text form). Edges that lead into one node stay in their order, and an edge into a node that the graph
 /// does not have is left out. Near linear where edges stand by the nodes to which they lead, with the
-/// boundary last. Calls itself once for each level of compound nodes. A node with 2^32 graphs or more
-/// counts as want of memory.
+/// boundary last. Calls itself once for each level of compound nodes.
 #[tactic(auto, using(crate::proofs::Pieces::unit_is))]
 pub fn write_if1(alloc: Global, unit: &Unit1) -> Result<Text, NoMemory>
     ensures text { IfOk result (λ t. t ≡ if1_text unit.now) }
@@ -156,29 +155,20 @@ fn put_open(alloc: Global, node: &Node, to: &mut Text) -> Result<(), NoMemory>
     write_line(&line, to)
 }
 
-fn count(graphs: &[Graph]) -> Result<u32, NoMemory>
-    ensures { IfOk result (λ n. n ≡ length graphs.now) }
-{
-    match u32::try_from(graphs.len()) {
-        Ok(n) => Ok(n),
-        Err(_) => Err(NoMemory),
-    }
-}
-
 /// Adds the line with which a compound node ends.
 #[tactic(auto, unfolding(crate::specs::Texts::close_text))]
-fn put_close(alloc: Global, node: &Node, to: &mut Text) -> Result<(), NoMemory>
+fn put_close(node: &Node, to: &mut Text) -> Result<(), NoMemory>
     ensures { OnOk result (to.new ≡ to.old ++ close_text node.now) }
 {
-    let line = Line::Close {
-        label: node.label,
-        op: node.op,
-        count: count(node.subs.as_slice())?,
-        assoc: Numbers::from_slice(alloc, node.assoc.as_slice())?,
-        before: Numbers::from_slice(alloc, node.before.as_slice())?,
-        name: Name::from_slice(alloc, node.name.as_slice())?,
-    };
-    write_line(&line, to)
+    write_close(
+        node.label,
+        node.op,
+        node.subs.len(),
+        node.assoc.as_slice(),
+        node.before.as_slice(),
+        node.name.as_slice(),
+        to,
+    )
 }
 
 /// Adds the line with which a graph in a compound node begins.
@@ -252,7 +242,7 @@ fn put_compound(alloc: Global, node: &Node, to: &mut Text) -> Result<(), NoMemor
 {
     put_open(alloc, node, to)?;
     put_parts(alloc, node.subs.as_slice(), to)?;
-    put_close(alloc, node, to)
+    put_close(node, to)
 }
 
 /// Adds the graphs of a compound node.
