@@ -1,5 +1,5 @@
 -- Lists of phrases, definitions, constants, operations and choices.
-use Rattle.std.proofs.Common.{◌≡◌, ℕ, zero, suc, ◌+◌, Bool, true, false, List, [], ◌∷◌, ◌++◌, map, drop, refl, sym, ap, ◌∙◌}
+use Rattle.std.proofs.Common.{◌≡◌, ℕ, zero, suc, Bool, true, false, List, [], ◌∷◌, ◌++◌, map, drop, refl, sym, ap, ◌∙◌}
 use Rattle.std.specs.Prelude.{if◌then◌else◌, nat_eq, nat_lt, pos}
 use Rattle.std.proofs.lemmas.List.{map-append, drop-map}
 use Rattle.flow_value.specs.declared.operation.Scalar1.TheVariants as unary
@@ -18,13 +18,12 @@ use Rattle.lowering.specs.declared.feed.Wire.{Wire}
 use Rattle.lowering.specs.declared.feed.Carried.TheVariants.{One}
 use Rattle.lowering.specs.Feeds.{wire, into}
 use Rattle.lowering.specs.declared.graph.Action.TheVariants.{Row, Call}
-use Rattle.lowering.specs.declared.graph.Lowered.{Lowered}
-use Rattle.lowering.specs.Graphs.{Lowering, only, andthen, a_node, size, whole, tag_case_on, new_graph, new_graphs}
-use Rattle.lowering.specs.Operations.{Lowers, boolean, character, integer, null, one, absent, all_lowered, defs_lowered, body_lowered, wire_at, row_lowered, constant_lowered, absents, reversed, field_lowered, at_place, changed, operation_lowered}
+use Rattle.lowering.specs.Graphs.{Lowering, only, a_node, whole, tag_case_on, new_graphs}
+use Rattle.lowering.specs.Operations.{Lowers, character, integer, one, absent, all_lowered, defs_lowered, body_lowered, wire_at, row_lowered, constant_lowered, absents, reversed, at_place, changed}
 use Rattle.lowering.specs.Choices.{type_of, content_of, tag_count, first_tag, selector_lowered, if_lowered, tag_case, arms_of, arm_names, arms_from, case_lowered, two_arms, truth, is_tag_lowered, applied}
 use Rattle.lowering.specs.Phrases.{call_lowered}
 use Rattle.one_lowering.specs.Moves.{Moves}
-use Rattle.one_lowering.proofs.Moved.{moved, moved_wire, wires, moved_lowered, all_moved, into-moved, ones-moved, size-moved, Makes, then-moved, only-moved, beside-moved, node-moved, whole-moved, tag-case-moved, AllMake, graphs-moved}
+use Rattle.one_lowering.proofs.Moved.{moved_wire, wires, into-moved, ones-moved, Makes, then-moved, only-moved, beside-moved, node-moved, whole-moved, tag-case-moved, AllMake, graphs-moved}
 use Rattle.one_lowering.proofs.Tables.{tags-moved, content-moved, type-moved}
 
 module _ (to : ℕ → ℕ) (forms others : List Form) (moves : Moves to forms others) where

@@ -1,5 +1,5 @@
 -- Labels of types by their other numbers.
-use Rattle.std.proofs.Common.{◌≡◌, ℕ, zero, suc, List, [], ◌∷◌, map, Option, Some, None, option_map, slice_get, get_or, refl, sym, ap, ◌∙◌}
+use Rattle.std.proofs.Common.{◌≡◌, ℕ, zero, suc, List, [], ◌∷◌, map, Option, Some, None, option_map, slice_get, get_or, refl, ap, ◌∙◌}
 use Rattle.std.proofs.lemmas.Option.{slice_get-map}
 use Rattle.type_table.specs.declared.form.Form.{Form}
 use Rattle.type_table.specs.declared.form.Form.TheVariants as form
@@ -8,7 +8,7 @@ use Rattle.typed_tree.specs.declared.program.Function.{Function}
 use Rattle.typing_unique.specs.Bare.{renumbered_function}
 use Rattle.lowering.specs.declared.feed.Carried.{Carried}
 use Rattle.lowering.specs.declared.feed.Carried.TheVariants.{One, Many, Callee}
-use Rattle.lowering.specs.Types.{entry, Table, Labelled, enter, Part, members, deepest, named, over, form_label, label_within, type_label, tuple_label, function_label, callee_label, carried_label, with_types}
+use Rattle.lowering.specs.Types.{entry, Table, Labelled, enter, members, deepest, named, over, form_label, label_within, type_label, tuple_label, function_label, callee_label, carried_label, with_types}
 use Rattle.one_lowering.specs.Moves.{moved_member, moved_form, Moves}
 use Rattle.one_lowering.proofs.Moved.{moved, lines}
 

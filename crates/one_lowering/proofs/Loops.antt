@@ -20,7 +20,7 @@ use Rattle.lowering.specs.declared.feed.Carried.TheVariants.{One, Many, Callee}
 use Rattle.lowering.specs.Feeds.{wire, into}
 use Rattle.lowering.specs.declared.graph.Action.TheVariants.{Row}
 use Rattle.lowering.specs.declared.graph.Lowered.{Lowered}
-use Rattle.lowering.specs.Graphs.{Lowering, only, andthen, a_node, size, whole, new_graph}
+use Rattle.lowering.specs.Graphs.{only, a_node, size, whole, new_graph}
 use Rattle.lowering.specs.Operations.{Lowers, boolean, integer, one, body_lowered, wire_at, row_lowered}
 use Rattle.lowering.specs.Choices.{element_of, type_of, is_array}
 use Rattle.lowering.specs.Loops.{own_inputs, many, single, types, take_up, with_not, unless_places, clauses_lowered, reducer_name, grouping_of, span, Bound, Wired, Limit, with_bound, fold_lowered, returns_lowered, width, elements_in, generator_lowered, generators_lowered, bound_of, forall_lowered, product_lowered}

@@ -1,19 +1,16 @@
 -- Programs: their tables, their limits and their units.
-use Rattle.std.proofs.Common.{◌≡◌, ℕ, zero, suc, ◌+◌, Bool, false, ◌||◌, List, [], ◌∷◌, ◌++◌, map, length, Option, Some, None, option_map, slice_get, refl, sym, ap, ◌∙◌}
+use Rattle.std.proofs.Common.{◌≡◌, ℕ, suc, ◌+◌, Bool, false, ◌||◌, List, [], ◌∷◌, ◌++◌, map, length, Option, Some, None, option_map, slice_get, refl, sym, ap, ◌∙◌}
 use Rattle.std.specs.Prelude.{nat_lt, nat_eq, if◌then◌else◌}
 use Rattle.std.specs.List.{list_any}
 use Rattle.std.proofs.lemmas.List.{length-map}
 use Rattle.std.proofs.lemmas.Option.{slice_get-map}
-use Rattle.if1_graph.specs.declared.graph.Edge.{Edge}
 use Rattle.if1_graph.specs.declared.graph.Origin.TheVariants as origin
-use Rattle.if1_graph.specs.declared.graph.TypeEntry.{TypeEntry}
-use Rattle.if1_graph.specs.declared.graph.Unit1.{Unit1}
 use Rattle.if1_graph.specs.declared.op.Simple.TheVariants as simple
 use Rattle.type_table.specs.declared.form.Form.{Form}
 use Rattle.typed_tree.specs.declared.expr.TypedExpr.{TypedExpr}
 use Rattle.typed_tree.specs.declared.program.Function.{Function}
 use Rattle.typed_tree.specs.declared.program.Program.{Program}
-use Rattle.typing_unique.specs.Bare.{renumbered_body, renumbered_function, renumbered_program, renumbered}
+use Rattle.typing_unique.specs.Bare.{renumbered_body, renumbered_function, renumbered_program}
 use Rattle.lowering.specs.declared.feed.Carried.{Carried}
 use Rattle.lowering.specs.declared.feed.Carried.TheVariants.{One, Callee}
 use Rattle.lowering.specs.declared.feed.Wire.{Wire}
@@ -22,15 +19,14 @@ use Rattle.lowering.specs.declared.graph.Action.TheVariants.{Row, Call, Whole}
 use Rattle.lowering.specs.declared.graph.LoweredNode.{LoweredNode}
 use Rattle.lowering.specs.declared.graph.LoweredGraph.{LoweredGraph}
 use Rattle.lowering.specs.declared.graph.Lowered.{Lowered}
-use Rattle.lowering.specs.Graphs.{Lowering, graph_lines, size, closed, closed_graphs, new_graphs}
+use Rattle.lowering.specs.Graphs.{graph_lines, size, closed, closed_graphs}
 use Rattle.lowering.specs.Operations.{all_lowered}
 use Rattle.lowering.specs.Loops.{own_inputs}
-use Rattle.lowering.specs.Phrases.{lowers}
 use Rattle.lowering.specs.Programs.{stub, bodies, function_lowered, functions_lowered}
 use Rattle.lowering.specs.Types.{Table, Labelled, basics, Need, header_need, body_needs, needs, with_needs, table, label_of, header_label, with_types, function_label, carried_label}
 use Rattle.lowering.specs.TooMany.{most_nodes, most_graphs, most_ports, types_over, is_large, node_ports, all_node_ports, graph_ports, header_ports, graphs_over, or_else, program_over, too_many}
-use Rattle.lowered_units.specs.Listed.{ListedNode, ListedGraph, Listing, listing}
-use Rattle.lowered_units.specs.Units.{origin_of, edge, edge_if, name_of, called_name, listed_node, listed_nodes, edges_into, node_edges, edges_of, inner_graph, inner_graphs, function_graph, function_listings, entries_from, import_if, imports_of, IsTranslated}
+use Rattle.lowered_units.specs.Listed.{ListedGraph}
+use Rattle.lowered_units.specs.Units.{origin_of, edge, edge_if, name_of, called_name, listed_node, listed_nodes, edges_into, node_edges, edges_of, inner_graph, inner_graphs, function_graph, function_listings, entries_from, import_if, imports_of}
 use Rattle.one_lowering.specs.Moves.{Moves}
 use Rattle.one_lowering.specs.Laws.{AreLoweredAlike, AreNumbersNothing}
 use Rattle.one_lowering.proofs.Moved.{moved, moved_wire, wires, moved_node, nodes, moved_graph, graphs, lines, moved_lowered, all_moved, ports-moved, ones-moved, size-moved, closed-moved, closed-graphs-moved, graph-lines-moved, Makes, AllMake, graphs-moved}

@@ -1,5 +1,5 @@
 -- Expressions, a case a form.
-use Rattle.std.proofs.Common.{◌≡◌, ℕ, List, [], ◌∷◌, map, Option, refl, sym, ap, subst, ◌∙◌}
+use Rattle.std.proofs.Common.{◌≡◌, ℕ, List, [], ◌∷◌, map, refl, sym, ap, subst, ◌∙◌}
 use Rattle.type_table.specs.declared.form.Form.{Form}
 use Rattle.typed_tree.specs.declared.expr.TypedExpr.{TypedExpr, roll-TypedExpr}
 use Rattle.typed_tree.specs.declared.expr.TypedKind.{TypedKind}
@@ -7,7 +7,6 @@ use Rattle.typed_tree.specs.declared.expr.TypedKind.TheViews.{roll-TypedKind}
 use Rattle.typed_tree.specs.declared.expr.TypedKind.TheOpen.{TypedKind-F, TypedExpr-F}
 use Rattle.typed_tree.specs.declared.expr.TypedKind.TheFolds.{map-TypedKind, map-TypedExpr, fold-roll-TypedKind, fold-roll-TypedExpr, ind-TypedExpr}
 use Rattle.typing_unique.specs.Bare.{renumbered, renumbered_kind, renumbered_expr}
-use Rattle.lowering.specs.declared.feed.Wire.{Wire}
 use Rattle.lowering.specs.Operations.{Lowers, all_lowered}
 use Rattle.lowering.specs.Choices.{case_lowered, applied}
 use Rattle.lowering.specs.Loops.{Phrase, product_lowered}

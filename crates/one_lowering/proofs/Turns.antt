@@ -1,6 +1,6 @@
 -- Loops of turns.
 use Rattle.std.proofs.Common.{◌≡◌, ℕ, zero, suc, ◌+◌, Bool, true, false, List, [], ◌∷◌, ◌++◌, map, drop, length, Option, Some, None, refl, sym, ap, subst, ◌∙◌}
-use Rattle.std.specs.Prelude.{if◌then◌else◌, slice_set}
+use Rattle.std.specs.Prelude.{slice_set}
 use Rattle.std.proofs.lemmas.List.{map-append, length-map, drop-map}
 use Rattle.if1_graph.specs.declared.op.Compound.{Compound}
 use Rattle.type_table.specs.declared.form.Form.{Form}
@@ -10,11 +10,11 @@ use Rattle.lowering.specs.declared.feed.Carried.{Carried}
 use Rattle.lowering.specs.declared.feed.Wire.{Wire}
 use Rattle.lowering.specs.Feeds.{into}
 use Rattle.lowering.specs.declared.graph.Lowered.{Lowered}
-use Rattle.lowering.specs.Graphs.{Lowering, only, andthen, size, whole, new_graph}
+use Rattle.lowering.specs.Graphs.{only, andthen, size, whole, new_graph}
 use Rattle.lowering.specs.Operations.{Lowers, one, all_lowered, defs_lowered, wire_at}
-use Rattle.lowering.specs.Loops.{own_inputs, many, types, take_up, with_not, unless_places, Wired, returns_lowered, Phrase, loop_lowered, loop_kind, loop_name, extra, extras, place_of, collected, renew, renew_one, test_lowered, row_of_turn, initial_lowered}
+use Rattle.lowering.specs.Loops.{own_inputs, many, types, take_up, unless_places, Wired, returns_lowered, Phrase, loop_lowered, loop_kind, loop_name, extra, extras, place_of, collected, renew, test_lowered, row_of_turn, initial_lowered}
 use Rattle.one_lowering.specs.Moves.{Moves}
-use Rattle.one_lowering.proofs.Moved.{moved_wire, wires, lines, moved_lowered, into-moved, ports-moved, size-moved, Makes, then-moved, only-moved, both-moved, whole-moved}
+use Rattle.one_lowering.proofs.Moved.{moved_wire, wires, lines, moved_lowered, into-moved, ports-moved, size-moved, Makes, then-moved, both-moved, whole-moved}
 use Rattle.one_lowering.proofs.Forms.{Becomes, AllTo, DefsTo}
 use Rattle.one_lowering.proofs.Forms as forms_are
 use Rattle.one_lowering.proofs.Loops.{take-moved, types-moved, inputs-of-many, moved_bound}
