@@ -35,12 +35,58 @@ pub fn brought(
     ensures copies { OnOk result (copies.new ≡ capped (copies.old + stored.copied_as (mode_in code.now from) (stored.seen (heap_of cells.old.items) base (mode_in code.now from) (operand_in code.now from)))) }
 {
     let _in_range = *copies;
+    match plain(code, cells.as_slice(), base, from) {
+        Some(cell) => Ok(cell),
+        None => any_brought(alloc, code, cells, base, from, copies),
+    }
+}
+
+/// The same of a value of any kind.
+#[inline(always)]
+pub fn any_brought(
+    alloc: Global,
+    code: &Code,
+    cells: &mut Vec<Cell>,
+    base: usize,
+    from: Operand,
+    copies: &mut u64,
+) -> Result<Cell, NoMemory>
+    requires { IsInside code.now (length cells.old.items - base) from }
+    ensures value { IfOk result (λ c. IsBrought code.now cells.old.items base from c) }
+    ensures left { IsWithin (stored.left_by base (mode_in code.now from) (operand_in code.now from) (heap_of cells.old.items)) (heap_of cells.new.items) }
+    ensures size { length cells.new.items ≡ length cells.old.items }
+    ensures copies { OnOk result (copies.new ≡ capped (copies.old + stored.copied_as (mode_in code.now from) (stored.seen (heap_of cells.old.items) base (mode_in code.now from) (operand_in code.now from)))) }
+{
+    let _in_range = *copies;
+    match from {
+        Operand::Takes(cell) => Ok(mem::replace(&mut cells[base + cell as usize], Cell::Empty)),
+        _ => copy_brought(alloc, code, cells, base, from, copies),
+    }
+}
+
+/// The same, a copy as a rule.
+#[inline(never)]
+fn copy_brought(
+    alloc: Global,
+    code: &Code,
+    cells: &mut Vec<Cell>,
+    base: usize,
+    from: Operand,
+    copies: &mut u64,
+) -> Result<Cell, NoMemory>
+    requires { IsInside code.now (length cells.old.items - base) from }
+    ensures value { IfOk result (λ c. IsBrought code.now cells.old.items base from c) }
+    ensures left { IsWithin (stored.left_by base (mode_in code.now from) (operand_in code.now from) (heap_of cells.old.items)) (heap_of cells.new.items) }
+    ensures size { length cells.new.items ≡ length cells.old.items }
+    ensures copies { OnOk result (copies.new ≡ capped (copies.old + stored.copied_as (mode_in code.now from) (stored.seen (heap_of cells.old.items) base (mode_in code.now from) (operand_in code.now from)))) }
+{
+    let _in_range = *copies;
     match from {
         Operand::Takes(cell) => Ok(mem::replace(&mut cells[base + cell as usize], Cell::Empty)),
         Operand::Copies(_) => counted(alloc, sight(code, cells.as_slice(), base, from), copies),
         Operand::CopiesOf(_) => counted(alloc, sight(code, cells.as_slice(), base, from), copies),
-        Operand::Literal(_) => looked(alloc, code, cells.as_slice(), base, from),
-        Operand::Looks(_) => looked(alloc, code, cells.as_slice(), base, from),
+        Operand::Literal(_) => copy_of(alloc, code, cells.as_slice(), base, from),
+        Operand::Looks(_) => copy_of(alloc, code, cells.as_slice(), base, from),
         Operand::LooksAt(_) => copy_of(alloc, code, cells.as_slice(), base, from),
     }
 }
@@ -65,25 +111,6 @@ pub fn plain(code: &Code, cells: &[Cell], base: usize, from: Operand) -> Option<
 }
 
 /// A copy of what an operand is.
-#[inline(always)]
-fn looked(
-    alloc: Global,
-    code: &Code,
-    cells: &[Cell],
-    base: usize,
-    from: Operand,
-) -> Result<Cell, NoMemory>
-    requires { IsInside code.now (length cells.now - base) from }
-    ensures { IfOk result (λ c. held c ≡ stored.Owns (stored.seen (heap_of cells.now) base (mode_in code.now from) (operand_in code.now from))) }
-{
-    match direct(code, cells, base, from) {
-        Some(Cell::Int(n)) => Ok(Cell::Int(*n)),
-        Some(Cell::Bool(b)) => Ok(Cell::Bool(*b)),
-        _ => copy_of(alloc, code, cells, base, from),
-    }
-}
-
-#[inline(never)]
 fn copy_of(
     alloc: Global,
     code: &Code,
@@ -97,7 +124,6 @@ fn copy_of(
     copied(alloc, sight(code, cells, base, from))
 }
 
-#[inline(never)]
 fn counted(alloc: Global, seen: Seen<'_>, copies: &mut u64) -> Result<Cell, NoMemory>
     ensures value { IfOk result (λ c. held c ≡ stored.Owns (seen_value seen.entry)) }
     ensures copies { copies.new ≡ capped (copies.old + leaves_of (seen_value seen.entry)) }
