@@ -1,5 +1,7 @@
 //! What is given up. Most of what has parts is a list of integers, of which none needs to be given up
 //! by itself.
+ghost use Rattle.std.specs.Prelude.{◌≡◌, [], take};
+
 use flow_value::{Items, Val};
 use run_cells::Cell;
 
@@ -49,4 +51,40 @@ fn row_goes(items: Items) {
             }
         }
     }
+}
+
+// ---- cells, which are scalars as a rule
+
+/// Lets the cells from one on go.
+#[inline(always)]
+pub fn shrink(cells: &mut Vec<Cell>, keep: usize)
+    ensures { cells.new.items ≡ take keep cells.old.items }
+{
+    while keep < cells.len() {
+        let_go(cells.pop());
+    }
+}
+
+/// Lets what a cell had go, which is a scalar as a rule.
+#[inline(always)]
+fn let_go(last: Option<Cell>) {
+    match last {
+        Some(Cell::Int(_)) => {}
+        Some(Cell::Empty) => {}
+        Some(Cell::Bool(_)) => {}
+        other => let_any_go(other),
+    }
+}
+
+#[inline(never)]
+fn let_any_go(last: Option<Cell>) {
+    let _any = last;
+}
+
+/// Empties a list of cells.
+#[inline(always)]
+pub fn emptied(cells: &mut Vec<Cell>)
+    ensures { cells.new.items ≡ [] }
+{
+    shrink(cells, 0);
 }

@@ -3,6 +3,7 @@ ghost use Rattle.std.specs.Prelude.{◌≡◌, ◌-◌, ◌<◌, ◌∷◌, [], 
 ghost use Rattle.sequential.specs.Loading.{AreInside, AreApart, Loads};
 
 use crate::bringing::brought;
+use crate::giving::emptied;
 use flow_value::NoMemory;
 use run_cells::Cell;
 use std::alloc::Global;
@@ -26,7 +27,7 @@ pub fn load(
     ensures size { length cells.new.items ≡ length cells.old.items }
 {
     let _in_range = *copies;
-    loaded.clear();
+    emptied(loaded);
     for place in 0..operands.len() {
         let operand = operand_at(operands, place);
         let cell = brought(alloc, code, cells, base, operand, copies)?;
