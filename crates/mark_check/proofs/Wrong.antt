@@ -1,32 +1,34 @@
 -- Labels that are wrong on an ordering list, by places.
-use Rattle.std.proofs.Common.{◌≡◌, ◌∙◌, ℕ, ◌+◌, ◌<◌, ◌≤◌, ◌-◌, zero, suc, true, List, [], ◌∷◌, ◌++◌, length, take, drop, get_or, slice_index, map, All, Contains, Option, Some, None, inl, inr, arith, refl, sym, ap, subst, ◌==◌, append_assoc}
+use Rattle.std.proofs.Common.{◌≡◌, ◌∙◌, ℕ, ◌+◌, ◌<◌, ◌↔◌, zero, suc, true, List, [], ◌∷◌, ◌++◌, length, take, drop, get_or, slice_index, map, All, Contains, Option, Some, None, inl, inr, arith, refl, sym, ap, subst, ◌==◌, append_assoc}
 use Rattle.std.specs.List.Sorted.{IsStrictlyIncreasing}
-use Rattle.std.proofs.lemmas.Bool.{eq-eqb}
+use Rattle.std.proofs.lemmas.Bool.{eq-eqb, or_right, and_from}
 use Rattle.std.proofs.lemmas.Grind.{flat_map-append}
-use Rattle.std.proofs.lemmas.List.{take_more, map-append, get_or-map}
+use Rattle.std.proofs.lemmas.List.{take_more, map-append, get_or-map, length-map}
 use Rattle.std.proofs.lemmas.List.Elements.{All-nil, All-cons, All-append}
 use Rattle.if1_graph.specs.declared.graph.Graph.{Graph}
 use Rattle.if1_graph.specs.declared.graph.Graph.TheViews.{out-Graph}
 use Rattle.if1_graph.specs.declared.graph.Node.{Node, out-Node}
 use Rattle.if1_graph.specs.Units.{label_of, node_at}
 use Rattle.if1_order.specs.Orders.{node_labels}
-use Rattle.if1_order.specs.Walks.{Lists, AreInside}
+use Rattle.if1_order.specs.Walks.{Lists, AreInside, feeders_of}
+use Rattle.if1_components.specs.Components.{IsMutual, AreComponents}
+use Rattle.std.specs.List.{list_any}
+use Rattle.marks_made.specs.Made.{is_edge}
 use Rattle.if1_order.specs.Walks.{step}
 use Rattle.if1_order.specs.Walks as walks
 use Rattle.if1_order.specs.Feeders.{IsPlace}
 use Rattle.if1_order.proofs.Orders.{contained_place, place_contained}
 use Rattle.if1_marks.specs.Orders.{Precedes, fed, listed, between}
 use Rattle.if1_marks.proofs.Lists.{in-mapped, found-in}
-use Rattle.if1_marks.proofs.Tests.{same-number}
+use Rattle.if1_marks.proofs.Tests.{same-number, any-there}
 use Rattle.marks_made.proofs.Lists.{some-found, from-mapped}
 use Rattle.if1_reach.specs.declared.ranks.Ranks.{Ranks}
-use Rattle.if1_reach.specs.Nets.{links_in}
+use Rattle.if1_reach.specs.Nets.{links_in, is_listed}
 use Rattle.if1_reach.specs.Ranks.{IsRanked}
-use Rattle.if1_reach.specs.Searches.{IsWay}
 use Rattle.if1_reach.proofs.Labelled.{fed-link, listed-link, from-links}
 use Rattle.if1_reach.proofs.Links.{to-labels, lead-on}
 use Rattle.if1_reach.proofs.Ranking.{leads-up}
-use Rattle.mark_check.specs.Entries.{IsNetOf, IsWrong, IsFirst, FirstOnList, entries_of, entries}
+use Rattle.mark_check.specs.Entries.{IsNetOf, IsLinkedFrom, IsWrong, IsFirst, FirstOnList, entries_of, entries}
 
 module _ (g : Graph) (labels : List ℕ) (lists : Lists) (w : IsNetOf g labels lists) where
   up : IsStrictlyIncreasing (node_labels g)
@@ -87,12 +89,20 @@ module _ (g : Graph) (labels : List ℕ) (lists : Lists) (w : IsNetOf g labels l
           let r = found-in (λ n. label_of n == label) (out-Graph g).nodes n e in
           absurd (none (subst (λ ls. Contains ls label) (sym w.is) (subst (Contains (node_labels g)) (same-number (label_of n) label r.1) (in-mapped label_of (out-Graph g).nodes n r.0))))
 
-pub not-lower : (lists : Lists) (r : Ranks) → IsRanked lists r → (from to : ℕ) (ranks : List ℕ) → ranks ≡ r.ranks → slice_index ranks to ≤ slice_index ranks from → ¬ walks.Leads lists from to
-not-lower lists r w from to ranks e le v =
-    let x = leads-up lists r w v in
-    let a = ap (λ xs. slice_index xs to) e in
-    let b = ap (λ xs. slice_index xs from) e in
-    omega (arith, x, a, b, le)
+-- ---- a link that lies on a cycle
+
+pub none-circular : (lists : Lists) (r : Ranks) → IsRanked lists r → (s : ℕ) → ¬ walks.Leads lists s s
+none-circular lists r w s v = let x = leads-up lists r w v in omega (arith, x)
+
+pub never-back : (lists : Lists) (from to : ℕ) → ((s : ℕ) → ¬ walks.Leads lists s s) → Contains (feeders_of lists from) to → ¬ walks.Leads lists from to
+never-back lists from to none c v = none from (lead-on lists v (step c))
+
+pub parts-back : (lists : Lists) (numbers : List ℕ) (from to : ℕ) → AreComponents lists numbers → from < length lists → to < length lists → Contains (feeders_of lists from) to → (slice_index numbers from ≡ slice_index numbers to) ↔ walks.Leads lists from to
+parts-back lists numbers from to are h k c = ((λ e. forth ((are.same from to h k).0 e)), (λ v. (are.same from to h k).1 (inr (v, step c))))
+  where
+    forth : IsMutual lists from to → walks.Leads lists from to
+    forth (inl e) = subst (λ z. walks.Leads lists z to) (sym e) (subst (walks.Leads lists to) e (step c))
+    forth (inr p) = p.0
 
 -- ---- the first of a list
 
@@ -104,18 +114,6 @@ first-here P xs n x d h is none p = record { before = take n xs; after = drop (s
     cut (y ∷ xs) zero x d h is = ap (λ z. z ∷ xs) (sym is)
     cut (y ∷ xs) (suc n) x d h is =
         ap (λ zs. y ∷ zs) (cut xs n x d (omega (arith, h)) is)
-
-pub way-leads : (lists : Lists) (from to : ℕ) (ls : List ℕ) → IsWay lists from to ls → walks.Leads lists from to
-way-leads lists from to ls w =
-    let n : (length ls - 2) + 1 ≡ length ls - 1 = omega (arith, w.long) in
-    subst (λ a. walks.Leads lists a to) w.first
-    (subst (walks.Leads lists (slice_index ls 0)) (ap (slice_index ls) n ∙ w.last) (along (length ls - 2) (omega (arith, w.long))))
-  where
-    along : (k : ℕ) → k + 1 < length ls → walks.Leads lists (slice_index ls 0) (slice_index ls (k + 1))
-    along zero h = step (w.linked 0 h)
-    along (suc k) h =
-        let same : k + 1 ≡ suc k = omega arith in
-        lead-on lists (subst (λ j. walks.Leads lists (slice_index ls 0) (slice_index ls j)) same (along k (omega (arith, h)))) (step (w.linked (suc k) h))
 
 -- ---- the entries of all nodes
 
@@ -188,3 +186,16 @@ module _ (g : Graph) where
         entry-more (out-Graph g).nodes n x x lt x-is none
         (subst (λ m. All (λ l. ¬ IsWrong g (m, l)) (out-Node x).before) label-is
         (subst (λ ls. All (λ l. ¬ IsWrong g (slice_index labels n, l)) ls) is-list (subst (FirstOnList g (slice_index labels n) list) e f)))
+
+    -- from the label of an entry a link leads to the node
+    pub linked-here : (lists : Lists) → IsNetOf g labels lists → (l : ℕ) → Contains list l → IsLinkedFrom labels lists n l
+    linked-here lists w l c place p =
+        let link : links_in g l (label_of x) ≡ true =
+        or_right (list_any (is_edge l (label_of x)) (out-Graph g).edges) (list_any (is_listed l (label_of x)) (out-Graph g).nodes)
+        (any-there (is_listed l (label_of x)) (out-Graph g).nodes x (n, lt, sym x-is)
+        (and_from (label_of x == label_of x) (list_any (λ k. k == l) (out-Node x).before) (eq-eqb (label_of x) (label_of x) refl)
+        (any-there (λ k. k == l) (out-Node x).before l (subst (λ ls. Contains ls l) is-list c) (eq-eqb l l refl)))) in
+        let to : length (node_labels g) ≡ length (out-Graph g).nodes = length-map (out-Graph g).nodes label_of in
+        w.net.complete place n (subst (λ ls. place < length ls) w.is p.0) (subst (λ k. n < k) (sym to) lt)
+        (subst (λ k. links_in g k (slice_index (node_labels g) n) ≡ true) (sym p.1 ∙ ap (λ ls. slice_index ls place) w.is)
+        (subst (λ k. links_in g l k ≡ true) (sym label-is ∙ ap (λ ls. slice_index ls n) w.is) link))

@@ -1,17 +1,18 @@
 -- The entries of the ordering lists of a graph, in order, and which of them is the first that is wrong.
-use Rattle.std.specs.Prelude.{◌≡◌, ℕ, ◌⊎◌, List, ◌∷◌, ◌++◌, map, MatchOption, Option, None, All}
+use Rattle.std.specs.Prelude.{◌≡◌, ℕ, ◌⊎◌, List, ◌∷◌, ◌++◌, map, Contains, MatchOption, Option, None, All}
 use Rattle.std.specs.List.{flat_map}
 use Rattle.if1_graph.specs.declared.graph.Graph.{Graph}
 use Rattle.if1_graph.specs.declared.graph.Graph.TheViews.{out-Graph}
 use Rattle.if1_graph.specs.declared.graph.Node.{Node, out-Node}
 use Rattle.if1_graph.specs.Units.{label_of, node_at}
 use Rattle.if1_order.specs.Orders.{node_labels, IsLinked}
-use Rattle.if1_order.specs.Walks.{Lists}
+use Rattle.if1_order.specs.Walks.{Lists, Leads, feeders_of}
+use Rattle.if1_order.specs.Feeders.{IsPlace}
+use Rattle.if1_components.specs.Components.{AreComponents}
 use Rattle.if1_marks.specs.Orders.{Precedes}
 use Rattle.if1_reach.specs.Nets.{IsNet, links_in}
-use Rattle.if1_reach.specs.Ranks.{IsRanked}
-use Rattle.mark_check.specs.declared.lists.Order.{Order}
-use Rattle.mark_check.specs.declared.lists.Order.TheVariants.{Ranked, Circular}
+use Rattle.mark_check.specs.declared.lists.Cycles.{Cycles}
+use Rattle.mark_check.specs.declared.lists.Cycles.TheVariants.{Nowhere, Numbered}
 
 -- of a node, its label and each label on its list
 abbrev pub entries_of : Node → List (ℕ × ℕ)
@@ -42,10 +43,14 @@ pub record IsFirst {A : Type 0} (P : A → Type 0) (xs : List A) (x : A) : Type 
 abbrev pub FirstWrong : Graph → List (ℕ × ℕ) → Option (ℕ × ℕ) → Type 0
 FirstWrong g xs r = MatchOption r (All (λ at. ¬ IsWrong g at) xs) (IsFirst (IsWrong g) xs)
 
--- where there are ranks, they are right
-abbrev pub IsOrderOf : Lists → Order → Type 0
-IsOrderOf lists (Ranked ranks) = IsRanked lists ranks
-IsOrderOf lists Circular = Unit {0}
+-- no place leads to itself, or numbers tell which lead to each other
+abbrev pub AreCyclesOf : Lists → Cycles → Type 0
+AreCyclesOf lists Nowhere = (s : ℕ) → ¬ Leads lists s s
+AreCyclesOf lists (Numbered numbers) = AreComponents lists numbers
+
+-- where the label is that of a node, a link leads from there to this place
+abbrev pub IsLinkedFrom : List ℕ → Lists → ℕ → ℕ → Type 0
+IsLinkedFrom labels lists at label = (place : ℕ) → IsPlace labels place label → Contains (feeders_of lists at) place
 
 -- of the labels on the list of one node none is wrong, or this one is the first
 abbrev pub FirstOnList : Graph → ℕ → List ℕ → Option ℕ → Type 0

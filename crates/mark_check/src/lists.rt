@@ -1,147 +1,109 @@
 //! Labels on ordering lists: whether they are those of nodes, and close no cycle.
-ghost use Rattle.std.specs.Prelude.{◌≡◌, ◌<◌, ◌↔◌, [], length, slice_index, All, IfOk, IsTrue};
+ghost use Rattle.std.specs.Prelude.{◌≡◌, ◌<◌, ◌↔◌, [], ℕ, length, slice_index, All, Contains, IfOk, IsTrue};
 ghost use Rattle.std.specs.List.Sorted.{IsStrictlyIncreasing};
 ghost use Rattle.if1_graph.specs.declared.graph.Graph.{Graph};
 ghost use Rattle.if1_graph.specs.declared.graph.Graph.TheViews.{out-Graph};
 ghost use Rattle.if1_graph.specs.declared.graph.Node.{out-Node};
 ghost use Rattle.if1_order.specs.Orders.{IsLinked};
-ghost use Rattle.if1_order.specs.Walks.{AreInside, Leads};
-ghost use Rattle.mark_check.specs.Entries.{IsNetOf, IsOrderOf, IsWrong, FirstWrong, FirstOnList, entries};
+ghost use Rattle.if1_order.specs.Walks.{AreInside, Leads, feeders_of};
+ghost use Rattle.mark_check.specs.Entries.{IsNetOf, AreCyclesOf, IsLinkedFrom, IsWrong, FirstWrong, FirstOnList, entries};
 
 use flow_value::NoMemory;
+use if1_components::components;
 use if1_graph::{Graph, Node};
 use if1_order::{Places, labels_of, place_of};
-use if1_reach::{Ranks, nets_of, ranked, way};
+use if1_reach::{nets_of, ranked};
 use std::alloc::Global;
 
-/// An order of places, if there is one.
+/// Which places lead to each other.
 #[derive(Drop)]
-pub enum Order {
-    /// Links lead to higher ranks alone.
-    Ranked(Ranks),
-    /// A place leads to itself.
-    Circular,
+pub enum Cycles {
+    /// No place leads to itself.
+    Nowhere,
+    /// Two places have one number exactly where they are the same or lead to each other.
+    Numbered(Places),
 }
 
-fn is_lower(order: &Order, lists: &[Places], from: usize, to: usize) -> bool
-    requires order { IsOrderOf lists.now order.now }
+// whether a place leads to one that links to it
+fn leads_back(cycles: &Cycles, lists: &[Places], from: usize, to: usize) -> bool
+    requires cycles { AreCyclesOf lists.now cycles.now }
     requires from { from < length lists.now }
     requires to { to < length lists.now }
-    ensures { IsTrue result → ¬ Leads lists.now from to }
+    requires linked { Contains (feeders_of lists.now from) to }
+    ensures { IsTrue result ↔ Leads lists.now from to }
 {
     let _ = lists;
-    match order {
-        Order::Ranked(ranks) => {
-            let ranks = ranks.ranks.as_slice();
-            ranks[to] <= ranks[from]
+    match cycles {
+        Cycles::Nowhere => false,
+        Cycles::Numbered(numbers) => {
+            let numbers = numbers.as_slice();
+            numbers[from] == numbers[to]
         }
-        Order::Circular => false,
     }
 }
 
-// whether a way leads from one place to another
-fn leads(
-    alloc: Global,
-    lists: &[Places],
-    order: &Order,
-    from: usize,
-    to: usize,
-) -> Result<bool, NoMemory>
-    requires inside { AreInside lists.now }
-    requires order { IsOrderOf lists.now order.now }
-    requires from { from < length lists.now }
-    requires to { to < length lists.now }
-    ensures { IfOk result (λ b. IsTrue b ↔ Leads lists.now from to) }
-{
-    if is_lower(order, lists, from, to) {
-        return Ok(false);
-    }
-    if let Some(_) = way(alloc, lists, from, to)? {
-        return Ok(true);
-    }
-    Ok(false)
-}
-
-fn is_wrong(
-    alloc: Global,
-    labels: &[u32],
-    lists: &[Places],
-    order: &Order,
-    at: usize,
-    label: u32,
-) -> Result<bool, NoMemory>
+fn is_wrong(labels: &[u32], lists: &[Places], cycles: &Cycles, at: usize, label: u32) -> bool
     requires rising { IsStrictlyIncreasing labels.now }
-    requires inside { AreInside lists.now }
     requires fit { length lists.now ≡ length labels.now }
-    requires order { IsOrderOf lists.now order.now }
+    requires cycles { AreCyclesOf lists.now cycles.now }
     requires at { at < length labels.now }
-    ensures { IfOk
-        result
-        (λ b. (g : Graph) → IsNetOf g labels.now lists.now → IsTrue b ↔ IsWrong g (slice_index labels.now at, label)) }
+    requires linked { IsLinkedFrom labels.now lists.now at label }
+    ensures { (g : Graph) → IsNetOf g labels.now lists.now → IsTrue result ↔ IsWrong g (slice_index labels.now at, label) }
 {
     match place_of(labels, label) {
-        Some(place) => leads(alloc, lists, order, at, place),
-        None => Ok(true),
+        Some(place) => leads_back(cycles, lists, at, place),
+        None => true,
     }
 }
 
 fn first_on_list(
-    alloc: Global,
     labels: &[u32],
     lists: &[Places],
-    order: &Order,
+    cycles: &Cycles,
     at: usize,
     list: &[u32],
-) -> Result<Option<u32>, NoMemory>
+) -> Option<u32>
     requires rising { IsStrictlyIncreasing labels.now }
-    requires inside { AreInside lists.now }
     requires fit { length lists.now ≡ length labels.now }
-    requires order { IsOrderOf lists.now order.now }
+    requires cycles { AreCyclesOf lists.now cycles.now }
     requires at { at < length labels.now }
-    ensures { IfOk
-        result
-        (λ r. (g : Graph) → IsNetOf g labels.now lists.now → FirstOnList g (slice_index labels.now at) list.now r) }
+    requires linked { (l : ℕ) → Contains list.now l → IsLinkedFrom labels.now lists.now at l }
+    ensures { (g : Graph) → IsNetOf g labels.now lists.now → FirstOnList g (slice_index labels.now at) list.now result }
 {
     for label in list {
-        if is_wrong(alloc, labels, lists, order, at, *label)? {
-            return Ok(Some(*label));
+        if is_wrong(labels, lists, cycles, at, *label) {
+            return Some(*label);
         }
     }
-    Ok(None)
+    None
 }
 
-fn order_of(alloc: Global, lists: &[Places]) -> Result<Order, NoMemory>
+fn cycles_of(alloc: Global, lists: &[Places]) -> Result<Cycles, NoMemory>
     requires { AreInside lists.now }
-    ensures { IfOk result (IsOrderOf lists.now) }
+    ensures { IfOk result (AreCyclesOf lists.now) }
 {
-    match ranked(alloc, lists)? {
-        Some(ranks) => Ok(Order::Ranked(ranks)),
-        None => Ok(Order::Circular),
-    }
+    let Some(_) = ranked(alloc, lists)? else {
+        let numbers = components(alloc, lists)?;
+        return Ok(Cycles::Numbered(numbers));
+    };
+    Ok(Cycles::Nowhere)
 }
 
-fn first_in(
-    alloc: Global,
-    graph: &Graph,
-    labels: &[u32],
-    lists: &[Places],
-    order: &Order,
-) -> Result<Option<(u32, u32)>, NoMemory>
+fn first_in(graph: &Graph, labels: &[u32], lists: &[Places], cycles: &Cycles) -> Option<(u32, u32)>
     requires rising { IsStrictlyIncreasing labels.now }
-    requires inside { AreInside lists.now }
     requires fit { length lists.now ≡ length labels.now }
     requires count { length labels.now ≡ length (out-Graph graph.now).nodes }
-    requires order { IsOrderOf lists.now order.now }
+    requires cycles { AreCyclesOf lists.now cycles.now }
     requires net { IsNetOf graph.now labels.now lists.now }
-    ensures { IfOk result (FirstWrong graph.now (entries (out-Graph graph.now).nodes)) }
+    ensures { FirstWrong graph.now (entries (out-Graph graph.now).nodes) result }
 {
     for (at, node) in graph.nodes.as_slice().iter().enumerate() {
-        let found = first_on_list(alloc, labels, lists, order, at, node.before.as_slice())?;
+        let found = first_on_list(labels, lists, cycles, at, node.before.as_slice());
         if let Some(label) = found {
-            return Ok(Some((node.label, label)));
+            return Some((node.label, label));
         }
     }
-    Ok(None)
+    None
 }
 
 fn wrong_in(alloc: Global, graph: &Graph) -> Result<Option<(u32, u32)>, NoMemory>
@@ -150,9 +112,8 @@ fn wrong_in(alloc: Global, graph: &Graph) -> Result<Option<(u32, u32)>, NoMemory
 {
     let labels = labels_of(alloc, graph.nodes.as_slice())?;
     let lists = nets_of(alloc, labels.as_slice(), graph)?;
-    let order = order_of(alloc, lists.as_slice())?;
-    let found = first_in(alloc, graph, labels.as_slice(), lists.as_slice(), &order)?;
-    Ok(found)
+    let cycles = cycles_of(alloc, lists.as_slice())?;
+    Ok(first_in(graph, labels.as_slice(), lists.as_slice(), &cycles))
 }
 
 fn has_no_lists(nodes: &[Node]) -> bool
@@ -167,8 +128,8 @@ fn has_no_lists(nodes: &[Node]) -> bool
 }
 
 /// The first label on an ordering list of a graph that is none of its nodes or closes a cycle: the
-/// node's label and that label; none where all are right. Linear where all are; else with a search for
-/// each entry before the first wrong one.
+/// node's label and that label; none where all are right. Linear in the graph, but for a search among
+/// the nodes for each edge and each entry.
 pub fn first_wrong_entry(alloc: Global, graph: &Graph) -> Result<Option<(u32, u32)>, NoMemory>
     requires { IsLinked graph.now }
     ensures { IfOk result (FirstWrong graph.now (entries (out-Graph graph.now).nodes)) }

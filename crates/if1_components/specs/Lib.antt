@@ -1,0 +1,5 @@
+pub mod Components
+pub mod Backward
+pub mod Colors
+pub mod Tours
+pub mod Parts
