@@ -18,7 +18,7 @@ use Rattle.run_states.specs.Sliced.{iterations_of, sliced}
 use Rattle.run_states.proofs.Sliced.{slices-cut}
 use Rattle.run_bounds.specs.Bounds.{claims_in, finishes_in, AreFew, AreBounded, AreClaimsBounded, AreSlicesFew, AreWorkersBounded}
 use Rattle.run_bounds.proofs.Trees.{tree-few}
-use Rattle.run_bounds.proofs.Sums.{pays, claimed, graph-paid}
+use Rattle.run_bounds.proofs.Sums.{pays, graph-paid}
 
 -- ---- what was claimed
 
