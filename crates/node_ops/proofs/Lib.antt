@@ -1,3 +1,4 @@
+pub mod Keeping
 pub mod Listing
 pub mod Resolving
 pub mod Standing

@@ -15,7 +15,9 @@ ghost use Rattle.node_ops.specs.Multiples.{AreElements, reducer_in, each_kept};
 
 use crate::operands::seen;
 use crate::row::{Single, gathering_of, reduction_of};
-use flow_value::{Cause, Items, NoMemory, Operand, Shape, Text, Val, copy_all};
+use flow_value::{
+    Cause, Items, NoMemory, Operand, Shape, Text, Val, array_of, copy_all, stream_of,
+};
 use if1_graph::{Reducer, reducer_of};
 use loop_folds::{Clause, Folding, Keep, Masking, keep};
 use std::alloc::Global;
@@ -114,7 +116,18 @@ fn elements_of(alloc: Global, m: Operand<'_>) -> Result<Result<Items, Cause>, No
     }
 }
 
+/// What is made of all elements: an array or a stream has them as they stand.
 fn fold_all(alloc: Global, folding: Folding, lo: i64, items: Items) -> Result<Val, NoMemory>
+    ensures { IfOk result (λ v. v ≡ fold_value folding lo (each_kept items)) }
+{
+    match folding {
+        Folding::Array => Ok(array_of(lo, items)),
+        Folding::Stream => Ok(stream_of(items)),
+        _ => fold_each(alloc, folding, lo, items),
+    }
+}
+
+fn fold_each(alloc: Global, folding: Folding, lo: i64, items: Items) -> Result<Val, NoMemory>
     ensures { IfOk result (λ v. v ≡ fold_value folding lo (each_kept items)) }
 {
     let mut clause = Clause::new(alloc, folding);

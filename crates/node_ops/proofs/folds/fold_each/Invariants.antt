@@ -1,6 +1,6 @@
 use Rattle.std.proofs.Common.{◌≡◌, ◌++◌, length}
 use Rattle.node_ops.specs.Multiples.{each_kept}
-use Rattle.node_ops.proofs.folds.fold_all.Given as goal
+use Rattle.node_ops.proofs.folds.fold_each.Given as goal
 
 abbrev pub invariant-loop-value : goal.invariant-loop-value
 invariant-loop-value l = record {
