@@ -1,12 +1,12 @@
 -- A color spreads.
-use Rattle.std.proofs.Common.{◌≡◌, ◌≢◌, ◌∙◌, ℕ, zero, suc, ◌+◌, ◌<◌, ◌≤◌, Bool, true, false, ◌==◌, cond, List, [], ◌∷◌, ◌++◌, length, take, set, slice_index, All, Contains, inl, inr, arith, refl, sym, ap, subst}
+use Rattle.std.proofs.Common.{◌≡◌, ◌≢◌, ◌∙◌, ℕ, ◌+◌, ◌<◌, ◌≤◌, Bool, true, false, ◌==◌, cond, List, [], ◌∷◌, ◌++◌, length, take, set, slice_index, Contains, inl, inr, arith, refl, sym, ap, subst}
 use Rattle.std.proofs.lemmas.Bool.{cases_lt, cases_eq, eq-eqb, eqb-true}
 use Rattle.std.proofs.lemmas.List.{length-set, length_push, take_more, take_all, get_or_default, get_or-set_same, get_or-set_other, get_or_append_left, get_or_push}
 use Rattle.std.proofs.lemmas.List.Elements.{Contains-push, Contains-push_cases, Contains-append_left, Contains-append_right, Contains-append_cases}
 use Rattle.std.proofs.lemmas.List.Sums.{sum_by-set}
-use Rattle.if1_order.specs.Walks.{Lists, feeders_of, Leads, step, onward}
+use Rattle.if1_order.specs.Walks.{Lists, feeders_of, step, onward}
 use Rattle.if1_components.specs.Components.{IsOrLeads}
-use Rattle.if1_components.specs.Colors.{IsPainted, one_at, count_of, IsSpreading, Grows, Paints, AreDone, IsSpread, IsCleared}
+use Rattle.if1_components.specs.Colors.{one_at, count_of, IsSpreading, Grows, Paints, AreDone, IsSpread, IsCleared}
 
 pub empty : (xs : List ℕ) (x : ℕ) → ¬ Contains (take 0 xs) x
 empty [] x c = omega (arith, c.1)

@@ -1,4 +1,4 @@
-use Rattle.std.proofs.Common.{◌≡◌, ◌≢◌, slice_index, ap, sym, subst, ◌∙◌}
+use Rattle.std.proofs.Common.{◌≡◌, ◌≢◌, slice_index, subst}
 use Rattle.if1_components.proofs.Painted.{paints-one, paints-same}
 use Rattle.if1_components.proofs.colors.paint.Goals as goal
 

@@ -1,4 +1,4 @@
-use Rattle.std.proofs.Common.{◌≡◌, ◌<◌, length, slice_index, ap, sym, subst, arith, refl, ◌∙◌}
+use Rattle.std.proofs.Common.{◌<◌, length, slice_index, ap, sym, subst, arith, ◌∙◌}
 use Rattle.if1_components.specs.Colors.{count_of}
 use Rattle.if1_components.proofs.Turned.{items-of, fed-inside}
 use Rattle.if1_components.proofs.Painted.{root-painted, turn-painted, all-done}

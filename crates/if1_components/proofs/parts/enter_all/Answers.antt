@@ -1,4 +1,4 @@
-use Rattle.std.proofs.Common.{◌≡◌, arith}
+use Rattle.std.proofs.Common.{arith}
 use Rattle.if1_components.proofs.Numbered.{all-numbered, more-numbered}
 use Rattle.if1_components.proofs.parts.enter_all.Goals as goal
 

@@ -1,4 +1,4 @@
-use Rattle.std.proofs.Common.{◌≡◌, ◌∙◌, All, ◌<◌, length, sym, subst}
+use Rattle.std.proofs.Common.{◌∙◌, All, ◌<◌, length, sym, subst}
 use Rattle.if1_components.specs.Colors.{IsCleared}
 use Rattle.if1_components.proofs.Turned.{back-inside}
 use Rattle.if1_components.proofs.Numbered.{numbered-more, kept-more, root-numbered}

@@ -1,4 +1,4 @@
-use Rattle.std.proofs.Common.{refl, sym, subst, slice_index}
+use Rattle.std.proofs.Common.{sym, subst, slice_index}
 use Rattle.std.proofs.lemmas.Bool.{eqb-true, eq-eqb}
 use Rattle.if1_components.specs.Components.{AreComponents}
 use Rattle.mark_check.specs.Entries.{AreCyclesOf}
