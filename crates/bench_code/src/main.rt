@@ -6,11 +6,13 @@
 use flow_io::{ReaderSource, read_all};
 use if1_graph::If1Fault;
 use if1_read::read_if1;
+use if1_sound::Sound;
 use if1_valid::{Ready, valid};
 use mark_units::mark;
 use std::alloc::Global;
 use std::io;
 use std::time::Instant;
+use step_code::Code;
 use unit_code::unit_code;
 
 /// The most bytes of a text.
@@ -21,32 +23,7 @@ fn ready_of(alloc: Global, text: &[u8]) -> Result<Ready, If1Fault> {
     valid(alloc, unit)
 }
 
-fn main(rt: HostRuntime) -> io::Result<()> {
-    let alloc = rt.alloc();
-    let mut from = ReaderSource::new(rt.stdin());
-    let Ok(text) = read_all(alloc, &mut from, MOST_BYTES) else {
-        println!(rt; "no text")?;
-        return Ok(());
-    };
-    let begin = Instant::now(&rt)?;
-    let Ok(ready) = ready_of(alloc, text.as_slice()) else {
-        println!(rt; "no unit")?;
-        return Ok(());
-    };
-    let read = begin.elapsed(&rt)?;
-    let begin = Instant::now(&rt)?;
-    let Ok(marked) = mark(alloc, ready) else {
-        println!(rt; "no memory")?;
-        return Ok(());
-    };
-    let marks = begin.elapsed(&rt)?;
-    let begin = Instant::now(&rt)?;
-    let Ok(made) = unit_code(alloc, &marked.sound) else {
-        println!(rt; "no memory")?;
-        return Ok(());
-    };
-    let took = begin.elapsed(&rt)?;
-    let code = &made.code;
+fn lengths(rt: HostRuntime, code: &Code) -> io::Result<()> {
     println!(rt;
         "{} steps, {} operands, {} targets",
         code.steps.len(),
@@ -58,12 +35,50 @@ fn main(rt: HostRuntime) -> io::Result<()> {
         code.collects.len(),
         code.marks.len(),
         code.literals.len()
-    )?;
-    eprintln!(rt;
-        "{} {} {}",
-        read.as_nanos(),
-        marks.as_nanos(),
-        took.as_nanos()
-    )?;
-    Ok(())
+    )
+}
+
+/// Times the making of the code, behind the times that the rest took.
+fn coded(rt: HostRuntime, unit: &Sound, read: u128, marks: u128) -> io::Result<()> {
+    let begin = Instant::now(&rt)?;
+    match unit_code(rt.alloc(), unit) {
+        Ok(made) => {
+            let code = begin.elapsed(&rt)?.as_nanos();
+            lengths(rt, &made.code)?;
+            eprintln!(rt; "{} {} {}", read, marks, code)
+        }
+        Err(_) => println!(rt; "no memory"),
+    }
+}
+
+/// Times the making of the marks.
+fn marked(rt: HostRuntime, ready: Ready, read: u128) -> io::Result<()> {
+    let begin = Instant::now(&rt)?;
+    match mark(rt.alloc(), ready) {
+        Ok(marked) => {
+            let marks = begin.elapsed(&rt)?.as_nanos();
+            coded(rt, &marked.sound, read, marks)
+        }
+        Err(_) => println!(rt; "no memory"),
+    }
+}
+
+/// Times the reading and checking of a text.
+fn timed(rt: HostRuntime, text: &[u8]) -> io::Result<()> {
+    let begin = Instant::now(&rt)?;
+    match ready_of(rt.alloc(), text) {
+        Ok(ready) => {
+            let read = begin.elapsed(&rt)?.as_nanos();
+            marked(rt, ready, read)
+        }
+        Err(_) => println!(rt; "no unit"),
+    }
+}
+
+fn main(rt: HostRuntime) -> io::Result<()> {
+    let mut from = ReaderSource::new(rt.stdin());
+    match read_all(rt.alloc(), &mut from, MOST_BYTES) {
+        Ok(text) => timed(rt, text.as_slice()),
+        Err(_) => println!(rt; "no text"),
+    }
 }
