@@ -1,0 +1,9 @@
+pub mod ChangedMeans
+pub mod ChangedOrder
+pub mod ChangedOuts
+pub mod ChangedReady
+pub mod ChangedRight
+pub mod ChosenMeans
+pub mod ChosenReady
+pub mod ChosenRight
+pub mod Ends
