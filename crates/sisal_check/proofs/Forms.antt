@@ -9,15 +9,12 @@ use Rattle.std.proofs.lemmas.Option.{same_Some, slice_get_within}
 use Rattle.sisal_lex.specs.Words.{beside}
 use Rattle.type_table.specs.declared.form.Form.{Form}
 use Rattle.type_table.specs.Tables.{IsTable}
-use Rattle.sisal_tree.specs.declared.expr.BinaryOperator.{BinaryOperator}
 use Rattle.sisal_tree.specs.declared.expr.Elements.{Elements}
 use Rattle.sisal_tree.specs.declared.expr.Expr.{Expr}
 use Rattle.sisal_tree.specs.declared.expr.ExprKind.{ExprKind}
 use Rattle.sisal_tree.specs.declared.expr.ExprKind.TheVariants as tree
 use Rattle.sisal_tree.specs.declared.expr.ExprKind.TheViews.{out-ExprKind}
 use Rattle.sisal_tree.specs.declared.expr.FieldValue.{FieldValue}
-use Rattle.sisal_tree.specs.declared.expr.PrefixOperator.{PrefixOperator}
-use Rattle.sisal_tree.specs.declared.expr.Scalar.{Scalar}
 use Rattle.sisal_tree.specs.declared.unit.Written.{Written}
 use Rattle.typed_tree.specs.declared.built_in.BuiltIn.{BuiltIn}
 use Rattle.typed_tree.specs.BuiltIns.{built_ins}
@@ -27,6 +24,7 @@ use Rattle.type_rules.specs.declared.fault.TypeFault.TheVariants as fault
 use Rattle.type_rules.specs.declared.head.Head.{Head}
 use Rattle.type_rules.specs.declared.head.Head.TheVariants as head
 use Rattle.type_rules.specs.Faults.{IsRule}
+use Rattle.type_rules.specs.Heads.{IsUnnamedHead, convert, is_error, is_tag, prefix, binary, select, update, field}
 use Rattle.value_names.specs.Names.{Names}
 use Rattle.typing_laws.specs.Bodies.{define_params}
 use Rattle.typing_laws.proofs.Used.{HeadFits}
@@ -35,7 +33,7 @@ use Rattle.typing_laws.proofs.Headed.{array_head, empty_array_head}
 use Rattle.sisal_check.specs.Walked.{IsArrayHead, IsHeadSpelled}
 use Rattle.typing_laws.specs.Given as by
 use Rattle.typing_laws.specs.Judged.{Adds, IsUsedIn}
-use Rattle.typing_laws.specs.Forming.{HasHead, IsHead, IsPlain, IsBuiltIn, Operands, OperandsIn, fields_of}
+use Rattle.typing_laws.specs.Forming.{HasHead, IsHead, IsBuiltIn, Operands, OperandsIn, fields_of}
 use Rattle.typing_laws.specs.Forming as form
 use Rattle.breaking_laws.specs.Broken.{Broken, BrokenOne, BrokenIn, BrokenField, BrokenForm}
 use Rattle.breaking_laws.specs.Refusals.{IsUnnamed, IsNoBuiltIn}
@@ -98,33 +96,25 @@ no_built_in g x name None there is = λ b q.
 
 -- ---- forms that name no type
 
-module _ (kind : ExprKind) where
-  plain : (k : ExprKind) (h : Head) → kind ≡ k → IsPlain k h → IsPlain kind h
-  plain k h is p = subst (λ r. IsPlain r h) (sym is) p
+pub unnamed_form : (g : by.Given) (f : List Form) (kind : ExprKind) (h : Head) → IsUnnamedHead kind h → IsHead g f kind h
+unnamed_form g f _ _ (convert c e) = record { holds = λ k agrees. form.convert c e }
+unnamed_form g f _ _ (is_error e) = record { holds = λ k agrees. form.is_error e }
+unnamed_form g f _ _ (is_tag x e) = record { holds = λ k agrees. form.is_tag x e }
+unnamed_form g f _ _ (prefix o e) = record { holds = λ k agrees. form.prefix o e }
+unnamed_form g f _ _ (binary o e b) = record { holds = λ k agrees. form.binary o e b }
+unnamed_form g f _ _ (select e i) = record { holds = λ k agrees. form.select e i }
+unnamed_form g f _ _ (update e i b) = record { holds = λ k agrees. form.update e i b }
+unnamed_form g f _ _ (field e x) = record { holds = λ k agrees. form.field e x }
 
-  pub plain_convert : (c : Scalar) (e : Expr) → kind ≡ tree.Convert c e → IsPlain kind (head.Convert c)
-  plain_convert c e is = plain (tree.Convert c e) (head.Convert c) is (record { holds = λ g k. form.convert c e })
-
-  pub plain_is_error : (e : Expr) → kind ≡ tree.IsError e → IsPlain kind head.IsError
-  plain_is_error e is = plain (tree.IsError e) head.IsError is (record { holds = λ g k. form.is_error e })
-
-  pub plain_is_tag : (x : ℕ) (e : Expr) → kind ≡ tree.IsTag x e → IsPlain kind (head.IsTag x)
-  plain_is_tag x e is = plain (tree.IsTag x e) (head.IsTag x) is (record { holds = λ g k. form.is_tag x e })
-
-  pub plain_prefix : (o : PrefixOperator) (e : Expr) → kind ≡ tree.Prefix o e → IsPlain kind (head.Prefix o)
-  plain_prefix o e is = plain (tree.Prefix o e) (head.Prefix o) is (record { holds = λ g k. form.prefix o e })
-
-  pub plain_binary : (o : BinaryOperator) (e f : Expr) → kind ≡ tree.Binary o e f → IsPlain kind (head.Binary o)
-  plain_binary o e f is = plain (tree.Binary o e f) (head.Binary o) is (record { holds = λ g k. form.binary o e f })
-
-  pub plain_select : (e i : Expr) → kind ≡ tree.Select e i → IsPlain kind head.Select
-  plain_select e i is = plain (tree.Select e i) head.Select is (record { holds = λ g k. form.select e i })
-
-  pub plain_update : (e i f : Expr) → kind ≡ tree.Update e i f → IsPlain kind head.Update
-  plain_update e i f is = plain (tree.Update e i f) head.Update is (record { holds = λ g k. form.update e i f })
-
-  pub plain_field : (e : Expr) (x : ℕ) → kind ≡ tree.Field e x → IsPlain kind (head.Field x)
-  plain_field e x is = plain (tree.Field e x) (head.Field x) is (record { holds = λ g k. form.field e x })
+pub unnamed_spelled : (spellings : List (List ℕ)) (kind : ExprKind) (h : Head) → IsUnnamedHead kind h → IsHeadSpelled spellings h
+unnamed_spelled spellings _ _ (convert c e) = tt
+unnamed_spelled spellings _ _ (is_error e) = tt
+unnamed_spelled spellings _ _ (is_tag x e) = tt
+unnamed_spelled spellings _ _ (prefix o e) = tt
+unnamed_spelled spellings _ _ (binary o e b) = tt
+unnamed_spelled spellings _ _ (select e i) = tt
+unnamed_spelled spellings _ _ (update e i b) = tt
+unnamed_spelled spellings _ _ (field e x) = tt
 
 -- ---- forms that name a type
 

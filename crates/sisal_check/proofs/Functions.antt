@@ -1,6 +1,7 @@
 -- The functions of a program one after another: what they give, and what they break.
-use Rattle.std.proofs.Common.{◌≡◌, ℕ, zero, suc, List, [], ◌∷◌, ◌++◌, length, map, take, drop, slice_get, Option, Some, refl, sym, ap, subst, ◌∙◌, append_assoc}
-use Rattle.std.proofs.lemmas.List.{append-nil, length-map, map-append}
+use Rattle.std.proofs.Common.{◌≡◌, ◌≤◌, ◌+◌, ℕ, zero, suc, arith, List, [], ◌∷◌, ◌++◌, length, map, take, drop, slice_get, Option, Some, refl, sym, ap, subst, ◌∙◌, append_assoc}
+use Rattle.std.proofs.lemmas.List.{append-nil, length-append, length-map, map-append}
+use Rattle.std.proofs.lemmas.Option.{slice_get_within}
 use Rattle.type_table.specs.declared.form.Form.{Form}
 use Rattle.sisal_tree.specs.declared.expr.Expr.{Expr}
 use Rattle.sisal_tree.specs.declared.unit.FunDef.{FunDef}
@@ -12,8 +13,9 @@ use Rattle.typed_tree.specs.declared.expr.TypedExpr.{TypedExpr}
 use Rattle.typed_tree.specs.declared.program.Function.{Function}
 use Rattle.type_rules.specs.Applies.{Grows}
 use Rattle.unit_types.specs.declared.header.Signature.{Signature}
-use Rattle.unit_types.specs.Headings.{given_as, given_by, given_functions}
+use Rattle.unit_types.specs.Headings.{given_as, given_by, given_functions, has_body, numbering}
 use Rattle.unit_types.proofs.Given.{given_cons}
+use Rattle.unit_types.proofs.Numbered.{named_by}
 use Rattle.value_names.specs.declared.in_force.Mark.{Mark}
 use Rattle.value_names.specs.declared.value.Meaning.TheVariants as means
 use Rattle.value_names.specs.Names.{Names}
@@ -27,6 +29,8 @@ use Rattle.typing_laws.proofs.Walking.{let_left}
 use Rattle.breaking_laws.specs.FormLaws.{BreaksBodyAt}
 use Rattle.breaking_laws.proofs.FPassing.{reach_later}
 use Rattle.sisal_check.specs.declared.state.Given.{Given}
+use Rattle.sisal_check.specs.Headed.{is_defined}
+use Rattle.sisal_check.specs.Numbered.{AreNumbered}
 use Rattle.sisal_check.specs.Walked.{IsBodyOf, global, defined, AreBodies, no_body, a_body, IsBrokenAt, IsBrokenAmong, given_behind, given_of, header_of}
 
 -- ---- parameters
@@ -131,3 +135,23 @@ broken_next g f0 f1 items i x rest f fs rule line used cut are one p =
             (used_behind g g.known p.header.known f0 f1 used) p.breaks;
       };
     }
+
+-- an item adds as many functions as one of its kind does
+pub as_many_given : (i : Item) (f : FunDef) → i ≡ item.Function f → length (given_as f.kind f.kind) ≡ length (given_by i)
+as_many_given i f is = ap length (kinds_given f) ∙ length-map (given_by (item.Function f)) (λ f. f.kind) ∙ ap (λ i. length (given_by i)) (sym is)
+
+-- there is room for the functions of an item, where there is for those of all items
+pub room_for : (items here : List Item) (x : Item) (rest : List Item) (fs : List Function) (count : ℕ) → here ≡ x ∷ rest
+    → map is_defined fs ++ map (λ f. has_body f.kind) (given_functions here) ≡ map (λ f. has_body f.kind) (given_functions items) → length (given_functions items) ≡ count → length fs + length (given_by x) ≤ count
+room_for items here x rest fs count is all e =
+    let cut : length (given_functions here) ≡ length (given_by x) + length (given_functions rest) =
+    ap (λ l. length (given_functions l)) is ∙ ap length (given_cons x rest) ∙ length-append (given_by x) (given_functions rest) in
+    let both : length (map is_defined fs) + length (map (λ f. has_body f.kind) (given_functions here)) ≡ length (map (λ f. has_body f.kind) (given_functions items)) =
+    sym (length-append (map is_defined fs) (map (λ f. has_body f.kind) (given_functions here))) ∙ ap length all in
+    omega (arith, cut, both, e, length-map fs is_defined, length-map (given_functions here) (λ f. has_body f.kind), length-map (given_functions items) (λ f. has_body f.kind))
+
+-- the functions are numbered in order
+pub all_numbered : (headers : List Signature) (numbers : List (ℕ × ℕ)) → numbers ≡ numbering 0 [] (map (λ s. s.name) headers) → AreNumbered numbers (length headers)
+all_numbered headers numbers e = record {
+  below = λ x n h. let p : (s : Signature) × (slice_get headers n ≡ Some s) × (s.name ≡ x) = named_by (λ s. s.name) headers numbers e x n h in slice_get_within headers n p.0 p.1;
+}

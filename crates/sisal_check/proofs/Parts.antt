@@ -16,7 +16,7 @@ use Rattle.type_rules.specs.Faults.{IsRule}
 use Rattle.value_names.specs.Names.{Names}
 use Rattle.typing_laws.specs.Given.{Given}
 use Rattle.typing_laws.specs.Given as by
-use Rattle.typing_laws.specs.Judged.{IsUsedIn}
+use Rattle.typing_laws.specs.Judged.{AddsSingle, IsUsedIn}
 use Rattle.typing_laws.specs.Looping.{index_names, GroupsTyped, no_group, a_group}
 use Rattle.breaking_laws.specs.Parts.{StandsTwice, BrokenGenerator, BrokenGroup}
 use Rattle.breaking_laws.proofs.PGenerators.{one_generator_refused, group_twice}
@@ -75,3 +75,7 @@ many_groups g f names after _ _ (a_group {names = _} {after = _} {gs = gs} {m = 
 
 pub groups_many : (g : Given) (f : List Form) (names : Names) (gs : List (List Generator)) (goes : List Group) (after : Names) → GroupsTyped g f names gs (map group_of goes) after → length goes ≡ length gs
 groups_many g f names gs goes after p = sym (length-map goes group_of) ∙ many_groups g f names after gs (map group_of goes) p
+
+-- where there was nothing, there is one value
+pub single_of : (old new : by.Parts) → old.types ≡ [] → AddsSingle old new → length new.types ≡ 1
+single_of old new none s = ap length s.types ∙ ap (λ l. length (l ++ s.type ∷ [])) none

@@ -1,3 +1,4 @@
 pub mod Headed
 pub mod Walked
 pub mod Texts
+pub mod Numbered

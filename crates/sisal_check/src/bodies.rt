@@ -5,8 +5,7 @@ ghost use Rattle.sisal_check.specs.Headed.{HaveFirst, is_defined};
 ghost use Rattle.sisal_check.specs.Walked.{AreBodies, IsBody, IsBrokenAmong, IsBrokenAt, given_behind, given_of, header_of};
 ghost use Rattle.sisal_tree.specs.declared.unit.FunDef.{FunDef};
 ghost use Rattle.sisal_tree.specs.declared.unit.FunKind.{FunKind as Kind};
-ghost use Rattle.sisal_tree.specs.declared.unit.FunKind.TheVariants as fun;
-ghost use Rattle.std.specs.Prelude.{IfErr, IfOk, List, OnOk, Some, [], is_some, length, map, slice_get, ◌++◌, ◌∷◌, ◌≡◌};
+ghost use Rattle.std.specs.Prelude.{IfErr, IfOk, List, OnOk, Some, [], is_some, length, map, slice_get, ◌+◌, ◌++◌, ◌∷◌, ◌≡◌, ◌≤◌};
 ghost use Rattle.type_rules.specs.Faults.{IsRule};
 ghost use Rattle.typed_tree.specs.declared.program.Function.{Function as TypedFunction};
 ghost use Rattle.typing_laws.specs.Bodies.{define_params};
@@ -15,8 +14,8 @@ ghost use Rattle.unit_types.specs.Headings.{given_as, given_by, given_functions,
 ghost use Rattle.value_names.specs.Scopes.{no_names};
 
 use crate::lists::all;
-use crate::state::{Given, Parts, Walk};
-use flow_value::{NoMemory, Seq, item_at};
+use crate::state::{Given, Parts, Walk, header_at};
+use flow_value::{NoMemory, Seq};
 use sisal_tree::{Expr, FunKind, Item};
 use type_rules::TypeFault;
 use typed_tree::{Function, TypedExpr};
@@ -29,6 +28,7 @@ pub(crate) fn functions(
     given: &Given<'_>,
     walk: &mut Walk,
 ) -> Result<Seq<Function>, TypeFault>
+    requires { length (given_functions items.now) ≡ length given.now.functions.now }
     ensures heads { IfOk result (λ fs. HaveFirst given.now.functions.now fs) }
     ensures bodies { IfOk result (λ fs. map is_defined fs ≡ map (λ f. has_body f.kind) (given_functions items.now)) }
     ensures used { OnOk result (IsUsedIn (given_of given.now) walk.old.types walk.new.types) }
@@ -50,6 +50,7 @@ fn add_item(
     given: &Given<'_>,
     walk: &mut Walk,
 ) -> Result<(), TypeFault>
+    requires { length all.old + length (given_by item.now) ≤ length given.now.functions.now }
     ensures heads { HaveFirst given.now.functions.now all.old → OnOk result (HaveFirst given.now.functions.now all.new) }
     ensures bodies { OnOk result (map is_defined all.new ≡ map is_defined all.old ++ map (λ f. has_body f.kind) (given_by item.now)) }
     ensures used { OnOk result (IsUsedIn (given_of given.now) walk.old.types walk.new.types) }
@@ -70,6 +71,7 @@ fn add_function(
     given: &Given<'_>,
     walk: &mut Walk,
 ) -> Result<(), TypeFault>
+    requires { length all.old + length (given_as kind.now kind.now) ≤ length given.now.functions.now }
     ensures heads { HaveFirst given.now.functions.now all.old → OnOk result (HaveFirst given.now.functions.now all.new) }
     ensures bodies { OnOk result (map is_defined all.new ≡ map is_defined all.old ++ given_as kind.now (has_body kind.now)) }
     ensures used { OnOk result (IsUsedIn (given_of given.now) walk.old.types walk.new.types) }
@@ -77,27 +79,17 @@ fn add_function(
     ensures typed { walk.old.names ≡ no_names → (kinds : List Kind) → AreBodies given.now walk.old.types kinds given.now.functions.now all.old → OnOk result (AreBodies given.now walk.new.types (kinds ++ given_as kind.now kind.now) given.now.functions.now all.new) }
     ensures breaks { walk.old.names ≡ no_names → IfErr result (IsRule (λ rule at_line. IsBrokenAt given.now walk.old.types kind.now (length all.old) rule at_line)) }
 {
-    let Some(header) = item_at(given.functions, all.len()) else {
-        return unless_given(kind);
-    };
     match kind {
         FunKind::Forward => Ok(()),
-        FunKind::Global => add(header, None, all, given),
+        FunKind::Global => {
+            let header = header_at(given.functions, all.len());
+            add(header, None, all, given)
+        }
         FunKind::Defined(es) => {
+            let header = header_at(given.functions, all.len());
             let body = body(es.as_slice(), header, given, walk)?;
             add(header, Some(body), all, given)
         }
-    }
-}
-
-/// Only a function that is `forward` has no header among those of the program.
-fn unless_given(kind: &FunKind) -> Result<(), TypeFault>
-    ensures forward { OnOk result (kind.now ≡ fun.Forward) }
-    ensures breaks { IfErr result (IsRule (λ rule at_line. Never rule at_line)) }
-{
-    match kind {
-        FunKind::Forward => Ok(()),
-        _ => Err(TypeFault::NoMemory),
     }
 }
 

@@ -1,13 +1,13 @@
 //! Calls.
 ghost use Rattle.breaking_laws.specs.Refusals.{IsNoBuiltIn, OtherParams, RefusesCall};
 ghost use Rattle.sisal_check.specs.Walked.{given_of, parts_of};
-ghost use Rattle.std.specs.Prelude.{IfErr, IfNone, IfOk, IfSome, OnOk, ◌≡◌};
+ghost use Rattle.std.specs.Prelude.{IfErr, IfNone, IfOk, IfSome, OnOk, length, ◌<◌, ◌≡◌};
 ghost use Rattle.type_rules.specs.Faults.{IsRule};
 ghost use Rattle.typing_laws.specs.Forming.{Calls, CallsOf, IsBuiltIn};
 ghost use Rattle.typing_laws.specs.Judged.{IsUsedIn};
 
 use crate::making::finish;
-use crate::state::{Given, Parts, Walk};
+use crate::state::{Given, Parts, Walk, header_at};
 use flow_value::{Seq, item_at};
 use type_rules::{Head, TypeFault};
 use typed_tree::{BuiltIn, TypedExpr, TypedKind, built_in_named};
@@ -44,12 +44,11 @@ fn call_of(
     operands: Parts,
     given: &Given<'_>,
 ) -> Result<TypedExpr, TypeFault>
+    requires { number < length given.now.functions.now }
     ensures calls { IfOk result (λ t. CallsOf (given_of given.now) line number (parts_of operands) t) }
     ensures breaks { IfErr result (IsRule (λ rule at_line. OtherParams (given_of given.now) line number operands.types rule at_line)) }
 {
-    let Some(function) = item_at(given.functions, number as usize) else {
-        return Err(TypeFault::NoMemory);
-    };
+    let function = header_at(given.functions, number as usize);
     let Parts { exprs, types } = operands;
     if types.as_slice() != function.params.as_slice() {
         return Err(TypeFault::Rule { rule: 12, line });

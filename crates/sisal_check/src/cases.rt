@@ -3,7 +3,7 @@ ghost use Rattle.breaking_laws.specs.Broken.{Broken, BrokenIn};
 ghost use Rattle.breaking_laws.specs.Parts.{AddsResults, BrokenArms, Differs, IsNoArm, IsNoUnion};
 ghost use Rattle.breaking_laws.specs.Refusals.{Never};
 ghost use Rattle.sisal_check.specs.Walked.{DiffersIn, arms_of, given_of, parts_of};
-ghost use Rattle.std.specs.Prelude.{IfErr, IfOk, OnOk, [], false, true, ◌∷◌, ◌≡◌};
+ghost use Rattle.std.specs.Prelude.{IfErr, IfOk, OnOk, [], false, length, true, ◌∷◌, ◌≡◌};
 ghost use Rattle.type_rules.specs.Arms.{are_all_named};
 ghost use Rattle.type_rules.specs.Faults.{IsRule};
 ghost use Rattle.typed_tree.specs.Typing.{at};
@@ -78,13 +78,12 @@ fn begin(
     given: &Given<'_>,
     walk: &Walk,
 ) -> Result<Arms, TypeFault>
+    requires { length subject.now.types ≡ 1 }
     ensures begins { IfOk result (λ done. Begins walk.now.types name (parts_of subject.now) (arms_of done)) }
     ensures breaks { IfErr result (IsRule (λ rule at_line. IsNoUnion walk.now.types (parts_of subject.now) line rule at_line)) }
 {
-    let [union] = subject.types.as_slice() else {
-        return Err(TypeFault::NoMemory);
-    };
-    match Choices::new(given.alloc, &walk.types, *union) {
+    let union = subject.types.as_slice()[0];
+    match Choices::new(given.alloc, &walk.types, union) {
         Some(choices) => Ok(Arms {
             name,
             choices,

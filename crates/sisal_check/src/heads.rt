@@ -1,19 +1,21 @@
 //! The forms over operands.
 ghost use Rattle.breaking_laws.specs.Broken.{Broken, Misnamed};
-ghost use Rattle.breaking_laws.specs.Refusals.{IsUnnamed, Never};
+ghost use Rattle.breaking_laws.specs.Refusals.{IsUnnamed};
 ghost use Rattle.name_scope.specs.Newest.{newest};
 ghost use Rattle.sisal_check.specs.Walked.{IsArrayHead, IsErrorHead, IsHeadSpelled, given_of};
 ghost use Rattle.std.specs.Prelude.{All, IfErr, IfOk, List, OnOk, Some, length, ℕ, ◌<◌, ◌≡◌};
+ghost use Rattle.sisal_tree.specs.declared.expr.ExprKind.TheViews.{out-ExprKind};
 ghost use Rattle.type_rules.specs.Faults.{IsRule};
+ghost use Rattle.type_rules.specs.Heads.{IsForm};
 ghost use Rattle.typed_tree.specs.Typing.{at};
-ghost use Rattle.typing_laws.specs.Forming.{AreFound, IsHead, IsPlain, IsRecordHead, fields_of};
+ghost use Rattle.typing_laws.specs.Forming.{AreFound, IsHead, IsRecordHead, fields_of};
 ghost use Rattle.typing_laws.specs.Judged.{IsUsedIn};
 
 use crate::state::{Given, Walk};
 use flow_value::{NoMemory, Numbers, Seq, item_at};
 use sisal_tree::{ExprKind, FieldValue, Written};
 use std::alloc::Global;
-use type_rules::{Head, TypeFault};
+use type_rules::{Head, TypeFault, unnamed_head};
 use unit_types::denoted;
 
 /// The form of an expression over operands, in which names of types are resolved: rule 2 on the
@@ -24,6 +26,7 @@ pub(crate) fn head_of(
     given: &Given<'_>,
     walk: &mut Walk,
 ) -> Result<Head, TypeFault>
+    requires { IsForm (out-ExprKind kind.now) }
     ensures used { OnOk result (IsUsedIn (given_of given.now) walk.old.types walk.new.types) }
     ensures names { OnOk result (walk.new.names ≡ walk.old.names) }
     ensures head { IfOk result (λ h. IsHead (given_of given.now) walk.new.types kind.now h) }
@@ -38,26 +41,7 @@ pub(crate) fn head_of(
         ExprKind::Stream(name, _) => Ok(Head::Stream(type_of(*name, line, given)?)),
         ExprKind::Record(name, vs) => record_of(*name, vs.as_slice(), line, given),
         ExprKind::Union(name, tag, _) => Ok(Head::Union(type_named(*name, line, given)?, *tag)),
-        _ => plain(kind),
-    }
-}
-
-/// The forms that name no type.
-fn plain(kind: &ExprKind) -> Result<Head, TypeFault>
-    ensures plain { IfOk result (λ h. IsPlain kind.now h) }
-    ensures spelled { IfOk result (λ h. (spellings : List (List ℕ)) → IsHeadSpelled spellings h) }
-    ensures breaks { IfErr result (IsRule (λ rule at_line. Never rule at_line)) }
-{
-    match kind {
-        ExprKind::Convert(to, _) => Ok(Head::Convert(*to)),
-        ExprKind::IsError(_) => Ok(Head::IsError),
-        ExprKind::IsTag(tag, _) => Ok(Head::IsTag(*tag)),
-        ExprKind::Prefix(operator, _) => Ok(Head::Prefix(*operator)),
-        ExprKind::Binary(operator, _, _) => Ok(Head::Binary(*operator)),
-        ExprKind::Select(_, _) => Ok(Head::Select),
-        ExprKind::Update(_, _, _) => Ok(Head::Update),
-        ExprKind::Field(_, field) => Ok(Head::Field(*field)),
-        _ => Err(TypeFault::NoMemory),
+        _ => Ok(unnamed_head(kind)),
     }
 }
 

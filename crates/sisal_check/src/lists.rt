@@ -70,6 +70,7 @@ pub(crate) fn only(e: &Expr, given: &Given<'_>, walk: &mut Walk) -> Result<Parts
     ensures used { OnOk result (IsUsedIn (given_of given.now) walk.old.types walk.new.types) }
     ensures names { OnOk result (walk.new.names ≡ walk.old.names) }
     ensures typed { IfOk result (λ p. AllOnes (given_of given.now) walk.new.types walk.old.names (e.now ∷ []) p.exprs p.types) }
+    ensures single { IfOk result (λ p. length p.types ≡ 1) }
     ensures breaks { IfErr result (IsRule (λ rule at_line. BrokenOne (given_of given.now) walk.old.types walk.old.names e.now rule at_line)) }
 {
     let mut parts = Parts::new(given.alloc);

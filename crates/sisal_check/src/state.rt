@@ -1,5 +1,6 @@
 //! What the walk over a function's body is given, and what it changes.
-ghost use Rattle.std.specs.Prelude.{IfOk, OnOk, [], ◌++◌, ◌∷◌, ◌≡◌};
+ghost use Rattle.sisal_check.specs.Numbered.{AreNumbered};
+ghost use Rattle.std.specs.Prelude.{IfOk, OnOk, Some, [], length, slice_get, ◌++◌, ◌<◌, ◌∷◌, ◌≡◌};
 
 use flow_value::{Name, NoMemory, Numbers, Seq};
 use name_scope::Scope;
@@ -26,7 +27,9 @@ pub(crate) struct Given<'u> {
     /// The number of the function of a name.
     pub numbers: &'u Scope<u32>,
     /// How many type definitions stand before the function.
-    pub known: u32,
+    pub known: usize,
+    /// Each number is that of a function.
+    ghost numbered: { AreNumbered numbers.now (length functions.now) },
 }
 
 /// What the walk changes.
@@ -67,6 +70,14 @@ impl Parts {
         self.types.extend(e.types.as_slice())?;
         self.exprs.add(e)
     }
+}
+
+/// The header of the function at a place.
+pub(crate) fn header_at(functions: &[Signature], place: usize) -> &Signature
+    requires { place < length functions.now }
+    ensures { slice_get functions.now place ≡ Some result.now }
+{
+    &functions[place]
 }
 
 /// A count that fits a `u32`; more would want more memory than there is.

@@ -6,6 +6,7 @@ ghost use Rattle.sisal_tree.specs.declared.expr.ExprKind.TheVariants as tree;
 ghost use Rattle.sisal_tree.specs.declared.expr.ExprKind.TheViews.{out-ExprKind};
 ghost use Rattle.std.specs.Prelude.{IfErr, IfOk, OnOk, Option, Some, [], length, ℕ, ◌<◌, ◌≡◌};
 ghost use Rattle.type_rules.specs.Faults.{IsRule};
+ghost use Rattle.type_rules.specs.Heads.{IsForm};
 ghost use Rattle.typed_tree.specs.Typing.{at};
 ghost use Rattle.typing_laws.specs.Forming.{Operands};
 ghost use Rattle.typing_laws.specs.Judged.{Adds, IsUsedIn, Typed};
@@ -74,6 +75,7 @@ fn applied(
     given: &Given<'_>,
     walk: &mut Walk,
 ) -> Result<TypedExpr, TypeFault>
+    requires { IsForm (out-ExprKind kind.now) }
     ensures used { OnOk result (IsUsedIn (given_of given.now) walk.old.types walk.new.types) }
     ensures names { OnOk result (walk.new.names ≡ walk.old.names) }
     ensures typed { IfOk result (λ t. Typed (given_of given.now) walk.new.types walk.old.names (at line kind.now) t) }
@@ -95,6 +97,7 @@ fn operands(
     given: &Given<'_>,
     walk: &mut Walk,
 ) -> Result<(), TypeFault>
+    requires { IsForm (out-ExprKind kind.now) }
     ensures used { OnOk result (IsUsedIn (given_of given.now) walk.old.types walk.new.types) }
     ensures names { OnOk result (walk.new.names ≡ walk.old.names) }
     ensures adds { OnOk result (Adds (parts_of parts.old) (parts_of parts.new) (Operands (given_of given.now) walk.new.types walk.old.names kind.now)) }
@@ -136,7 +139,7 @@ fn operands(
         }
         ExprKind::Record(_, vs) => fields(vs.as_slice(), parts, given, walk),
         ExprKind::ErrorOf(_) => Ok(()),
-        _ => Err(TypeFault::NoMemory),
+        _ => unreachable!(),
     }
 }
 

@@ -12,3 +12,4 @@ pub mod Forming
 pub mod Clauses
 pub mod Deep
 pub mod Chosen
+pub mod Nameless

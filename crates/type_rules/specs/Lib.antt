@@ -8,3 +8,4 @@ pub mod Applies
 pub mod Folds
 pub mod Arms
 pub mod Typed
+pub mod Heads

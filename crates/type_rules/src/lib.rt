@@ -15,6 +15,7 @@ mod made;
 mod records;
 mod scalars;
 mod sequences;
+mod unnamed;
 
 pub use applying::apply;
 pub use arms::Choices;
@@ -23,3 +24,4 @@ pub use folds::{Made, clause};
 pub use head::{Applied, Head};
 pub use laws::{clauses_by_type, forms_by_type};
 pub use lookups::{element_of, member_in_union, tags_of};
+pub use unnamed::unnamed_head;

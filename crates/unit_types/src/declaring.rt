@@ -17,7 +17,7 @@ ghost use Rattle.unit_types.specs.Headings.{heading_of, heading_in, has_body, gi
 
 use crate::fault::{UnitFault, numbered};
 use crate::header::{Signature, signature_of};
-use crate::type_names::{TypeNames, as_number};
+use crate::type_names::TypeNames;
 use crate::written::type_of;
 use flow_value::{Name, NoMemory, Numbers, Seq, item_at};
 use name_scope::Scope;
@@ -227,7 +227,7 @@ fn declare_type(
         → IsDeclaring u items n declaring.old.types declaring.old.named declaring.old.functions declaring.old.announced → IsDeclaring u items (n + 1) declaring.new.types declaring.new.named declaring.new.functions declaring.new.announced) }
     ensures breaks { IfErr result (IsFault (λ rule line. (spellings : List (List ℕ)) → BreaksAt tokens.now spellings (Item.Alias definition.now) declaring.old.types declaring.old.named declaring.old.functions declaring.old.announced rule line)) }
 {
-    let known = declaring.named.count()?;
+    let known = declaring.named.count();
     let ty = type_of(
         alloc,
         tokens,
@@ -339,6 +339,17 @@ fn give(
     declaring.functions.add(signature)?;
     declaring.bodies.add(has_body)?;
     Ok(())
+}
+
+/// A count of functions as the number of the next one. More than a `u32` counts would want more
+/// memory than there is.
+fn as_number(count: usize) -> Result<u32, NoMemory>
+    ensures { IfOk result (λ n. n ≡ count) }
+{
+    match u32::try_from(count) {
+        Ok(number) => Ok(number),
+        Err(_) => Err(NoMemory),
+    }
 }
 
 /// Whether no function of these numbers has the name, nor is it a call that is built in.

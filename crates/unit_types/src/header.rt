@@ -37,7 +37,7 @@ pub struct Signature {
     /// The types of its results, in order.
     pub results: Numbers,
     /// How many type definitions stand before it.
-    pub known: u32,
+    pub known: usize,
 }
 
 /// What the header of a function says, whose first word stands on `line`: rule 8 where a parameter
@@ -58,7 +58,7 @@ pub fn signature_of(
     ensures breaks { IfErr result (IsFault (λ rule at. (u : tree.Unit) (known_types : List (ℕ × Ty)) → u.tokens.list ≡ tokens.now → AreTokensSpelled u.tokens.names tokens.now
         → HasNames u.tokens.names types.old named.now known_types → BreaksHeader u known_types header.now rule at)) }
 {
-    let known = named.count()?;
+    let known = named.count();
     let fields = header.params.as_slice();
     let written = header.results.as_slice();
     are_distinct(alloc, fields)?;
@@ -116,7 +116,7 @@ fn params_in(
     tokens: &[Token],
     fields: &[Field],
     named: &TypeNames,
-    known: u32,
+    known: usize,
     types: &mut Types,
 ) -> Result<Numbers, UnitFault>
     ensures used { OnOk result (IsUsed tokens.now types.old types.new) }
@@ -148,7 +148,7 @@ fn results_in(
     tokens: &[Token],
     written: &[Written],
     named: &TypeNames,
-    known: u32,
+    known: usize,
     types: &mut Types,
 ) -> Result<Numbers, UnitFault>
     ensures used { OnOk result (IsUsed tokens.now types.old types.new) }

@@ -28,7 +28,7 @@ pub fn step(
     next: Next,
     stack: &mut Back<Open>,
     named: &TypeNames,
-    known: u32,
+    known: usize,
     types: &mut Types,
 ) -> Result<Next, UnitFault>
     ensures leads { IfOk result (λ later. Leads (drop (length named.now - known) named.now) types.old types.new next stack.old token.now later stack.new) }
@@ -45,7 +45,7 @@ pub fn step(
 }
 
 /// The first token of a type.
-fn begin(token: &Token, named: &TypeNames, known: u32) -> Result<Next, UnitFault>
+fn begin(token: &Token, named: &TypeNames, known: usize) -> Result<Next, UnitFault>
     ensures leads { IfOk result (λ later. (forms : List Form) (os : List Open) → Leads (drop (length named.now - known) named.now) forms forms Next.Type os token.now later os) }
     ensures refuses { IfErr result (IsFault (λ rule line. (forms : List Form) (os : List Open) → Refuses (drop (length named.now - known) named.now) forms Next.Type os token.now rule line)) }
 {
@@ -100,7 +100,7 @@ fn begin_by(first: First, line: u32) -> Result<Next, UnitFault>
     }
 }
 
-fn begin_by_name(name: u32, line: u32, named: &TypeNames, known: u32) -> Result<Next, UnitFault>
+fn begin_by_name(name: u32, line: u32, named: &TypeNames, known: usize) -> Result<Next, UnitFault>
     ensures leads { IfOk result (λ later. (forms : List Form) (os : List Open) (t : Token) → t.kind ≡ Kind.Id name → Leads (drop (length named.now - known) named.now) forms forms Next.Type os t later os) }
     ensures unknown { IfErr result (IsFault (IsUnknown (drop (length named.now - known) named.now) name line)) }
 {

@@ -12,7 +12,7 @@ use std::marker::Model;
 #[derive(Clone, Copy)]
 struct Definition {
     ty: u32,
-    place: u32,
+    place: usize,
 }
 
 /// The names of the types of a text, each with its type. A name is known behind its definition
@@ -45,14 +45,14 @@ impl TypeNames {
     }
 
     /// The number of definitions.
-    pub fn count(&self) -> Result<u32, NoMemory>
-        ensures { IfOk result (λ n. n ≡ length self.now) }
+    pub fn count(&self) -> usize
+        ensures { result ≡ length self.now }
     {
-        as_number(self.scope.len())
+        self.scope.len()
     }
 
     /// The type of a name among the first `known` definitions.
-    pub fn find(&self, name: u32, known: u32) -> Option<u32>
+    pub fn find(&self, name: u32, known: usize) -> Option<u32>
         ensures { result ≡ newest name (drop (length self.now - known) self.now) }
     {
         match self.scope.find(name) {
@@ -69,29 +69,19 @@ impl TypeNames {
         if self.scope.find(name).is_some() {
             return Ok(false);
         }
-        let place = self.count()?;
+        let place = self.count();
         self.scope.define(name, Definition { ty, place })?;
         Ok(true)
     }
 }
 
 /// The type of a definition, where it is among the first `known`.
-fn known_type(definition: Definition, known: u32) -> Option<u32>
+fn known_type(definition: Definition, known: usize) -> Option<u32>
     ensures { result ≡ known_type definition known }
 {
     if definition.place < known {
         Some(definition.ty)
     } else {
         None
-    }
-}
-
-/// A count as a number. More than a `u32` counts would want more memory than there is.
-pub(crate) fn as_number(count: usize) -> Result<u32, NoMemory>
-    ensures { IfOk result (λ n. n ≡ count) }
-{
-    match u32::try_from(count) {
-        Ok(number) => Ok(number),
-        Err(_) => Err(NoMemory),
     }
 }

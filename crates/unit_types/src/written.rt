@@ -31,7 +31,7 @@ pub fn denoted(
     tokens: &[Token],
     written: Written,
     named: &TypeNames,
-    known: u32,
+    known: usize,
     types: &mut Types,
 ) -> Result<u32, TypeFault>
     // The table grows, and each of its numbers stands for a type if it did before.
@@ -60,7 +60,7 @@ pub fn type_of(
     tokens: &[Token],
     written: Written,
     named: &TypeNames,
-    known: u32,
+    known: usize,
     types: &mut Types,
 ) -> Result<u32, UnitFault>
     // The table grows, and each of its numbers stands for a type if it did before.
@@ -89,7 +89,7 @@ fn read(
     alloc: Global,
     tokens: &[Token],
     named: &TypeNames,
-    known: u32,
+    known: usize,
     types: &mut Types,
 ) -> Result<u32, UnitFault>
     ensures reads { IfOk result (λ k. Reads (drop (length named.now - known) named.now) types.old types.new tokens.now k) }

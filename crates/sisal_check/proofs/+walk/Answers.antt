@@ -18,7 +18,7 @@ use Rattle.sisal_check.proofs.+walk.Goals as goal
 use Rattle.sisal_check.proofs.+walk.Goals.{cases::tag_case-in-Some+in_ok-last-in-Some, cases::tag_case-in-None+in_ok-name_all-in-None}
 use Rattle.sisal_check.proofs.Depths.{of_group, among_groups}
 use Rattle.sisal_check.proofs.Forms.{faults_weaker, passed_on, operand_fault, elements_fault, fields_fault, no_elements, no_error_operands}
-use Rattle.sisal_check.proofs.Parts.{whole_at, first_names, names_behind, group_fails, groups_many}
+use Rattle.sisal_check.proofs.Parts.{whole_at, first_names, names_behind, group_fails, groups_many, single_of}
 use Rattle.sisal_check.specs.Walked.{given_of, parts_of, arms_of, group_of, defined_of, DiffersIn, turned_of}
 use Rattle.sisal_tree.proofs.expr.Generator.TheLaws.{the_size}
 use Rattle.sisal_tree.specs.declared.expr.Arm.{out-Arm}
@@ -1653,3 +1653,6 @@ typed::operands-returns-in-ErrorOf-clause-adds t c =
     let n = c.args.walk.now.names in
     let p = parts_of c.args.parts.now in
     operands_of g n f c.args.kind.now (tree.ErrorOf c.in-ErrorOf.field-0) p p c.in-ErrorOf.is (no_error_operands g f n c.in-ErrorOf.field-0 p)
+
+pub lists::only-returns-clause-single : goal.lists::only-returns-clause-single
+lists::only-returns-clause-single t c = single_of (parts_of c.new-parts.result) (parts_of c.one.new.parts) c.new-parts.ensures.types c.in_ok-one.ensures.single

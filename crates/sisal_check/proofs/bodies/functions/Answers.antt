@@ -1,4 +1,4 @@
-use Rattle.std.proofs.Common.{◌≡◌, ◌+◌, [], ◌∷◌, ◌++◌, map, drop, take, refl, sym, ap, subst, ◌∙◌}
+use Rattle.std.proofs.Common.{◌≡◌, ◌+◌, [], ◌∷◌, ◌++◌, length, map, drop, take, refl, sym, ap, subst, ◌∙◌}
 use Rattle.unit_types.specs.Headings.{has_body, given_by, given_functions}
 use Rattle.unit_types.proofs.Lists.{cut_at}
 use Rattle.unit_types.proofs.Given.{more_given}
@@ -7,7 +7,7 @@ use Rattle.typing_laws.proofs.Walking.{taken}
 use Rattle.sisal_check.specs.Headed.{HaveFirst, is_defined}
 use Rattle.sisal_check.specs.Walked.{AreBodies, no_body, given_of}
 use Rattle.sisal_check.proofs.Forms.{passed_on}
-use Rattle.sisal_check.proofs.Functions.{broken_next, kinds_more}
+use Rattle.sisal_check.proofs.Functions.{broken_next, kinds_more, room_for}
 use Rattle.sisal_check.proofs.bodies.functions.Goals as goal
 
 pub loop-item-init : goal.loop-item-init
@@ -55,3 +55,10 @@ returns-in_err-add_item-clause-breaks c = λ none.
     passed_on c.from_residual.result c.in_err-add_item.field-0.0 c.from_residual.ensures.1 _ _
     (λ rule line q. broken_next c.args.given.now c.args.walk.now.types c.loop-item.walk.types items i x (drop (i + 1) items) q.0 c.loop-item.all rule line kept.used
     (cut_at items i x c.loop-item-test.true c.item-item.is) (kept.typed none) q.1 q.2) (c.in_err-add_item.ensures.breaks (kept.names ∙ none))
+
+pub add_item-requires : goal.add_item-requires
+add_item-requires c =
+    let items = c.args.items.now in
+    let i = c.loop-item.item-index in
+    let x = c.item-item.result in
+    room_for items (drop i items) x (drop (i + 1) items) c.loop-item.all (length c.args.given.now.functions.now) (cut_at items i x c.loop-item-test.true c.item-item.is) c.loop-item.invariant.bodies c.requires

@@ -38,3 +38,6 @@ returns-in-Some-built_in-clause-breaks c =
     faults_weaker c.finish.result (λ rule line. Refuses c.args.walk.now.types c.args.line (head.BuiltIn b) c.args.operands.types rule line)
     (λ rule line. RefusesCall g c.args.walk.now.types c.args.line c.args.name c.args.operands.types rule line)
     (λ rule line q. refusal.built_in b c.in-Some-built_in.ensures.some q) c.finish.ensures.breaks
+
+pub call_of-requires : goal.call_of-requires
+call_of-requires c = c.args.given.now.numbered.below c.args.name c.in-Some.number (sym c.find.ensures ∙ c.in-Some.is)

@@ -7,8 +7,9 @@ pub returns-in-Some-clause-begins : goal.returns-in-Some-clause-begins
 returns-in-Some-clause-begins c =
     let types = c.args.walk.now.types in
     let l = c.as_slice.result.now in
-    let least : 1 ≤ length l = omega (arith, c.in-len1.len_at_least) in
-    let below : length l < 2 = omega (arith, c.in-len1.len_below) in
+    let one : length l ≡ 1 = ap length c.as_slice.ensures ∙ c.requires in
+    let least : 1 ≤ length l = omega (arith, one) in
+    let below : length l < 2 = omega (arith, one) in
     let subject : c.args.subject.now.types ≡ get_or l 0 0 ∷ [] = sym c.as_slice.ensures ∙ one_of_one l least below in
     let m = members_of _ _ c.in-Some.ensures.arms in
     record {

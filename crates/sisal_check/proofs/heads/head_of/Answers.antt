@@ -8,7 +8,7 @@ use Rattle.breaking_laws.specs.Broken.{Broken, Misnamed}
 use Rattle.breaking_laws.specs.Refusals.{IsUnnamed}
 use Rattle.breaking_laws.proofs.FParts.{error_of_breaks}
 use Rattle.sisal_check.specs.Walked.{given_of, IsArrayHead, IsErrorHead}
-use Rattle.sisal_check.proofs.Forms.{faults_weaker, passed_on, same_kind, replace_head, arrays_head, unnamed, array_named, stream_named, record_named, union_named}
+use Rattle.sisal_check.proofs.Forms.{faults_weaker, passed_on, same_kind, replace_head, arrays_head, unnamed, unnamed_form, unnamed_spelled, array_named, stream_named, record_named, union_named}
 use Rattle.sisal_check.proofs.heads.head_of.Goals as goal
 
 pub returns-in_err-type_of-in-Stream-clause-breaks : goal.returns-in_err-type_of-in-Stream-clause-breaks
@@ -89,3 +89,9 @@ returns-in-Array-clause-breaks c =
     faults_weaker c.array_of.result (λ rule line. IsUnnamed g.named c.in-Array.name c.args.line rule line) (λ rule line. Broken g f c.args.walk.now.names (at c.args.line c.args.kind.now) rule line)
     (λ rule line q. unnamed g f c.args.walk.now.names c.args.line c.args.kind.now _ c.in-Array.name c.holds.ensures c.in-Array.is (array_named c.in-Array.name c.in-Array.elements) rule line q)
     c.array_of.ensures.breaks
+
+pub returns-in_default-clause-head : goal.returns-in_default-clause-head
+returns-in_default-clause-head c = unnamed_form (given_of c.args.given.now) c.args.walk.now.types c.args.kind.now c.unnamed_head.result c.unnamed_head.ensures
+
+pub returns-in_default-clause-spelled : goal.returns-in_default-clause-spelled
+returns-in_default-clause-spelled c = unnamed_spelled c.args.given.now.spellings.now c.args.kind.now c.unnamed_head.result c.unnamed_head.ensures

@@ -1,5 +1,8 @@
-use Rattle.std.proofs.Common.{◌≡◌, map, refl, subst, ap, ◌∙◌}
-use Rattle.unit_types.specs.Headings.{has_body, given_functions}
+use Rattle.std.proofs.Common.{◌≡◌, length, map, refl, sym, subst, ap, ◌∙◌}
+use Rattle.std.proofs.lemmas.List.{length-map}
+use Rattle.unit_types.specs.Headings.{has_body, given_functions, heading_of, heading_in}
+use Rattle.sisal_check.proofs.Functions.{all_numbered}
+use Rattle.sisal_check.specs.Numbered.{AreNumbered}
 use Rattle.sisal_check.specs.Headed.{HaveFirst, head_at, head_in}
 use Rattle.sisal_check.proofs.Forms.{passed_on}
 use Rattle.sisal_check.proofs.Tops.{program_of, stands_of, unit_breaks}
@@ -33,3 +36,14 @@ returns-clause-standing c = λ text.
     stands_of c.functions.new.walk.types c.as_slice-4.result.now c.in_ok-functions.functions (c.in_ok-functions.ensures.typed c.new.ensures) u d.types d.named d.numbers d.functions d.defines
     (record { tokens = c.as_slice.ensures; spellings = c.as_slice-2.ensures; named_by = refl; functions = c.as_slice-3.ensures; numbers_by = refl })
     (c.in_ok-types.ensures.declares text.spelled) text c.in_ok-types.ensures.numbers c.in_ok-types.ensures.own.distinct c.in_ok-functions.ensures.used
+
+pub invariant_of-given : goal.invariant_of-given
+invariant_of-given c =
+    let d = c.in_ok-types.field-0 in
+    record { numbered = subst (λ hs. AreNumbered d.numbers (length hs)) (sym c.as_slice-3.ensures) (all_numbered d.functions d.numbers c.in_ok-types.ensures.numbers) }
+
+pub functions-requires : goal.functions-requires
+functions-requires c =
+    let d = c.in_ok-types.field-0 in
+    let given = given_functions c.args.unit.items in
+    ap (λ l. length (given_functions l)) c.as_slice-4.ensures ∙ sym (length-map given heading_of) ∙ sym (ap length c.in_ok-types.ensures.functions) ∙ length-map d.functions heading_in ∙ sym (ap length c.as_slice-3.ensures)
