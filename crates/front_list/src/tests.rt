@@ -13,6 +13,7 @@ fn items_are_added_and_taken_at_both_ends(rt: HostRuntime) -> Result<(), Fail> {
     assert_eq!(rt; list.pop(), Some(39));
     list.drop_first(37);
     list.truncate(5);
+    assert_eq!(rt; list.len(), 5);
     list.set(1, 7);
     assert_eq!(rt; list.as_slice(), [101, 7, 0, 1, 2].as_slice());
     assert_eq!(rt; list.into_item(2), 0);
