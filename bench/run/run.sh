@@ -1,8 +1,8 @@
 #!/bin/bash
 # Times the command `run` on ten small programs of known benchmarks beside the same programs in Python, whole commands in
-# turns, each but the last at a size at which Python takes 0.3 to 1 second (taking a stream apart is quadratic): nested sums, a product of matrices, escape times,
-# backtracking with appends, the relaxation of a vector in place, counting into places, a sort in place, a doubly recursive
-# function, records and unions through a loop, a stream taken apart. It prints seconds, the least of some rounds, without
+# turns, each at a size at which Python takes 0.3 to 1 second: nested sums, a product of matrices, escape times, backtracking
+# with appends, the relaxation of a vector in place, counting into places, a sort in place, a doubly recursive function,
+# records and unions through a loop, a stream taken apart. It prints seconds, the least of some rounds, without
 # the start (that of the size 1), and the ratio. Both must print the same. Run it at the top of the repository, on an idle
 # machine; the argument is the rounds.
 set -e
@@ -44,4 +44,4 @@ compare count 1500000
 compare sort 1800
 compare fib 28
 compare records 800000
-compare stream 20000
+compare stream 1000000
