@@ -1,12 +1,14 @@
-//! Makes the marks of the unit that an IF1 text on standard input gives, for a script to time. It prints
-//! how many edges may take and how many do, and then, to standard error, the nanoseconds that it took to
-//! read and check the text, and to make the marks.
+//! Makes the marks of the unit that an IF1 text on standard input gives, and checks them, for a script to
+//! time. It prints how many edges may take and how many do, or that the marks of the text are not sound;
+//! and then, to standard error, the nanoseconds that it took to read and check the text, to make the
+//! marks, and to check these, or those of the text where they are not sound.
 #![tactic(auto)]
 
 use flow_io::{ReaderSource, read_all};
 use if1_graph::If1Fault;
 use if1_read::read_if1;
 use if1_valid::{Ready, valid};
+use mark_check::check_marks;
 use mark_units::{Note, mark};
 use std::alloc::Global;
 use std::io;
@@ -46,13 +48,32 @@ fn main(rt: HostRuntime) -> io::Result<()> {
     };
     let read = begin.elapsed(&rt)?;
     let begin = Instant::now(&rt)?;
-    let Ok(marked) = mark(alloc, ready) else {
+    let given = check_marks(alloc, ready);
+    let looked = begin.elapsed(&rt)?;
+    let Ok(given) = given else {
+        println!(rt; "marks that are not sound")?;
+        eprintln!(rt; "{} 0 {}", read.as_nanos(), looked.as_nanos())?;
+        return Ok(());
+    };
+    let begin = Instant::now(&rt)?;
+    let Ok(marked) = mark(alloc, given.into_ready()) else {
         println!(rt; "no memory")?;
         return Ok(());
     };
     let made = begin.elapsed(&rt)?;
     let notes = marked.notes.as_slice();
     println!(rt; "{} edges may take, {} do", notes.len(), taken(notes))?;
-    eprintln!(rt; "{} {}", read.as_nanos(), made.as_nanos())?;
+    let begin = Instant::now(&rt)?;
+    let Ok(_) = check_marks(alloc, marked.sound.into_ready()) else {
+        println!(rt; "marks that were made are not sound")?;
+        return Ok(());
+    };
+    let checked = begin.elapsed(&rt)?;
+    eprintln!(rt;
+        "{} {} {}",
+        read.as_nanos(),
+        made.as_nanos(),
+        checked.as_nanos()
+    )?;
     Ok(())
 }
