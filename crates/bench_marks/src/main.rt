@@ -3,6 +3,8 @@
 //! read and check the text, and to make the marks.
 #![tactic(auto)]
 
+ghost use Rattle.std.specs.Prelude.{◌<◌, ◌^◌, length};
+
 use flow_io::{ReaderSource, read_all};
 use if1_graph::If1Fault;
 use if1_read::read_if1;
@@ -16,7 +18,9 @@ use take_marks::Why;
 /// The most bytes of a text.
 const MOST_BYTES: usize = 8388608;
 
-fn ready_of(alloc: Global, text: &[u8]) -> Result<Ready, If1Fault> {
+fn ready_of(alloc: Global, text: &[u8]) -> Result<Ready, If1Fault>
+    requires { length text.now < 2 ^ 32 }
+{
     let unit = read_if1(alloc, text)?;
     valid(alloc, unit)
 }

@@ -73,3 +73,4 @@ pub mod Edgewise
 pub mod Looking
 pub mod Paged
 pub mod Pagewise
+pub mod Shallow

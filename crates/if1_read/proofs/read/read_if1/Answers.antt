@@ -27,7 +27,7 @@ returns c =
     λ t. c.in_ok-names.ensures t ∙ ap (λ ls. has_name t (lines_of ls)) c.as_slice.ensures.value in
     let s = c.in_ok-entries.field-0 in
     let text = c.args.text.now in
-    let sorted : AreSortedOut (rows_of text) s = subst (λ rows. AreSortedOut rows s) c.in_ok-lines.ensures c.in_ok-entries.ensures.sorted in
+    let sorted : AreSortedOut (rows_of text) s = subst (λ rows. AreSortedOut rows s) c.in_ok-lines.ensures.rows c.in_ok-entries.ensures.sorted in
     let ended : IsAtEnd text k s c.in_ok-table.first m = record {
       sorted = sorted;
       table = c.in_ok-table.ensures.found;
@@ -47,7 +47,7 @@ returns c =
           let table_clean = c.in_ok-machine.ensures.clean w.clean in
           let lines_clean = c.in_ok-table.ensures.clean table_clean in
           assembled c.args.text.now c.in_ok-lines.lines (entries_of c.in_ok-entries.field-0.entries.items) (lines_of c.in_ok-entries.field-0.lines.items) k m u
-          c.in_ok-lines.ensures (c.in_ok-entries.ensures.read lines_clean) names sound (c.in_ok-table.ensures.table table_clean)
+          c.in_ok-lines.ensures.rows (c.in_ok-entries.ensures.read lines_clean) names sound (c.in_ok-table.ensures.table table_clean)
           (c.in_ok-machine.ensures.runs w.clean sound) w)
           c.whole.ensures.read;
       fault = fault;
