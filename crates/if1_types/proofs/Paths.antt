@@ -1,10 +1,10 @@
 -- An order of places, by paths.
-use Rattle.std.proofs.Common.{◌≡◌, ◌≢◌, ℕ, zero, suc, ◌+◌, ◌<◌, Bool, true, List, [], ◌∷◌, ◌++◌, length, take, get_or, set, false, reverse, ◌⊎◌, inl, inr, All, Contains, refl, sym, ap, ◌∙◌, subst, arith, append_assoc, not, true≢false}
+use Rattle.std.proofs.Common.{◌≡◌, ◌≢◌, ℕ, zero, suc, ◌+◌, ◌<◌, ◌≤◌, Bool, true, List, [], ◌∷◌, ◌++◌, length, replicate, take, get_or, set, false, reverse, ◌⊎◌, inl, inr, All, Contains, refl, sym, ap, ◌∙◌, subst, arith, append_assoc, not, true≢false}
 use Rattle.std.proofs.lemmas.Bool.{cases_lt, cases_eq}
-use Rattle.std.proofs.lemmas.List.{append-nil, reverse-append, length_push, get_or-set_other, get_or_append_left, get_or_push, take_at, take-append-le}
+use Rattle.std.proofs.lemmas.List.{length-append, length-reverse, append-nil, reverse-append, length_push, get_or-set_other, get_or_append_left, get_or_push, take_at, take-append-le}
 use Rattle.std.proofs.lemmas.List.Elements.{All-push, All-contains, Contains-push, Contains-append_left, Contains-append_right}
 use Rattle.if1_order.proofs.Members.{contains_here, contains_there, contains_cases, contains_none}
-use Rattle.if1_types.specs.Ways.{hop, hops, IsReady, ended, before, endless, AreLaid, IsPath, IsMet, Follows}
+use Rattle.if1_types.specs.Ways.{hop, hops, IsReady, ended, before, endless, AreLaid, IsPath, IsMet, unmet_in, Follows}
 
 -- ---- an order with one place more
 
@@ -91,10 +91,18 @@ path_closed next p xs q path inside meets (suc k) x h =
 
 -- ---- a place is met
 
--- how many places were not met is the measure of a walk
-abbrev pub freshness : Bool → ℕ
-freshness true = 0
-freshness false = 1
+pub unmet_set : (met : List Bool) (p : ℕ) → not (get_or met p true) ≡ true → suc (unmet_in (set met p true)) ≤ unmet_in met
+unmet_set [] p h = absurd (true≢false (sym h))
+unmet_set (true ∷ met) zero h = absurd (true≢false (sym h))
+unmet_set (false ∷ met) zero h = omega arith
+unmet_set (b ∷ met) (suc p) h = let e = unmet_set met p h in omega (arith, e)
+
+pub unmet_all : (n : ℕ) → unmet_in (replicate n false) ≡ n
+unmet_all zero = refl
+unmet_all (suc n) = omega (arith, unmet_all n)
+
+pub length_laid : (order path more : List ℕ) → more ≡ order ++ reverse path → length more ≡ length order + length path
+length_laid order path more is = omega (arith, ap length is, length-append order (reverse path), length-reverse path)
 
 pub fresh_in : (met : List Bool) (p : ℕ) → not (get_or met p true) ≡ true → p < length met
 fresh_in [] p h = absurd (true≢false (sym h))
