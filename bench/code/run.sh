@@ -8,12 +8,7 @@ set -e
 rounds=${1:-5}
 build=$(mktemp -d)
 trap 'rm -rf "$build"' EXIT
-program=${BENCH_CODE:-}
-if [ -z "$program" ]; then
-    (cd crates/bench_code && rt run <stdin) >"$build/log" 2>&1 || { cat "$build/log" >&2; exit 1; }
-    program=$(find crates/bench_code/out -type f -perm -u+x -name 'bench_code*' | head -1)
-fi
-[ -x "$program" ] || { echo "no program bench_code in crates/bench_code/out: set BENCH_CODE" >&2; exit 1; }
+program=$(bench/built.sh bench_code)
 
 # least TEXT: the least times to read the text and to make the code, in nanoseconds, and the bytes of the code
 least() {

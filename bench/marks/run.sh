@@ -8,12 +8,7 @@ set -e
 rounds=${1:-5}
 build=$(mktemp -d)
 trap 'rm -rf "$build"' EXIT
-program=${BENCH_MARKS:-}
-if [ -z "$program" ]; then
-    (cd crates/bench_marks && rt run <stdin) >"$build/log" 2>&1 || { cat "$build/log" >&2; exit 1; }
-    program=$(find crates/bench_marks/out -type f -perm -u+x -name 'bench_marks*' | head -1)
-fi
-[ -x "$program" ] || { echo "no program bench_marks in crates/bench_marks/out: set BENCH_MARKS" >&2; exit 1; }
+program=$(bench/built.sh bench_marks)
 
 # least TEXT: the least times to read the text and to make the marks, in nanoseconds, and what the program printed
 least() {

@@ -36,8 +36,8 @@ LONGER = loop("for i in 1, 0 returns array of i end for", "array_size(s) < n", "
 
 
 def records(lines):
-    types = "".join(f"type T{i} = record[a, b: T{i - 1}]\n" for i in range(1, lines))
-    return f"define main\ntype T0 = integer\n{types}function main(r: T{lines - 1} returns integer)\n1\nend function\n"
+    types = "".join(f"type pair{i} = record[a, b: pair{i - 1}]\n" for i in range(1, lines))
+    return f"define main\ntype pair0 = integer\n{types}function main(r: pair{lines - 1} returns integer)\n1\nend function\n"
 
 
 def tags(count):

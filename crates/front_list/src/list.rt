@@ -7,7 +7,7 @@ use std::marker::Model;
 
 /// A list whose items lie side by side in one block, with room at both ends: to add or take an item at an end takes constant
 /// time, where room has to be made in proportion to the items, so that it does on the whole. Contracts see the list. It has
-/// at most 4,294,967,295 places.
+/// at most 4,294,967,295 places, and who asks for more is refused as for want of memory.
 pub struct FrontList<T> {
     row: Row<T>,
 }
