@@ -251,13 +251,13 @@ module _ (table : Table) (stores others : ℕ → Store) (hands after : Hands) (
   hand-of i key (inl free) = inl free
   hand-of i key (inr h) = inr ((1, i), h)
 
-  number-of-hand : (i j : ℕ) → (1, i) ≡ (1, j) → i ≡ j
-  number-of-hand i j e = ap (λ (z : Hand). z.1) e
+  same-number-in : (a b : Hand) → a ≡ b → a.1 ≡ b.1
+  same-number-in a b e = ap (λ (z : Hand). z.1) e
 
   once-of : (i j key : ℕ) → (others f).cell (l, i) ≡ Some (Kept key) → (others f).cell (l, j) ≡ Some (Kept key) → IsFree table stores hands key ⊎ HasInHand table hands f l (1, i) key → IsFree table stores hands key ⊎ HasInHand table hands f l (1, j) key → i ≡ j
   once-of i j key a b (inl free) c = w.copies_once i j key a b free
   once-of i j key a b (inr h) (inl free) = w.copies_once i j key a b free
-  once-of i j key a b (inr h) (inr k) = number-of-hand i j (st.once f l (1, i) f l (1, j) key h k).2
+  once-of i j key a b (inr h) (inr k) = same-number-in (1, i) (1, j) (st.once f l (1, i) f l (1, j) key h k).2
 
   outputs-filled-here : AreFilled table stores others hands after f l (λ a. eqb a.0 l)
   outputs-filled-here =

@@ -41,19 +41,19 @@ lends-takes e = absurd (clash e)
     clash : Lends ≡ Takes → ⊥
     clash e = cc
 
-own-gone : {P : Type 0} → Own ≡ Gone → P
+pub own-gone : {P : Type 0} → Own ≡ Gone → P
 own-gone e = absurd (clash e)
   where
     clash : Own ≡ Gone → ⊥
     clash e = cc
 
-borrowed-gone : {P : Type 0} → Borrowed ≡ Gone → P
+pub borrowed-gone : {P : Type 0} → Borrowed ≡ Gone → P
 borrowed-gone e = absurd (clash e)
   where
     clash : Borrowed ≡ Gone → ⊥
     clash e = cc
 
-and-left : (a b : Bool) → a && b ≡ true → a ≡ true
+pub and-left : (a b : Bool) → a && b ≡ true → a ≡ true
 and-left true b e = refl
 and-left false b e = absurd (clash e)
   where

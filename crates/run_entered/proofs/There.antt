@@ -1,5 +1,5 @@
 -- What a ready node reads is there.
-use Rattle.std.proofs.Common.{◌≡◌, ◌≢◌, ℕ, zero, suc, true, ◌⊎◌, List, All, Contains, Some, None, inl, inr, refl, sym, ap, ◌∙◌, subst, arith, ◌==◌}
+use Rattle.std.proofs.Common.{◌≡◌, ◌≢◌, ℕ, zero, suc, Bool, true, ◌⊎◌, List, All, Contains, Some, None, inl, inr, refl, sym, ap, ◌∙◌, subst, arith, ◌==◌}
 use Rattle.std.proofs.lemmas.List.Elements.{All-contains}
 use native.Mathlib.Decide.{ℕ_discrete}
 use Rattle.if1_graph.specs.declared.graph.Edge.{Edge}
@@ -126,7 +126,7 @@ operands-there cut u g ins is limit h table root f x p is-cut ready sound stands
 
 -- ---- the events
 
-module _ (table : Table) (stores : ℕ → Store) (homes : ℕ → Place) (wanted : ℕ → Port → Type 0) (ports : ArePortsThere table stores homes wanted) where
+module _ (table : Table) (stores : ℕ → Store) (homes : ℕ → Place) (wanted : ℕ → Port → Bool) (ports : ArePortsThere table stores homes wanted) where
   -- where a state changes, the taker of a port was claimed as before
   module _ (f l : ℕ) (x : Live) (s : State) (at : table f ≡ Some x) (not-waiting : s ≢ Waiting) where
     still-taken : (p : Place) (a : Port) → WasTaken p x a → WasTaken p (with_state x l s) a
@@ -155,13 +155,13 @@ module _ (table : Table) (stores : ℕ → Store) (homes : ℕ → Place) (wante
         go (no ne) = inr (ne, sym (put-other table f (Some (with_state x l s)) h ne) ∙ is)
 
     -- what the ports of the changed graph have
-    there-now : (others : ℕ → Store) → ((h : ℕ) → ¬ (h ≡ f) → others h ≡ stores h) → ((a : Port) → wanted f a → IsGiven (with_state x l s) a → ¬ WasTaken (homes f) (with_state x l s) a → (c : Cell) × ((others f).cell a ≡ Some c))
+    there-now : (others : ℕ → Store) → ((h : ℕ) → ¬ (h ≡ f) → others h ≡ stores h) → ((a : Port) → wanted f a ≡ true → IsGiven (with_state x l s) a → ¬ WasTaken (homes f) (with_state x l s) a → (c : Cell) × ((others f).cell a ≡ Some c))
         → ArePortsThere (put table f (Some (with_state x l s))) others homes wanted
     there-now others same own h y a is want given taken = go (row h y is)
       where
         go : ((h ≡ f) × (with_state x l s ≡ y)) ⊎ ((¬ (h ≡ f)) × (table h ≡ Some y)) → (c : Cell) × ((others h).cell a ≡ Some c)
         go (inl q) =
-            let c = own a (subst (λ z. wanted z a) q.0 want) (subst (λ z. IsGiven z a) (sym q.1) given) (λ w. taken (subst (λ z. WasTaken (homes h) z a) q.1 (subst (λ z. WasTaken (homes z) (with_state x l s) a) (sym q.0) w))) in
+            let c = own a (subst (λ z. wanted z a ≡ true) q.0 want) (subst (λ z. IsGiven z a) (sym q.1) given) (λ w. taken (subst (λ z. WasTaken (homes h) z a) q.1 (subst (λ z. WasTaken (homes z) (with_state x l s) a) (sym q.0) w))) in
             (c.0, ap (λ z. (others z).cell a) q.0 ∙ c.1)
         go (inr q) = let c = ports h y a q.1 want given taken in (c.0, ap (λ z. z.cell a) (same h q.0) ∙ c.1)
 
@@ -174,10 +174,10 @@ module _ (table : Table) (stores : ℕ → Store) (homes : ℕ → Place) (wante
   done-waiting e = waiting-done (sym e)
 
   there-done : (others : ℕ → Store) (f l : ℕ) (x : Live) → table f ≡ Some x → ((h : ℕ) → ¬ (h ≡ f) → others h ≡ stores h) → ((a : Port) → ¬ (a.0 ≡ l) → (others f).cell a ≡ (stores f).cell a)
-      → ((a : Port) → a.0 ≡ l → wanted f a → (c : Cell) × ((others f).cell a ≡ Some c)) → ArePortsThere (put table f (Some (with_state x l Done))) others homes wanted
+      → ((a : Port) → a.0 ≡ l → wanted f a ≡ true → (c : Cell) × ((others f).cell a ≡ Some c)) → ArePortsThere (put table f (Some (with_state x l Done))) others homes wanted
   there-done others f l x at same cells filled = there-now f l x Done at done-waiting others same own
     where
-      own : (a : Port) → wanted f a → IsGiven (with_state x l Done) a → ¬ WasTaken (homes f) (with_state x l Done) a → (c : Cell) × ((others f).cell a ≡ Some c)
+      own : (a : Port) → wanted f a ≡ true → IsGiven (with_state x l Done) a → ¬ WasTaken (homes f) (with_state x l Done) a → (c : Cell) × ((others f).cell a ≡ Some c)
       own a want given taken = go (ℕ_discrete a.0 l)
         where
           go : Dec (a.0 ≡ l) → (c : Cell) × ((others f).cell a ≡ Some c)
@@ -199,18 +199,18 @@ module _ (table : Table) (stores : ℕ → Store) (homes : ℕ → Place) (wante
               absurd (taken (subst (λ z. WasTaken (homes h) z a) live (subst (λ z. WasTaken (homes z) x a) (sym e) w)))
       go (no ne) = let c = ports h y a is want given taken in (c.0, ap (λ z. z.cell a) (same h ne) ∙ c.1)
 
-  there-added : (others : ℕ → Store) (later : ℕ → Place) (more : ℕ → Port → Type 0) (g : ℕ) (y : Live) → ((h : ℕ) → ¬ (h ≡ g) → (others h ≡ stores h) × (later h ≡ homes h) × ((a : Port) → more h a → wanted h a))
-      → ((l : ℕ) → y.states l ≡ Waiting) → ((i : ℕ) → more g (0, i) → (c : Cell) × ((others g).cell (0, i) ≡ Some c)) → ArePortsThere (put table g (Some y)) others later more
+  there-added : (others : ℕ → Store) (later : ℕ → Place) (more : ℕ → Port → Bool) (g : ℕ) (y : Live) → ((h : ℕ) → ¬ (h ≡ g) → (others h ≡ stores h) × (later h ≡ homes h) × ((a : Port) → more h a ≡ true → wanted h a ≡ true))
+      → ((l : ℕ) → y.states l ≡ Waiting) → ((i : ℕ) → more g (0, i) ≡ true → (c : Cell) × ((others g).cell (0, i) ≡ Some c)) → ArePortsThere (put table g (Some y)) others later more
   there-added others later more g y same fresh inputs h z a is want given taken = go (ℕ_discrete h g)
     where
-      own : (b : Port) → more g b → IsGiven y b → (c : Cell) × ((others g).cell b ≡ Some c)
+      own : (b : Port) → more g b ≡ true → IsGiven y b → (c : Cell) × ((others g).cell b ≡ Some c)
       own (zero, i) want given = inputs i want
       own (suc m, i) want given = waiting-done (sym (fresh (suc m)) ∙ given)
 
       go : Dec (h ≡ g) → (c : Cell) × ((others h).cell a ≡ Some c)
       go (yes e) =
           let live : y ≡ z = some-same y z (sym (ap (put table g (Some y)) e ∙ put-same table g (Some y)) ∙ is) in
-          let c = own a (subst (λ z. more z a) e want) (subst (λ z. IsGiven z a) (sym live) given) in
+          let c = own a (subst (λ z. more z a ≡ true) e want) (subst (λ z. IsGiven z a) (sym live) given) in
           (c.0, ap (λ z. (others z).cell a) e ∙ c.1)
       go (no ne) =
           let q = same h ne in

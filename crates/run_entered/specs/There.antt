@@ -1,5 +1,5 @@
 -- What is there to be read: a port to which something was given has it until its taker is claimed.
-use Rattle.std.specs.Prelude.{◌≡◌, ◌≢◌, ℕ, zero, suc, true, ◌⊎◌, List, Contains, Some, None}
+use Rattle.std.specs.Prelude.{◌≡◌, ◌≢◌, ℕ, zero, suc, Bool, true, ◌⊎◌, List, Contains, Some, None}
 use Rattle.if1_graph.specs.declared.graph.Edge.{Edge}
 use Rattle.if1_graph.specs.declared.graph.Graph.TheViews.{out-Graph}
 use Rattle.if1_graph.specs.declared.graph.Origin.TheVariants as origin
@@ -39,9 +39,9 @@ WasTaken p x a = (l : ℕ) × IsTaker p x a l × ¬ (x.states l ≡ Waiting)
 
 -- Of each live graph, with the place where it stands in the unit, each of these ports has something once it is given, until its taker is
 -- claimed. An input that is gone, or whose values are folded, is none of them.
-abbrev pub ArePortsThere : Table → (ℕ → Store) → (ℕ → Place) → (ℕ → Port → Type 0) → Type 0
+abbrev pub ArePortsThere : Table → (ℕ → Store) → (ℕ → Place) → (ℕ → Port → Bool) → Type 0
 ArePortsThere table stores homes wanted =
-    (f : ℕ) (x : Live) (a : Port) → table f ≡ Some x → wanted f a → IsGiven x a → ¬ WasTaken (homes f) x a → (c : Cell) × ((stores f).cell a ≡ Some c)
+    (f : ℕ) (x : Live) (a : Port) → table f ≡ Some x → wanted f a ≡ true → IsGiven x a → ¬ WasTaken (homes f) x a → (c : Cell) × ((stores f).cell a ≡ Some c)
 
 -- ---- laws
 
@@ -63,7 +63,7 @@ AreOperandsThere = (cut : Cut) (u : Unit1) (g : ℕ) (ins is : List Carried) (li
     → AreEndsThere p x e a
 
 -- So it is after each event.
-pub record IsThereKept (table : Table) (stores : ℕ → Store) (homes : ℕ → Place) (wanted : ℕ → Port → Type 0) : Type 0 where
+pub record IsThereKept (table : Table) (stores : ℕ → Store) (homes : ℕ → Place) (wanted : ℕ → Port → Bool) : Type 0 where
   -- a node is claimed, or goes on
   pub moved : (f l : ℕ) (x : Live) (s : State) → table f ≡ Some x → s ≢ Done → s ≢ Waiting → ArePortsThere (put table f (Some (with_state x l s))) stores homes wanted
   -- ports are emptied whose takers were claimed
@@ -73,15 +73,15 @@ pub record IsThereKept (table : Table) (stores : ℕ → Store) (homes : ℕ →
   -- a node is done, and its ports are filled
   pub done : (others : ℕ → Store) (f l : ℕ) (x : Live) → table f ≡ Some x → ((h : ℕ) → ¬ (h ≡ f) → others h ≡ stores h)
       → ((a : Port) → ¬ (a.0 ≡ l) → (others f).cell a ≡ (stores f).cell a)
-      → ((a : Port) → a.0 ≡ l → wanted f a → (c : Cell) × ((others f).cell a ≡ Some c))
+      → ((a : Port) → a.0 ≡ l → wanted f a ≡ true → (c : Cell) × ((others f).cell a ≡ Some c))
       → ArePortsThere (put table f (Some (with_state x l Done))) others homes wanted
   -- a graph is added whose inputs are there
-  pub added : (others : ℕ → Store) (later : ℕ → Place) (more : ℕ → Port → Type 0) (g : ℕ) (y : Live) → ((h : ℕ) → ¬ (h ≡ g) → (others h ≡ stores h) × (later h ≡ homes h) × ((a : Port) → more h a → wanted h a))
+  pub added : (others : ℕ → Store) (later : ℕ → Place) (more : ℕ → Port → Bool) (g : ℕ) (y : Live) → ((h : ℕ) → ¬ (h ≡ g) → (others h ≡ stores h) × (later h ≡ homes h) × ((a : Port) → more h a ≡ true → wanted h a ≡ true))
       → ((l : ℕ) → y.states l ≡ Waiting)
-      → ((i : ℕ) → more g (0, i) → (c : Cell) × ((others g).cell (0, i) ≡ Some c))
+      → ((i : ℕ) → more g (0, i) ≡ true → (c : Cell) × ((others g).cell (0, i) ≡ Some c))
       → ArePortsThere (put table g (Some y)) others later more
   -- a graph is left
   pub left : (g : ℕ) → ArePortsThere (put table g None) stores homes wanted
 
 abbrev pub IsAllThereKept : Type 0
-IsAllThereKept = (table : Table) (stores : ℕ → Store) (homes : ℕ → Place) (wanted : ℕ → Port → Type 0) → ArePortsThere table stores homes wanted → IsThereKept table stores homes wanted
+IsAllThereKept = (table : Table) (stores : ℕ → Store) (homes : ℕ → Place) (wanted : ℕ → Port → Bool) → ArePortsThere table stores homes wanted → IsThereKept table stores homes wanted

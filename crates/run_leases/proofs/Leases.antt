@@ -1,5 +1,5 @@
 -- No lease is out of what is taken, of a node, a slice or an AScatter.
-use Rattle.std.proofs.Common.{◌≡◌, ℕ, zero, suc, ◌+◌, ◌*◌, eqb, if◌then◌else◌, Bool, true, false, List, [], ◌∷◌, inl, inr, Option, Some, None, refl, sym, ap, ◌∙◌, subst, arith}
+use Rattle.std.proofs.Common.{◌≡◌, ℕ, zero, suc, ◌+◌, ◌*◌, eqb, if◌then◌else◌, Bool, true, false, List, [], ◌∷◌, ◌⊎◌, inl, inr, Option, Some, None, refl, sym, ap, ◌∙◌, subst, arith}
 use Rattle.std.proofs.lemmas.Bool.{eqb-true, eq-eqb}
 use Rattle.graph_meaning.specs.Entered.{Item, Node, Entry, Slice, Leave, Inside, IsIn}
 use Rattle.graph_meaning.specs.Histories.{Run, is_item, is_yes, dec_item}
@@ -17,12 +17,17 @@ use Rattle.run_leases.proofs.Sums.{nodes-none, nodes-same}
 
 -- ---- numbers
 
+times-zero : (a : ℕ) → a * 0 ≡ 0
+times-zero a = omega arith
+
+zero-times : (b : ℕ) → 0 * b ≡ 0
+zero-times b = omega arith
+
 no-product : (a b : ℕ) → b ≡ 0 → a * b ≡ 0
-no-product zero b e = refl
-no-product (suc a) b e = no-sum b (a * b) e (no-product a b e)
+no-product a b e = ap (λ z. a * z) e ∙ times-zero a
 
 none-times : (a b : ℕ) → a ≡ 0 → a * b ≡ 0
-none-times a b e = ap (λ z. z * b) e
+none-times a b e = ap (λ z. z * b) e ∙ zero-times b
 
 no-times : (key : ℕ) (ks : List ℕ) → ¬ IsKeyIn key ks → times key ks ≡ 0
 no-times key [] n = refl
@@ -41,11 +46,11 @@ if-work n (GoingOn k os) h = h tt
 if-work n Done h = refl
 
 by-slices : (n : ℕ) (s : State) → (IsAtWork s → n ≡ 0) → slices_out s * n ≡ 0
-by-slices n Waiting h = refl
-by-slices n Claimed h = refl
-by-slices n (Within k g) h = refl
+by-slices n Waiting h = zero-times n
+by-slices n Claimed h = zero-times n
+by-slices n (Within k g) h = zero-times n
 by-slices n (GoingOn k os) h = no-product (slices_in os) n (h tt)
-by-slices n Done h = refl
+by-slices n Done h = zero-times n
 
 -- ---- nothing is out
 
