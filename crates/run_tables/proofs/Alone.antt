@@ -26,22 +26,22 @@ module _ (run : Run) (limit : ℕ) where
   finished-claimed (Claim v j ∷ h) g i e = or-more j (is_claimed h) i (finished-claimed h g.0 i e)
   finished-claimed (Idle v ∷ h) g i e = finished-claimed h g.0 i e
   finished-claimed (Ended v k ∷ h) g i e = finished-claimed h g.0 i e
-  finished-claimed (Finish v j o ∷ h) g i e = go (or-cases j (is_finished h) i e)
+  finished-claimed (Finish v j o ∷ h) g i e = go (or-cases j (is_finished h) i e) (finished-claimed h g.0 i)
     where
-      go : (j ≡ i) ⊎ (is_finished h i ≡ true) → is_claimed h i ≡ true
-      go (inl q) = subst (λ z. is_claimed h z ≡ true) q (claimed-by h v j g.1.0)
-      go (inr q) = finished-claimed h g.0 i q
+      go : (j ≡ i) ⊎ (is_finished h i ≡ true) → (is_finished h i ≡ true → is_claimed h i ≡ true) → is_claimed h i ≡ true
+      go (inl q) rec = subst (λ z. is_claimed h z ≡ true) q (claimed-by h v j g.1.0)
+      go (inr q) rec = rec q
 
   pub claimed-exists : (h : History) → Legal run limit h → (i : Item) → is_claimed h i ≡ true → Exists run i
   claimed-exists [] g i e = absurd (never e)
     where
       never : false ≡ true → ⊥
       never e = cc
-  claimed-exists (Claim v j ∷ h) g i e = go (or-cases j (is_claimed h) i e)
+  claimed-exists (Claim v j ∷ h) g i e = go (or-cases j (is_claimed h) i e) (claimed-exists h g.0 i)
     where
-      go : (j ≡ i) ⊎ (is_claimed h i ≡ true) → Exists run i
-      go (inl q) = subst (Exists run) q g.1.1.0
-      go (inr q) = claimed-exists h g.0 i q
+      go : (j ≡ i) ⊎ (is_claimed h i ≡ true) → (is_claimed h i ≡ true → Exists run i) → Exists run i
+      go (inl q) rec = subst (Exists run) q g.1.1.0
+      go (inr q) rec = rec q
   claimed-exists (Idle v ∷ h) g i e = claimed-exists h g.0 i e
   claimed-exists (Ended v k ∷ h) g i e = claimed-exists h g.0 i e
   claimed-exists (Finish v j o ∷ h) g i e = claimed-exists h g.0 i e
@@ -75,23 +75,29 @@ module _ (run : Run) (limit : ℕ) where
         may-finish : (k : History) (i : Item) (o : Outcome) → Legal run limit k → is_claimed k i ≡ false → Gives run limit i o → Allowed run limit (Claim w i ∷ k) (Finish w i o)
         may-finish k i o g un gs = (inl (refl, refl), not-true (is_finished k i) (λ e. clash (is_claimed k i) (finished-claimed k g i e) un), gs)
 
-        to-end : (fuel n : ℕ) (k : History) → Rounds run limit w h n k → Legal run limit k → IsSettled k → bound < claims_in k + fuel → Ends
+        abbrev OnFrom : ℕ → Type 0
+        OnFrom fuel = (n : ℕ) (k : History) → Rounds run limit w h n k → Legal run limit k → IsSettled k → bound < claims_in k + fuel → Ends
+
+        to-end : (fuel : ℕ) → OnFrom fuel
         to-end zero n k r g settled lt = absurd (let x = few k g in omega (arith, x, lt))
-        to-end (suc fuel) n k r g settled lt = by (decided k g)
+        to-end (suc fuel) n k r g settled lt = by (decided k g) (to-end fuel)
           where
             ended-next : (i : Item) → Claimable run k i → IsOn run limit k → limit < early i + count k → ComesToEnd run limit w k
             ended-next i can on over = inr ((g, inr (on, (i, can, over))), ((TurnLimit, inr (on, refl)), λ j e. settled j e))
 
-            goes : (i : Item) → Claimable run k i → IsOn run limit k → Dec (early i + count k ≤ limit) → Ends
-            goes i can on (yes le) =
+            goes : (i : Item) → Claimable run k i → IsOn run limit k → Dec (early i + count k ≤ limit) → OnFrom fuel → Ends
+            goes i can on (yes le) rec =
                 let o = gives i can.0 in
                 let a = may-finish k i o.0 g can.1 o.1 in
-                to-end fuel (suc n) (Finish w i o.0 ∷ Claim w i ∷ k) (round n k i o.0 r (on, can, le) a) ((g, (on, can, le)), a) (still-settled k i o.0 settled) (omega (arith, lt))
-            goes i can on (no over) = (n, k, r, ended-next i can on (omega (arith, over)))
+                rec (suc n) (Finish w i o.0 ∷ Claim w i ∷ k) (round n k i o.0 r (on, can, le) a) ((g, (on, can, le)), a) (still-settled k i o.0 settled) (one-more (claims_in k) fuel lt)
+              where
+                one-more : (c fuel : ℕ) → bound < c + suc fuel → bound < 1 + c + fuel
+                one-more c fuel a = omega (arith, a)
+            goes i can on (no over) rec = (n, k, r, ended-next i can on (omega (arith, over)))
 
-            by : ((e : EndKind) × HasEnded run limit k e) ⊎ IsOn run limit k → Ends
-            by (inl e) = (n, k, r, inl (e, settled))
-            by (inr on) = let i = stuck.some_item k g on settled in goes i.0 i.1 on (dec_le (early i.0 + count k) limit)
+            by : ((e : EndKind) × HasEnded run limit k e) ⊎ IsOn run limit k → OnFrom fuel → Ends
+            by (inl e) rec = (n, k, r, inl (e, settled))
+            by (inr on) rec = let i = stuck.some_item k g on settled in goes i.0 i.1 on (dec_le (early i.0 + count k) limit) rec
 
         pub comes-to-end : IsSettled h → Ends
         comes-to-end settled = to-end (suc bound) 0 h none legal settled (omega arith)

@@ -34,7 +34,7 @@ use Rattle.run_states.proofs.Users.{users-done}
 use Rattle.run_states.proofs.Values.{whole-leaves}
 use Rattle.run_tables.specs.Known.{HaveSameItems, IsInside, IsGoingOn, IsKnownAs, IsKnown, AreKnown}
 use Rattle.run_tables.specs.Followed.{HasTable, AreTablesThere}
-use Rattle.run_tables.proofs.Kinds.{kind, only-leaving, only-own, among-slices}
+use Rattle.run_tables.proofs.Owned.{kind, only-leaving, only-own, among-slices}
 use Rattle.run_tables.proofs.Carried.{operands-of, results-of, fired}
 use Rattle.run_tables.proofs.Rows.{OpenRow, open-row, among?}
 use Rattle.run_tables.proofs.Alone.{claimed-by, claimed-exists}
@@ -172,13 +172,13 @@ unfinished (o ∷ os) = go o.1 refl (unfinished os)
     go Taken e r = inl (o.0, (o.1, inl (refl, refl), λ q. taken-finished (sym e ∙ q)))
     go Finished e r = abbrev-of r e
 
+same-opening : (o q : Item × Status) → o.0 ≡ q.0 → o.1 ≡ q.1 → o ≡ q
+same-opening (a, c) (b, d) x y = ap (λ z. (z, c)) x ∙ ap (λ z. (b, z)) y
+
 -- where one item is to stand, it is the one
 pub alone-stands : (i e : Item) (s t : Status) (os : Opens) → HaveSameItems os ((e, s) ∷ []) → Stands i t os → (i ≡ e) × (os ≡ (e, t) ∷ [])
 alone-stands i e s t [] h a = absurd a
-alone-stands i e s t (o ∷ []) h (inl a) = (a.0 ∙ h.0, ap (λ z. z ∷ []) (pair o.0 e o.1 t h.0 (sym a.1)))
-  where
-    pair : (a b : Item) (c d : Status) → a ≡ b → c ≡ d → (a, c) ≡ (b, d)
-    pair a b c d p q = ap (λ z. (z, c)) p ∙ ap (λ z. (b, z)) q
+alone-stands i e s t (o ∷ []) h (inl a) = (a.0 ∙ h.0, ap (λ z. z ∷ []) (same-opening o (e, t) h.0 (sym a.1)))
 alone-stands i e s t (o ∷ []) h (inr a) = absurd a
 alone-stands i e s t (o ∷ (q ∷ os)) h a = absurd h.1
 

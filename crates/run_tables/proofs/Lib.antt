@@ -1,4 +1,4 @@
-pub mod Kinds
+pub mod Owned
 pub mod Carried
 pub mod Sliced
 pub mod Rows

@@ -23,7 +23,7 @@ use Rattle.run_states.proofs.Ready.{at-least}
 use Rattle.run_states.proofs.Stated.{nodes-of-runs, steps-of-runs}
 use Rattle.run_states.proofs.Values.{whole-leaves}
 use Rattle.run_tables.specs.Known.{HaveSameItems, IsInside, IsGoingOn, IsKnownAs, IsKnown, AreKnown}
-use Rattle.run_tables.proofs.Kinds.{Kind as KindOf, kind, among-ranges, only-leaving, only-own, among-slices}
+use Rattle.run_tables.proofs.Owned.{Kind as KindOf, kind, among-ranges, only-leaving, only-own, among-slices}
 use Rattle.run_tables.proofs.Carried.{operands-of, results-of, fired}
 use Rattle.run_tables.proofs.Rows.{among?}
 use Rattle.run_tables.proofs.Sliced.{all-gathered}
@@ -261,7 +261,7 @@ module _ (cut : Cut) (u : Network) (g : ℕ) (ins : List Carried) (is-cut : IsCu
         by-first (Skips rs) q = skips-after rs q
         by-first (Begins j js stage) q = begins-after j js stage q
 
-      by-kind : (k : Kind) → V.0.kind ≡ k → Next-of
+      pub by-kind : (k : Kind) → V.0.kind ≡ k → Next-of
       by-kind (Plain row shape) q = simple-after row shape q
       by-kind (Whole form) q = by-first form q (first form (given form q).0) refl
 
@@ -341,8 +341,8 @@ module _ (cut : Cut) (u : Network) (g : ℕ) (ins : List Carried) (is-cut : IsCu
           a-slice : (i : Item) → IsAmong i os → (q : ℕ) × (i ≡ Slice l k q)
           a-slice i a = range-slice l k 0 (length (cut (row ∷ rows))) i (among-items os (ranges l k 0 (length (cut (row ∷ rows)))) items i a)
 
-          not-last : ¬ (e ≡ x.last l)
-          not-last q = let s = a-slice e (Taken, taken) in slice-leave l k s.0 l (sym s.1 ∙ (q ∙ compound-last))
+          slice-not-last : ¬ (e ≡ x.last l)
+          slice-not-last q = let s = a-slice e (Taken, taken) in slice-leave l k s.0 l (sym s.1 ∙ (q ∙ compound-last))
 
           too-far : suc k ≤ k → ⊥
           too-far a = omega (arith, a)
@@ -355,7 +355,7 @@ module _ (cut : Cut) (u : Network) (g : ℕ) (ins : List Carried) (is-cut : IsCu
           more-after some =
               record {
                 table = put table f (Some (with_state x l (GoingOn k (mark e Finished os))));
-                  stands = kept.a_slice k os is (Taken, taken) not-last some;
+                  stands = kept.a_slice k os is (Taken, taken) slice-not-last some;
                 busy = (busy-kept table f l x (GoingOn k (mark e Finished os)) busy (λ n. (l, in-x, λ q. going-done k (mark e Finished os) (sym (set-same x.states l (GoingOn k (mark e Finished os))) ∙ q)))).0;
                 known =
                     put-known cut u g ins table f (with_state x l (GoingOn k (mark e Finished os))) known
@@ -377,8 +377,8 @@ module _ (cut : Cut) (u : Network) (g : ℕ) (ins : List Carried) (is-cut : IsCu
                 go (yes q) = made-own i q
                 go (no ne) = finished a.0 a.1 (unmarked-stands i a.0 os ne a.1)
 
-            to-here : IsMadeTo x.run (tests_at x.path (also x e m)) l (suc k)
-            to-here i ex lab less = go (at-least k i)
+            slices-to-here : IsMadeTo x.run (tests_at x.path (also x e m)) l (suc k)
+            slices-to-here i ex lab less = go (at-least k i)
               where
                 go : Dec (AtLeast k i) → tests_at x.path (also x e m) i ≡ true
                 go (no n) = made-before i (goes-as.0 i ex lab n)
@@ -398,7 +398,7 @@ module _ (cut : Cut) (u : Network) (g : ℕ) (ins : List Carried) (is-cut : IsCu
             last-after : Next-of
             last-after =
                 going-after k G.form G.operands G.whole (gather G.form G.operands ms lists.0) (subst (λ z. Comes u G.form G.operands z (gather G.form G.operands ms lists.0)) (sym G.step) (iterates G.before j row rows ms lists.0 came lists.1))
-                no-inside to-here later goes-as.5 not-last
+                no-inside slices-to-here later goes-as.5 slice-not-last
 
           slice-after : Next-of
           slice-after = go (unfinished (mark e Finished os))
@@ -407,7 +407,7 @@ module _ (cut : Cut) (u : Network) (g : ℕ) (ins : List Carried) (is-cut : IsCu
               go (inl some) = more-after some
               go (inr all) = last-after all
 
-      further-after : ((r n : ℕ) → tests_at x.path (also x e m) (Slice l k r) ≡ true → (q : ℕ) × OwnFirings (λ d. tree cut d u K.graph K.inputs) (Slice l k r) q) → Next-of
+      pub further-after : ((r n : ℕ) → tests_at x.path (also x e m) (Slice l k r) ≡ true → (q : ℕ) × OwnFirings (λ d. tree cut d u K.graph K.inputs) (Slice l k r) q) → Next-of
       further-after fired-slices = go G.next G.comes G.items
         where
           go : (next : Next) → Comes u G.form G.operands G.before next → HaveSameItems os (opens_of cut l k next) → Next-of
