@@ -1,17 +1,13 @@
 -- Graphs that are entered and left, by the modes and the marks.
-use Rattle.std.proofs.Common.{◌≡◌, ◌≢◌, ℕ, zero, suc, ◌≤◌, ◌<◌, eqb, Bool, true, false, find, Contains, ◌⊎◌, Some, None, inl, inr, refl, sym, ap, ◌∙◌, subst, arith, ◌==◌, ◌&&◌}
+use Rattle.std.proofs.Common.{◌≡◌, ◌≢◌, ℕ, zero, suc, ◌≤◌, ◌<◌, eqb, true, false, Contains, ◌⊎◌, Some, inl, inr, refl, sym, ap, ◌∙◌, subst, arith, ◌==◌, ◌&&◌}
 use Rattle.std.proofs.lemmas.Bool.{eqb-true, eq-eqb}
 use Rattle.std.proofs.lemmas.List.Elements.{All-contains}
-use native.Mathlib.Decide.{ℕ_discrete}
-use Rattle.if1_graph.specs.declared.graph.Edge.{Edge}
-use Rattle.if1_graph.specs.declared.graph.Graph.{Graph}
 use Rattle.if1_graph.specs.declared.graph.Graph.TheViews.{out-Graph}
-use Rattle.if1_graph.specs.declared.graph.Node.{Node, out-Node}
 use Rattle.if1_graph.specs.declared.graph.Origin.TheVariants as origin
 use Rattle.if1_graph.specs.declared.graph.Unit1.{Unit1}
 use Rattle.if1_graph.specs.declared.op.Part.{Part}
 use Rattle.if1_graph.specs.declared.op.Part.TheVariants as part
-use Rattle.if1_graph.specs.Units.{label_of, node_at, edge_into, width, Place, places, number_of, Function, Inside}
+use Rattle.if1_graph.specs.Units.{label_of, edge_into, width, Place, places, number_of, Function, Inside}
 use Rattle.if1_marks.specs.Owned.{is_owned}
 use Rattle.if1_marks.specs.Sound.{IsSound, IsTakerRight, AreMarksRight}
 use Rattle.if1_marks.proofs.Taken.{taken-once}
@@ -19,15 +15,14 @@ use Rattle.if1_marks.proofs.Tests.{same-number}
 use Rattle.graph_meaning.specs.StorageUnits.{storage_of, takes}
 use Rattle.graph_meaning.proofs.Lists.{found-in}
 use Rattle.run_states.specs.Standing.{Live, Table}
-use Rattle.run_states.specs.Storing.{Cell, Kept, Port, Owning, Owned, Lent, Store, IsRead}
-use Rattle.run_states.proofs.Lookups.{some-same}
+use Rattle.run_states.specs.Storing.{Kept, Port, Owned, Lent, Store, IsRead}
 use Rattle.run_storage.specs.Marked.{AreReadsOf}
 use Rattle.run_storage.proofs.Owning.{and-right, true-not-false}
-use Rattle.run_hands.specs.Hands.{Hand, Hands, HasInHand, IsFree, HandsStand, IsAtHand, AreFilled, IsEntered, IsTakenOver}
-use Rattle.run_hands.proofs.Hands.{none-cell, none-key, owned-lent, not-another}
-use Rattle.run_entered.specs.Modes.{Mode, Takes, Copies, Lends, Input, Own, Borrowed, Gone, into_owner, into_selector, into_later, into_part, mode_of, AreModesRight}
-use Rattle.run_entered.specs.Handing.{IsFromPort, AreInputsBy, AreHandsLeft, IsEnteredRight, AreEnteredByModes, AreAllEnteredByModes, IsResultTaken, CameFrom, had, of_result, of_input, copied, AreResultsBy, AreLeftByMarks, AreOutputsBy, AreOutputsFilled}
-use Rattle.run_entered.proofs.Modes.{modes-right, own-gone, borrowed-gone, and-left}
+use Rattle.run_hands.specs.Hands.{Hand, Hands, HasInHand, IsFree, HandsStand, IsAtHand, AreFilled, IsTakenOver}
+use Rattle.run_hands.proofs.Hands.{none-cell, none-key, owned-lent}
+use Rattle.run_entered.specs.Modes.{Mode, Takes, Input, Own, Borrowed, Gone, into_owner, into_selector, into_later, into_part, mode_of, AreModesRight}
+use Rattle.run_entered.specs.Handing.{IsFromPort, AreInputsBy, AreHandsLeft, IsEnteredRight, AreAllEnteredByModes, IsResultTaken, CameFrom, had, of_result, of_input, copied, AreResultsBy, AreLeftByMarks, AreOutputsBy, AreOutputsFilled}
+use Rattle.run_entered.proofs.Modes.{modes-right, borrowed-gone, and-left}
 
 own-borrowed : {P : Type 0} → Own ≡ Borrowed → P
 own-borrowed e = absurd (clash e)
@@ -74,17 +69,16 @@ module _ (u : Unit1) (p : Place) (l first : ℕ) (port : ℕ → ℕ) (how : ℕ
     -- the port from which an input is lent is read by the node
     lender : (i key : ℕ) → how i ≡ Borrowed → IsFromPort p (stores f) l (port i) key → (b : Port) × IsRead b ((stores f).reads l) × ((stores f).cell b ≡ Some (Kept key))
     lender i key e s =
-        let found = found-in (λ z. (z.node == l) && (z.port == port i)) (out-Graph p.graph).edges s.edge s.into in
-        (
+        let found = found-in (λ z. (z.node == l) && (z.port == port i)) (out-Graph p.graph).edges s.edge s.into in (
           s.from,
           reads.all l s.from
-          (record {
-            edge = s.edge;
-            there = found.0;
-            node = same-number s.edge.node l (and-left (s.edge.node == l) (s.edge.port == port i) found.1);
-            from = s.origin;
-            takes = sym (ap takes s.into) ∙ untaken i e;
-          }),
+              (record {
+                edge = s.edge;
+                there = found.0;
+                node = same-number s.edge.node l (and-left (s.edge.node == l) (s.edge.port == port i) found.1);
+                from = s.origin;
+                takes = sym (ap takes s.into) ∙ untaken i e;
+              }),
           s.kept,
         )
 

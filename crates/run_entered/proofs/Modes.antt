@@ -1,5 +1,5 @@
 -- What a node does with its ports goes by the marks.
-use Rattle.std.proofs.Common.{◌≡◌, ◌≢◌, ℕ, zero, suc, ◌-◌, ◌≤◌, Bool, true, false, ◌&&◌, if◌then◌else◌, List, find, slice_get, Option, Some, None, Contains, refl, sym, ap, ◌∙◌, subst, arith, ◌==◌}
+use Rattle.std.proofs.Common.{◌≡◌, ◌≢◌, ℕ, zero, suc, ◌-◌, ◌≤◌, Bool, true, false, ◌&&◌, if◌then◌else◌, find, slice_get, Option, Some, None, Contains, refl, sym, ap, ◌∙◌, subst, arith, ◌==◌}
 use Rattle.std.proofs.lemmas.List.Elements.{All-contains}
 use Rattle.if1_graph.specs.declared.graph.Edge.{Edge}
 use Rattle.if1_graph.specs.declared.graph.Graph.{Graph}
@@ -26,8 +26,8 @@ use Rattle.if1_marks.proofs.Lent.{are-lent}
 use Rattle.if1_marks.proofs.Tests.{same-number}
 use Rattle.graph_meaning.proofs.Lists.{found-in}
 use Rattle.graph_meaning.specs.StorageUnits.{storage_of, takes, test_in}
-use Rattle.run_storage.proofs.Owning.{and-right, true-not-false, same, all-at, node-consumes}
-use Rattle.run_entered.specs.Modes.{Mode, Takes, Copies, Lends, mode_by, mode_of, Input, Own, Borrowed, Gone, into_owner, into_selector, into_later, into_part, AreModesRight, AreAllModesRight}
+use Rattle.run_storage.proofs.Owning.{and-right, true-not-false, same, all-at}
+use Rattle.run_entered.specs.Modes.{Mode, Takes, Copies, Lends, mode_by, mode_of, Own, Borrowed, Gone, into_owner, into_selector, into_later, into_part, AreAllModesRight}
 
 takes-copies : {P : Type 0} → Takes ≡ Copies → P
 takes-copies e = absurd (clash e)

@@ -1,5 +1,5 @@
 -- Which part a node enters, from the table of forms.
-use Rattle.std.proofs.Common.{◌≡◌, ℕ, zero, suc, if◌then◌else◌, pos, negsuc, Bool, true, false, List, [], ◌∷◌, ◌++◌, map, drop, slice_get, Option, Some, None, refl, sym, ap, ◌∙◌, subst}
+use Rattle.std.proofs.Common.{◌≡◌, ℕ, zero, suc, if◌then◌else◌, pos, negsuc, Bool, true, false, List, [], ◌∷◌, map, drop, slice_get, Option, Some, None, refl, sym, subst}
 use Rattle.flow_value.specs.declared.cause.Cause.{Cause}
 use Rattle.flow_value.specs.declared.cause.Cause.TheVariants as cause
 use Rattle.flow_value.specs.declared.value.Val.{Val}
@@ -7,18 +7,16 @@ use Rattle.flow_value.specs.declared.value.Val.TheOpen.{Val-F}
 use Rattle.flow_value.specs.declared.value.Val.TheViews as values
 use Rattle.if1_graph.specs.declared.graph.Graph.{Graph}
 use Rattle.if1_graph.specs.declared.graph.Graph.TheViews.{out-Graph}
-use Rattle.if1_graph.specs.declared.op.Compound.{Compound}
 use Rattle.if1_graph.specs.declared.op.Compound.TheVariants as compound
 use Rattle.if1_graph.specs.declared.op.Part.TheVariants as part
-use Rattle.graph_meaning.specs.Carried.{Carried, Value, val_of}
+use Rattle.graph_meaning.specs.Carried.{Carried, val_of}
 use Rattle.graph_meaning.specs.Forms.{Form, Call, Select, TagCase, LoopA, LoopB, ForAll, First, Begins, Skips, Next, Enter, Iterate, Leave, Stage, Called, Selecting, Chosen, Starting, Testing, Turning, Generating, Returning, errors, fails, enter_chosen, select, enter_arm, arm_in, arm_of, tested, first, follow, gather, spread, iterate, first_spoiled, are_as_long, rows_of, places_of, items, columns, turn_columns}
 use Rattle.graph_meaning.specs.Demand.{Network}
-use Rattle.graph_meaning.specs.Networks.{part, number_or_zero, form_of}
+use Rattle.graph_meaning.specs.Networks.{part, number_or_zero}
 use Rattle.run_states.specs.Phases.{Comes, skips, begins, enters, iterates}
 use Rattle.run_states.proofs.Lookups.{some-same}
-use Rattle.run_storage.specs.Lending.{BeginWith, IsOfArm}
 use Rattle.run_storage.proofs.Lending.{by-form, more, two, skips-not, whole-arm}
-use Rattle.run_entered.specs.Stages.{IsPartAt, IsIterated, IsWithValues, AreInputsAt, AreStagesTold, AreAllStagesTold, IsPartFor, ArePartsTold}
+use Rattle.run_entered.specs.Stages.{IsPartAt, IsIterated, AreInputsAt, AreAllStagesTold, ArePartsTold}
 
 -- what a node of this form does next it does with its own parts
 abbrev Fits : Form → List Carried → Next → Type 0

@@ -3,13 +3,12 @@ use Rattle.std.proofs.Common.{◌≡◌, ◌≢◌, ℕ, zero, suc, Bool, true, 
 use Rattle.std.proofs.lemmas.List.Elements.{All-contains}
 use native.Mathlib.Decide.{ℕ_discrete}
 use Rattle.if1_graph.specs.declared.graph.Edge.{Edge}
-use Rattle.if1_graph.specs.declared.graph.Graph.{Graph}
 use Rattle.if1_graph.specs.declared.graph.Graph.TheViews.{out-Graph}
 use Rattle.if1_graph.specs.declared.graph.Node.{Node, out-Node}
 use Rattle.if1_graph.specs.declared.graph.Origin.{Origin}
 use Rattle.if1_graph.specs.declared.graph.Origin.TheVariants as origin
 use Rattle.if1_graph.specs.declared.graph.Unit1.{Unit1}
-use Rattle.if1_graph.specs.Cycles.{IsFrom, Feeds}
+use Rattle.if1_graph.specs.Cycles.{IsFrom}
 use Rattle.if1_graph.specs.Formed.{IsGraph, IsNode}
 use Rattle.if1_graph.specs.Ports.{ArePortsRight}
 use Rattle.if1_graph.specs.Ready.{IsReady}
@@ -35,7 +34,7 @@ use Rattle.run_states.specs.Waiting.{WaitsIn, HasBegun}
 use Rattle.run_states.proofs.Lookups.{put-same, put-other, set-same, set-other, some-same, some-none}
 use Rattle.run_states.proofs.Users.{users-done}
 use Rattle.run_storage.proofs.Marked.{waits-in}
-use Rattle.run_entered.specs.There.{IsGiven, IsTaker, WasTaken, ArePortsThere, AreEndsThere, AreOperandsThere, IsThereKept, IsAllThereKept}
+use Rattle.run_entered.specs.There.{IsGiven, IsTaker, WasTaken, ArePortsThere, AreEndsThere, AreOperandsThere, IsAllThereKept}
 
 waiting-done : {P : Type 0} → Waiting ≡ Done → P
 waiting-done e = absurd (clash e)

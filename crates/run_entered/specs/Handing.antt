@@ -16,7 +16,7 @@ use Rattle.if1_marks.specs.Owned.{is_owned}
 use Rattle.if1_marks.specs.Sound.{IsSound}
 use Rattle.graph_meaning.specs.StorageUnits.{storage_of}
 use Rattle.run_states.specs.Standing.{Live, Table}
-use Rattle.run_states.specs.Storing.{Cell, Kept, Port, Owned, Lent, Store, StoresStand}
+use Rattle.run_states.specs.Storing.{Kept, Port, Owned, Lent, Store}
 use Rattle.run_storage.specs.Marked.{AreReadsOf}
 use Rattle.run_hands.specs.Hands.{Hand, Hands, HasInHand, IsFree, HandsStand, OtherHandsSame, IsAtHand, AreFilled, IsEntered, IsTakenOver}
 use Rattle.run_entered.specs.Modes.{Input, Own, Borrowed, Gone, into_owner, into_part, mode_of}

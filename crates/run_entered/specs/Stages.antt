@@ -7,7 +7,7 @@ use Rattle.if1_graph.specs.declared.op.Part.{Part}
 use Rattle.if1_graph.specs.declared.op.Part.TheVariants as part
 use Rattle.if1_graph.specs.Parts.{part_at}
 use Rattle.graph_meaning.specs.Carried.{Carried}
-use Rattle.graph_meaning.specs.Forms.{Form, Call, Select, TagCase, LoopA, LoopB, ForAll, Next, Enter, Iterate, Begins, Stage, Called, Selecting, Chosen, Starting, Testing, Turning, Generating, Returning, first}
+use Rattle.graph_meaning.specs.Forms.{Form, Call, Select, TagCase, LoopA, LoopB, ForAll, Enter, Iterate, Begins, Stage, Called, Selecting, Chosen, Starting, Testing, Turning, Generating, Returning, first}
 use Rattle.graph_meaning.specs.Demand.{Network}
 use Rattle.graph_meaning.specs.Networks.{part, form_of}
 use Rattle.run_states.specs.Phases.{Comes}

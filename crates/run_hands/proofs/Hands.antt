@@ -1,5 +1,5 @@
 -- Each aggregate has one place, after each event.
-use Rattle.std.proofs.Common.{◌≡◌, ℕ, zero, suc, ◌<◌, length, Bool, true, false, ◌∷◌, ◌⊎◌, Option, Some, None, inl, inr, refl, sym, ap, ◌∙◌, subst, arith}
+use Rattle.std.proofs.Common.{◌≡◌, ℕ, Bool, true, false, ◌∷◌, ◌⊎◌, Option, Some, None, inl, inr, refl, sym, ap, ◌∙◌, subst}
 use native.Mathlib.Decide.{ℕ_discrete}
 use Rattle.graph_meaning.specs.Entered.{IsIn}
 use Rattle.graph_meaning.specs.Histories.{Run}
@@ -8,7 +8,7 @@ use Rattle.run_states.specs.Storing.{Cell, Kept, Port, Owning, Owned, Lent, Stor
 use Rattle.run_states.specs.Moving.{IsNotWithin, DifferAt, IsUnowned, IsInput}
 use Rattle.run_states.proofs.Lookups.{put-same, put-other, set-same, set-other, some-same, some-none}
 use Rattle.run_states.proofs.Moving.{stores-begin, stores-kept, taking-kept, entering-kept}
-use Rattle.run_hands.specs.Hands.{Hand, Hands, HasInHand, IsFree, HandsStand, OtherHandsSame, IsAtHand, IsRegrasped, AreFilled, IsEntered, IsTakenOver, AreHandsKept, AreAllHandsKept, DoHandsBegin}
+use Rattle.run_hands.specs.Hands.{Hand, Hands, HasInHand, IsFree, HandsStand, IsAtHand, IsRegrasped, AreFilled, IsEntered, IsTakenOver, AreAllHandsKept, DoHandsBegin}
 
 pub none-key : {P : Type 0} (key : ℕ) → None ≡ Some key → P
 none-key key e = absurd (clash e)

@@ -1,9 +1,9 @@
 -- Of a key that no port owns no node has a lease.
-use Rattle.std.proofs.Common.{◌≡◌, ℕ, zero, suc, ◌<◌, length, Option, Some, None, refl, sym, ap, ◌∙◌, subst, arith}
+use Rattle.std.proofs.Common.{◌≡◌, ℕ, zero, suc, ◌<◌, length, Option, Some, None, refl, sym, ap, subst, arith}
 use Rattle.graph_meaning.specs.Entered.{IsIn}
 use Rattle.graph_meaning.specs.Histories.{Run}
 use Rattle.run_states.specs.Standing.{Test, Live, Table, TableStands}
-use Rattle.run_states.specs.Storing.{Kept, Owning, Owned, Lent, Store, IsAtWork, StoresStand, Holds}
+use Rattle.run_states.specs.Storing.{Owning, Owned, Lent, Store, IsAtWork, StoresStand, Holds}
 use Rattle.run_states.specs.Moving.{IsUnowned}
 use Rattle.run_states.specs.Leasing.{node_leases, graph_leases, leases}
 use Rattle.run_states.proofs.Leasing.{no-sum, by-work, none-with, none-lease}

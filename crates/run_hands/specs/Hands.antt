@@ -4,7 +4,7 @@ use Rattle.std.specs.Prelude.{◌≡◌, ℕ, Bool, true, ◌∷◌, ◌⊎◌, 
 use Rattle.graph_meaning.specs.Entered.{IsIn}
 use Rattle.graph_meaning.specs.Histories.{Run}
 use Rattle.run_states.specs.Standing.{Test, State, Within, Live, Table, TableStands, put, changed, closed}
-use Rattle.run_states.specs.Storing.{Cell, Kept, Port, Owned, Lent, Store, IsRead, IsAtWork, StoresStand, NoReader}
+use Rattle.run_states.specs.Storing.{Kept, Port, Owned, Lent, Store, IsRead, IsAtWork, StoresStand, NoReader}
 use Rattle.run_states.specs.Moving.{IsNotWithin, DifferAt, IsUnowned}
 use Rattle.run_states.specs.Leasing.{leases}
 

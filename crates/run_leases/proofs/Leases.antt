@@ -1,18 +1,18 @@
 -- No lease is out of what is taken, of a node, a slice or an AScatter.
 use Rattle.std.proofs.Common.{◌≡◌, ℕ, zero, suc, ◌+◌, ◌*◌, eqb, if◌then◌else◌, Bool, true, false, List, [], ◌∷◌, ◌⊎◌, inl, inr, Option, Some, None, refl, sym, ap, ◌∙◌, subst, arith}
-use Rattle.std.proofs.lemmas.Bool.{eqb-true, eq-eqb}
-use Rattle.graph_meaning.specs.Entered.{Item, Node, Entry, Slice, Leave, Inside, IsIn}
+use Rattle.std.proofs.lemmas.Bool.{eqb-true}
+use Rattle.graph_meaning.specs.Entered.{Item, Slice, IsIn}
 use Rattle.graph_meaning.specs.Histories.{Run, is_item, is_yes, dec_item}
 use Rattle.run_states.specs.Standing.{Test, Status, Open, Taken, Finished, Opens, State, Waiting, Claimed, Within, GoingOn, Done, Stands, Live, Table, TableStands, mark}
-use Rattle.run_states.specs.Storing.{Kept, Port, Owned, Store, IsRead, IsAtWork, NoReader}
+use Rattle.run_states.specs.Storing.{Kept, Port, Owned, Store, IsAtWork, NoReader}
 use Rattle.run_states.specs.Leasing.{is_at_work, one_if, ports_with, node_leases, nodes_lease, graph_leases, leases}
 use Rattle.run_states.proofs.Leasing.{no-sum, same-sum, by-work, none-with}
 use Rattle.run_states.proofs.Taking.{no-holder}
-use Rattle.run_storage.specs.Scattering.{Takers, Scatters}
+use Rattle.run_storage.specs.Scattering.{Takers}
 use Rattle.run_storage.proofs.Scattering.{none-scattered}
 use Rattle.run_hands.specs.Hands.{Hands, HasInHand, HandsStand}
-use Rattle.run_leases.specs.Sums.{PerNode, nodes_sum, graph_sum, table_sum}
-use Rattle.run_leases.specs.Leases.{is_out, slices_in, slices_out, Lent, times, IsKeyIn, slice_leases, scattered_leases, all_of_node, all_leases, IsLent, IsNothingOut, AreLeasesOfNodes, StandOnce, AreSlicesCounted, AreAllSlicesCounted}
+use Rattle.run_leases.specs.Sums.{nodes_sum, graph_sum, table_sum}
+use Rattle.run_leases.specs.Leases.{is_out, slices_in, slices_out, Lent, times, IsKeyIn, slice_leases, scattered_leases, all_of_node, all_leases, IsLent, IsNothingOut, AreLeasesOfNodes, StandOnce, AreAllSlicesCounted}
 use Rattle.run_leases.proofs.Sums.{nodes-none, nodes-same}
 
 -- ---- numbers

@@ -6,7 +6,7 @@ use Rattle.run_states.specs.Standing.{State, Live, Table, with_state, put}
 use Rattle.run_states.specs.Leasing.{StandsOnce}
 use Rattle.run_states.proofs.Leasing.{no-sum, same-sum, moved-here, moved-later, moved-before}
 use Rattle.run_states.proofs.Lookups.{put-same, put-other}
-use Rattle.run_leases.specs.Sums.{PerNode, nodes_sum, graph_sum, table_sum, IsSumMoved, AreSumsKept, AreAllSumsKept}
+use Rattle.run_leases.specs.Sums.{PerNode, nodes_sum, graph_sum, table_sum, IsSumMoved, AreAllSumsKept}
 
 pub nodes-same : (φ ψ : ℕ → ℕ) (ls : List ℕ) → ((m : ℕ) → IsIn m ls → ψ m ≡ φ m) → nodes_sum ψ ls ≡ nodes_sum φ ls
 nodes-same φ ψ [] h = refl

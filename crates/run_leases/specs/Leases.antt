@@ -1,9 +1,9 @@
 -- All leases of an aggregate that are out, as one sum: those of nodes at work, of slices that are out, and of finished AScatters.
-use Rattle.std.specs.Prelude.{◌≡◌, ℕ, zero, suc, ◌+◌, ◌*◌, eqb, if◌then◌else◌, Bool, true, false, List, [], ◌∷◌, ◌⊎◌, Some}
-use Rattle.graph_meaning.specs.Entered.{Item, Node, Entry, Slice, Leave, Inside, IsIn}
+use Rattle.std.specs.Prelude.{◌≡◌, ℕ, suc, ◌+◌, ◌*◌, eqb, if◌then◌else◌, Bool, true, false, List, [], ◌∷◌, ◌⊎◌, Some}
+use Rattle.graph_meaning.specs.Entered.{Item, Slice, IsIn}
 use Rattle.graph_meaning.specs.Histories.{Run}
 use Rattle.run_states.specs.Standing.{Test, Status, Open, Taken, Finished, Opens, State, GoingOn, Stands, Live, Table, TableStands, mark}
-use Rattle.run_states.specs.Storing.{Kept, Port, Owned, Store, IsAtWork, StoresStand, NoReader}
+use Rattle.run_states.specs.Storing.{Kept, Port, Owned, Store, IsAtWork, NoReader}
 use Rattle.run_states.specs.Leasing.{is_at_work, one_if, ports_with, node_leases, leases}
 use Rattle.run_storage.specs.Scattering.{Takers, Scatters}
 use Rattle.run_hands.specs.Hands.{Hands, HasInHand, HandsStand}

@@ -1,8 +1,8 @@
 -- One worker comes to an end.
-use Rattle.std.proofs.Common.{◌≡◌, ℕ, zero, suc, ◌+◌, ◌≤◌, ◌<◌, Bool, true, false, ◌||◌, List, [], ◌∷◌, ◌⊎◌, inl, inr, refl, sym, ap, ◌∙◌, subst, arith}
+use Rattle.std.proofs.Common.{◌≡◌, ℕ, zero, suc, ◌+◌, ◌≤◌, ◌<◌, Bool, true, false, [], ◌∷◌, ◌⊎◌, inl, inr, refl, ap, ◌∙◌, subst, arith}
 use native.Mathlib.Decide.{dec_le}
 use Rattle.graph_meaning.specs.Entered.{Item}
-use Rattle.graph_meaning.specs.Histories.{Run, Exists, Outcome, EndKind, TurnLimit, Event, Claim, Idle, Ended, Finish, History, Legal, Allowed, HasEnded, IsOn, IsSettled, IsComplete, Gives, Claimable, ClaimedBy, IsNeverStuck, early, count, is_item, is_claimed, is_finished}
+use Rattle.graph_meaning.specs.Histories.{Run, Exists, Outcome, EndKind, TurnLimit, Claim, Idle, Ended, Finish, History, Legal, Allowed, HasEnded, IsOn, IsSettled, Gives, Claimable, ClaimedBy, IsNeverStuck, early, count, is_claimed, is_finished}
 use Rattle.run_bounds.specs.Bounds.{claims_in}
 use Rattle.run_states.proofs.Ready.{clash}
 use Rattle.run_states.proofs.Items.{or-same, or-more, or-cases}

@@ -4,7 +4,7 @@ use Rattle.if1_graph.specs.declared.op.Simple.{Simple}
 use Rattle.graph_meaning.specs.Carried.{Carried, Unfilled}
 use Rattle.graph_meaning.specs.NodeValues.{Shape, op}
 use Rattle.graph_meaning.specs.Entered.{IsIn}
-use Rattle.graph_meaning.specs.Demand.{Source, Port, Fixed, Kind, Plain, Vertex, Network, Cut, at_label, data_labels}
+use Rattle.graph_meaning.specs.Demand.{Source, Port, Fixed, Plain, Vertex, Network, Cut, at_label, data_labels}
 use Rattle.graph_meaning.specs.Plain.{Carries, fixed, input, output, CarryAll, no_port, port, Outputs, simple}
 use Rattle.graph_meaning.proofs.PlainDepths.{all-on}
 use Rattle.graph_meaning.proofs.PlainValues.{operands-given}

@@ -1,44 +1,24 @@
 -- Each legal history has ended, or has a table: by each claim and each finish.
-use Rattle.std.proofs.Common.{◌≡◌, ◌≢◌, ℕ, zero, suc, ◌+◌, ◌≤◌, ◌<◌, Bool, true, false, List, [], ◌∷◌, ◌++◌, map, length, slice_get, Option, Some, None, ◌⊎◌, inl, inr, refl, sym, ap, ◌∙◌, subst, arith}
-use native.Mathlib.Decide.{ℕ_discrete, dec_le}
-use Rattle.if1_graph.specs.declared.op.Simple.{Simple}
+use Rattle.std.proofs.Common.{◌≡◌, ◌≢◌, ℕ, zero, suc, ◌≤◌, List, [], ◌∷◌, ◌++◌, length, Some, None, ◌⊎◌, inl, inr, refl, sym, ap, ◌∙◌, subst}
+use native.Mathlib.Decide.{ℕ_discrete}
 use Rattle.graph_meaning.specs.Carried.{Carried}
-use Rattle.graph_meaning.specs.NodeValues.{Shape}
-use Rattle.graph_meaning.specs.Entered.{Item, Node, Entry, Slice, Leave, Inside, IsIn, Has}
-use Rattle.graph_meaning.specs.Forms.{Form, First, Next, Enter, Iterate, Leave as Leaves, Begins, Skips, Stage, first, follow, gather}
-use Rattle.graph_meaning.specs.Demand.{Kind, Plain, Whole, Vertex, Network, Cut, IsCut, AreOrderly, IsLabel, EachNode, at_label, waits, waits_of, data_labels, operands, of_node, leads_to, nodes_tree, tree_from, tree}
-use Rattle.graph_meaning.specs.Histories.{Run, Exists, History, Legal, Made, OverLimit, NoMemory, EndKind, Results as HasResults, TurnLimit, OutOfMemory, Event, Claim, Idle, Ended, Finish, Outcome, HasEnded, IsOn, AllMade, Allowed, Claimable, ClaimedBy, Gives, count, early, is_claimed, is_finished, is_made, is_item, dec_item}
+use Rattle.graph_meaning.specs.Entered.{Item, Entry, Slice, Leave, IsIn}
+use Rattle.graph_meaning.specs.Forms.{Form, Next, Enter, Iterate, Leave as Leaves, follow}
+use Rattle.graph_meaning.specs.Demand.{Vertex, Network, Cut, IsCut, AreOrderly, IsLabel, at_label, waits, data_labels}
+use Rattle.graph_meaning.specs.Histories.{Run}
 use Rattle.graph_meaning.specs.Laws.{run_of}
 use Rattle.graph_meaning.proofs.Ranks.{AreRanked, ranked}
-use Rattle.run_states.specs.Standing.{Path, plug, label_of, AtLeast, IsOuter, IsWithin, Test, Status, Open, Taken, Finished, Opens, State, Waiting, Claimed, Within, GoingOn, Done, Stands, IsAmong, IsStep, GoesOn, StatusIs, IsMadeTo, NodeStands, Live, Table, tests_at, IsBusy, IsNew, TableStands, AreBusy, ReadyAs, IsReady, or_item, mark, taken, with_state, set_state, put, changed, closed, IsParent}
-use Rattle.run_states.specs.Events.{IsOwn, also, AreFinishesKept}
-use Rattle.run_states.specs.Graphs.{IsGraphOf}
-use Rattle.run_states.specs.Laws.{AreStepsOfRun}
-use Rattle.run_states.specs.Paths.{IsWhole, EntersAt, at_first, at_step, LeadsTo, here, inside}
-use Rattle.run_states.specs.Phases.{Results, Operands, Comes, skips, begins, enters, iterates, ranges, opens_of, last_by, last_of, labels_of, entered_live}
-use Rattle.run_states.specs.Runs.{RunStands}
+use Rattle.run_states.specs.Standing.{Path, Test, Status, Open, Taken, Finished, Opens, State, Waiting, Claimed, Within, GoingOn, Done, Stands, IsAmong, GoesOn, Live, Table, IsBusy, TableStands, AreBusy, mark, taken, with_state, set_state, put, closed, IsParent}
+use Rattle.run_states.specs.Paths.{EntersAt, at_first, at_step, LeadsTo, inside}
+use Rattle.run_states.specs.Phases.{Results, Comes, begins, enters, ranges, opens_of, labels_of, entered_live}
 use Rattle.run_states.specs.Values.{OutputsOf}
-use Rattle.run_states.proofs.Beginning.{begins as run-begins}
-use Rattle.run_states.proofs.Complete.{can-ready}
 use Rattle.run_states.proofs.Entering.{vertex-at}
-use Rattle.run_states.proofs.Graphs.{entered-new}
-use Rattle.run_states.proofs.Items.{or-same, or-more, marked, marked-among}
-use Rattle.run_states.proofs.Kept.{claim-kept, finishes-kept, closing-kept, busy-kept}
+use Rattle.run_states.proofs.Kept.{closing-kept, busy-kept}
 use Rattle.run_states.proofs.Lookups.{put-same, put-other, set-same, set-other, some-same, some-none}
-use Rattle.run_states.proofs.Paths.{path-once, paths-exact}
-use Rattle.run_states.proofs.Phases.{goes-on}
-use Rattle.run_states.proofs.Ready.{at-least, clash}
-use Rattle.run_states.proofs.Runs.{ends-with-results, goes-on-after}
-use Rattle.run_states.proofs.Stated.{nodes-of-runs, steps-of-runs}
-use Rattle.run_states.proofs.Users.{users-done}
-use Rattle.run_states.proofs.Values.{whole-leaves}
-use Rattle.run_tables.specs.Known.{HaveSameItems, IsInside, IsGoingOn, IsKnownAs, IsKnown, AreKnown}
-use Rattle.run_tables.specs.Followed.{HasTable, AreTablesThere}
-use Rattle.run_tables.proofs.Owned.{kind, only-leaving, only-own, among-slices}
-use Rattle.run_tables.proofs.Carried.{operands-of, results-of, fired}
-use Rattle.run_tables.proofs.Rows.{OpenRow, open-row, among?}
-use Rattle.run_tables.proofs.Alone.{claimed-by, claimed-exists}
-use Rattle.run_tables.proofs.Sliced.{all-gathered}
+use Rattle.run_states.proofs.Paths.{path-once}
+use Rattle.run_states.proofs.Stated.{steps-of-runs}
+use Rattle.run_tables.specs.Known.{HaveSameItems, IsInside, IsKnownAs, IsKnown, AreKnown}
+use Rattle.run_tables.proofs.Carried.{results-of}
 
 -- ---- states
 

@@ -1,15 +1,15 @@
 -- Which items a compound node has, by what it does.
-use Rattle.std.proofs.Common.{◌≡◌, ℕ, zero, suc, ◌+◌, ◌≤◌, ◌<◌, Bool, true, false, List, [], ◌∷◌, length, slice_get, Option, Some, None, ◌⊎◌, inl, inr, refl, sym, ap, ◌∙◌, subst, arith}
+use Rattle.std.proofs.Common.{◌≡◌, ℕ, zero, suc, ◌+◌, ◌≤◌, Bool, List, [], ◌∷◌, length, slice_get, Option, Some, None, inl, inr, refl, sym, ap, ◌∙◌, subst, arith}
 use native.Mathlib.Decide.{ℕ_discrete, dec_le}
 use Rattle.graph_meaning.specs.Carried.{Carried}
 use Rattle.graph_meaning.specs.Entered.{Item, Node, Entry, Slice, Leave, Inside}
-use Rattle.graph_meaning.specs.Forms.{Form, First, Next, Enter, Iterate, Leave as Leaves, Begins, Skips, Stage, first}
-use Rattle.graph_meaning.specs.Demand.{Vertex, Network, Cut, IsCut, AreOrderly, tree}
+use Rattle.graph_meaning.specs.Forms.{Form, Next, Enter, Iterate, Leave as Leaves, Begins, Skips, Stage, first}
+use Rattle.graph_meaning.specs.Demand.{Network, Cut, tree}
 use Rattle.graph_meaning.specs.Histories.{Exists}
 use Rattle.graph_meaning.proofs.Ranks.{AreRanked}
-use Rattle.run_states.specs.Standing.{label_of, AtLeast, Open, Opens, Stands, IsAmong}
+use Rattle.run_states.specs.Standing.{label_of, AtLeast, Open, IsAmong}
 use Rattle.run_states.specs.Phases.{Comes, skips, begins, enters, iterates, ranges}
-use Rattle.run_states.specs.Paths.{IsWhole, EntersAt, IsItem, a_node, an_entry, a_slice, a_leaving}
+use Rattle.run_states.specs.Paths.{IsWhole, IsItem, a_node, an_entry, a_slice, a_leaving}
 use Rattle.run_states.proofs.Found.{Found, of_graph, of_slice, of_inner, found}
 use Rattle.run_states.proofs.Paths.{comes-once, whole-once, entered-by, EntersBy, iterate-same}
 

@@ -2,7 +2,7 @@
 use Rattle.std.proofs.Common.{◌≡◌, ℕ, suc, true, false, [], ◌∷◌, Some, ◌⊎◌, inl, inr, refl, sym, ap, ◌∙◌, subst, arith}
 use Rattle.graph_meaning.specs.Entered.{Item, Node, Entry, Slice, Leave, Inside, IsIn}
 use Rattle.graph_meaning.specs.Histories.{Run, Exists, dec_item}
-use Rattle.run_states.specs.Standing.{Path, plug, label_of, AtLeast, IsOuter, IsWithin, Test, Status, Open, Taken, Finished, Opens, State, Waiting, Claimed, Within, GoingOn, Done, Stands, IsAmong, IsStep, GoesOn, StatusIs, NodeStands, Live, Table, tests_at, IsChild, TableStands}
+use Rattle.run_states.specs.Standing.{plug, label_of, AtLeast, IsOuter, IsWithin, Test, Status, Open, Taken, Finished, Opens, State, Waiting, Claimed, Within, GoingOn, Done, Stands, IsAmong, IsStep, GoesOn, StatusIs, NodeStands, Live, Table, tests_at, IsChild, TableStands}
 use Rattle.run_states.proofs.Ready.{at-least, clash}
 
 pub record OpenRow (table : Table) (i : Item) : Type 0 where

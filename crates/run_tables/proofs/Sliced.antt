@@ -1,5 +1,5 @@
 -- Where all slices of a step were made, its iterations have results.
-use Rattle.std.proofs.Common.{◌≡◌, ℕ, zero, suc, ◌+◌, ◌≤◌, List, [], ◌∷◌, ◌++◌, map, slice_get, Option, Some, None, refl, sym, ap, ◌∙◌, subst, arith}
+use Rattle.std.proofs.Common.{◌≡◌, ℕ, suc, ◌+◌, ◌≤◌, List, [], ◌∷◌, ◌++◌, map, slice_get, Some, refl, ap, ◌∙◌, subst, arith}
 use Rattle.graph_meaning.specs.Carried.{Carried}
 use Rattle.graph_meaning.specs.Entered.{Slice}
 use Rattle.graph_meaning.specs.Forms.{Form, Iterate}
@@ -39,8 +39,7 @@ module _ (cut : Cut) (u : Network) (is-cut : IsCut cut) (orderly : AreOrderly u)
   gathered : (rows : List (List Carried)) → AllGiven rows → (lists : List (List Carried)) × (n : ℕ) × ((k : ℕ) → n ≤ k → all (map (λ ins. dem k u j ins) rows) ≡ Some lists)
   gathered [] a = ([], 0, λ k le. refl)
   gathered (row ∷ rows) a =
-      let rest = gathered rows a.1 in
-      (
+      let rest = gathered rows a.1 in (
         a.0.0 ∷ rest.0,
         a.0.1 + rest.1,
         λ k le.

@@ -1,31 +1,28 @@
 -- What each finish leaves.
-use Rattle.std.proofs.Common.{◌≡◌, ◌≢◌, ℕ, zero, suc, ◌+◌, ◌≤◌, ◌<◌, Bool, true, false, if◌then◌else◌, List, [], ◌∷◌, map, length, slice_get, Option, Some, None, ◌⊎◌, inl, inr, refl, sym, ap, ◌∙◌, subst, arith}
-use native.Mathlib.Decide.{ℕ_discrete, dec_le}
+use Rattle.std.proofs.Common.{◌≡◌, ℕ, suc, ◌≤◌, Bool, true, false, if◌then◌else◌, List, [], ◌∷◌, map, length, Some, None, ◌⊎◌, inl, inr, refl, sym, ap, ◌∙◌, subst, arith}
 use Rattle.if1_graph.specs.declared.op.Simple.{Simple}
 use Rattle.graph_meaning.specs.Carried.{Carried}
 use Rattle.graph_meaning.specs.NodeValues.{Shape}
 use Rattle.graph_meaning.specs.Entered.{Item, Node, Entry, Slice, Leave, Inside, IsIn, Has}
-use Rattle.graph_meaning.specs.Forms.{Form, First, Next, Enter, Iterate, Leave as Leaves, Begins, Skips, Stage, first, follow, gather}
+use Rattle.graph_meaning.specs.Forms.{Form, First, Next, Enter, Iterate, Leave as Leaves, Begins, Skips, Stage, first, gather}
 use Rattle.graph_meaning.specs.Demand.{Kind, Plain, Whole, Vertex, Network, Cut, IsCut, AreOrderly, IsLabel, at_label, waits, waits_of, data_labels, all, dem, operands, of_node, leads_to, nodes_tree, tree_from, tree}
-use Rattle.graph_meaning.specs.Histories.{Run, Exists, OwnFirings, dec_item}
+use Rattle.graph_meaning.specs.Histories.{Exists, OwnFirings, dec_item}
 use Rattle.graph_meaning.specs.Laws.{run_of}
-use Rattle.run_states.specs.Standing.{Path, plug, label_of, AtLeast, IsOuter, IsWithin, Test, Status, Open, Taken, Finished, Opens, State, Waiting, Claimed, Within, GoingOn, Done, Stands, IsAmong, IsStep, GoesOn, StatusIs, IsMadeTo, NodeStands, Live, Table, tests_at, IsBusy, IsNew, TableStands, AreBusy, mark, with_state, set_state, put, changed}
-use Rattle.run_states.specs.Events.{IsOwn, also, AreFinishesKept}
-use Rattle.run_states.specs.Graphs.{IsGraphOf}
-use Rattle.run_states.specs.Paths.{IsWhole, EntersAt, at_first, at_step, LeadsTo, inside}
-use Rattle.run_states.specs.Phases.{Results, Operands, Comes, skips, begins, enters, iterates, ranges, opens_of, last_by, last_of, labels_of, entered_live}
+use Rattle.run_states.specs.Standing.{plug, label_of, AtLeast, IsOuter, IsWithin, Test, Status, Open, Taken, Finished, Opens, State, Waiting, Claimed, Within, GoingOn, Done, Stands, IsAmong, IsStep, GoesOn, StatusIs, IsMadeTo, NodeStands, Live, Table, tests_at, IsNew, TableStands, AreBusy, mark, with_state, put, changed}
+use Rattle.run_states.specs.Events.{also, AreFinishesKept}
+use Rattle.run_states.specs.Paths.{IsWhole, EntersAt, at_first, at_step, inside}
+use Rattle.run_states.specs.Phases.{Results, Operands, Comes, skips, iterates, ranges, opens_of, last_by, last_of, labels_of, entered_live}
 use Rattle.run_states.specs.Values.{OutputsOf}
 use Rattle.run_states.proofs.Graphs.{entered-new, entered-step}
 use Rattle.run_states.proofs.Items.{or-same, or-more, item-other}
 use Rattle.run_states.proofs.Kept.{finishes-kept, busy-kept}
-use Rattle.run_states.proofs.Lookups.{put-same, put-other, set-same, some-same, some-none}
+use Rattle.run_states.proofs.Lookups.{put-other, set-same, some-same, some-none}
 use Rattle.run_states.proofs.Ready.{at-least}
 use Rattle.run_states.proofs.Stated.{nodes-of-runs, steps-of-runs}
 use Rattle.run_states.proofs.Values.{whole-leaves}
-use Rattle.run_tables.specs.Known.{HaveSameItems, IsInside, IsGoingOn, IsKnownAs, IsKnown, AreKnown}
+use Rattle.run_tables.specs.Known.{HaveSameItems, IsGoingOn, IsKnownAs, IsKnown, AreKnown}
 use Rattle.run_tables.proofs.Owned.{Kind as KindOf, kind, among-ranges, only-leaving, only-own, among-slices}
 use Rattle.run_tables.proofs.Carried.{operands-of, results-of, fired}
-use Rattle.run_tables.proofs.Rows.{among?}
 use Rattle.run_tables.proofs.Sliced.{all-gathered}
 use Rattle.run_tables.proofs.Followed.{After, after-done, vertex-of, in-labels, left-of, put-known, entered-known, state-known, beyond-put, after-graph, alone-stands, unfinished, range-slice, opens-open, opens-some, same-items, mark-items, items-among, among-items, going-done, within-done, claimed-within, going-within, ready}
 
@@ -169,7 +166,7 @@ module _ (cut : Cut) (u : Network) (g : ℕ) (ins : List Carried) (is-cut : IsCu
           enters-after =
               record {
                 table = changed table f x l (Within k bound) bound (Some (entered_live cut u j js ((l, k) ∷ x.path)));
-                  stands = law (entered_live cut u j js ((l, k) ∷ x.path)) new;
+                stands = law (entered_live cut u j js ((l, k) ∷ x.path)) new;
                 busy =
                     (busy-kept table f l x (Within k bound) busy (λ n. (l, in-x, λ q. within-done k bound (sym (set-same x.states l (Within k bound)) ∙ q)))).1 bound (entered_live cut u j js ((l, k) ∷ x.path))
                     (v.label, subst (λ z. IsIn v.label (labels_of z)) (sym some) (inl refl), waiting-done);
@@ -298,8 +295,8 @@ module _ (cut : Cut) (u : Network) (g : ℕ) (ins : List Carried) (is-cut : IsCu
           (kept.leaving k os is (one.0 ∙ sym compound-last)
           (λ i ex lab a. only-leaving cut u (ready cut u g ins is-cut orderly) K.graph K.inputs l G.form G.operands G.whole G.before rs came i (kinds i ex lab) (subst (λ z. AtLeast z i) G.step a) ∙ sym one.0))
           (λ v at-v.
-              let same : G.whole.node ≡ v = some-same G.whole.node v (sym G.whole.found ∙ at-v) in
-              subst (λ z. (rs : List Carried) × OutputsOf u K.graph K.inputs z rs) same (rs, whole-leaves u K.graph K.inputs G.whole.node G.form G.operands rs G.before G.whole.kind G.whole.given came))
+          let same : G.whole.node ≡ v = some-same G.whole.node v (sym G.whole.found ∙ at-v) in
+          subst (λ z. (rs : List Carried) × OutputsOf u K.graph K.inputs z rs) same (rs, whole-leaves u K.graph K.inputs G.whole.node G.form G.operands rs G.before G.whole.kind G.whole.given came))
 
       -- it enters a further graph
       entering-after : (t : Bool) (j : ℕ) (js : List Carried) (stage : Stage) → Comes u G.form G.operands G.before (Enter t j js stage) → HaveSameItems os ((Entry t l k, Open) ∷ []) → Next-of
@@ -355,7 +352,7 @@ module _ (cut : Cut) (u : Network) (g : ℕ) (ins : List Carried) (is-cut : IsCu
           more-after some =
               record {
                 table = put table f (Some (with_state x l (GoingOn k (mark e Finished os))));
-                  stands = kept.a_slice k os is (Taken, taken) slice-not-last some;
+                stands = kept.a_slice k os is (Taken, taken) slice-not-last some;
                 busy = (busy-kept table f l x (GoingOn k (mark e Finished os)) busy (λ n. (l, in-x, λ q. going-done k (mark e Finished os) (sym (set-same x.states l (GoingOn k (mark e Finished os))) ∙ q)))).0;
                 known =
                     put-known cut u g ins table f (with_state x l (GoingOn k (mark e Finished os))) known
@@ -391,9 +388,9 @@ module _ (cut : Cut) (u : Network) (g : ℕ) (ins : List Carried) (is-cut : IsCu
             lists =
                 all-gathered cut u is-cut orderly K.graph K.inputs l G.form G.operands G.whole G.before j row rows ms came
                 (λ r part at-r.
-                    let among = items-among os (ranges l k 0 (length (cut (row ∷ rows)))) items (Slice l k r) (among-ranges l k 0 (cut (row ∷ rows)) r r part at-r (omega arith)) in
-                    let own-f = fired-slices r 0 (made-among (Slice l k r) among) in
-                    (own-f.0, subst (λ z. OwnFirings (λ d. tree cut d u K.graph K.inputs) (Slice l z r) own-f.0) G.step own-f.1))
+                let among = items-among os (ranges l k 0 (length (cut (row ∷ rows)))) items (Slice l k r) (among-ranges l k 0 (cut (row ∷ rows)) r r part at-r (omega arith)) in
+                let own-f = fired-slices r 0 (made-among (Slice l k r) among) in
+                (own-f.0, subst (λ z. OwnFirings (λ d. tree cut d u K.graph K.inputs) (Slice l z r) own-f.0) G.step own-f.1))
 
             last-after : Next-of
             last-after =

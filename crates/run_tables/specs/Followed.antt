@@ -1,9 +1,9 @@
 -- Each legal history has a table that stands for it.
-use Rattle.std.specs.Prelude.{◌≡◌, ℕ, suc, ◌+◌, ◌*◌, ◌≤◌, ◌<◌, List, ◌∷◌, ◌⊎◌, Some, None}
+use Rattle.std.specs.Prelude.{◌≡◌, ℕ, suc, ◌+◌, ◌*◌, ◌≤◌, ◌<◌, List, ◌∷◌, ◌⊎◌, None}
 use Rattle.graph_meaning.specs.Carried.{Carried}
 use Rattle.graph_meaning.specs.Entered.{Item}
 use Rattle.graph_meaning.specs.Demand.{Network, Cut, IsCut, AreOrderly}
-use Rattle.graph_meaning.specs.Histories.{Run, Exists, Outcome, EndKind, TurnLimit, Event, Claim, Ended, Finish, History, Legal, Allowed, HasEnded, IsSettled, IsComplete, Gives}
+use Rattle.graph_meaning.specs.Histories.{Run, Exists, Outcome, EndKind, TurnLimit, Claim, Ended, Finish, History, Legal, Allowed, HasEnded, IsSettled, IsComplete, Gives}
 use Rattle.graph_meaning.specs.Laws.{run_of}
 use Rattle.run_bounds.specs.Bounds.{claims_in}
 use Rattle.run_states.specs.Sliced.{sliced}
