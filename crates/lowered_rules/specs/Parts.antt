@@ -1,6 +1,6 @@
 -- The graphs inside compound nodes of lowered graphs: their results and inputs, by what each wire carries (IF1 manual M-170, compound
 -- nodes).
-use Rattle.std.specs.Prelude.{◌≡◌, ℕ, zero, suc, ◌+◌, ◌-◌, ◌≤◌, nat_le, max, List, [], ◌∷◌, map, drop, length, Option, Some, None, slice_get, option_map, unwrap_or, MatchBool}
+use Rattle.std.specs.Prelude.{◌≡◌, ℕ, zero, suc, ◌+◌, ◌-◌, ◌≤◌, nat_le, max, List, [], ◌∷◌, map, drop, length, Option, Some, slice_get, option_map, unwrap_or, MatchBool}
 use Rattle.flow_value.specs.declared.ty.Ty.{Ty}
 use Rattle.flow_value.specs.declared.ty.Ty.TheVariants as ty
 use Rattle.if1_graph.specs.declared.op.Compound.{Compound}
@@ -14,7 +14,7 @@ use Rattle.if1_graph.specs.Parts.{HasParts}
 use Rattle.if1_graph.specs.Ports.{IsAssociation, least_width, tags_of}
 use Rattle.if1_graph.specs.Typing.{IsPlain, IsElement, IsMultiple, FitsContent, FitsCompound, giving_part}
 use Rattle.lowering.specs.declared.feed.Feed.{Feed}
-use Rattle.lowering.specs.declared.feed.Feed.TheVariants.{Literal, Named, Absent, Port}
+use Rattle.lowering.specs.declared.feed.Feed.TheVariants.{Literal, Port}
 use Rattle.lowering.specs.declared.feed.Carried.{Carried}
 use Rattle.lowering.specs.declared.feed.Wire.{Wire}
 use Rattle.lowering.specs.declared.graph.LoweredGraph.{LoweredGraph}

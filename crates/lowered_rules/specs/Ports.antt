@@ -1,6 +1,6 @@
 -- The ports of simple nodes of lowered graphs: which are filled, with which types, and what nodes give (IF1 manual M-170, simple
 -- nodes).
-use Rattle.std.specs.Prelude.{◌≡◌, ℕ, zero, suc, Bool, true, false, nat_eq, pos, List, [], ◌∷◌, ◌++◌, length, ◌⊎◌, Option, Some, None, IsSome, All, option_map, MatchOption, if◌then◌else◌}
+use Rattle.std.specs.Prelude.{◌≡◌, ℕ, zero, suc, true, nat_eq, pos, List, [], ◌∷◌, ◌++◌, length, ◌⊎◌, Option, Some, None, IsSome, All, option_map, MatchOption, if◌then◌else◌}
 use Rattle.flow_value.specs.declared.ty.Ty.TheVariants as ty
 use Rattle.sisal_tree.specs.declared.expr.Constant.TheVariants as constant
 use Rattle.if1_graph.specs.declared.op.Compound.{Compound}
@@ -19,12 +19,12 @@ use Rattle.if1_graph.specs.Types.{Sort, Plain}
 use Rattle.if1_graph.specs.Ports.{AreFirst, AreAtLeast, IsOnePort, AreArguments, AreParts, AreChanges, IsUpTo, arguments_of, results_of, fields_of, tags_of, is_stream}
 use Rattle.if1_graph.specs.Typing.{Known, Fits, StandsRight, IsFunctionType}
 use Rattle.lowering.specs.declared.feed.Feed.{Feed}
-use Rattle.lowering.specs.declared.feed.Feed.TheVariants.{Literal, Named, Absent, Port}
+use Rattle.lowering.specs.declared.feed.Feed.TheVariants.{Literal, Named, Absent}
 use Rattle.lowering.specs.declared.feed.Carried.{Carried}
 use Rattle.lowering.specs.declared.feed.Carried.TheVariants.{Callee}
 use Rattle.lowering.specs.declared.feed.Wire.{Wire}
 use Rattle.lowering.specs.declared.graph.Action.{Action}
-use Rattle.lowering.specs.declared.graph.Action.TheVariants.{Row, Call, Whole}
+use Rattle.lowering.specs.declared.graph.Action.TheVariants.{Row, Call}
 
 -- ---- what a node gives
 

@@ -11,7 +11,7 @@ use Rattle.if1_graph.specs.Typing.{IsListed}
 use Rattle.typed_tree.specs.declared.program.Function.{Function as TypedFunction}
 use Rattle.typed_tree.specs.declared.program.Program.{Program}
 use Rattle.lowering.specs.declared.feed.Feed.{Feed}
-use Rattle.lowering.specs.declared.feed.Feed.TheVariants.{Literal, Named, Absent, Port}
+use Rattle.lowering.specs.declared.feed.Feed.TheVariants.{Port}
 use Rattle.lowering.specs.declared.feed.Carried.{Carried}
 use Rattle.lowering.specs.declared.feed.Carried.TheVariants.{Callee}
 use Rattle.lowering.specs.declared.feed.Wire.{Wire}
