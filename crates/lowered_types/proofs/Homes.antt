@@ -1,6 +1,6 @@
 -- What is known of the graph at a place of a unit: the rules of lowered graphs, with its inputs and results.
-use Rattle.std.proofs.Common.{◌≡◌, ℕ, zero, suc, ◌+◌, ◌<◌, ◌≤◌, inl, inr, Bool, true, false, List, [], ◌∷◌, map, length, slice_get, Option, Some, None, refl, sym, ap, subst, ◌∙◌, arith}
-use Rattle.std.specs.Prelude.{All, MatchOption}
+use Rattle.std.proofs.Common.{◌≡◌, ℕ, zero, suc, ◌<◌, List, [], ◌∷◌, map, length, slice_get, Option, Some, None, refl, sym, ap, subst, ◌∙◌, arith}
+use Rattle.std.specs.Prelude.{MatchOption}
 use Rattle.std.proofs.lemmas.List.{length-map}
 use Rattle.std.proofs.lemmas.Option.{slice_get_within}
 use Rattle.if1_graph.specs.declared.graph.Graph.{Graph}
@@ -18,7 +18,7 @@ use Rattle.if1_graph.specs.Tables.{◌>>=◌}
 use Rattle.if1_graph.specs.Types.{Sort, sort_at}
 use Rattle.if1_graph.specs.Typing.{IsListed, home_part, function_type, FitsInput, FitsBoundary, IsHeaderTyped, IsFunctionType}
 use Rattle.if1_graph.specs.Typing as typing
-use Rattle.if1_graph.specs.Units.{label_of, greatest, width, Home, Function, Inside, Place}
+use Rattle.if1_graph.specs.Units.{label_of, greatest, width, Home, Function, Inside}
 use Rattle.typed_tree.specs.declared.program.Function as typed
 use Rattle.typed_tree.specs.declared.program.Program.{Program}
 use Rattle.lowering.specs.declared.feed.Feed.{Feed}
@@ -43,9 +43,9 @@ use Rattle.lowered_units.proofs.Rights.{IsRightNode, count}
 use Rattle.lowered_sorts.specs.Sorts.{callee_sort, sort_of}
 use Rattle.lowered_sorts.specs.Laws.{HasHeaderSort, IsReadBack}
 use Rattle.lowered_rules.specs.Ports.{sort_in, sort_into}
-use Rattle.lowered_rules.specs.Parts.{IsShown, AreResults, IsPartInput}
-use Rattle.lowered_rules.specs.Rules.{IsGraph, IsPartGraph, ArePartsRight, HasPartsRight, AreListed, IsFunctionGraph, AreRight}
-use Rattle.lowered_places.specs.Shapes.{IsGraphOf, IsFunctionOf, ArePartsLowered, IsPartOf, StandsAt, IsShaped}
+use Rattle.lowered_rules.specs.Parts.{AreResults, IsPartInput}
+use Rattle.lowered_rules.specs.Rules.{IsGraph, ArePartsRight, HasPartsRight, AreListed, AreRight}
+use Rattle.lowered_places.specs.Shapes.{IsGraphOf, IsFunctionOf, IsPartOf, StandsAt}
 use Rattle.lowered_places.proofs.Ends.{IsAtNode, lowered-node}
 use Rattle.lowered_types.proofs.Known.{all-at, node-carries}
 use Rattle.lowered_types.proofs.Parts.{ArePaired, pairs, pair-at, fits-result, fits-input}

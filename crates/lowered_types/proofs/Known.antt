@@ -1,5 +1,5 @@
 -- What the ports of a graph of a translated unit carry, by the lowered graph.
-use Rattle.std.proofs.Common.{◌≡◌, ℕ, zero, suc, ◌+◌, ◌<◌, inl, inr, Bool, true, false, cond, List, [], ◌∷◌, ◌++◌, length, slice_get, Option, Some, None, refl, sym, ap, subst, ◌∙◌, arith}
+use Rattle.std.proofs.Common.{◌≡◌, ℕ, zero, suc, ◌+◌, ◌<◌, inl, inr, cond, List, [], ◌∷◌, ◌++◌, slice_get, Option, Some, None, refl, sym, ap, subst, ◌∙◌, arith}
 use Rattle.std.specs.Prelude.{All, find, IsSome}
 use Rattle.std.proofs.lemmas.Bool.Decides.{eqb_tells}
 use Rattle.std.proofs.lemmas.List.Elements.{All-head, All-tail}
@@ -16,8 +16,7 @@ use Rattle.if1_graph.specs.Ops.{reducer_at}
 use Rattle.if1_graph.specs.Ports.{carried as carried_in, text_of, literal_at, callee as callee_in}
 use Rattle.if1_graph.specs.Tables.{◌>>=◌}
 use Rattle.if1_graph.specs.Types.{Sort, sort_at}
-use Rattle.if1_graph.specs.Typing.{Known, known}
-use Rattle.typed_tree.specs.declared.program.Function as typed
+use Rattle.if1_graph.specs.Typing.{known}
 use Rattle.typed_tree.specs.declared.program.Program.{Program}
 use Rattle.lowering.specs.declared.feed.Feed.{Feed}
 use Rattle.lowering.specs.declared.feed.Feed.TheVariants.{Literal, Named, Absent, Port}
@@ -36,10 +35,10 @@ use Rattle.lowered_units.specs.Fitting.{IsFitting}
 use Rattle.lowered_units.specs.Units.{constant_text, origin_of, called_name, edge, edge_if, edges_into, node_edges, IsTranslated}
 use Rattle.lowered_units.proofs.Blocks.{to_port, find-filtered}
 use Rattle.lowered_units.proofs.Programs.{functions}
-use Rattle.lowered_sorts.specs.Sorts.{callee_sort, function_sort, sort_of}
+use Rattle.lowered_sorts.specs.Sorts.{callee_sort, sort_of}
 use Rattle.lowered_sorts.specs.Laws.{HasSort, HasHeaderSort, IsNodeSorted, IsGraphSorted, IsReadBack}
 use Rattle.lowered_rules.specs.Ports.{sort_if, sort_in, sort_into, reducer_of, reducer_in, IsReduction, IsNameKnown, IsKnown, IsNamedRight}
-use Rattle.lowered_places.specs.Shapes.{IsGraphOf, IsFunctionOf}
+use Rattle.lowered_places.specs.Shapes.{IsGraphOf}
 use Rattle.lowered_places.proofs.Ends.{IsAtNode, boundary-edges}
 use Rattle.lowered_places.proofs.Callees.{IsFound, called-graph, call-name}
 

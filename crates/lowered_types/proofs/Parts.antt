@@ -1,8 +1,6 @@
 -- The graphs inside of a node of a translated unit, by the lowered graphs of their numbers.
-use Rattle.std.proofs.Common.{◌≡◌, ℕ, zero, suc, ◌+◌, ◌-◌, ◌<◌, ◌≤◌, ◌⊎◌, inl, inr, Bool, true, false, List, [], ◌∷◌, ◌++◌, map, length, slice_get, Option, Some, None, refl, sym, ap, subst, ◌∙◌, arith, option_map}
-use Rattle.std.specs.Prelude.{All, unwrap_or, nat_le, MatchBool, filter}
-use Rattle.flow_value.specs.declared.ty.Ty.{Ty}
-use Rattle.if1_graph.specs.declared.graph.Edge.{Edge}
+use Rattle.std.proofs.Common.{◌≡◌, ℕ, zero, suc, ◌-◌, Bool, true, false, List, [], ◌∷◌, map, length, slice_get, Some, refl, sym, ap, subst, ◌∙◌}
+use Rattle.std.specs.Prelude.{nat_le, MatchBool}
 use Rattle.if1_graph.specs.declared.graph.Graph.{Graph}
 use Rattle.if1_graph.specs.declared.graph.Graph.TheViews.{out-Graph}
 use Rattle.if1_graph.specs.declared.graph.Node.{Node, out-Node}
@@ -11,17 +9,14 @@ use Rattle.if1_graph.specs.declared.op.Compound.{Compound}
 use Rattle.if1_graph.specs.declared.op.Compound.TheVariants as compound
 use Rattle.if1_graph.specs.declared.op.Part.{Part}
 use Rattle.if1_graph.specs.declared.op.Part.TheVariants as part
-use Rattle.if1_graph.specs.Parts.{HasParts, part_at}
 use Rattle.if1_graph.specs.Ports.{carried as carried_in, tags_of}
 use Rattle.if1_graph.specs.Ports as ports
-use Rattle.if1_graph.specs.Tables.{◌>>=◌}
 use Rattle.if1_graph.specs.Types.{Sort}
 use Rattle.if1_graph.specs.Typing as typing
 use Rattle.if1_graph.specs.Units.{label_of, greatest, width, results}
 use Rattle.typed_tree.specs.declared.program.Program.{Program}
 use Rattle.lowering.specs.declared.feed.Carried.{Carried}
 use Rattle.lowering.specs.declared.feed.Wire.{Wire}
-use Rattle.lowering.specs.declared.graph.LoweredNode.{LoweredNode}
 use Rattle.lowering.specs.declared.graph.LoweredGraph.{LoweredGraph}
 use Rattle.lowering.specs.Programs.{graph_at}
 use Rattle.lowered_units.specs.Fitting.{IsFitting}
@@ -36,7 +31,7 @@ use Rattle.lowered_rules.specs.Ports.{sort_in}
 use Rattle.lowered_rules.specs.Parts.{FitsReturned, FitsOwnInput, FitsNodeInput, FitsPartInput, FitsResult}
 use Rattle.lowered_rules.specs.Parts as rules
 use Rattle.lowered_places.specs.Shapes.{IsGraphOf, ArePartsLowered}
-use Rattle.lowered_places.proofs.Ends.{IsAtNode, boundary-edges}
+use Rattle.lowered_places.proofs.Ends.{boundary-edges}
 use Rattle.lowered_types.proofs.Known.{result-carries}
 
 -- ---- graphs by number

@@ -1,6 +1,6 @@
 -- What the ports of a graph give from which its wires come.
-use Rattle.std.proofs.Common.{◌≡◌, ℕ, zero, suc, ◌+◌, ◌<◌, ◌≤◌, inl, inr, Bool, true, false, List, [], ◌∷◌, ◌++◌, map, length, slice_get, Option, Some, None, refl, sym, ap, subst, ◌∙◌, arith, nat_eq}
-use Rattle.std.specs.Prelude.{All, MatchOption, if◌then◌else◌}
+use Rattle.std.proofs.Common.{◌≡◌, ℕ, zero, suc, ◌<◌, Bool, true, false, List, [], ◌∷◌, map, slice_get, Option, Some, None, refl, sym, ap, subst, ◌∙◌, nat_eq}
+use Rattle.std.specs.Prelude.{MatchOption, if◌then◌else◌}
 use Rattle.std.proofs.lemmas.Bool.{eqb-true}
 use Rattle.if1_graph.specs.declared.graph.Graph.{Graph}
 use Rattle.if1_graph.specs.declared.graph.Graph.TheViews.{out-Graph}
@@ -11,14 +11,12 @@ use Rattle.if1_graph.specs.declared.op.Part.{Part}
 use Rattle.if1_graph.specs.declared.op.Simple.{Simple}
 use Rattle.if1_graph.specs.declared.op.Simple.TheVariants as simple
 use Rattle.if1_graph.specs.Ops.{simple_at, compound_at}
-use Rattle.if1_graph.specs.Rows.{operand_of, output_of}
+use Rattle.if1_graph.specs.Rows.{output_of}
 use Rattle.if1_graph.specs.Types.{Sort}
-use Rattle.if1_graph.specs.Typing.{Known, known, Fits, StandsRight, giving_part, FitsOutputAs, FitsOutput, FitsCompound, FitsNode}
+use Rattle.if1_graph.specs.Typing.{Known, known, Fits, giving_part, FitsOutputAs, FitsOutput}
 use Rattle.if1_graph.specs.Units.{node_at}
 use Rattle.type_table.specs.declared.form.Form.{Form}
 use Rattle.typed_tree.specs.declared.program.Program.{Program}
-use Rattle.lowering.specs.declared.feed.Feed.{Feed}
-use Rattle.lowering.specs.declared.feed.Feed.TheVariants.{Literal, Named, Absent, Port}
 use Rattle.lowering.specs.declared.feed.Carried.{Carried}
 use Rattle.lowering.specs.declared.feed.Wire.{Wire}
 use Rattle.lowering.specs.declared.graph.Action.{Action}
@@ -29,7 +27,7 @@ use Rattle.lowering.specs.Programs.{graph_at}
 use Rattle.lowered_units.specs.Fitting.{IsFitting}
 use Rattle.lowered_units.specs.Units.{simple_code, compound_code, listed_node, IsTranslated}
 use Rattle.lowered_units.proofs.Built.{Fills, fills_row, fills_reduction, fills_call}
-use Rattle.lowered_units.proofs.Codes.{simple-is, no-compound, compound-is, no-simple}
+use Rattle.lowered_units.proofs.Codes.{simple-is, no-compound, compound-is}
 use Rattle.lowered_units.proofs.Nets.{op-of, parts-of}
 use Rattle.lowered_units.proofs.Programs.{functions, right-of}
 use Rattle.lowered_units.proofs.Rights.{AreRight as AreRightNodes, IsRightNode}
@@ -38,11 +36,11 @@ use Rattle.lowered_sorts.specs.Laws.{IsReadBack}
 use Rattle.lowered_rules.specs.Ports.{Outs, type_from, type_at, IsGiven, AreGiven, IsKnown, IsNamedRight, IsSimple}
 use Rattle.lowered_rules.specs.Parts.{IsCompound, AreOutputs}
 use Rattle.lowered_rules.specs.Parts as rules
-use Rattle.lowered_rules.specs.Rules.{IsFrom, AreFrom, IsNode, AreNodes}
+use Rattle.lowered_rules.specs.Rules.{AreFrom, IsNode, AreNodes}
 use Rattle.lowered_places.specs.Shapes.{IsGraphOf, ArePartsLowered}
 use Rattle.lowered_places.proofs.Ends.{IsAtNode, own-node}
 use Rattle.lowered_types.proofs.Known.{node-known, IsCalledIn}
-use Rattle.lowered_types.proofs.Parts.{ArePaired, pairs, result-same}
+use Rattle.lowered_types.proofs.Parts.{pairs, result-same}
 
 -- ---- the output at a port
 

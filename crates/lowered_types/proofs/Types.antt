@@ -1,6 +1,6 @@
 -- Where the lowered graphs of a program keep the rules, the types of its unit are right.
-use Rattle.std.proofs.Common.{◌≡◌, ℕ, zero, suc, ◌+◌, ◌<◌, ◌≤◌, inl, inr, Bool, true, false, cond, ◌&&◌, List, [], ◌∷◌, ◌++◌, length, slice_get, Option, Some, None, refl, sym, ap, subst, ◌∙◌, arith}
-use Rattle.std.specs.Prelude.{All, filter, MatchOption, ◌==◌, if◌then◌else◌}
+use Rattle.std.proofs.Common.{◌≡◌, ℕ, zero, suc, inl, inr, Bool, true, false, cond, ◌&&◌, List, [], ◌∷◌, ◌++◌, slice_get, Some, None, refl, sym, ap, subst, ◌∙◌, arith}
+use Rattle.std.specs.Prelude.{All, filter, MatchOption, ◌==◌}
 use Rattle.std.proofs.lemmas.Bool.{eqb-true}
 use Rattle.std.proofs.lemmas.List.Elements.{All-nil, All-cons, All-head, All-tail, All-append}
 use Rattle.if1_graph.specs.declared.graph.Edge.{Edge}
@@ -11,16 +11,15 @@ use Rattle.if1_graph.specs.declared.graph.Origin.{Origin}
 use Rattle.if1_graph.specs.declared.graph.Origin.TheVariants as origin
 use Rattle.if1_graph.specs.declared.graph.Unit1.{Unit1}
 use Rattle.if1_graph.specs.declared.op.Compound.{Compound}
-use Rattle.if1_graph.specs.declared.op.Part.{Part}
 use Rattle.if1_graph.specs.declared.op.Simple.{Simple}
 use Rattle.if1_graph.specs.declared.op.Simple.TheVariants as simple
 use Rattle.if1_graph.specs.Ops.{simple_at, compound_at}
-use Rattle.if1_graph.specs.Ports.{edges_from, leaves}
+use Rattle.if1_graph.specs.Ports.{leaves}
 use Rattle.if1_graph.specs.Ready.{TypesHold}
 use Rattle.if1_graph.specs.Rows.{operand_of}
 use Rattle.if1_graph.specs.Types.{Sort, Function as FunctionOf, sort_at}
-use Rattle.if1_graph.specs.Typing.{Known, known, Fits, FitsCompound, FitsNode, FitsBoundary, IsTyped, IsGiven, IsWanted, AgreesWith, home_part, StandsRight, IsEndTyped, AreTypesRight}
-use Rattle.if1_graph.specs.Units.{node_at, edges_into, ends, Home, Function, Inside, Place, places}
+use Rattle.if1_graph.specs.Typing.{known, Fits, FitsCompound, FitsNode, FitsBoundary, IsTyped, IsGiven, IsWanted, AgreesWith, home_part, StandsRight, IsEndTyped, AreTypesRight}
+use Rattle.if1_graph.specs.Units.{node_at, edges_into, ends, Place, places}
 use Rattle.typed_tree.specs.declared.program.Program.{Program}
 use Rattle.lowering.specs.declared.feed.Feed.{Feed}
 use Rattle.lowering.specs.declared.feed.Feed.TheVariants.{Literal, Named, Absent, Port}
@@ -30,26 +29,25 @@ use Rattle.lowering.specs.declared.feed.Wire.{Wire}
 use Rattle.lowering.specs.declared.graph.Action.{Action}
 use Rattle.lowering.specs.declared.graph.Action.TheVariants.{Row, Call, Whole}
 use Rattle.lowering.specs.declared.graph.LoweredNode.{LoweredNode}
-use Rattle.lowering.specs.declared.graph.LoweredGraph.{LoweredGraph}
 use Rattle.lowering.specs.Feeds.{one_carried, carried}
 use Rattle.lowering.specs.Graphs.{callee}
 use Rattle.lowering.specs.Programs.{graph_at}
 use Rattle.lowering.specs.Types.{label_of as type_label_of}
 use Rattle.lowered_units.specs.Fitting.{IsFitting}
-use Rattle.lowered_units.specs.Units.{constant_text, origin_of, called_name, edge, edge_if, edges_into as block, node_edges, edges_of, simple_code, compound_code, listed_node, IsTranslated}
+use Rattle.lowered_units.specs.Units.{constant_text, origin_of, called_name, edge, edge_if, edges_into as block, node_edges, edges_of, simple_code, compound_code, IsTranslated}
 use Rattle.lowered_units.proofs.Blocks.{to_node}
 use Rattle.lowered_units.proofs.Codes.{simple-is, no-compound, compound-is, no-simple}
 use Rattle.lowered_sorts.specs.Sorts.{sort_of}
 use Rattle.lowered_sorts.specs.Laws.{HasSort, IsReadBack}
 use Rattle.lowered_sorts.proofs.Told.{read-back}
 use Rattle.lowered_rules.specs.Ports.{Outs, type_at, AreWanted, IsWanted as IsRowWanted, IsSimple}
-use Rattle.lowered_rules.specs.Parts.{IsCompound, AreInputs}
-use Rattle.lowered_rules.specs.Rules.{IsFrom, AreFrom, IsNode, AreNodes, IsGraph, AreRight}
-use Rattle.lowered_places.specs.Shapes.{IsGraphOf, ArePartsLowered, IsShaped}
-use Rattle.lowered_places.proofs.Ends.{IsAtNode, IsNowhere, IsEnd, end-at, no-boundary-node, boundary-edges}
+use Rattle.lowered_rules.specs.Parts.{AreInputs}
+use Rattle.lowered_rules.specs.Rules.{IsFrom, AreFrom, IsNode, AreNodes, AreRight}
+use Rattle.lowered_places.specs.Shapes.{IsShaped}
+use Rattle.lowered_places.proofs.Ends.{IsAtNode, IsNowhere, end-at, no-boundary-node, boundary-edges}
 use Rattle.lowered_places.proofs.Places.{all-shaped}
 use Rattle.lowered_types.proofs.Known.{all-right, node-sorted, results-sorted}
-use Rattle.lowered_types.proofs.Sources.{IsRuled, ruled-node, simple-known, op-is, output-fits}
+use Rattle.lowered_types.proofs.Sources.{ruled-node, simple-known, op-is, output-fits}
 use Rattle.lowered_types.proofs.Homes.{IfFilled, if-filled, AllFit, fit-map, IsRuledPlace, place-ruled}
 
 -- ---- lists
