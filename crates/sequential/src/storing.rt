@@ -23,9 +23,8 @@ pub fn put(cells: &mut Vec<Cell>, place: usize, cell: Cell)
 #[inline(always)]
 fn is_scalar(cell: &Cell) -> bool {
     match cell {
-        Cell::Empty | Cell::Error(_) | Cell::Int(_) | Cell::Bool(_) | Cell::Char(_) | Cell::Null => {
-            true
-        }
+        Cell::Empty | Cell::Error(_) | Cell::Int(_) | Cell::Bool(_) | Cell::Char(_) | Cell::Null =>
+            { true }
         _ => false,
     }
 }
