@@ -1,5 +1,5 @@
 -- At each place of a translated unit stands a lowered graph.
-use Rattle.std.proofs.Common.{◌≡◌, ℕ, zero, suc, ◌+◌, ◌<◌, inl, inr, List, [], ◌∷◌, ◌++◌, map, length, get_or, Some, slice_get, refl, sym, ap, subst, ◌∙◌, arith}
+use Rattle.std.proofs.Common.{◌≡◌, ℕ, zero, suc, ◌+◌, ◌<◌, inl, inr, List, [], ◌∷◌, map, length, get_or, Some, slice_get, refl, sym, ap, subst, ◌∙◌, arith}
 use Rattle.std.specs.Prelude.{All}
 use Rattle.std.specs.List.{flat_map}
 use Rattle.std.proofs.lemmas.List.Elements.{All-nil, All-cons, All-append}
@@ -18,7 +18,7 @@ use Rattle.lowered_units.specs.Units.{inner_graphs, function_graph, function_lis
 use Rattle.lowered_units.proofs.Entries.{whole_listing, entry}
 use Rattle.lowered_units.proofs.Heads.{In, listing-is, Within, part-within, all-within}
 use Rattle.lowered_units.proofs.OneUnit.{inside_in, head_of, nil-is-no-cons, heads, tails}
-use Rattle.lowered_places.specs.Shapes.{IsGraphOf, IsLowered, IsFunctionOf, ArePartsLowered, IsPartOf, StandsAt, IsShaped}
+use Rattle.lowered_places.specs.Shapes.{IsLowered, IsFunctionOf, ArePartsLowered, StandsAt, IsShaped}
 
 pub in-at : {A : Type 0} (xs : List A) (i : ℕ) (x : A) → slice_get xs i ≡ Some x → In x xs
 in-at [] i x e = absurd cc

@@ -1,5 +1,5 @@
 -- The graphs of a unit as lowered graphs, and where they stand (IF1 manual M-170, text form).
-use Rattle.std.specs.Prelude.{◌≡◌, ℕ, nat_eq, All, List, map, Some, slice_get}
+use Rattle.std.specs.Prelude.{◌≡◌, ℕ, nat_eq, All, map, Some, slice_get}
 use Rattle.std.specs.List.{list_any}
 use Rattle.if1_graph.specs.declared.graph.Graph.{Graph}
 use Rattle.if1_graph.specs.declared.graph.Graph.TheViews.{out-Graph}

@@ -1,11 +1,10 @@
 -- Types without the names of fields and tags, by number.
-use Rattle.std.proofs.Common.{◌≡◌, ℕ, zero, suc, ◌<◌, ◌≤◌, List, [], ◌∷◌, map, get_or, Some, None, slice_get, refl, sym, ap, ◌∙◌, subst, arith}
+use Rattle.std.proofs.Common.{◌≡◌, ℕ, zero, suc, ◌≤◌, List, [], ◌∷◌, map, get_or, refl, sym, ap, ◌∙◌, arith}
 use Rattle.flow_value.specs.declared.ty.Ty.{Ty}
 use Rattle.flow_value.specs.declared.ty.Ty.TheVariants as ty
 use Rattle.flow_value.specs.declared.ty.Ty.TheOpen.{Ty-F}
 use Rattle.flow_value.specs.declared.ty.Ty.TheFolds.{fold-roll-Ty}
 use Rattle.if1_graph.specs.Types.{Member}
-use Rattle.type_table.specs.declared.form.Form.{Form}
 use Rattle.type_table.specs.declared.form.Form.TheVariants as form
 use Rattle.type_table.specs.declared.form.Member.{Member as NumberedMember}
 use Rattle.type_table.specs.Forms.{deepest}
@@ -13,7 +12,6 @@ use Rattle.type_table.specs.Tables.{depths, IsTable}
 use Rattle.typed_tree.specs.declared.program.Program.{Program}
 use Rattle.typed_tree.specs.Types.{IsNumber, AreMembers, AreNumbers, no_member, a_member}
 use Rattle.typed_tree.specs.Types as number
-use Rattle.lowered_units.specs.Fitting.{IsFitting}
 use Rattle.lowered_units.proofs.Depths.{depth_at}
 use Rattle.lowering_meaning.proofs.Sorts.{shallow, form-at}
 use Rattle.lowered_sorts.specs.Sorts.{unnamed, bare_step, bare, members_of, type_of, type_within, type_at, types_at}

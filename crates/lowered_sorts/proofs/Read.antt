@@ -1,5 +1,5 @@
 -- The table of types of a program, read back: what a label stands for in every later table.
-use Rattle.std.proofs.Common.{◌≡◌, ℕ, zero, suc, ◌+◌, ◌<◌, ◌≤◌, Bool, true, false, List, [], ◌∷◌, map, length, get_or, Option, Some, None, slice_get, refl, sym, ap, subst, ◌∙◌, arith}
+use Rattle.std.proofs.Common.{◌≡◌, ℕ, zero, suc, ◌+◌, ◌<◌, ◌≤◌, Bool, true, List, [], ◌∷◌, map, length, get_or, Option, Some, None, slice_get, refl, sym, ap, subst, ◌∙◌, arith}
 use Rattle.std.specs.Prelude.{All, if◌then◌else◌}
 use Rattle.std.proofs.lemmas.List.Elements.{All-head, All-tail}
 use Rattle.std.proofs.lemmas.Option.{slice_get_within}
@@ -19,7 +19,7 @@ use Rattle.type_table.specs.Forms.{deepest}
 use Rattle.type_table.specs.Tables.{depths, IsTable}
 use Rattle.typed_tree.specs.declared.program.Function.{Function}
 use Rattle.typed_tree.specs.declared.program.Program.{Program}
-use Rattle.lowering.specs.Types.{Entry, entry, Table, Labelled, enter, basics, Part, members, named, over, form_label, label_within, type_label, tuple_label, function_label}
+use Rattle.lowering.specs.Types.{Entry, entry, Table, Labelled, enter, basics, Part, members, named, over, form_label, type_label, tuple_label, function_label}
 use Rattle.lowering.proofs.Tables.{Grows, grows-then, enter-grows, within-grows, tuple-grows}
 use Rattle.lowered_units.specs.Units.{entries_from}
 use Rattle.lowered_units.proofs.Canonical.{as_type}

@@ -1,7 +1,6 @@
 -- The label of what a wire, a callee or a header has stands for its type in the unit of a program.
-use Rattle.std.proofs.Common.{◌≡◌, ℕ, zero, suc, ◌+◌, ◌<◌, ◌≤◌, ◌⊎◌, inl, inr, List, [], ◌∷◌, ◌++◌, map, length, Option, Some, None, slice_get, refl, sym, ap, subst, ◌∙◌, arith}
+use Rattle.std.proofs.Common.{◌≡◌, ℕ, zero, suc, ◌<◌, ◌⊎◌, inl, inr, List, [], ◌∷◌, ◌++◌, map, length, Option, Some, None, slice_get, refl, sym, ap, subst, ◌∙◌, arith}
 use Rattle.std.specs.Prelude.{All}
-use Rattle.std.proofs.lemmas.List.{length-map}
 use Rattle.std.proofs.lemmas.List.Elements.{All-nil, All-cons, All-append}
 use Rattle.std.proofs.lemmas.Option.{slice_get_within}
 use Rattle.flow_value.specs.declared.ty.Ty.{Ty}
@@ -10,8 +9,8 @@ use Rattle.if1_graph.specs.Types.{sort_at}
 use Rattle.type_table.specs.declared.form.Form.TheVariants.{Integer}
 use Rattle.typed_tree.specs.declared.program.Function.{Function}
 use Rattle.typed_tree.specs.declared.program.Program.{Program}
-use Rattle.typed_tree.specs.Types.{IsNumber, AreNumbers}
-use Rattle.fitting_trees.specs.Fitting.{Header, FunctionFits, FunctionsFit}
+use Rattle.typed_tree.specs.Types.{AreNumbers}
+use Rattle.fitting_trees.specs.Fitting.{Header, FunctionsFit}
 use Rattle.lowering.specs.declared.feed.Feed.{Feed}
 use Rattle.lowering.specs.declared.feed.Feed.TheVariants.{Literal, Named, Absent, Port}
 use Rattle.lowering.specs.declared.feed.Carried.{Carried}
@@ -36,7 +35,7 @@ use Rattle.lowered_units.proofs.Lines.{AreLines, all-lines}
 use Rattle.lowered_units.proofs.Programs.{functions, basics as basic_types, program-built, function-count}
 use Rattle.lowering_meaning.proofs.LowTables.{IsLow, table-low}
 use Rattle.lowering_meaning.proofs.Sorts.{E, form-at, program-stays}
-use Rattle.lowered_sorts.specs.Sorts.{function_sort, callee_sort, sort_of}
+use Rattle.lowered_sorts.specs.Sorts.{callee_sort, sort_of}
 use Rattle.lowered_sorts.specs.Laws.{HasSort, HasHeaderSort, IsNodeSorted, IsGraphSorted, IsReadBack}
 use Rattle.lowered_sorts.proofs.Read.{AreIn, one-shown, many-shown, function-shown}
 

@@ -1,5 +1,5 @@
 -- What the laws say.
-use Rattle.std.specs.Prelude.{◌≡◌, ℕ, ◌++◌, All, List, Some}
+use Rattle.std.specs.Prelude.{◌≡◌, ℕ, ◌++◌, All, Some}
 use Rattle.flow_value.specs.declared.ty.Ty.{Ty}
 use Rattle.if1_graph.specs.declared.graph.Unit1.{Unit1}
 use Rattle.if1_graph.specs.Types.{sort_at}

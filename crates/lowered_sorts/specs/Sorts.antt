@@ -1,6 +1,6 @@
 -- What a lowered type stands for in a program: the type of a value, of a multiple or of a function, without the names of fields and
 -- tags, by which types of units are compared (IF1 manual M-170, type table).
-use Rattle.std.specs.Prelude.{ℕ, zero, suc, List, [], ◌∷◌, map, Option, Some, None, slice_get}
+use Rattle.std.specs.Prelude.{ℕ, zero, suc, List, [], map, Option, Some, None, slice_get}
 use Rattle.flow_value.specs.declared.ty.Ty.{Ty}
 use Rattle.flow_value.specs.declared.ty.Ty.TheVariants as ty
 use Rattle.flow_value.specs.declared.ty.Ty.TheOpen.{Ty-F}
