@@ -1,3 +1,4 @@
 pub mod Sums
 pub mod Leases
 pub mod Scattered
+pub mod Few

@@ -1,4 +1,5 @@
 //! The laws of all leases of an aggregate.
+ghost use Rattle.run_leases.specs.Few.{AreLeasesFew};
 ghost use Rattle.run_leases.specs.Leases.{IsNothingOut, AreLeasesOfNodes, AreAllSlicesCounted};
 ghost use Rattle.run_leases.specs.Scattered.{DoScattersKeep, AreAllScattersKeptOn, AreTakersFree};
 ghost use Rattle.run_leases.specs.Sums.{IsSumMoved, AreAllSumsKept};
@@ -42,4 +43,9 @@ pub fn kept_leases_stay()
 /// Where the taker of a port is ready or was claimed, the port owns what it has, and no lease of that is out at all.
 pub fn takers_find_no_lease()
     ensures { AreTakersFree }
+{}
+
+/// No more leases of an aggregate are out than so many for each claim, where a node at work has so many at most.
+pub fn leases_are_few()
+    ensures { AreLeasesFew }
 {}
