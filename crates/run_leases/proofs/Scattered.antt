@@ -113,7 +113,7 @@ scatters-kept-on table stores takers g n key y there sc =
 
 -- ---- the claim of a taker
 
-taken-told : (p : Place) (e : Edge) (a : Port) → Contains (out-Graph p.graph).edges e → e.takes ≡ true → e.from ≡ origin.Port a.0 a.1 → is_taken_from p a ≡ true
+pub taken-told : (p : Place) (e : Edge) (a : Port) → Contains (out-Graph p.graph).edges e → e.takes ≡ true → e.from ≡ origin.Port a.0 a.1 → is_taken_from p a ≡ true
 taken-told p e a c takes from =
     any-there (λ e. e.takes && leaves a.0 a.1 e.from) (out-Graph p.graph).edges e c (both e.takes (leaves a.0 a.1 e.from) takes (ap (leaves a.0 a.1) from ∙ itself a.0 a.1))
 
