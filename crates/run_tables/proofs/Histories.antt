@@ -31,7 +31,7 @@ use Rattle.run_tables.proofs.Alone.{claimed-by, claimed-exists, rounds-legal, ro
 use Rattle.run_tables.proofs.Followed.{After, vertex-of, put-known, entered-known, state-known, beyond-put, mark-items, all-done, claimed-taken}
 use Rattle.run_tables.proofs.Stepped.{by-kind, further-after}
 
-plug-slice : (p : Path) (i : Item) → is_slice (plug p i) ≡ is_slice i
+pub plug-slice : (p : Path) (i : Item) → is_slice (plug p i) ≡ is_slice i
 plug-slice [] i = refl
 plug-slice ((l, k) ∷ p) i = plug-slice p (Inside l k i)
 
@@ -260,26 +260,3 @@ module _ (cut : Cut) (u : Network) (g : ℕ) (ins : List Carried) (limit : ℕ) 
 
 pub tables-there : AreTablesThere
 tables-there cut u g ins limit h is-cut orderly legal = followed cut u g ins limit is-cut orderly h legal
-
--- ---- one worker
-
-pub runs-end : DoRunsEnd
-runs-end workers u g ins limit w h some orderly legal settled =
-    record {
-      ends = λ gives.
-          comes-to-end (run_of (sliced workers) u g ins) limit w h legal (runs-never-stuck (sliced workers) u g ins limit (slices-cut workers some) orderly) decided gives ((4 * workers + 3) * limit) few settled;
-      few = λ n k r.
-          let a = rounds-claim (run_of (sliced workers) u g ins) limit w h legal n k r in
-          let b = few k (rounds-legal (run_of (sliced workers) u g ins) limit w h legal n k r) in
-          omega (arith, a, b);
-    }
-  where
-    few : (k : History) → Legal (run_of (sliced workers) u g ins) limit k → claims_in k ≤ (4 * workers + 3) * limit
-    few k l = (workers-bounded workers u g ins limit k some orderly l).limited
-
-    decided : (k : History) → Legal (run_of (sliced workers) u g ins) limit k → ((e : EndKind) × HasEnded (run_of (sliced workers) u g ins) limit k e) ⊎ IsOn (run_of (sliced workers) u g ins) limit k
-    decided k l = go (followed (sliced workers) u g ins limit (slices-cut workers some) orderly k l)
-      where
-        go : ((e : EndKind) × HasEnded (run_of (sliced workers) u g ins) limit k e) ⊎ HasTable (sliced workers) u g ins limit k → ((e : EndKind) × HasEnded (run_of (sliced workers) u g ins) limit k e) ⊎ IsOn (run_of (sliced workers) u g ins) limit k
-        go (inl e) = inl e
-        go (inr T) = inr T.stands.on
