@@ -60,7 +60,7 @@ waiting-within s w k g e = absurd (clash (sym w ∙ e))
     clash : Waiting ≡ Within k g → ⊥
     clash e = cc
 
-no-key : {P : Type 0} (key : ℕ) (ks : List ℕ) → ks ≡ [] → IsKeyIn key ks → P
+pub no-key : {P : Type 0} (key : ℕ) (ks : List ℕ) → ks ≡ [] → IsKeyIn key ks → P
 no-key key ks e i = absurd (subst (IsKeyIn key) e i)
 
 this-node : (g f n l : ℕ) → Dec ((g ≡ f) × (n ≡ l))

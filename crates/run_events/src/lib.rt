@@ -4,4 +4,4 @@
 
 mod laws;
 
-pub use laws::events_are_kept;
+pub use laws::{claims_are_served, events_are_kept, what_is_kept_begins};
