@@ -278,7 +278,7 @@ one-few : (most a : ℕ) → a ≤ most → a ≤ most * 1
 one-few most a le = omega (arith, le)
 
 -- what is counted of a node by its state alone
-abbrev all_as : ℕ → (ℕ → Store) → Lent → ℕ → ℕ → State → ℕ
+abbrev pub all_as : ℕ → (ℕ → Store) → Lent → ℕ → ℕ → State → ℕ
 all_as key stores lent f l s =
     (if is_at_work s then ports_with key (stores f) ((stores f).reads l) else 0)
     + (slices_out s * (ports_with key (stores f) ((stores f).reads l) + times key (lent.to_slices f l)) + (if is_at_work s then times key (lent.scattered f l) else 0))

@@ -2,3 +2,4 @@ pub mod Sums
 pub mod Leases
 pub mod Scattered
 pub mod Few
+pub mod Same

@@ -1,6 +1,6 @@
 //! The laws of all leases of an aggregate.
 ghost use Rattle.run_leases.specs.Few.{AreLeasesFew};
-ghost use Rattle.run_leases.specs.Leases.{IsNothingOut, AreLeasesOfNodes, AreAllSlicesCounted};
+ghost use Rattle.run_leases.specs.Leases.{IsNothingOut, AreLeasesOfNodes, AreAllSlicesCounted, DoIdleNodesLeaseNothing, AreLeasesSame};
 ghost use Rattle.run_leases.specs.Scattered.{DoScattersKeep, AreAllScattersKeptOn, AreTakersFree};
 ghost use Rattle.run_leases.specs.Sums.{IsSumMoved, AreAllSumsKept};
 
@@ -48,4 +48,14 @@ pub fn takers_find_no_lease()
 /// No more leases of an aggregate are out than so many for each claim, where a node at work has so many at most.
 pub fn leases_are_few()
     ensures { AreLeasesFew }
+{}
+
+/// A node that is not at work has no lease.
+pub fn idle_nodes_lease_nothing()
+    ensures { DoIdleNodesLeaseNothing }
+{}
+
+/// Where ports are filled or emptied that no node at work reads, all leases stay.
+pub fn unread_ports_lease_the_same()
+    ensures { AreLeasesSame }
 {}
