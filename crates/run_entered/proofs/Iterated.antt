@@ -1,5 +1,5 @@
 -- What an iteration reads, from the table of forms.
-use Rattle.std.proofs.Common.{◌≡◌, ℕ, zero, suc, ◌<◌, if◌then◌else◌, nat_eq, pos, negsuc, Bool, true, false, ◌&&◌, List, [], ◌∷◌, ◌++◌, map, drop, length, slice_get, Option, Some, None, refl, sym, ap, ◌∙◌, subst, arith}
+use Rattle.std.proofs.Common.{◌≡◌, ℕ, zero, suc, if◌then◌else◌, nat_eq, pos, negsuc, Bool, true, false, List, [], ◌∷◌, ◌++◌, map, drop, length, slice_get, Option, Some, None, refl, sym, ap, ◌∙◌, arith}
 use Rattle.std.specs.List.{list_all}
 use Rattle.std.proofs.lemmas.Bool.{eqb-true}
 use Rattle.flow_value.specs.declared.cause.Cause.{Cause}
@@ -7,16 +7,13 @@ use Rattle.flow_value.specs.declared.cause.Cause.TheVariants as cause
 use Rattle.flow_value.specs.declared.value.Val.{Val}
 use Rattle.flow_value.specs.declared.value.Val.TheOpen.{Val-F}
 use Rattle.flow_value.specs.declared.value.Val.TheViews as values
-use Rattle.if1_graph.specs.declared.graph.Graph.{Graph}
-use Rattle.if1_graph.specs.declared.graph.Node.{Node, out-Node}
 use Rattle.if1_graph.specs.declared.op.Compound.TheVariants as compound
 use Rattle.if1_graph.specs.declared.op.Part.TheVariants as part
 use Rattle.if1_graph.specs.Parts.{part_at}
-use Rattle.if1_graph.specs.Ports.{part_of}
 use Rattle.if1_graph.specs.Tables.{◌>>=◌}
 use Rattle.if1_marks.proofs.Lent.{are-lent}
 use Rattle.graph_meaning.specs.Carried.{Carried, Value, val_of}
-use Rattle.graph_meaning.specs.Forms.{Form, Call, Select, TagCase, LoopA, LoopB, ForAll, Next, Enter, Iterate, Leave, Stage, Called, Selecting, Chosen, Starting, Testing, Turning, Generating, Returning, fails, enter_chosen, select, tested, follow, gather, spread, iterate, first_spoiled, are_as_long, rows_of, places_of, heads, items}
+use Rattle.graph_meaning.specs.Forms.{Form, Call, Select, TagCase, LoopA, LoopB, ForAll, Next, Iterate, Stage, Called, Selecting, Chosen, Starting, Testing, Turning, Generating, Returning, fails, enter_chosen, select, tested, follow, gather, spread, iterate, first_spoiled, are_as_long, rows_of, places_of, heads, items}
 use Rattle.graph_meaning.specs.Demand.{Network}
 use Rattle.run_states.specs.Phases.{Comes, skips, begins, enters, iterates}
 use Rattle.run_states.proofs.Lookups.{some-same}

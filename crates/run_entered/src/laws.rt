@@ -1,7 +1,7 @@
 //! The laws of graphs that are entered.
-ghost use Rattle.run_entered.specs.Handing.{AreAllEnteredByModes, AreLeftByMarks, AreOutputsFilled};
+ghost use Rattle.run_entered.specs.Handing.{AreAllEnteredByModes, AreAllEnteredWith, AreLeftByMarks, AreOutputsFilled};
 ghost use Rattle.run_entered.specs.Iterated.{AreIterationsTold, DoIterationsLook};
-ghost use Rattle.run_entered.specs.Modes.{AreAllModesRight};
+ghost use Rattle.run_entered.specs.Modes.{AreAllModesRight, AreCopiesCounted};
 ghost use Rattle.run_entered.specs.Stages.{AreAllStagesTold, ArePartsTold};
 ghost use Rattle.run_entered.specs.There.{AreOperandsThere, IsAllThereKept};
 
@@ -55,4 +55,14 @@ pub fn iterations_are_told()
 /// It owns none of these.
 pub fn iterations_only_look()
     ensures { DoIterationsLook }
+{}
+
+/// So it is entered with what `run_storage` asks.
+pub fn graphs_are_entered_with_these()
+    ensures { AreAllEnteredWith }
+{}
+
+/// What a node copies by its modes is what its copies count.
+pub fn copies_are_counted()
+    ensures { AreCopiesCounted }
 {}

@@ -296,8 +296,8 @@ module _ (cut : Cut) (u : Unit1) (g : ℕ) (ins : List Carried) (table : Table) 
     still-kept h y z n key is i w ne q labels same (of_left un) =
         of_left
         (λ r v b there cell own.
-            let o = old table f l x Done at r v there in
-            unowned-now r o.live b o.found cell own (is-output r b))
+        let o = old table f l x Done at r v there in
+        unowned-now r o.live b o.found cell own (is-output r b))
       where
         unowned-now : (r : ℕ) (v : Live) (b : Port) → table r ≡ Some v → (others r).cell b ≡ Some (Kept key) → (others r).owning b ≡ Owned → Dec ((r ≡ f) × (b.0 ≡ l)) → ⊥
         unowned-now r v b there cell own (yes p) =
@@ -468,9 +468,9 @@ module _ (cut : Cut) (u : Unit1) (g : ℕ) (ins : List Carried) (table : Table) 
               mid (λ h z. (q key : ℕ) → IsIn q z.labels → IsAtWork (z.states q) → IsKeyIn key (later.lent.scattered h q) → Scatters (put table n (Some y)) later.stores (takers_of later.homes) z h q key)
               (λ q key i w t. no-key key (later.lent.scattered n q) (o.none q).1 t)
               (λ h z ne is q key i w t.
-                  let t' = subst (IsKeyIn key) (o.others h q ne).1 t in
-                  (scatters-kept-on table k.stores (takers_of k.homes) h q key z is (st.lent.scattered h z q key is i w t')).added later.stores (takers_of later.homes) n y vacant
-                  (λ r nr. (same-store r nr, λ a. ap (λ p. is_taken_from p a) (o.same r nr).0)) (λ a cell. o.apart h z q key a is i w t' cell))
+              let t' = subst (IsKeyIn key) (o.others h q ne).1 t in
+              (scatters-kept-on table k.stores (takers_of k.homes) h q key z is (st.lent.scattered h z q key is i w t')).added later.stores (takers_of later.homes) n y vacant
+              (λ r nr. (same-store r nr, λ a. ap (λ p. is_taken_from p a) (o.same r nr).0)) (λ a cell. o.apart h z q key a is i w t' cell))
 
       idle-mid : (h : ℕ) (z : Live) (q : ℕ) → put table n (Some y) h ≡ Some z → IsIn q z.labels → ¬ IsAtWork (z.states q) → (later.lent.to_slices h q ≡ []) × (later.lent.scattered h q ≡ [])
       idle-mid h z q is =

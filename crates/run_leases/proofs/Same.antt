@@ -40,5 +40,5 @@ pub leases-same : AreLeasesSame
 leases-same key table stores others lent same n =
     (sums-kept (all_of_node key stores lent) (all_of_node key others lent) table).counted
     (λ f x l at i.
-        same-as key stores others lent f l (x.states l)
-        (λ work. let s = same f x l at i work in ap (ports_with key (others f)) s.0 ∙ same-with key (stores f) (others f) ((stores f).reads l) s.1)) n
+    same-as key stores others lent f l (x.states l)
+    (λ work. let s = same f x l at i work in ap (ports_with key (others f)) s.0 ∙ same-with key (stores f) (others f) ((stores f).reads l) s.1)) n

@@ -1,10 +1,9 @@
 -- The work on each item has an outcome, since costs are decided, limit by limit; and so one worker comes to an end.
-use Rattle.std.proofs.Common.{◌≡◌, ◌≢◌, ℕ, zero, suc, ◌+◌, ◌-◌, ◌*◌, ◌≤◌, ◌<◌, Bool, true, false, List, [], ◌∷◌, slice_get, Option, Some, None, ◌⊎◌, inl, inr, refl, sym, ap, ◌∙◌, subst, arith}
+use Rattle.std.proofs.Common.{◌≡◌, ◌≢◌, ℕ, zero, suc, ◌+◌, ◌-◌, ◌*◌, ◌≤◌, ◌<◌, true, false, List, [], ◌∷◌, Some, ◌⊎◌, inl, inr, refl, sym, ap, ◌∙◌, subst, arith}
 use Rattle.graph_meaning.specs.Carried.{Carried}
 use Rattle.graph_meaning.specs.Entered.{Item, Node, Entry, Slice, Leave, Inside, cost}
-use Rattle.graph_meaning.specs.Forms.{Iterate}
-use Rattle.graph_meaning.specs.Demand.{Network, Cut, IsCut, AreOrderly, tree}
-use Rattle.graph_meaning.specs.Histories.{Run, Exists, OwnFirings, History, Legal, Made, OverLimit, NoMemory, EndKind, Results as HasResults, TurnLimit, OutOfMemory, Ended, Outcome, HasEnded, IsOn, IsSettled, IsComplete, MadeWith, Gives, is_slice, is_claimed}
+use Rattle.graph_meaning.specs.Demand.{Network, IsCut, AreOrderly, tree}
+use Rattle.graph_meaning.specs.Histories.{Run, Exists, OwnFirings, History, Legal, Made, OverLimit, NoMemory, EndKind, Results as HasResults, TurnLimit, OutOfMemory, Ended, Outcome, HasEnded, IsOn, IsSettled, IsComplete, MadeWith, Gives, is_slice}
 use Rattle.graph_meaning.specs.Laws.{run_of}
 use Rattle.graph_meaning.specs.Plain.{Costs}
 use Rattle.graph_meaning.proofs.PlainCosts.{plain-costs}
@@ -91,9 +90,9 @@ module _ (workers : ℕ) (some : 0 < workers) (u : Network) (orderly : AreOrderl
       others c a le (inr over) =
           inr
           (λ n r.
-              let p = parted j row rows n r in
-              let same = cost-one j row p.first c p.of_first a in
-              above-others l c p.others n le (over p.others p.of_others) (p.sum ∙ ap (λ z. 1 + z + p.others) same))
+          let p = parted j row rows n r in
+          let same = cost-one j row p.first c p.of_first a in
+          above-others l c p.others n le (over p.others p.of_others) (p.sum ∙ ap (λ z. 1 + z + p.others) same))
 
       lower : (c m : ℕ) → m < l - c → m < suc l
       lower c m lt = omega (arith, lt)
@@ -130,15 +129,14 @@ module _ (workers : ℕ) (some : 0 < workers) (u : Network) (orderly : AreOrderl
         go (inl q) =
             let own = slice-firings (sliced workers) u (slices-cut workers some) (ranked u orderly) h is w.node l w.found form ks w.kind w.given k j row rows ms c r part at q.0 q.1 in
             (Made q.0, subst (MadeWith run limit (plug p (Slice l (suc k) r)) q.0) (sym (plug-slice p (Slice l (suc k) r))) ((exact q.0).0 own, q.2), not-memory q.0)
-        go (inr over) =
-            (
-              OverLimit,
-              (
-                plug-slice p (Slice l (suc k) r),
-                λ n f. over n (firings-cost (sliced workers) u (slices-cut workers some) (ranked u orderly) h is w.node l w.found form ks w.kind w.given k j row rows ms c r part at n ((exact n).1 f)),
-              ),
-              over-memory,
-            )
+        go (inr over) = (
+          OverLimit,
+          (
+            plug-slice p (Slice l (suc k) r),
+            λ n f. over n (firings-cost (sliced workers) u (slices-cut workers some) (ranked u orderly) h is w.node l w.found form ks w.kind w.given k j row rows ms c r part at n ((exact n).1 f)),
+          ),
+          over-memory,
+        )
 
     pub outcome : (i : Item) → Exists run i → Outcomes i
     outcome i ex =

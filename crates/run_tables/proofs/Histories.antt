@@ -1,15 +1,11 @@
 -- Each legal history has ended or has a table, and so one worker comes to an end.
-use Rattle.std.proofs.Common.{◌≡◌, ℕ, ◌+◌, ◌*◌, ◌≤◌, true, false, List, [], ◌∷◌, Some, None, ◌⊎◌, inl, inr, refl, sym, ap, ◌∙◌, subst, arith}
+use Rattle.std.proofs.Common.{◌≡◌, ℕ, ◌+◌, ◌≤◌, true, false, List, [], ◌∷◌, Some, None, ◌⊎◌, inl, inr, refl, sym, ap, ◌∙◌, subst, arith}
 use native.Mathlib.Decide.{dec_le}
 use Rattle.graph_meaning.specs.Carried.{Carried}
 use Rattle.graph_meaning.specs.Entered.{Item, Node, Slice, Inside, IsIn, Has}
 use Rattle.graph_meaning.specs.Demand.{Vertex, Network, Cut, IsCut, AreOrderly, operands, of_node, leads_to, nodes_tree, tree_from, tree}
-use Rattle.graph_meaning.specs.Histories.{Run, OwnFirings, History, Legal, Made, OverLimit, NoMemory, EndKind, Results as HasResults, TurnLimit, OutOfMemory, Event, Claim, Idle, Ended, Finish, HasEnded, IsOn, MadeWith, Claimable, ClaimedBy, Gives, count, early, is_slice, is_claimed, is_finished, is_made}
+use Rattle.graph_meaning.specs.Histories.{Run, OwnFirings, History, Legal, Made, OverLimit, NoMemory, EndKind, Results as HasResults, TurnLimit, OutOfMemory, Event, Claim, Idle, Ended, Finish, HasEnded, MadeWith, Claimable, ClaimedBy, Gives, count, early, is_slice, is_claimed, is_finished, is_made}
 use Rattle.graph_meaning.specs.Laws.{run_of}
-use Rattle.graph_meaning.proofs.Theorems.{runs-never-stuck}
-use Rattle.run_bounds.specs.Bounds.{claims_in}
-use Rattle.run_bounds.proofs.Bounded.{workers-bounded}
-use Rattle.run_states.specs.Sliced.{sliced}
 use Rattle.run_states.specs.Standing.{Path, plug, label_of, IsOuter, Open, Taken, Opens, State, Waiting, Claimed, Within, GoingOn, Done, Stands, GoesOn, NodeStands, Live, Table, tests_at, TableStands, ReadyAs, IsReady, or_item, taken, with_state, put}
 use Rattle.run_states.specs.Events.{IsOwn, also}
 use Rattle.run_states.specs.Paths.{here}
@@ -22,12 +18,11 @@ use Rattle.run_states.proofs.Kept.{claim-kept, busy-kept}
 use Rattle.run_states.proofs.Lookups.{put-other, set-same}
 use Rattle.run_states.proofs.Paths.{paths-exact}
 use Rattle.run_states.proofs.Runs.{ends-with-results, goes-on-after}
-use Rattle.run_states.proofs.Sliced.{slices-cut}
 use Rattle.run_states.proofs.Users.{users-done}
 use Rattle.run_tables.specs.Known.{IsKnownAs}
-use Rattle.run_tables.specs.Followed.{HasTable, AreTablesThere, DoRunsEnd}
+use Rattle.run_tables.specs.Followed.{HasTable, AreTablesThere}
 use Rattle.run_tables.proofs.Rows.{OpenRow, open-row}
-use Rattle.run_tables.proofs.Alone.{claimed-by, claimed-exists, rounds-legal, rounds-claim, comes-to-end}
+use Rattle.run_tables.proofs.Alone.{claimed-by, claimed-exists}
 use Rattle.run_tables.proofs.Followed.{After, vertex-of, put-known, entered-known, state-known, beyond-put, mark-items, all-done, claimed-taken}
 use Rattle.run_tables.proofs.Stepped.{by-kind, further-after}
 
