@@ -1,12 +1,12 @@
 -- Types by number are those of the typed tree, without the names of fields and tags.
-use Rattle.std.proofs.Common.{◌≡◌, ℕ, zero, suc, List, [], ◌∷◌, map, Some, slice_get, refl, sym, ap, subst, ◌∙◌}
+use Rattle.std.proofs.Common.{◌≡◌, ℕ, zero, suc, List, [], ◌∷◌, map, Some, slice_get, refl, ap, subst, ◌∙◌}
 use Rattle.if1_graph.specs.Types.{Plain, Many as ManyOf, Function as FunctionOf}
 use Rattle.typed_tree.specs.declared.program.Function.{Function}
 use Rattle.typed_tree.specs.declared.program.Program.{Program}
 use Rattle.typed_tree.specs.Types.{AreNumbers}
 use Rattle.fitting_trees.specs.Fitting.{Header, FunctionFits, FunctionsFit}
 use Rattle.lowered_units.specs.Fitting.{IsFitting}
-use Rattle.lowered_sorts.specs.Sorts.{bare, types_at, function_sort, callee_sort, sort_of}
+use Rattle.lowered_sorts.specs.Sorts.{bare, types_at, callee_sort, sort_of}
 use Rattle.lowered_sorts.proofs.Bare.{bare-bool, bare-char, bare-int, bare-null, bare-array, bare-stream, bare-record, bare-union, number-told, numbers-told}
 use Rattle.lowered_rules.specs.Sorts.{IsSorting}
 

@@ -1,24 +1,19 @@
 -- The program of a text is covered by the rules: each `for` that is bound has a generator.
-use Rattle.std.proofs.Common.{◌≡◌, ℕ, zero, suc, ◌≤◌, Bool, true, false, ◌&&◌, ◌||◌, List, [], ◌∷◌, map, length, Option, Some, None, slice_get, refl, sym, ap, subst, ◌∙◌, arith}
+use Rattle.std.proofs.Common.{◌≡◌, ℕ, zero, suc, ◌≤◌, Bool, true, false, ◌&&◌, List, [], ◌∷◌, map, length, Some, slice_get, refl, sym, ap, subst, ◌∙◌, arith}
 use Rattle.std.specs.Prelude.{All}
 use Rattle.std.proofs.lemmas.List.Elements.{All-head, All-tail}
-use Rattle.sisal_tree.specs.declared.unit.Unit as tree
 use Rattle.typed_tree.specs.declared.expr.TypedExpr.{TypedExpr}
 use Rattle.typed_tree.specs.declared.expr.TypedKind.{TypedKind}
 use Rattle.typed_tree.specs.declared.expr.TypedKind.TheVariants as typed
 use Rattle.typed_tree.specs.declared.expr.TypedKind.TheViews.{roll-TypedKind}
 use Rattle.typed_tree.specs.declared.expr.TypedKind.TheOpen.{TypedKind-F}
-use Rattle.typed_tree.specs.declared.expr.Product.{Product}
-use Rattle.typed_tree.specs.declared.expr.Turns.{Turns}
 use Rattle.typed_tree.specs.declared.expr.Source.{Source}
 use Rattle.typed_tree.specs.declared.program.Function.{Function}
-use Rattle.typed_tree.specs.declared.program.Program.{Program}
 use Rattle.typed_tree.specs.Typing.{with}
-use Rattle.value_ops.specs.declared.operation.Operation.{Operation}
 use Rattle.bound_trees.specs.Bound as is
 use Rattle.bound_trees.specs.Bound.{IsBound, AreBound, AreDefined, AreArms, IsBoundIn, IsBoundBody}
 use Rattle.fitting_texts.proofs.Names.{names_once}
-use Rattle.lowering_meaning.specs.Coverage.{Coverage, all_ok, each_ok, counts, all_one, masks_alone, is_plain_operation, kind_covered, verdict, plain_forms}
+use Rattle.lowering_meaning.specs.Coverage.{all_ok, each_ok, counts, all_one, masks_alone, is_plain_operation, kind_covered, verdict, plain_forms}
 use Rattle.lowering_meaning.proofs.Layers.{parts_covered, covered-is, count-is, and-true}
 use Rattle.lowered_rules.specs.Laws.{has_source, rule_forms}
 use Rattle.bound_trees.specs.Laws.{TextLaw}
