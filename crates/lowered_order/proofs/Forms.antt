@@ -1,5 +1,5 @@
 -- Each form of phrase keeps the order of its parts: names, operations, clauses and the forms that choose.
-use Rattle.std.proofs.Common.{ℕ, zero, suc, ◌+◌, ◌≤◌, Bool, true, false, List, [], ◌∷◌, ◌++◌, map, length, drop, Option, Some, None, arith}
+use Rattle.std.proofs.Common.{ℕ, zero, suc, ◌+◌, ◌≤◌, Bool, true, false, List, [], ◌∷◌, ◌++◌, map, drop, arith}
 use Rattle.std.specs.Prelude.{if◌then◌else◌, nat_eq, nat_lt, slice_set}
 use Rattle.flow_value.specs.declared.operation.Scalar1.TheVariants as unary
 use Rattle.if1_graph.specs.declared.op.Simple.{Simple}

@@ -20,7 +20,7 @@ use Rattle.lowering.specs.declared.feed.Carried.TheVariants.{One, Many}
 use Rattle.lowering.specs.declared.feed.Wire.{Wire}
 use Rattle.lowering.specs.Feeds.{wire, into}
 use Rattle.lowering.specs.declared.graph.Action.TheVariants.{Row}
-use Rattle.lowering.specs.Graphs.{Lowering, only, andthen, a_node, size, new_graph}
+use Rattle.lowering.specs.Graphs.{only, andthen, a_node, size, new_graph}
 use Rattle.lowering.specs.Operations.{Lowers, boolean, integer, one, all_lowered, defs_lowered, body_lowered, wire_at, row_lowered}
 use Rattle.lowering.specs.Choices.{is_array, type_of}
 use Rattle.lowering.specs.Loops.{own_inputs, many, single, types, take_up, with_not, unless_places, clauses_lowered, reducer_name, grouping_of, span, Bound, Wired, Limit, fold_lowered, returns_lowered, width, elements_in, generator_lowered, generators_lowered, bound_of, product_lowered, Phrase, loop_lowered, loop_kind, loop_name, extra, extras, collected, renew, renew_one, test_lowered, row_of_turn, initial_lowered}

@@ -1,5 +1,5 @@
 -- What each expression becomes keeps the order, and so do the graphs of a program.
-use Rattle.std.proofs.Common.{◌≡◌, ℕ, suc, ◌+◌, List, [], ◌∷◌, map, Option, Some, None, sym, ap, subst, ◌∙◌, arith}
+use Rattle.std.proofs.Common.{ℕ, suc, ◌+◌, List, [], ◌∷◌, map, Option, Some, None, sym, ap, subst, arith}
 use Rattle.if1_graph.specs.declared.op.Simple.TheVariants as simple
 use Rattle.type_table.specs.declared.form.Form.{Form}
 use Rattle.typed_tree.specs.declared.expr.TypedExpr.{TypedExpr, roll-TypedExpr}
@@ -10,7 +10,6 @@ use Rattle.typed_tree.specs.declared.expr.TypedKind.TheFolds.{map-TypedKind, map
 use Rattle.typed_tree.specs.declared.program.Function.{Function}
 use Rattle.typed_tree.specs.declared.program.Program.{Program}
 use Rattle.lowering.specs.declared.feed.Carried.TheVariants.{One}
-use Rattle.lowering.specs.declared.graph.LoweredGraph.{LoweredGraph}
 use Rattle.lowering.specs.Graphs.{size, new_graph, new_graphs}
 use Rattle.lowering.specs.Operations.{Lowers, all_lowered}
 use Rattle.lowering.specs.Choices.{case_lowered, applied}

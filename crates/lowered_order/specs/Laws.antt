@@ -1,14 +1,13 @@
 -- What the laws on the order of translated units say.
-use Rattle.std.specs.Prelude.{◌≡◌, ℕ, zero, suc, ◌<◌, ◌≤◌, length, All}
+use Rattle.std.specs.Prelude.{ℕ, zero, suc, ◌≤◌, length, All}
 use Rattle.typed_tree.specs.declared.program.Program.{Program}
 use Rattle.if1_graph.specs.declared.graph.Graph.{Graph}
 use Rattle.if1_graph.specs.declared.graph.Graph.TheViews.{out-Graph}
-use Rattle.if1_graph.specs.declared.graph.Edge.{Edge}
 use Rattle.if1_graph.specs.declared.graph.Origin.{Origin}
 use Rattle.if1_graph.specs.declared.graph.Origin.TheVariants.{Port, Lit}
 use Rattle.if1_graph.specs.declared.graph.Unit1.{Unit1}
 use Rattle.if1_graph.specs.Ready.{IsAcyclic}
-use Rattle.if1_graph.specs.Units.{Place, places}
+use Rattle.if1_graph.specs.Units.{places}
 use Rattle.lowered_units.specs.Units.{IsTranslated}
 
 -- what leads to a node, or to the boundary for 0, comes from a smaller label, where so many nodes stand in the graph

@@ -1,19 +1,18 @@
 -- No more leases are out than so many for each claim: nodes at work are distinct claimed items.
-use Rattle.std.proofs.Common.{◌≡◌, ℕ, zero, suc, ◌+◌, ◌*◌, ◌≤◌, ◌<◌, if◌then◌else◌, Bool, true, false, ◌||◌, List, [], ◌∷◌, ◌++◌, length, ◌⊎◌, Option, Some, None, inl, inr, refl, sym, ap, ◌∙◌, subst, arith}
+use Rattle.std.proofs.Common.{◌≡◌, ℕ, zero, suc, ◌+◌, ◌*◌, ◌≤◌, ◌<◌, if◌then◌else◌, Bool, true, false, List, [], ◌∷◌, ◌++◌, length, ◌⊎◌, Option, Some, None, inl, inr, refl, sym, ap, ◌∙◌, subst, arith}
 use Rattle.graph_meaning.specs.Entered.{Item, Node, Inside, IsIn}
-use Rattle.graph_meaning.specs.Histories.{Run, History, Event, Claim, Idle, Ended, Finish, is_claimed, dec_item}
-use Rattle.run_states.specs.Standing.{Path, plug, State, Waiting, Claimed, Within, GoingOn, Done, Live, Table, TableStands}
+use Rattle.graph_meaning.specs.Histories.{Run, History, Claim, Idle, Ended, Finish, is_claimed, dec_item}
+use Rattle.run_states.specs.Standing.{Path, plug, State, Waiting, Claimed, Within, GoingOn, Done, Live, Table}
 use Rattle.run_states.specs.Storing.{Store, IsAtWork}
 use Rattle.run_states.specs.Leasing.{is_at_work, one_if, ports_with}
 use Rattle.run_states.specs.Runs.{RunStands}
 use Rattle.run_states.proofs.Items.{or-cases}
-use Rattle.run_states.proofs.Lookups.{some-same}
 use Rattle.run_states.proofs.Matching.{Matches, at_once, deeper, matching}
 use Rattle.run_states.proofs.Users.{was-claimed}
 use Rattle.run_bounds.specs.Bounds.{claims_in}
 use Rattle.run_bounds.proofs.Bounded.{times-add, times-mono}
 use Rattle.run_leases.specs.Sums.{PerNode, nodes_sum, graph_sum, table_sum}
-use Rattle.run_leases.specs.Leases.{Lent, times, slices_out, all_of_node, all_leases}
+use Rattle.run_leases.specs.Leases.{Lent, times, slices_out, all_of_node}
 use Rattle.run_leases.specs.Few.{AreOnce, HaveLabelsOnce, AreLeasesFew}
 
 -- ---- lists of items

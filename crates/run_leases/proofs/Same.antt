@@ -1,11 +1,10 @@
 -- Where leases stay.
-use Rattle.std.proofs.Common.{◌≡◌, ℕ, ◌+◌, ◌*◌, if◌then◌else◌, Some, refl, sym, ap, ◌∙◌, arith}
-use Rattle.graph_meaning.specs.Entered.{IsIn}
-use Rattle.run_states.specs.Standing.{State, Waiting, Claimed, Within, GoingOn, Done, Live, Table}
-use Rattle.run_states.specs.Storing.{Port, Store, IsRead, IsAtWork}
-use Rattle.run_states.specs.Leasing.{is_at_work, ports_with}
+use Rattle.std.proofs.Common.{◌≡◌, ℕ, ◌+◌, ◌*◌, sym, ap, ◌∙◌, arith}
+use Rattle.run_states.specs.Standing.{State, Waiting, Claimed, Within, GoingOn, Done}
+use Rattle.run_states.specs.Storing.{Store, IsAtWork}
+use Rattle.run_states.specs.Leasing.{ports_with}
 use Rattle.run_states.proofs.Leasing.{same-with}
-use Rattle.run_leases.specs.Leases.{Lent, times, slices_in, slices_out, all_of_node, DoIdleNodesLeaseNothing, AreLeasesSame}
+use Rattle.run_leases.specs.Leases.{Lent, times, slices_in, all_of_node, DoIdleNodesLeaseNothing, AreLeasesSame}
 use Rattle.run_leases.proofs.Few.{all_as}
 use Rattle.run_leases.proofs.Sums.{sums-kept}
 

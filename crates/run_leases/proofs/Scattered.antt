@@ -1,6 +1,5 @@
 -- The leases that AScatters keep, and the claim of a taker.
-use Rattle.std.proofs.Common.{◌≡◌, ◌≢◌, ℕ, Bool, true, false, ◌&&◌, ◌∷◌, ◌⊎◌, List, Contains, Option, Some, None, inl, inr, refl, sym, ap, ◌∙◌, subst}
-use Rattle.std.proofs.lemmas.Bool.{eq-eqb}
+use Rattle.std.proofs.Common.{◌≡◌, ℕ, Bool, true, false, ◌&&◌, ◌∷◌, Contains, Some, None, inl, inr, sym, ap, ◌∙◌, subst}
 use native.Mathlib.Decide.{ℕ_discrete}
 use Rattle.if1_graph.specs.declared.graph.Edge.{Edge}
 use Rattle.if1_graph.specs.declared.graph.Graph.TheViews.{out-Graph}
@@ -10,17 +9,17 @@ use Rattle.if1_graph.specs.Units.{Place}
 use Rattle.if1_marks.proofs.Taken.{itself}
 use Rattle.if1_marks.proofs.Tests.{any-there, both}
 use Rattle.graph_meaning.specs.Entered.{IsIn}
-use Rattle.graph_meaning.specs.Histories.{Run, is_claimed, is_made}
+use Rattle.graph_meaning.specs.Histories.{is_claimed, is_made}
 use Rattle.graph_meaning.specs.Laws.{run_of}
 use Rattle.graph_meaning.specs.Networks.{network}
-use Rattle.run_states.specs.Standing.{Path, Test, Within, Live, Table, TableStands, IsParent, put}
-use Rattle.run_states.specs.Storing.{Cell, Kept, Port, Owned, Lent, Store, IsRead, IsAtWork, StoresStand, NoReader, Holds}
+use Rattle.run_states.specs.Standing.{Path, Within, Live, Table, IsParent, put}
+use Rattle.run_states.specs.Storing.{Kept, Port, Owned, Store, IsRead, IsAtWork, NoReader, Holds}
 use Rattle.run_states.specs.Moving.{DifferAt, IsUnowned}
-use Rattle.run_states.proofs.Lookups.{put-same, put-other, some-same, some-none}
+use Rattle.run_states.proofs.Lookups.{put-other, some-same, some-none}
 use Rattle.run_storage.specs.Scattering.{Takers, Scatters, lent, of_generator, of_left}
 use Rattle.run_storage.proofs.Marked.{takers-alone, takers-lease-nothing}
 use Rattle.run_hands.proofs.Hands.{none-cell}
-use Rattle.run_leases.specs.Scattered.{is_taken_from, takers_of, DoScattersKeep, AreScattersKeptOn, AreAllScattersKeptOn, AreTakersFree}
+use Rattle.run_leases.specs.Scattered.{is_taken_from, takers_of, DoScattersKeep, AreAllScattersKeptOn, AreTakersFree}
 use Rattle.run_leases.proofs.Leases.{nothing-out}
 
 same-head : (a b : ℕ × ℕ) (p q : Path) → a ∷ p ≡ b ∷ q → a ≡ b

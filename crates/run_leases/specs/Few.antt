@@ -1,12 +1,11 @@
 -- How many leases of an aggregate are out at most: so many for each claim.
-use Rattle.std.specs.Prelude.{◌≡◌, ℕ, suc, ◌*◌, ◌≤◌, List, [], ◌∷◌, Some}
+use Rattle.std.specs.Prelude.{◌≡◌, ℕ, ◌*◌, ◌≤◌, List, [], ◌∷◌, Some}
 use Rattle.graph_meaning.specs.Entered.{IsIn}
 use Rattle.graph_meaning.specs.Histories.{Run, History}
 use Rattle.run_states.specs.Standing.{Live, Table}
 use Rattle.run_states.specs.Storing.{Store, IsAtWork}
 use Rattle.run_states.specs.Runs.{RunStands}
 use Rattle.run_bounds.specs.Bounds.{claims_in}
-use Rattle.run_leases.specs.Sums.{table_sum}
 use Rattle.run_leases.specs.Leases.{Lent, all_of_node, all_leases}
 
 -- no label stands twice

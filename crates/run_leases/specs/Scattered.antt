@@ -15,8 +15,8 @@ use Rattle.graph_meaning.specs.Entered.{IsIn}
 use Rattle.graph_meaning.specs.Histories.{Run, History}
 use Rattle.graph_meaning.specs.Laws.{run_of}
 use Rattle.graph_meaning.specs.Networks.{network}
-use Rattle.run_states.specs.Standing.{Test, State, Within, Live, Table, TableStands, with_state, put, changed}
-use Rattle.run_states.specs.Storing.{Kept, Port, Owned, Lent, Store, IsRead, StoresStand, NoReader}
+use Rattle.run_states.specs.Standing.{Test, Within, Live, Table, TableStands, put}
+use Rattle.run_states.specs.Storing.{Kept, Port, Owned, Lent, Store, StoresStand, NoReader}
 use Rattle.run_states.specs.Moving.{DifferAt}
 use Rattle.run_states.specs.Graphs.{IsGraphOf}
 use Rattle.run_states.specs.Runs.{RunStands}
