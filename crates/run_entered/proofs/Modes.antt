@@ -27,7 +27,7 @@ use Rattle.if1_marks.proofs.Tests.{same-number}
 use Rattle.graph_meaning.proofs.Lists.{found-in}
 use Rattle.graph_meaning.specs.StorageUnits.{storage_of, takes, test_in}
 use Rattle.run_storage.proofs.Owning.{and-right, true-not-false, same, all-at}
-use Rattle.run_entered.specs.Modes.{Mode, Takes, Copies, Lends, mode_by, mode_of, Own, Borrowed, Gone, into_owner, into_selector, into_later, into_part, AreAllModesRight}
+use Rattle.run_entered.specs.Modes.{Mode, Takes, Copies, Lends, mode_by, mode_of, Own, Borrowed, Gone, into_owner, into_selector, into_later, into_part, AreAllModesRight, AreCopiesCounted}
 
 takes-copies : {P : Type 0} → Takes ≡ Copies → P
 takes-copies e = absurd (clash e)

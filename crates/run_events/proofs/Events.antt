@@ -21,7 +21,7 @@ use Rattle.run_storage.specs.Marked.{AreReadsOf, IsMarkedStore}
 use Rattle.run_storage.specs.Scattering.{Takers, Scatters, lent, of_generator, of_left}
 use Rattle.run_storage.proofs.Carrying.{ports-kept}
 use Rattle.run_storage.proofs.Scattering.{scatters-moved, scatters-left}
-use Rattle.run_hands.specs.Hands.{Hand, Hands, HasInHand, HandsStand, IsEntered, IsTakenOver}
+use Rattle.run_hands.specs.Hands.{Hand, Hands, HasInHand, HandsStand, IsEntered, IsTakenOver, IsRegrasped}
 use Rattle.run_hands.proofs.Hands.{hands-kept, none-cell}
 use Rattle.run_entered.specs.There.{IsTaker, WasTaken, ArePortsThere}
 use Rattle.run_entered.specs.Handing.{AreOutputsBy}
@@ -548,6 +548,34 @@ module _ (cut : Cut) (u : Unit1) (g : ℕ) (ins : List Carried) (table : Table) 
             idle = idle-moved (put table n None) f l x s at-rest k.lent idle-rest work;
           }
 
+  -- ---- a node changes what it has in its hands
+
+  module _ (run : Run) (c m : Test) (root : ℕ) (after : Hands) (f l : ℕ) (x : Live) (at : table f ≡ Some x) (work : IsAtWork (x.states l)) (r : IsRegrasped table k.stores k.hands after f l)
+      (lends : (key : ℕ) → IsKeyIn key (k.lent.to_slices f l) → (i : Hand) → k.hands f l i ≡ Some key → after f l i ≡ Some key)
+    where
+      in-hand-still : (h q key : ℕ) → IsKeyIn key (k.lent.to_slices h q) → ((j : Hand) × HasInHand table k.hands h q j key) ⊎ IsKeyIn key (k.lent.scattered h q) → ((j : Hand) × HasInHand table after h q j key) ⊎ IsKeyIn key (k.lent.scattered h q)
+      in-hand-still h q key t (inr a) = inr a
+      in-hand-still h q key t (inl a) = inl (a.0, record { live = a.1.live; found = a.1.found; inside = a.1.inside; has = has-still (this-node h f q l) })
+        where
+          has-still : Dec ((h ≡ f) × (q ≡ l)) → after h q a.0 ≡ Some key
+          has-still (yes p) =
+              ap (λ v. after v q a.0) p.0
+              ∙ (ap (λ v. after f v a.0) p.1
+              ∙ lends key (subst (IsKeyIn key) (ap (λ v. k.lent.to_slices v q) p.0 ∙ ap (k.lent.to_slices f) p.1) t) a.0 (sym (ap (λ v. k.hands v q a.0) p.0 ∙ ap (λ v. k.hands f v a.0) p.1) ∙ a.1.has))
+          has-still (no p) = r.same h q a.0 p ∙ a.1.has
+
+      kept-regrasped : KeptStands cut u g ins table (record k { hands = after })
+      kept-regrasped =
+          record {
+            hands = (hands-kept run c m table root k.stores k.hands st.hands).regrasped after f l x at work r;
+            homes = st.homes;
+            marked = st.marked;
+            there = st.there;
+            right = st.right;
+            lent = record { to_slices = λ h y q key is i t. in-hand-still h q key t (st.lent.to_slices h y q key is i t); scattered = st.lent.scattered };
+            idle = st.idle;
+          }
+
   kept-pooled : (other : Pool) → ((f : ℕ) (x : Live) (a : Port) (key : ℕ) → table f ≡ Some x → (k.stores f).cell a ≡ Some (Kept key) → other key ≡ k.pool key) → KeptStands cut u g ins table (record k { pool = other })
   kept-pooled other same =
       record { hands = st.hands; homes = st.homes; marked = st.marked; there = st.there; right = (ports-kept (network u) g ins).pooled k.pool other k.unions table k.stores st.right same; lent = st.lent; idle = st.idle }
@@ -561,5 +589,6 @@ events-kept cut u g ins run c m table root k st =
       scattered = kept-scattered cut u g ins table k st;
       entered = kept-entered cut u g ins table k st run c m root;
       left = λ after f l n x y s at there apart out work before over lends. kept-left cut u g ins table k st run c m root after f l n x y s at there apart out work over lends;
+      regrasped = kept-regrasped cut u g ins table k st run c m root;
       pooled = kept-pooled cut u g ins table k st;
     }

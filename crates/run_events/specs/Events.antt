@@ -83,6 +83,10 @@ pub record AreEventsKept (cut : Cut) (u : Unit1) (g : ℕ) (ins : List Carried) 
       → IsTakenOver table k.stores k.hands after f l n
       → ((key : ℕ) → IsKeyIn key (k.lent.to_slices f l) → (i : Hand) → k.hands f l i ≡ Some key → after f l i ≡ Some key)
       → KeptStands cut u g ins (closed table f x l s n) (record k { hands = after })
+  -- a node at work changes what it has in its hands, as where it lets go of something
+  pub regrasped : (after : Hands) (f l : ℕ) (x : Live) → table f ≡ Some x → IsAtWork (x.states l) → IsRegrasped table k.stores k.hands after f l
+      → ((key : ℕ) → IsKeyIn key (k.lent.to_slices f l) → (i : Hand) → k.hands f l i ≡ Some key → after f l i ≡ Some key)
+      → KeptStands cut u g ins table (record k { hands = after })
   -- the pool changes by keys that no filled port has
   pub pooled : (other : Pool) → ((f : ℕ) (x : Live) (a : Port) (key : ℕ) → table f ≡ Some x → (k.stores f).cell a ≡ Some (Kept key) → other key ≡ k.pool key) → KeptStands cut u g ins table (record k { pool = other })
 

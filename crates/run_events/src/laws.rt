@@ -3,7 +3,7 @@ ghost use Rattle.run_events.specs.Events.{AreAllEventsKept};
 ghost use Rattle.run_events.specs.Served.{DoesKeepingBegin, AreAllClaimsServed};
 
 /// What is kept stands after a claim, where a port is taken, where a node is done, where an AScatter's lease is kept,
-/// where a graph is entered or left, and where the pool changes by other keys.
+/// where a graph is entered or left, and where hands or the pool change.
 pub fn events_are_kept()
     ensures { AreAllEventsKept }
 {}
