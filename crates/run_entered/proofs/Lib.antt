@@ -3,3 +3,4 @@ pub mod Modes
 pub mod Handing
 pub mod There
 pub mod Iterated
+pub mod Placed

@@ -2,6 +2,7 @@
 ghost use Rattle.run_entered.specs.Handing.{AreAllEnteredByModes, AreAllEnteredWith, AreLeftByMarks, AreOutputsFilled};
 ghost use Rattle.run_entered.specs.Iterated.{AreIterationsTold, DoIterationsLook};
 ghost use Rattle.run_entered.specs.Modes.{AreAllModesRight, AreCopiesCounted};
+ghost use Rattle.run_entered.specs.Placed.{AreAllGraphsPlaced};
 ghost use Rattle.run_entered.specs.Stages.{AreAllStagesTold, ArePartsTold};
 ghost use Rattle.run_entered.specs.There.{AreOperandsThere, IsAllThereKept};
 
@@ -65,4 +66,9 @@ pub fn graphs_are_entered_with_these()
 /// What a node copies by its modes is what its copies count.
 pub fn copies_are_counted()
     ensures { AreCopiesCounted }
+{}
+
+/// The graphs that a node of a unit enters stand in the unit, as its functions do.
+pub fn graphs_are_placed()
+    ensures { AreAllGraphsPlaced }
 {}

@@ -1,37 +1,35 @@
 -- What is kept of a run stands after each event.
-use Rattle.std.proofs.Common.{◌≡◌, ◌≢◌, ℕ, zero, suc, Bool, true, false, List, [], ◌∷◌, ◌⊎◌, Option, Some, None, Contains, inl, inr, refl, sym, ap, ◌∙◌, subst}
+use Rattle.std.proofs.Common.{◌≡◌, ◌≢◌, ℕ, true, List, [], ◌∷◌, ◌⊎◌, Some, None, inl, inr, refl, sym, ap, ◌∙◌, subst}
 use native.Mathlib.Decide.{ℕ_discrete}
 use Rattle.if1_graph.specs.declared.graph.Unit1.{Unit1}
 use Rattle.if1_graph.specs.declared.graph.Origin.TheVariants as origin
-use Rattle.if1_graph.specs.Units.{Place, places, number_of}
+use Rattle.if1_graph.specs.Units.{Place}
 use Rattle.if1_marks.specs.Owned.{is_owned}
 use Rattle.graph_meaning.specs.Carried.{Carried}
-use Rattle.graph_meaning.specs.Demand.{Port as Out, Network, Cut}
+use Rattle.graph_meaning.specs.Demand.{Port as Out, Cut}
 use Rattle.graph_meaning.specs.Entered.{IsIn}
 use Rattle.graph_meaning.specs.Histories.{Run}
 use Rattle.graph_meaning.specs.Networks.{network}
 use Rattle.run_states.specs.Standing.{Test, State, Waiting, Claimed, Within, GoingOn, Done, Live, Table, TableStands, with_state, put, changed, closed}
-use Rattle.run_states.specs.Storing.{Cell, Kept, Port, Owned, Store, IsRead, IsAtWork, Holds, NoReader}
-use Rattle.run_states.specs.Moving.{IsNotWithin, DifferAt, IsUnowned}
-use Rattle.run_states.specs.Graphs.{IsGraphOf}
+use Rattle.run_states.specs.Storing.{Cell, Kept, Port, Owned, Store, IsRead, IsAtWork, NoReader}
+use Rattle.run_states.specs.Moving.{IsNotWithin}
 use Rattle.run_states.specs.Paths.{CarriesAt}
 use Rattle.run_states.proofs.Lookups.{put-same, put-other, set-same, set-other, some-same, some-none}
-use Rattle.run_storage.specs.Carrying.{Pool, Opened, Tells, ArePortsRight}
-use Rattle.run_storage.specs.Marked.{AreReadsOf, IsMarkedStore}
+use Rattle.run_storage.specs.Carrying.{Pool, Tells, ArePortsRight}
+use Rattle.run_storage.specs.Marked.{IsMarkedStore}
 use Rattle.run_storage.specs.Scattering.{Takers, Scatters, lent, of_generator, of_left}
 use Rattle.run_storage.proofs.Carrying.{ports-kept}
 use Rattle.run_storage.proofs.Scattering.{scatters-moved, scatters-left}
-use Rattle.run_hands.specs.Hands.{Hand, Hands, HasInHand, HandsStand, IsEntered, IsTakenOver, IsRegrasped}
+use Rattle.run_hands.specs.Hands.{Hand, Hands, HasInHand, IsTakenOver, IsRegrasped}
 use Rattle.run_hands.proofs.Hands.{hands-kept, none-cell}
-use Rattle.run_entered.specs.There.{IsTaker, WasTaken, ArePortsThere}
-use Rattle.run_entered.specs.Handing.{AreOutputsBy}
+use Rattle.run_entered.specs.There.{IsTaker, WasTaken}
 use Rattle.run_entered.proofs.Handing.{outputs-filled}
 use Rattle.run_entered.proofs.There.{there-kept}
 use Rattle.run_leases.specs.Leases.{Lent, IsKeyIn, IsLent}
 use Rattle.run_leases.specs.Scattered.{takers_of, is_taken_from}
 use Rattle.run_leases.proofs.Scattered.{scatters-kept-on, taken-told}
 use Rattle.run_events.specs.Kept.{Keeping, IsAtHome, KeptStands}
-use Rattle.run_events.specs.Events.{IsEmptied, IsFinished, IsOpened, AreEventsKept, AreAllEventsKept}
+use Rattle.run_events.specs.Events.{IsEmptied, IsFinished, IsOpened, AreAllEventsKept}
 
 -- ---- states, lists and ports
 

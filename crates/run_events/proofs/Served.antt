@@ -1,5 +1,5 @@
 -- What is kept at the beginning, and what a claim finds.
-use Rattle.std.proofs.Common.{◌≡◌, ◌≢◌, ℕ, zero, suc, true, List, [], ◌⊎◌, Contains, Option, Some, None, inl, inr, refl, sym, ap, ◌∙◌, subst}
+use Rattle.std.proofs.Common.{◌≡◌, ◌≢◌, ℕ, zero, suc, true, List, Contains, Some, None, sym, ap, ◌∙◌, subst}
 use native.Mathlib.Decide.{ℕ_discrete}
 use Rattle.if1_graph.specs.declared.graph.Edge.{Edge}
 use Rattle.if1_graph.specs.declared.graph.Graph.TheViews.{out-Graph}
@@ -14,7 +14,7 @@ use Rattle.graph_meaning.specs.Histories.{History}
 use Rattle.graph_meaning.specs.Laws.{run_of}
 use Rattle.graph_meaning.specs.Networks.{network}
 use Rattle.run_states.specs.Standing.{Waiting, Done, Live, Table, put}
-use Rattle.run_states.specs.Storing.{Cell, Kept, Port, Owned}
+use Rattle.run_states.specs.Storing.{Cell, Port}
 use Rattle.run_states.specs.Runs.{RunStands}
 use Rattle.run_states.specs.Waiting.{HasBegun}
 use Rattle.run_states.proofs.Lookups.{put-same, put-other, some-same}
@@ -27,7 +27,7 @@ use Rattle.run_entered.specs.There.{IsGiven, WasTaken}
 use Rattle.run_entered.proofs.There.{operands-there}
 use Rattle.run_leases.proofs.Scattered.{takers-free}
 use Rattle.run_events.specs.Kept.{Keeping, IsAtHome, KeptStands}
-use Rattle.run_events.specs.Served.{IsBegun, DoesKeepingBegin, IsServed, AreClaimsServed, AreAllClaimsServed}
+use Rattle.run_events.specs.Served.{DoesKeepingBegin, IsServed, AreClaimsServed, AreAllClaimsServed}
 use Rattle.run_events.proofs.Events.{no-key}
 
 waiting-done : {P : Type 0} → Waiting ≡ Done → P

@@ -1,20 +1,19 @@
 -- What is kept of a run stands after each event.
-use Rattle.std.specs.Prelude.{◌≡◌, ◌≢◌, ℕ, suc, Bool, true, List, [], ◌∷◌, ◌⊎◌, Some, None}
+use Rattle.std.specs.Prelude.{◌≡◌, ◌≢◌, ℕ, true, List, [], ◌∷◌, Some, None}
 use Rattle.if1_graph.specs.declared.graph.Unit1.{Unit1}
-use Rattle.if1_graph.specs.Units.{Place}
 use Rattle.graph_meaning.specs.Carried.{Carried}
 use Rattle.graph_meaning.specs.Demand.{Port as Out, Cut}
 use Rattle.graph_meaning.specs.Entered.{IsIn}
 use Rattle.graph_meaning.specs.Histories.{Run}
 use Rattle.graph_meaning.specs.Networks.{network}
-use Rattle.run_states.specs.Standing.{Test, State, Waiting, Within, Done, Live, Table, TableStands, with_state, put, changed, closed}
+use Rattle.run_states.specs.Standing.{Test, State, Waiting, Within, Done, Live, Table, TableStands, changed, closed}
 use Rattle.run_states.specs.Storing.{Cell, Kept, Port, Owned, Store, IsAtWork, NoReader}
 use Rattle.run_states.specs.Moving.{IsNotWithin, DifferAt}
 use Rattle.run_states.specs.Paths.{LeadsTo, CarriesAt}
-use Rattle.run_storage.specs.Carrying.{Pool, Opened, Tells, HasInputs}
+use Rattle.run_storage.specs.Carrying.{Pool, Tells, HasInputs}
 use Rattle.run_storage.specs.Marked.{IsMarkedStore}
 use Rattle.run_storage.specs.Scattering.{Scatters}
-use Rattle.run_hands.specs.Hands.{Hand, Hands, HasInHand, IsEntered, IsTakenOver, IsRegrasped}
+use Rattle.run_hands.specs.Hands.{Hand, Hands, IsEntered, IsTakenOver, IsRegrasped}
 use Rattle.run_entered.specs.There.{IsTaker}
 use Rattle.run_entered.specs.Handing.{AreOutputsBy}
 use Rattle.run_leases.specs.Leases.{Lent, IsKeyIn}
