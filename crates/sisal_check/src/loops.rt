@@ -55,6 +55,7 @@ pub(crate) fn looped(
 /// A loop over groups of generators: over the last one stand the definitions and the clauses, and
 /// each one before it is a loop of its own over the results of the loop behind it. A loop without
 /// groups, which no text has, is want of memory.
+#[inline(never)]
 fn product(
     line: u32,
     cs: &[Clause],
@@ -159,6 +160,7 @@ fn around(
 }
 
 /// A `for initial`.
+#[inline(never)]
 fn initial(
     line: u32,
     cs: &[Clause],

@@ -68,6 +68,7 @@ pub(crate) fn typed(e: &Expr, given: &Given<'_>, walk: &mut Walk) -> Result<Type
 }
 
 /// A form over operands that have one value each.
+#[inline(never)]
 #[cycle(walk)]
 fn applied(
     kind: &ExprKind,
