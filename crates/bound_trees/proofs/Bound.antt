@@ -1,5 +1,6 @@
 -- Typed trees are bound where the levels of the names in force are those in use, and the leaves are literals.
-use Rattle.std.proofs.Common.{◌≡◌, ◌≤◌, ℕ, ◌+◌, Bool, List, [], ◌∷◌, ◌++◌, Option, Some, None, All, length, sym, ap, subst, ◌∙◌, arith}
+use Rattle.std.proofs.Common.{◌≡◌, ◌≤◌, ℕ, suc, ◌+◌, Bool, List, [], ◌∷◌, ◌++◌, map, Option, Some, None, All, length, refl, sym, ap, subst, ◌∙◌, arith}
+use Rattle.std.proofs.lemmas.List.{length-map}
 use Rattle.std.proofs.lemmas.Option.{slice_get_within}
 use Rattle.flow_value.specs.declared.ty.Ty.{Ty}
 use Rattle.flow_value.specs.declared.ty.Ty.TheVariants as ty
@@ -27,7 +28,7 @@ use Rattle.sisal_tree.specs.declared.expr.Turn.{roll-Turn}
 use Rattle.sisal_tree.specs.declared.expr.Loop.TheVariants as loop
 use Rattle.bound_trees.specs.Leaves.{IsWritten, a_constant, a_record, a_change, a_case, Leaves, leaves}
 use Rattle.bound_trees.proofs.Every.{left, right}
-use Rattle.bound_trees.proofs.Forms.{exprs_leaves, values_leaves, value_leaves, defs_leaves, def_leaves, arms_leaves, arm_leaves, clauses_leaves, clause_leaves, generators_leaves, generator_leaves, groups_leaves, turn_leaves, mask_leaves, elements_leaves, case_leaves, loop_leaves, of_value, of_mask, of_arm, of_no_mask, of_a_mask, of_def, of_elements, of_no_end, of_an_end, of_no_otherwise, of_an_otherwise, of_turn, in_constant, in_group, in_call, in_convert, in_is_error, in_is_tag, in_prefix, in_binary, in_select, in_update, in_field, in_replace, in_array, in_stream, in_record, in_union, in_let, in_if, in_tag_case, in_for, in_product, in_initial}
+use Rattle.bound_trees.proofs.Forms.{exprs_leaves, values_leaves, value_leaves, defs_leaves, def_leaves, arms_leaves, arm_leaves, clauses_leaves, clause_leaves, generators_leaves, generator_leaves, group_leaves, groups_leaves, turn_leaves, mask_leaves, elements_leaves, case_leaves, loop_leaves, of_value, of_mask, of_arm, of_no_mask, of_a_mask, of_def, of_elements, of_no_end, of_an_end, of_no_otherwise, of_an_otherwise, of_turn, in_constant, in_group, in_call, in_convert, in_is_error, in_is_tag, in_prefix, in_binary, in_select, in_update, in_field, in_replace, in_array, in_stream, in_record, in_union, in_let, in_if, in_tag_case, in_for, in_product, in_initial}
 use Rattle.bound_trees.proofs.Literals.{Fine, IfFine}
 use Rattle.bound_trees.specs.Bound as is
 use Rattle.bound_trees.specs.Bound.{values_in, levels_in, levels_over, IsRenewal, IsBound, AreBound, AreDefined, AreArms}
@@ -116,6 +117,17 @@ module _ (functions : ℕ) where
   both : (n : ℕ) (ts us : List TypedExpr) → AreBound functions n ts → AreBound functions n us → AreBound functions n (ts ++ us)
   both n _ us is.no_more q = q
   both n _ us (is.more {ts = ts} p ps) q = is.more p (both n ts us ps q)
+
+-- a group of generators has as many sources
+sources_counted : (k : Known) (denotes : Written → Ty → Type 0) (s : Scope) (gs : List Generator) (sources : List Source) (bounds : List TypedExpr) (names : List ℕ) (tys : List Ty) → Generates k denotes s gs sources bounds names tys → length sources ≡ length gs
+sources_counted k denotes s _ _ _ _ _ rule.no_generator = refl
+sources_counted k denotes s _ _ _ _ _ (rule.range n {names = names} {tys = tys} {gs = gs} {sources = sources} {bounds = bounds} p q r) = ap suc (sources_counted k denotes s gs sources bounds names tys r)
+sources_counted k denotes s _ _ _ _ _ (rule.elements n {names = names} {tys = tys} {gs = gs} {sources = sources} {bounds = bounds} p q r) = ap suc (sources_counted k denotes s gs sources bounds names tys r)
+sources_counted k denotes s _ _ _ _ _ (rule.indexed n {names = names} {tys = tys} {gs = gs} {sources = sources} {bounds = bounds} p q r) = ap suc (sources_counted k denotes s gs sources bounds names tys r)
+
+some_sources : (k : Known) (denotes : Written → Ty → Type 0) (s : Scope) (gs : List Generator) (sources : List Source) (bounds : List TypedExpr) (names : List ℕ) (tys : List Ty) → Generates k denotes s gs sources bounds names tys → 1 ≤ length (map generator_leaves gs)
+    → 1 ≤ length sources
+some_sources k denotes s gs sources bounds names tys p some = let same = length-map gs generator_leaves in let count = sources_counted k denotes s gs sources bounds names tys p in omega (arith, some, same, count)
 
 -- what definitions lead to
 record Leads (functions : ℕ) (s : Scope) (us : List (List TypedExpr)) (after : Scope) : Type 0 where
@@ -241,15 +253,19 @@ module _ (k : Known) (denotes : Written → Ty → Type 0) (functions : ℕ) (ma
         let counts = generated_counted k denotes s g sources bounds names us p in
         let up : scope.height ≡ s.height + levels_over sources = defined_height names us s counts.0 ∙ ap (λ n. s.height + n) (sym counts.1) in
         let begin = definitions_bound scope ds values made inside q (defined_low names us s sc) defs in
-        is.product (generated_bound s g sources bounds names us p sc (left IsWritten (generators_leaves g) [] lit)) (defined_at functions scope.height (s.height + levels_over sources) values up begin.bound)
+        let group = left IsWritten (group_leaves g) [] lit in
+        is.product (generated_bound s g sources bounds names us p sc group.1) (defined_at functions scope.height (s.height + levels_over sources) values up begin.bound)
         (moved functions inside.height (s.height + levels_over sources + levels_in values) ts (begin.height ∙ ap (λ n. n + levels_in values) up) (clauses_bound inside cs clauses ts tys c begin.low results))
+        (some_sources k denotes s g sources bounds names us p group.0)
     crossed_bound s l _ ds cs _ tys (rule.a_group {names = names} {tys = us} {inner = inner} {g = g} {gs = gs} {sources = sources} {bounds = bounds} {forms = clauses} {t = t} p d q f n) sc lit defs results =
         let scope = define_all names us s in
         let counts = generated_counted k denotes s g sources bounds names us p in
         let up : scope.height ≡ s.height + levels_over sources = defined_height names us s counts.0 ∙ ap (λ n. s.height + n) (sym counts.1) in
-        is.product (generated_bound s g sources bounds names us p sc (left IsWritten (generators_leaves g) (groups_leaves gs) lit)) is.no_def
+        let group = left IsWritten (group_leaves g) (groups_leaves gs) lit in
+        is.product (generated_bound s g sources bounds names us p sc group.1) is.no_def
         (moved functions scope.height (s.height + levels_over sources + 0) (t ∷ []) (omega (arith, up))
-        (one functions scope.height t (crossed_bound scope l gs ds cs t inner q (defined_low names us s sc) (right IsWritten (generators_leaves g) (groups_leaves gs) lit) defs results)))
+        (one functions scope.height t (crossed_bound scope l gs ds cs t inner q (defined_low names us s sc) (right IsWritten (group_leaves g) (groups_leaves gs) lit) defs results)))
+        (some_sources k denotes s g sources bounds names us p group.0)
 
     generated_bound : (s : Scope) (gs : List Generator) (sources : List Source) (bounds : List TypedExpr) (names : List ℕ) (tys : List Ty) → Generates k denotes s gs sources bounds names tys → IsLow s
         → Fine (generators_leaves gs) → AreBound functions s.height bounds

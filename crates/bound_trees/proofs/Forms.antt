@@ -25,7 +25,7 @@ use Rattle.sisal_tree.specs.declared.expr.ExprKind.TheVariants as expr
 use Rattle.sisal_tree.specs.declared.expr.Loop.TheVariants as loop
 use Rattle.sisal_tree.specs.declared.expr.ExprKind.TheFolds.{fold-ExprKind, fold-Loop, fold-Arm, fold-Clause, fold-Def, fold-Elements, fold-FieldValue, fold-Generator, fold-Mask, fold-TagCase, fold-Turn, fold-roll-ExprKind, fold-roll-Loop, fold-roll-Arm, fold-roll-Clause, fold-roll-Def, fold-roll-Elements, fold-roll-Generator, fold-roll-TagCase, fold-roll-Turn, fold-roll-Expr, fold-roll-FieldValue, fold-roll-Mask}
 use Rattle.sisal_tree.specs.declared.expr.ExprKind.TheOpen.{ExprKind-F, Loop-F}
-use Rattle.bound_trees.specs.Leaves.{a_constant, a_record, a_change, a_case, Leaves, leaves, all_in, in_kind, in_loop, in_arm, in_clause, in_def, in_elements, in_generator, in_case, in_turn}
+use Rattle.bound_trees.specs.Leaves.{a_constant, a_record, a_change, a_case, Leaves, leaves, all_in, in_kind, in_generators, in_loop, in_arm, in_clause, in_def, in_elements, in_generator, in_case, in_turn}
 use Rattle.typed_tree.specs.Typing.{at}
 
 abbrev pub kind_leaves : ExprKind → Leaves
@@ -80,8 +80,11 @@ clauses_leaves cs = all_in (map clause_leaves cs)
 abbrev pub generators_leaves : List Generator → Leaves
 generators_leaves gs = all_in (map generator_leaves gs)
 
+abbrev pub group_leaves : List Generator → Leaves
+group_leaves g = in_generators (map generator_leaves g)
+
 abbrev pub groups_leaves : List (List Generator) → Leaves
-groups_leaves gs = all_in (map all_in (map (λ g. map generator_leaves g) gs))
+groups_leaves gs = all_in (map in_generators (map (λ g. map generator_leaves g) gs))
 
 pub leaves_at : (l : ℕ) (k : ExprKind) → leaves (at l k) ≡ kind_leaves k
 leaves_at l k = fold-roll-Expr Leaves Leaves Leaves Leaves Leaves Leaves Leaves Leaves Leaves Leaves Leaves Leaves in_kind in_loop in_arm in_clause in_def in_elements (λ e. e.kind) (λ v. v.value) in_generator (λ m. m.test) in_case in_turn (record { line = l; kind = k })

@@ -20,7 +20,7 @@ use Rattle.sisal_grammar.specs.Phrases.{ElseIf}
 use Rattle.sisal_grammar.specs.Spells.{compared, nested, listed}
 use Rattle.bound_trees.specs.Leaves.{IsWritten, a_change, a_constant, Leaves, leaves, all_in}
 use Rattle.bound_trees.proofs.Every.{Each, joined, left, right}
-use Rattle.bound_trees.proofs.Forms.{exprs_leaves, values_leaves, elements_leaves, generators_leaves, groups_leaves, in_constant, in_binary, in_select, in_update, in_field, in_replace, in_if, in_array, in_no_elements}
+use Rattle.bound_trees.proofs.Forms.{exprs_leaves, values_leaves, elements_leaves, group_leaves, groups_leaves, in_constant, in_binary, in_select, in_update, in_field, in_replace, in_if, in_array, in_no_elements}
 
 abbrev pub Fine : Leaves → Type 0
 Fine cs = Each IsWritten cs
@@ -39,9 +39,9 @@ pub gathered : {A : Type 0} (f : A → Leaves) (xs : List A) → Each (λ x. Fin
 gathered f [] p = tt
 gathered f (x ∷ xs) p = both (f x) (all_in (map f xs)) p.0 (gathered f xs p.1)
 
-pub groups_fine : (gs : List (List Generator)) → Each (λ g. Fine (generators_leaves g)) gs → Fine (groups_leaves gs)
+pub groups_fine : (gs : List (List Generator)) → Each (λ g. Fine (group_leaves g)) gs → Fine (groups_leaves gs)
 groups_fine [] p = tt
-groups_fine (g ∷ gs) p = both (generators_leaves g) (groups_leaves gs) p.0 (groups_fine gs p.1)
+groups_fine (g ∷ gs) p = both (group_leaves g) (groups_leaves gs) p.0 (groups_fine gs p.1)
 
 -- ---- operators and selections one after another
 

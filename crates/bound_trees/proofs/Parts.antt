@@ -59,8 +59,8 @@ bound_parts functions n _ (is.apply {op = op} {ts = ts} p w) = turned functions 
 bound_parts functions n _ (is.let_in {us = us} {ts = ts} p q) = turned functions n (node.Let us ts) (TypedKind-F.Let us ts) (out_let us ts) (p, q)
 bound_parts functions n _ (is.if_else {ts = ts} {us = us} {vs = vs} p q r) = turned functions n (node.If ts us vs) (TypedKind-F.If ts us vs) (out_if ts us vs) (p, q, r)
 bound_parts functions n _ (is.tag_case {c = c} {ts = ts} {arms = arms} p q h w) = turned functions n (node.Case c ts arms) (TypedKind-F.Case c ts arms) (out_case c ts arms) (p, q, h, w)
-bound_parts functions n _ (is.product {p = p} {bounds = bounds} {us = us} {ts = ts} a b c) =
-    turned functions n (node.Product p bounds us ts) (TypedKind-F.Product p bounds us ts) (out_product p bounds us ts) (a, b, c)
+bound_parts functions n _ (is.product {p = p} {bounds = bounds} {us = us} {ts = ts} a b c d) =
+    turned functions n (node.Product p bounds us ts) (TypedKind-F.Product p bounds us ts) (out_product p bounds us ts) (a, b, c, d)
 bound_parts functions n _ (is.initial {t = t} {us = us} {vs = vs} {test = test} {ts = ts} a b c d e f) =
     turned functions n (node.Initial t us test vs ts) (TypedKind-F.Initial t us test vs ts) (out_initial t us test vs ts) (a, b, c, d, e, f)
 

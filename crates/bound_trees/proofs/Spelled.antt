@@ -26,7 +26,7 @@ use Rattle.bound_trees.specs.Tokens.{IsOfText}
 use Rattle.bound_trees.proofs.Every.{Each}
 use Rattle.bound_trees.proofs.Tokens.{AreTold, left, right, fields_counted, fields_few}
 use Rattle.bound_trees.proofs.Literals.{Fine, IfFine, IsFineSelector, IsFineElse, IsFineItem, IsFineHeader, made, both, gathered, groups_fine, chained_fine, compared_fine, posted_fine, listed_fine, array_fine, content_fine, if_fine, nested_fine}
-use Rattle.bound_trees.proofs.Forms.{exprs_leaves, values_leaves, value_leaves, defs_leaves, def_leaves, arms_leaves, arm_leaves, clauses_leaves, clause_leaves, generators_leaves, generator_leaves, groups_leaves, turn_leaves, mask_leaves, elements_leaves, case_leaves, loop_leaves, of_value, of_mask, of_arm, of_no_mask, of_a_mask, of_def, of_elements, of_no_end, of_an_end, of_no_otherwise, of_an_otherwise, of_turn, in_constant, in_name, in_old, in_group, in_call, in_convert, in_error_of, in_is_error, in_is_tag, in_prefix, in_stream, in_record, in_union, in_let, in_tag_case, in_for, in_product, in_initial}
+use Rattle.bound_trees.proofs.Forms.{exprs_leaves, values_leaves, value_leaves, defs_leaves, def_leaves, arms_leaves, arm_leaves, clauses_leaves, clause_leaves, generators_leaves, generator_leaves, group_leaves, groups_leaves, turn_leaves, mask_leaves, elements_leaves, case_leaves, loop_leaves, of_value, of_mask, of_arm, of_no_mask, of_a_mask, of_def, of_elements, of_no_end, of_an_end, of_no_otherwise, of_an_otherwise, of_turn, in_constant, in_name, in_old, in_group, in_call, in_convert, in_error_of, in_is_error, in_is_tag, in_prefix, in_stream, in_record, in_union, in_let, in_tag_case, in_for, in_product, in_initial}
 
 -- ---- parts
 
@@ -104,8 +104,8 @@ IsFine names arm a = Fine (arm_leaves a)
 IsFine names defs a = Fine (defs_leaves a)
 IsFine names def a = Fine (def_leaves a)
 IsFine names semi_def a = Fine (def_leaves a)
-IsFine names group a = Fine (generators_leaves a)
-IsFine names cross_group a = Fine (generators_leaves a)
+IsFine names group a = Fine (group_leaves a)
+IsFine names cross_group a = Fine (group_leaves a)
 IsFine names gen a = Fine (generator_leaves a)
 IsFine names dot_gen a = Fine (generator_leaves a)
 IsFine names turn a = Fine (turn_leaves a)
@@ -215,10 +215,10 @@ module _ (names : ℕ) where
   fine _ _ _ (grammar.binding_is i0 i1) told = tt
   fine _ _ _ (grammar.otherwise_is {ts = ts} {es = es} i0 i1 p0) told = fine exprs ts es p0 told.1.1
   fine _ _ _ (grammar.arm_is {t = t} {u = u} {v = v} {ts = ts} {us = us} {ns = ns} {es = es} i0 i1 p0 i2 p1) told = made (arm_leaves (roll-Arm (record { line = t.line; tags = named u ∷ ns; results = es }))) (exprs_leaves es) (of_arm t.line (named u ∷ ns) es) (fine exprs us es p1 ((right names ts (v ∷ us) told.1.1).1))
-  fine _ _ _ (grammar.for_product {t = t} {u = u} {v = v} {w = w} {ts = ts} {us = us} {vs = vs} {ws = ws} {xs = xs} {g = g} {gs = gs} {ds = ds} {c = c} {cs = cs} i0 p0 p1 p2 i1 p3 p4 i2 i3) told = product_fine t.line (g ∷ gs) (listed ds) (c ∷ cs) (both (generators_leaves g) (groups_leaves gs) (fine group ts g p0 (left names ts (us ++ (vs ++ (u ∷ (ws ++ (xs ++ (v ∷ w ∷ [])))))) told.1)) (groups_fine gs (fine (many cross_group) us gs p1 (left names us (vs ++ (u ∷ (ws ++ (xs ++ (v ∷ w ∷ []))))) (right names ts (us ++ (vs ++ (u ∷ (ws ++ (xs ++ (v ∷ w ∷ [])))))) told.1))))) (listed_defs ds (fine (maybe defs) vs ds p2 (left names vs (u ∷ (ws ++ (xs ++ (v ∷ w ∷ [])))) (right names us (vs ++ (u ∷ (ws ++ (xs ++ (v ∷ w ∷ []))))) (right names ts (us ++ (vs ++ (u ∷ (ws ++ (xs ++ (v ∷ w ∷ [])))))) told.1))))) (both (clause_leaves c) (clauses_leaves cs) (fine clause ws c p3 (left names ws (xs ++ (v ∷ w ∷ [])) ((right names vs (u ∷ (ws ++ (xs ++ (v ∷ w ∷ [])))) (right names us (vs ++ (u ∷ (ws ++ (xs ++ (v ∷ w ∷ []))))) (right names ts (us ++ (vs ++ (u ∷ (ws ++ (xs ++ (v ∷ w ∷ [])))))) told.1))).1))) (gathered clause_leaves cs (fine (many clause) xs cs p4 (left names xs (v ∷ w ∷ []) (right names ws (xs ++ (v ∷ w ∷ [])) ((right names vs (u ∷ (ws ++ (xs ++ (v ∷ w ∷ [])))) (right names us (vs ++ (u ∷ (ws ++ (xs ++ (v ∷ w ∷ []))))) (right names ts (us ++ (vs ++ (u ∷ (ws ++ (xs ++ (v ∷ w ∷ [])))))) told.1))).1))))))
+  fine _ _ _ (grammar.for_product {t = t} {u = u} {v = v} {w = w} {ts = ts} {us = us} {vs = vs} {ws = ws} {xs = xs} {g = g} {gs = gs} {ds = ds} {c = c} {cs = cs} i0 p0 p1 p2 i1 p3 p4 i2 i3) told = product_fine t.line (g ∷ gs) (listed ds) (c ∷ cs) (both (group_leaves g) (groups_leaves gs) (fine group ts g p0 (left names ts (us ++ (vs ++ (u ∷ (ws ++ (xs ++ (v ∷ w ∷ [])))))) told.1)) (groups_fine gs (fine (many cross_group) us gs p1 (left names us (vs ++ (u ∷ (ws ++ (xs ++ (v ∷ w ∷ []))))) (right names ts (us ++ (vs ++ (u ∷ (ws ++ (xs ++ (v ∷ w ∷ [])))))) told.1))))) (listed_defs ds (fine (maybe defs) vs ds p2 (left names vs (u ∷ (ws ++ (xs ++ (v ∷ w ∷ [])))) (right names us (vs ++ (u ∷ (ws ++ (xs ++ (v ∷ w ∷ []))))) (right names ts (us ++ (vs ++ (u ∷ (ws ++ (xs ++ (v ∷ w ∷ [])))))) told.1))))) (both (clause_leaves c) (clauses_leaves cs) (fine clause ws c p3 (left names ws (xs ++ (v ∷ w ∷ [])) ((right names vs (u ∷ (ws ++ (xs ++ (v ∷ w ∷ [])))) (right names us (vs ++ (u ∷ (ws ++ (xs ++ (v ∷ w ∷ []))))) (right names ts (us ++ (vs ++ (u ∷ (ws ++ (xs ++ (v ∷ w ∷ [])))))) told.1))).1))) (gathered clause_leaves cs (fine (many clause) xs cs p4 (left names xs (v ∷ w ∷ []) (right names ws (xs ++ (v ∷ w ∷ [])) ((right names vs (u ∷ (ws ++ (xs ++ (v ∷ w ∷ [])))) (right names us (vs ++ (u ∷ (ws ++ (xs ++ (v ∷ w ∷ []))))) (right names ts (us ++ (vs ++ (u ∷ (ws ++ (xs ++ (v ∷ w ∷ [])))))) told.1))).1))))))
   fine _ _ _ (grammar.for_initial {t = t} {v = v} {w = w} {x = x} {ts = ts} {us = us} {vs = vs} {ws = ws} {ds = ds} {r = r} {c = c} {cs = cs} i0 i1 p0 p1 i2 p2 p3 i3 i4) told = initial_fine t.line ds r (c ∷ cs) (fine defs ts ds p0 (left names ts (us ++ (v ∷ (vs ++ (ws ++ (w ∷ x ∷ []))))) told.1.1)) (fine turn us r p1 (left names us (v ∷ (vs ++ (ws ++ (w ∷ x ∷ [])))) (right names ts (us ++ (v ∷ (vs ++ (ws ++ (w ∷ x ∷ []))))) told.1.1))) (both (clause_leaves c) (clauses_leaves cs) (fine clause vs c p2 (left names vs (ws ++ (w ∷ x ∷ [])) ((right names us (v ∷ (vs ++ (ws ++ (w ∷ x ∷ [])))) (right names ts (us ++ (v ∷ (vs ++ (ws ++ (w ∷ x ∷ []))))) told.1.1)).1))) (gathered clause_leaves cs (fine (many clause) ws cs p3 (left names ws (w ∷ x ∷ []) (right names vs (ws ++ (w ∷ x ∷ [])) ((right names us (v ∷ (vs ++ (ws ++ (w ∷ x ∷ [])))) (right names ts (us ++ (v ∷ (vs ++ (ws ++ (w ∷ x ∷ []))))) told.1.1)).1))))))
   fine _ _ _ (grammar.cross_group_is {ts = ts} {g = g} i0 p0) told = fine group ts g p0 told.1
-  fine _ _ _ (grammar.group_is {ts = ts} {us = us} {g = g} {gs = gs} p0 p1) told = both (generator_leaves g) (generators_leaves gs) (fine gen ts g p0 (left names ts us told)) (gathered generator_leaves gs (fine (many dot_gen) us gs p1 (right names ts us told)))
+  fine _ _ _ (grammar.group_is {ts = ts} {us = us} {g = g} {gs = gs} p0 p1) told = (omega arith, both (generator_leaves g) (generators_leaves gs) (fine gen ts g p0 (left names ts us told)) (gathered generator_leaves gs (fine (many dot_gen) us gs p1 (right names ts us told))))
   fine _ _ _ (grammar.dot_gen_is {ts = ts} {g = g} i0 p0) told = fine gen ts g p0 told.1
   fine _ _ _ (grammar.gen_is {t = t} {ts = ts} {us = us} {vs = vs} {e = e} {o = o} {n = n} i0 i1 p0 p1 p2) told = generator_fine (named t) e o n (fine expr ts e p0 (left names ts (us ++ vs) told.1.1)) (fine (maybe comma_expr) us o p1 (left names us vs (right names ts (us ++ vs) told.1.1)))
   fine _ _ _ (grammar.at_name_is i0 i1) told = tt

@@ -66,8 +66,9 @@ module _ (functions : ℕ) where
       -- the arm of each tag that is named is there
       tag_case : {n l : ℕ} {ns : List ℕ} {c : Case} {ts : List TypedExpr} {arms : List (List TypedExpr)}
           → AreBound n ts → AreArms n c.named arms → All (λ x. x.arm < length arms) c.choices → IsWritten (a_case (length arms)) → IsBound n (with l ns (typed.Case c ts arms))
+      -- a `for` has a generator
       product : {n l : ℕ} {ns : List ℕ} {p : Product} {bounds : List TypedExpr} {us : List (List TypedExpr)} {ts : List TypedExpr}
-          → AreBound n bounds → AreDefined (n + levels_over p.sources) us → AreBound (n + levels_over p.sources + levels_in us) ts
+          → AreBound n bounds → AreDefined (n + levels_over p.sources) us → AreBound (n + levels_over p.sources + levels_in us) ts → 1 ≤ length p.sources
           → IsBound n (with l ns (typed.Product p bounds us ts))
       -- the test, the turn and the clauses see the loop names, and each name of the turn that renews one renews one of them
       initial : {n l : ℕ} {ns : List ℕ} {t : Turns} {us vs : List (List TypedExpr)} {test ts : List TypedExpr}

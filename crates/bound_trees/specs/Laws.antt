@@ -42,7 +42,7 @@ HasBoundParts functions n (TypedKind-F.Let us ts) = AreDefined functions n us ×
 HasBoundParts functions n (TypedKind-F.If ts us vs) = AreBound functions n ts × AreBound functions n us × AreBound functions n vs
 HasBoundParts functions n (TypedKind-F.Case c ts arms) = AreBound functions n ts × AreArms functions n c.named arms × All (λ x. x.arm < length arms) c.choices × IsWritten (a_case (length arms))
 HasBoundParts functions n (TypedKind-F.Product p bounds us ts) =
-    let m = n + levels_over p.sources in AreBound functions n bounds × AreDefined functions m us × AreBound functions (m + levels_in us) ts
+    let m = n + levels_over p.sources in AreBound functions n bounds × AreDefined functions m us × AreBound functions (m + levels_in us) ts × (1 ≤ length p.sources)
 HasBoundParts functions n (TypedKind-F.Initial t us test vs ts) =
     let m = n + levels_in us in
     AreDefined functions n us × AreBound functions m test × AreDefined functions m vs × AreBound functions m ts × (length t.renewed ≡ levels_in vs) × All (IsRenewal (levels_in us)) t.renewed

@@ -1,5 +1,5 @@
--- What stands at the leaves of an expression, in the order of the text: its constants, and how many parts its records, changes and
--- choices have (SISAL Language Reference Manual 1.2, constants, records, unions).
+-- What stands at the leaves of an expression, in the order of the text: its constants, and how many parts its records, changes,
+-- choices and groups of generators have (SISAL Language Reference Manual 1.2, constants, records, unions, loops).
 use Rattle.std.specs.Prelude.{◌≡◌, ℕ, ◌<◌, ◌≤◌, true, pos, ◌≤ℤ◌, List, [], ◌∷◌, ◌++◌, All, Option, Some, None, map, length}
 use Rattle.flow_value.specs.Scalar.{fits_64}
 use Rattle.sisal_tree.specs.declared.expr.Constant.{Constant}
@@ -15,12 +15,14 @@ IsLiteral (constant.Letter code) = code < 128
 IsLiteral (constant.Quoted codes) = All (λ code. code < 128) codes
 IsLiteral _ = Unit {0}
 
--- a constant, or how many fields a new record has, how many `replace` changes, or how many arms a `tagcase` has before `otherwise`
+-- a constant, or how many fields a new record has, how many `replace` changes, how many arms a `tagcase` has before `otherwise`, or
+-- how many generators a group of a `for` has
 pub data Leaf : Type 0 where
   a_constant : Constant → Leaf
   a_record : ℕ → Leaf
   a_change : ℕ → Leaf
   a_case : ℕ → Leaf
+  a_group : ℕ → Leaf
 
 -- such as a text can write: a text has at most 4,194,304 bytes
 abbrev pub IsWritten : Leaf → Type 0
@@ -28,6 +30,7 @@ IsWritten (a_constant c) = IsLiteral c
 IsWritten (a_record n) = n ≤ 4194304
 IsWritten (a_change n) = 1 ≤ n
 IsWritten (a_case n) = 1 ≤ n
+IsWritten (a_group n) = 1 ≤ n
 
 abbrev pub Leaves : Type 0
 Leaves = List Leaf
@@ -71,8 +74,12 @@ in_kind (ExprKind-F.If c es fs) = c ++ (all_in es ++ all_in fs)
 in_kind (ExprKind-F.TagCase c) = c
 in_kind (ExprKind-F.For l) = l
 
+-- those of a group of generators
+abbrev pub in_generators : List Leaves → Leaves
+in_generators g = a_group (length g) ∷ all_in g
+
 abbrev pub in_loop : Loop-F Leaves Leaves Leaves Leaves Leaves Leaves Leaves Leaves Leaves Leaves Leaves Leaves → Leaves
-in_loop (Loop-F.Product gs ds cs) = all_in (map all_in gs) ++ (all_in ds ++ all_in cs)
+in_loop (Loop-F.Product gs ds cs) = all_in (map in_generators gs) ++ (all_in ds ++ all_in cs)
 in_loop (Loop-F.Initial ds t cs) = all_in ds ++ (t ++ all_in cs)
 
 abbrev pub in_arm : Arm-F Leaves Leaves Leaves Leaves Leaves Leaves Leaves Leaves Leaves Leaves Leaves Leaves → Leaves

@@ -74,7 +74,7 @@ module _ (functions : ℕ) where
         let same = length-map arms (map leaves) in
         level (TypedKind-F.Case c ts arms) (typed.Case c ts arms) l ns (sym (typed.rolls-Case c ts arms))
         (omega (arith, w, same), joined (exprs_leaves ts) (defs_leaves arms) (all_written n ts p) (arms_written n c.named arms q))
-    written n _ (is.product {l = l} {ns = ns} {p = x} {bounds = bs} {us = us} {ts = ts} p q r) =
+    written n _ (is.product {l = l} {ns = ns} {p = x} {bounds = bs} {us = us} {ts = ts} p q r some) =
         level (TypedKind-F.Product x bs us ts) (typed.Product x bs us ts) l ns (sym (typed.rolls-Product x bs us ts))
         (joined (exprs_leaves bs) (defs_leaves us ++ exprs_leaves ts) (all_written n bs p) (joined (defs_leaves us) (exprs_leaves ts) (defs_written _ us q) (all_written _ ts r)))
     written n _ (is.initial {l = l} {ns = ns} {t = x} {us = us} {vs = vs} {test = test} {ts = ts} p q r s even renews) =

@@ -60,7 +60,7 @@ graphs-kept cut u g ins =
 
 -- ---- a new graph
 
-entered-step : (cut : Cut) (u : Network) → IsCut cut → AreRanked u → (h : ℕ) (is : List Carried) (l : ℕ) (form : Form) (ks : List Carried) → IsWhole u h is l form ks → (k : ℕ) (e : Item) (j : ℕ) (js : List Carried)
+pub entered-step : (cut : Cut) (u : Network) → IsCut cut → AreRanked u → (h : ℕ) (is : List Carried) (l : ℕ) (form : Form) (ks : List Carried) → IsWhole u h is l form ks → (k : ℕ) (e : Item) (j : ℕ) (js : List Carried)
     → EntersAt u form ks l k e j js → IsStep (λ n. tree cut n u h is) (λ n. tree cut n u j js) l k e
 entered-step cut u is-cut ready h is l form ks w _ _ _ _ (at_first j js stage e) = first-is-step cut u is-cut ready h is w.node l w.found form ks w.kind w.given j js stage e
 entered-step cut u is-cut ready h is l form ks w _ _ _ _ (at_step k t j js stage c) = entered-is-step cut u is-cut ready h is w.node l w.found form ks w.kind w.given k t j js stage c

@@ -11,25 +11,25 @@ use Rattle.run_states.proofs.Taking.{no-holder}
 
 -- ---- numbers
 
-no-sum : (a b : ℕ) → a ≡ 0 → b ≡ 0 → a + b ≡ 0
+pub no-sum : (a b : ℕ) → a ≡ 0 → b ≡ 0 → a + b ≡ 0
 no-sum a b p q = omega (arith, p, q)
 
-same-sum : (a b c d : ℕ) → a ≡ b → c ≡ d → a + c ≡ b + d
+pub same-sum : (a b c d : ℕ) → a ≡ b → c ≡ d → a + c ≡ b + d
 same-sum a b c d p q = omega (arith, p, q)
 
 -- the first part changes, or the second does
-moved-here : (a b g h m n : ℕ) → a ≡ m → b ≡ n → g ≡ h → a + g + n ≡ b + h + m
+pub moved-here : (a b g h m n : ℕ) → a ≡ m → b ≡ n → g ≡ h → a + g + n ≡ b + h + m
 moved-here a b g h m n p q r = omega (arith, p, q, r)
 
-moved-later : (a b g h m n : ℕ) → a ≡ b → g + n ≡ h + m → a + g + n ≡ b + h + m
+pub moved-later : (a b g h m n : ℕ) → a ≡ b → g + n ≡ h + m → a + g + n ≡ b + h + m
 moved-later a b g h m n p q = omega (arith, p, q)
 
-moved-before : (a b g h m n : ℕ) → a + n ≡ b + m → g ≡ h → a + g + n ≡ b + h + m
+pub moved-before : (a b g h m n : ℕ) → a + n ≡ b + m → g ≡ h → a + g + n ≡ b + h + m
 moved-before a b g h m n p q = omega (arith, p, q)
 
 -- ---- who holds no lease
 
-by-work : (key : ℕ) (s : Store) (ports : List Port) (st : State) → (IsAtWork st → ports_with key s ports ≡ 0) → (if is_at_work st then ports_with key s ports else 0) ≡ 0
+pub by-work : (key : ℕ) (s : Store) (ports : List Port) (st : State) → (IsAtWork st → ports_with key s ports ≡ 0) → (if is_at_work st then ports_with key s ports else 0) ≡ 0
 by-work key s ports Waiting h = refl
 by-work key s ports Claimed h = h tt
 by-work key s ports (Within k g) h = h tt
@@ -45,12 +45,12 @@ no-key key (Some (Kept k)) n = go (eqb k key) (eqb-true k key)
     go true t = absurd (n (ap (λ z. Some (Kept z)) (t refl)))
     go false t = refl
 
-none-with : (key : ℕ) (s : Store) (ports : List Port) → ((a : Port) → IsRead a ports → ¬ (s.cell a ≡ Some (Kept key))) → ports_with key s ports ≡ 0
+pub none-with : (key : ℕ) (s : Store) (ports : List Port) → ((a : Port) → IsRead a ports → ¬ (s.cell a ≡ Some (Kept key))) → ports_with key s ports ≡ 0
 none-with key s [] free = refl
 none-with key s (a ∷ ports) free =
     no-sum (one_if (has_key key (s.cell a))) (ports_with key s ports) (no-key key (s.cell a) (free a (inl refl))) (none-with key s ports (λ b r. free b (inr r)))
 
-none-lease : (key : ℕ) (s : Store) (x : Live) (ls : List ℕ) → ((l : ℕ) → IsIn l ls → node_leases key s x l ≡ 0) → nodes_lease key s x ls ≡ 0
+pub none-lease : (key : ℕ) (s : Store) (x : Live) (ls : List ℕ) → ((l : ℕ) → IsIn l ls → node_leases key s x l ≡ 0) → nodes_lease key s x ls ≡ 0
 none-lease key s x [] h = refl
 none-lease key s x (l ∷ ls) h = no-sum (node_leases key s x l) (nodes_lease key s x ls) (h l (inl refl)) (none-lease key s x ls (λ n i. h n (inr i)))
 

@@ -34,10 +34,10 @@ Keeps ks (Leave rs) = Unit {0}
 alone : (ks : List Carried) → BeginWith ks ks
 alone ks = ([], sym (append-none ks))
 
-more : (ks own : List Carried) → BeginWith ks (ks ++ own)
+pub more : (ks own : List Carried) → BeginWith ks (ks ++ own)
 more ks own = (own, refl)
 
-two : (ks ms own : List Carried) → BeginWith ks (ks ++ ms ++ own)
+pub two : (ks ms own : List Carried) → BeginWith ks (ks ++ ms ++ own)
 two ks ms own = (ms ++ own, append-same ks ms own)
 
 each-row : (ks : List Carried) (rows : List (List Carried)) → AllBeginWith ks (map (λ r. ks ++ r) rows)
@@ -48,7 +48,7 @@ rolled : (v : Val) → v ≡ values.roll-Val (values.out-Val v)
 rolled v = search (rules, values.the_lemmas)
 
 -- what holds of each value by its outermost form
-by-form : (P : Val → Type 0) → ((y : Val-F Val) → P (values.roll-Val y)) → (v : Val) → P v
+pub by-form : (P : Val → Type 0) → ((y : Val-F Val) → P (values.roll-Val y)) → (v : Val) → P v
 by-form P f v = subst P (sym (rolled v)) (f (values.out-Val v))
 
 chosen-keeps : (form : Form) (ks : List Carried) (o : Option ℕ) → Keeps ks (enter_chosen form ks o)
@@ -198,7 +198,7 @@ tag-leaves u arms n ks _ _ (iterates k g row rows ms lists c res) = tt
 begins-same : (g h : ℕ) (is js : List Carried) (s q : Stage) → Begins g is s ≡ Begins h js q → is ≡ js
 begins-same g h is js s q e = cc
 
-skips-not : {P : Type 0} (rs : List Carried) (h : ℕ) (is : List Carried) (s : Stage) → Skips rs ≡ Begins h is s → P
+pub skips-not : {P : Type 0} (rs : List Carried) (h : ℕ) (is : List Carried) (s : Stage) → Skips rs ≡ Begins h is s → P
 skips-not rs h is s e = absurd (clash e)
   where
     clash : Skips rs ≡ Begins h is s → ⊥
@@ -220,7 +220,7 @@ arm-by arms n c others (Val-F.Arr a) h is s u e = skips-not (errors n cause.Expl
 arm-by arms n c others (Val-F.Rec vs) h is s u e = skips-not (errors n cause.Explicit) h is s e
 arm-by arms n c others (Val-F.Stream vs) h is s u e = skips-not (errors n cause.Explicit) h is s e
 
-whole-arm : (arms : List ℕ) (n : ℕ) (ks : List Carried) (h : ℕ) (is : List Carried) (s : Stage) → arm_of arms n ks ≡ Begins h is s → IsOfArm ks is
+pub whole-arm : (arms : List ℕ) (n : ℕ) (ks : List Carried) (h : ℕ) (is : List Carried) (s : Stage) → arm_of arms n ks ≡ Begins h is s → IsOfArm ks is
 whole-arm arms n [] h is s e = skips-not (errors n cause.Explicit) h is s e
 whole-arm arms n (c ∷ others) h is s e = arm-by arms n c others (values.out-Val (val_of c)) h is s refl e
 

@@ -31,7 +31,7 @@ use Rattle.run_storage.proofs.Carrying.{none-some, this-port}
 
 module _ (cut : Cut) (u : Network) (k : ℕ) (is : List Carried) (x : Live) (graph : IsGraphOf cut u k is x) where
   -- what a node waits for in its graph it waits for in the live one
-  waits-in : {l n : ℕ} → WaitsFor (u k).nodes l n → WaitsIn x l n
+  pub waits-in : {l n : ℕ} → WaitsFor (u k).nodes l n → WaitsIn x l n
   waits-in {l = l} {n = n} (straight i) = waits_straight (subst (λ w. IsIn n (w l)) (sym graph.waits) i)
   waits-in (through a b) = waits_through (waits-in a) (waits-in b)
 

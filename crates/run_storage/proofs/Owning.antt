@@ -22,14 +22,14 @@ use Rattle.if1_marks.specs.Sound.{IsTakerRight, AreMarksRight}
 use Rattle.if1_marks.proofs.Consumed.{consumed-where-given}
 use Rattle.run_storage.specs.Owning.{AreAllTakenOwned}
 
-and-right : (a b : Bool) → a && b ≡ true → b ≡ true
+pub and-right : (a b : Bool) → a && b ≡ true → b ≡ true
 and-right true b e = e
 and-right false b e = absurd (clash e)
   where
     clash : false ≡ true → ⊥
     clash e = cc
 
-true-not-false : {P : Type 0} (b : Bool) → b ≡ true → b ≡ false → P
+pub true-not-false : {P : Type 0} (b : Bool) → b ≡ true → b ≡ false → P
 true-not-false b x y = absurd (clash (sym x ∙ y))
   where
     clash : true ≡ false → ⊥
@@ -41,7 +41,7 @@ none-some a e = absurd (clash e)
     clash : None ≡ Some a → ⊥
     clash e = cc
 
-same : {A : Type 0} (a b : A) → Some a ≡ Some b → a ≡ b
+pub same : {A : Type 0} (a b : A) → Some a ≡ Some b → a ≡ b
 same a b e = cc
 
 -- what holds of all graphs holds of the one at a place
@@ -55,11 +55,11 @@ place-get [] k g d e = none-some g e
 place-get (x ∷ gs) zero g d e = same x g e
 place-get (x ∷ gs) (suc k) g d e = place-get gs k g d e
 
-all-at : (P : Graph → Type 0) (gs : List Graph) → All P gs → (k : ℕ) (g : Graph) → slice_get gs k ≡ Some g → P g
+pub all-at : (P : Graph → Type 0) (gs : List Graph) → All P gs → (k : ℕ) (g : Graph) → slice_get gs k ≡ Some g → P g
 all-at P gs h k g e = subst P (place-get gs k g g e) (h k g (place-in gs k g e))
 
 -- an edge that takes leads to where its node consumes
-node-consumes : (u : Unit1) (g : Graph) (m : ℕ) (n : Node) (port : ℕ) → m ≢ 0 → node_at (out-Graph g).nodes m ≡ Some n → consumes u g m port ≡ true → consumes_node u g (Some n) port ≡ true
+pub node-consumes : (u : Unit1) (g : Graph) (m : ℕ) (n : Node) (port : ℕ) → m ≢ 0 → node_at (out-Graph g).nodes m ≡ Some n → consumes u g m port ≡ true → consumes_node u g (Some n) port ≡ true
 node-consumes u g zero n port ne at e = absurd (ne refl)
 node-consumes u g (suc l) n port ne at e = sym (ap (λ o. consumes_node u g o port) at) ∙ e
 

@@ -99,13 +99,20 @@ pub fn plain(code: &Code, cells: &[Cell], base: usize, from: Operand) -> Option<
     ensures none { IfSome result (λ c. (k : Carried) → stored.copied_as (mode_in code.now from) k ≡ 0) }
 {
     match from {
-        Operand::Literal(_) | Operand::Looks(_) | Operand::Takes(_) => {
-            match direct(code, cells, base, from) {
-                Some(Cell::Int(n)) => Some(Cell::Int(*n)),
-                Some(Cell::Bool(b)) => Some(Cell::Bool(*b)),
-                _ => None,
-            }
-        }
+        Operand::Looks(_) | Operand::Takes(_) => plain_in(code, cells, base, from),
+        Operand::Literal(_) => plain_in(code, cells, base, from),
+        _ => None,
+    }
+}
+
+#[inline(always)]
+fn plain_in(code: &Code, cells: &[Cell], base: usize, from: Operand) -> Option<Cell>
+    requires { IsInside code.now (length cells.now - base) from }
+    ensures { IfSome result (λ c. held c ≡ stored.Owns (stored.seen (heap_of cells.now) base (mode_in code.now from) (operand_in code.now from))) }
+{
+    match direct(code, cells, base, from) {
+        Some(Cell::Int(n)) => Some(Cell::Int(*n)),
+        Some(Cell::Bool(b)) => Some(Cell::Bool(*b)),
         _ => None,
     }
 }

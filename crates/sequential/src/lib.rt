@@ -31,5 +31,5 @@ pub use loading::{load, operand_at, put_behind};
 pub use machine::{Machine, OpenCall, Turn};
 pub use moving::{operands_from, unload};
 pub use scalar::operand_of;
-pub use sights::{cell_at, counted, direct, sight};
+pub use sights::{boolean_at, cell_at, counted, direct, integer_at, sight};
 pub use storing::put;

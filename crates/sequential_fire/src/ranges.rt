@@ -9,10 +9,10 @@ ghost use Rattle.run_cells.specs.Held.{held, heap_of};
 ghost use Rattle.sequential.specs.Loading.{AreInside, seen_of};
 ghost use Rattle.sequential_fire.specs.Outputs.{AreHeld};
 
-use crate::updating::integer_of;
 use flow_value::Cause;
 use if1_graph::Simple;
 use run_cells::Cell;
+use sequential::integer_at;
 use step_code::{Code, Operand};
 
 /// The output of a node that gives the range between two integers that stand in cells; it takes no
@@ -40,8 +40,8 @@ fn range_on(code: &Code, cells: &[Cell], base: usize, operands: &[Operand]) -> O
 {
     match operands {
         [lo, hi] => {
-            let lo = integer_of(code, cells, base, *lo)?;
-            let hi = integer_of(code, cells, base, *hi)?;
+            let lo = integer_at(code, cells, base, *lo)?;
+            let hi = integer_at(code, cells, base, *hi)?;
             Some(rising(lo, hi))
         }
         _ => None,

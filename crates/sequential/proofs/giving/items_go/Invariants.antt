@@ -1,4 +1,3 @@
-use Rattle.std.proofs.Common.{ℕ}
 use Rattle.sequential.proofs.giving.items_go.Given as goal
 
 abbrev pub invariant-loop-v : goal.invariant-loop-v

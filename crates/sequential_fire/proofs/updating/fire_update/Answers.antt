@@ -1,4 +1,5 @@
 use Rattle.std.proofs.Common.{rules, Fits, w64, ◌+◌, ◌-◌, length, slice_set, subst, refl, sym, ap, ◌∙◌, arith}
+use Rattle.flow_value.specs.declared.value.Val.TheVariants as val
 use Rattle.if1_graph.specs.declared.op.Simple.TheVariants as simple
 use Rattle.run_cells.specs.declared.cell.Cell.TheVariants as cell
 use Rattle.step_code.specs.declared.step.Step.TheVariants as step
@@ -18,8 +19,8 @@ returns-then-machine-limit-clause-does c =
     let over = c.if-machine-limit.true in
     take-over a.code.now a.limit a.machine.now a.machine.now simple.AReplace a.written a.shape a.ins a.many a.out a.kept a.counted (omega (arith, over))
 
-pub change_of-requires-clause-array : goal.change_of-requires-clause-array
-change_of-requires-clause-array c =
+pub point_of-requires-clause-array : goal.point_of-requires-clause-array
+point_of-requires-clause-array c =
     let a = c.args in
     let m = a.machine.now in
     let u = a.update in
@@ -28,16 +29,16 @@ change_of-requires-clause-array c =
     let e = ap length c.as_slice.ensures.value in
     omega (arith, lt, e)
 
-pub change_of-requires-clause-place : goal.change_of-requires-clause-place
-change_of-requires-clause-place c =
+pub point_of-requires-clause-place : goal.point_of-requires-clause-place
+point_of-requires-clause-place c =
     let a = c.args in
     let m = a.machine.now in
     let u = a.update in
     subst (λ xs. IsInside a.code.now (length xs - m.base) u.place) (sym c.as_slice.ensures.value)
     (are-inside a.code.now (length m.cells.items - m.base) (listed a.code.now a.ins a.many) u.array u.place u.element c.requires.operands c.requires.inside).1
 
-pub change_of-requires-clause-element : goal.change_of-requires-clause-element
-change_of-requires-clause-element c =
+pub point_of-requires-clause-element : goal.point_of-requires-clause-element
+point_of-requires-clause-element c =
     let a = c.args in
     let m = a.machine.now in
     let u = a.update in
@@ -58,7 +59,7 @@ box_out-boxed-requires-clause-boxed c =
     let a = c.args in
     let m = a.machine.now in
     let u = a.update in
-    (subst (λ xs. IsReady a.code.now m.base u.array u.place u.element xs c.in-Some.change.at c.in-Some.change.value) c.as_slice.ensures.value c.in-Some.ensures).boxed
+    (subst (λ xs. IsReady a.code.now m.base u.array u.place u.element xs c.in-Some.point.at (val.Int c.in-Some.point.number)) c.as_slice.ensures.value c.in-Some.ensures).boxed
 
 pub returns-in-Some-clause-does : goal.returns-in-Some-clause-does
 returns-in-Some-clause-does c =
@@ -74,7 +75,7 @@ returns-in-Some-clause-does c =
     let i = are-inside a.code.now (length m.cells.items - m.base) (listed a.code.now a.ins a.many) u.array u.place u.element c.requires.operands c.requires.inside in
     let lt = i.0 in
     are-for-all a.code.now a.limit (step.Fire simple.AReplace a.written a.shape a.ins a.many a.out 1 a.kept a.counted) m turn.Goes new
-    (update-goes a.code.now a.limit m new a.written a.shape a.ins a.many a.out a.kept a.counted u.array u.place u.element c.box_out-boxed.result c.in-Some.change.value c.in-Some.change.at
+    (update-goes a.code.now a.limit m new a.written a.shape a.ins a.many a.out a.kept a.counted u.array u.place u.element c.box_out-boxed.result (val.Int c.in-Some.point.number) c.in-Some.point.at
     c.requires.operands c.requires.counted c.requires.uncopied.0 c.requires.uncopied.1 c.box_out-boxed.ensures.value
-    (subst (λ xs. IsReady a.code.now m.base u.array u.place u.element xs c.in-Some.change.at c.in-Some.change.value) c.as_slice.ensures.value c.in-Some.ensures)
-    mid c.box_out-boxed.ensures.cells (ap (λ w. slice_set mid (m.base + a.out) (cell.Owned w)) (sym c.updated-changed.ensures) ∙ sym c.put.ensures.cells) (omega (arith, lt)) (omega (arith, out, size)) (omega (arith, no)) small.fits (omega arith) (omega arith) (record { base = refl; calls = refl }) refl)
+    (subst (λ xs. IsReady a.code.now m.base u.array u.place u.element xs c.in-Some.point.at (val.Int c.in-Some.point.number)) c.as_slice.ensures.value c.in-Some.ensures)
+    mid c.box_out-boxed.ensures.cells (ap (λ w. slice_set mid (m.base + a.out) (cell.Owned w)) (sym c.updated_at-changed.ensures) ∙ sym c.put.ensures.cells) (omega (arith, lt)) (omega (arith, out, size)) (omega (arith, no)) small.fits (omega arith) (omega arith) (record { base = refl; calls = refl }) refl)

@@ -1,0 +1,5 @@
+mod Before
+mod Forms
+mod Loops
+mod Trees
+mod Units

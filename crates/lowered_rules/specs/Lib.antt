@@ -1,0 +1,5 @@
+pub mod Ports
+pub mod Parts
+pub mod Rules
+pub mod Sorts
+pub mod Laws

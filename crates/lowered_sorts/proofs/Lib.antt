@@ -1,0 +1,3 @@
+pub mod Bare
+pub mod Read
+pub mod Told

@@ -1,0 +1,6 @@
+//! From the rules on the lowered graphs of a program to the types of its unit. A law.
+#![tactic(auto)]
+
+mod laws;
+
+pub use laws::right_programs_have_typed_units;

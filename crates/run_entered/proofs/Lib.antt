@@ -1,0 +1,4 @@
+pub mod Stages
+pub mod Modes
+pub mod Handing
+pub mod There

@@ -1,0 +1,80 @@
+use Rattle.std.proofs.Common.{rules, Fits, w64, ◌+◌, ◌-◌, length, slice_set, subst, refl, sym, ap, ◌∙◌, arith}
+use Rattle.if1_graph.specs.declared.op.Simple.TheVariants as simple
+use Rattle.run_cells.specs.declared.cell.Cell.TheVariants as cell
+use Rattle.step_code.specs.declared.step.Step.TheVariants as step
+use Rattle.step_code.specs.Reading.{listed}
+use Rattle.sequential.specs.Inside.{IsInside}
+use Rattle.sequential.specs.declared.machine.Machine.{Machine}
+use Rattle.sequential.specs.declared.machine.Turn.TheVariants as turn
+use Rattle.sequential.proofs.Same.{are-for-all}
+use Rattle.sequential_fire.specs.Updating.{IsReady}
+use Rattle.sequential_fire.proofs.TakeSteps.{take-over}
+use Rattle.sequential_fire.proofs.UpdateSteps.{update-goes, are-inside}
+use Rattle.sequential_fire.proofs.updating.fire_scalar.Goals as goal
+
+pub returns-then-machine-limit-clause-does : goal.returns-then-machine-limit-clause-does
+returns-then-machine-limit-clause-does c =
+    let a = c.args in
+    let over = c.if-machine-limit.true in
+    take-over a.code.now a.limit a.machine.now a.machine.now simple.AReplace a.written a.shape a.ins a.many a.out a.kept a.counted (omega (arith, over))
+
+pub change_of-requires-clause-array : goal.change_of-requires-clause-array
+change_of-requires-clause-array c =
+    let a = c.args in
+    let m = a.machine.now in
+    let u = a.update in
+    let i = are-inside a.code.now (length m.cells.items - m.base) (listed a.code.now a.ins a.many) u.array u.place u.element c.requires.operands c.requires.inside in
+    let lt = i.0 in
+    let e = ap length c.as_slice.ensures.value in
+    omega (arith, lt, e)
+
+pub change_of-requires-clause-place : goal.change_of-requires-clause-place
+change_of-requires-clause-place c =
+    let a = c.args in
+    let m = a.machine.now in
+    let u = a.update in
+    subst (λ xs. IsInside a.code.now (length xs - m.base) u.place) (sym c.as_slice.ensures.value)
+    (are-inside a.code.now (length m.cells.items - m.base) (listed a.code.now a.ins a.many) u.array u.place u.element c.requires.operands c.requires.inside).1
+
+pub change_of-requires-clause-element : goal.change_of-requires-clause-element
+change_of-requires-clause-element c =
+    let a = c.args in
+    let m = a.machine.now in
+    let u = a.update in
+    subst (λ xs. IsInside a.code.now (length xs - m.base) u.element) (sym c.as_slice.ensures.value)
+    (are-inside a.code.now (length m.cells.items - m.base) (listed a.code.now a.ins a.many) u.array u.place u.element c.requires.operands c.requires.inside).2
+
+pub box_out-boxed-requires-clause-inside : goal.box_out-boxed-requires-clause-inside
+box_out-boxed-requires-clause-inside c =
+    let a = c.args in
+    let m = a.machine.now in
+    let u = a.update in
+    let i = are-inside a.code.now (length m.cells.items - m.base) (listed a.code.now a.ins a.many) u.array u.place u.element c.requires.operands c.requires.inside in
+    let lt = i.0 in
+    omega (arith, lt)
+
+pub box_out-boxed-requires-clause-boxed : goal.box_out-boxed-requires-clause-boxed
+box_out-boxed-requires-clause-boxed c =
+    let a = c.args in
+    let m = a.machine.now in
+    let u = a.update in
+    (subst (λ xs. IsReady a.code.now m.base u.array u.place u.element xs c.in-Some.change.at c.in-Some.change.value) c.as_slice.ensures.value c.in-Some.ensures).boxed
+
+pub returns-in-Some-clause-does : goal.returns-in-Some-clause-does
+returns-in-Some-clause-does c =
+    let a = c.args in
+    let m = a.machine.now in
+    let u = a.update in
+    let mid = c.box_out-boxed.new.cells.items in
+    let new : Machine = record { pc = m.pc + 1; base = m.base; cells = c.put.new.cells; calls = m.calls; fires = m.fires + 1; copies = m.copies; results = m.results } in
+    let no = c.if-machine-limit.false in
+    let small : Fits w64 m.copies = search rules in
+    let out = c.requires.out in
+    let size = c.box_out-boxed.ensures.size in
+    let i = are-inside a.code.now (length m.cells.items - m.base) (listed a.code.now a.ins a.many) u.array u.place u.element c.requires.operands c.requires.inside in
+    let lt = i.0 in
+    are-for-all a.code.now a.limit (step.Fire simple.AReplace a.written a.shape a.ins a.many a.out 1 a.kept a.counted) m turn.Goes new
+    (update-goes a.code.now a.limit m new a.written a.shape a.ins a.many a.out a.kept a.counted u.array u.place u.element c.box_out-boxed.result c.in-Some.change.value c.in-Some.change.at
+    c.requires.operands c.requires.counted c.requires.uncopied.0 c.requires.uncopied.1 c.box_out-boxed.ensures.value
+    (subst (λ xs. IsReady a.code.now m.base u.array u.place u.element xs c.in-Some.change.at c.in-Some.change.value) c.as_slice.ensures.value c.in-Some.ensures)
+    mid c.box_out-boxed.ensures.cells (ap (λ w. slice_set mid (m.base + a.out) (cell.Owned w)) (sym c.updated-changed.ensures) ∙ sym c.put.ensures.cells) (omega (arith, lt)) (omega (arith, out, size)) (omega (arith, no)) small.fits (omega arith) (omega arith) (record { base = refl; calls = refl }) refl)
