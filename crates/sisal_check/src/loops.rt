@@ -19,6 +19,7 @@ use type_rules::TypeFault;
 use typed_tree::{Product, Turns, TypedExpr, TypedKind};
 
 /// The typed tree of a loop, whose names are in force in it alone.
+#[inline(never)]
 #[cycle(walk)]
 pub(crate) fn looped(
     line: u32,
