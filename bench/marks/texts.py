@@ -1,7 +1,8 @@
 """Writes units of one function with arrays that are updated and read, as IF1 text. The arguments: the file, the kind, the
 size, and for shuffled labels a number. Kinds: chain (so many updates, one after another), read (each update with a reader
 beside it), one (one array with so many readers and an update), many (so many arrays with as many readers each, and an
-update of each)."""
+update of each), back (so many readers of one array, each with the one before on its ordering list, and the last two on each
+other's), ring (the same, but the first has the last on its list, so all are on one cycle)."""
 import random
 import sys
 
@@ -9,6 +10,7 @@ path, kind, size = sys.argv[1], sys.argv[2], int(sys.argv[3])
 seed = int(sys.argv[4]) if len(sys.argv) > 4 else None
 
 nodes = []  # (operation, [(source node's place or 0, its port)], number of integer literals)
+before = {}  # of a node's place, those on its ordering list
 
 
 def update(array):
@@ -33,6 +35,15 @@ elif kind == 'one':
     for _ in range(size):
         reader((0, 1))
     results = [update((0, 1))]
+elif kind in ('back', 'ring'):
+    for place in range(1, size + 1):
+        reader((0, 1))
+        before[place] = [place - 1] if place > 1 else []
+    if kind == 'back':
+        before[size - 1].append(size)
+    else:
+        before[1].append(size)
+    results = [(0, 1)]
 else:
     arrays = size
     turns = [k for k in range(size) for _ in range(size + 1)]
@@ -68,7 +79,8 @@ text.append('X %d "main"' % types)
 lines = {}
 for place, (op, source, literals) in enumerate(nodes, 1):
     n = label[place]
-    lines[n] = ['N %d %d' % (n, op), 'E %d %d %d 1 2' % (label[source[0]], source[1], n)]
+    listed = '%%bf=%s' % ','.join(str(label[k]) for k in before[place]) if before.get(place) else ''
+    lines[n] = [('N %d %d %s' % (n, op, listed)).rstrip(), 'E %d %d %d 1 2' % (label[source[0]], source[1], n)]
     for port in range(2, 2 + literals):
         lines[n].append('L %d %d 1 "%d"' % (n, port, port))
 for n in sorted(lines):

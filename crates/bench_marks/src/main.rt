@@ -1,12 +1,15 @@
-//! Makes the marks of the unit that an IF1 text on standard input gives, for a script to time. It prints
-//! how many edges may take and how many do, and then, to standard error, the nanoseconds that it took to
-//! read and check the text, and to make the marks.
+//! Makes the marks of the unit that an IF1 text on standard input gives, and checks them, for a script to
+//! time. It prints how many edges may take and how many do, or that the marks of the text are not sound;
+//! and then, to standard error, the nanoseconds that it took to read and check the text, to make the
+//! marks, and to check these, or those of the text where they are not sound.
 #![tactic(auto)]
 
 use flow_io::{ReaderSource, read_all};
 use if1_graph::If1Fault;
 use if1_read::read_if1;
+use if1_sound::Sound;
 use if1_valid::{Ready, valid};
+use mark_check::check_marks;
 use mark_units::{Note, mark};
 use std::alloc::Global;
 use std::io;
@@ -32,27 +35,62 @@ fn taken(notes: &[Note]) -> usize {
     count
 }
 
+/// Times the check of marks that were made, behind the times that the rest took.
+fn checked(rt: HostRuntime, unit: Sound, read: u128, made: u128) -> io::Result<()> {
+    let ready = unit.into_ready();
+    let begin = Instant::now(&rt)?;
+    match check_marks(rt.alloc(), ready) {
+        Ok(_) => {
+            let looked = begin.elapsed(&rt)?.as_nanos();
+            eprintln!(rt; "{} {} {}", read, made, looked)
+        }
+        Err(_) => println!(rt; "marks that were made are not sound"),
+    }
+}
+
+/// Times the making of the marks.
+fn marked(rt: HostRuntime, ready: Ready, read: u128) -> io::Result<()> {
+    let begin = Instant::now(&rt)?;
+    match mark(rt.alloc(), ready) {
+        Ok(marked) => {
+            let made = begin.elapsed(&rt)?.as_nanos();
+            let notes = marked.notes.as_slice();
+            println!(rt; "{} edges may take, {} do", notes.len(), taken(notes))?;
+            checked(rt, marked.sound, read, made)
+        }
+        Err(_) => println!(rt; "no memory"),
+    }
+}
+
+/// Times the check of the marks of the text, and goes on where they are sound.
+fn given(rt: HostRuntime, ready: Ready, read: u128) -> io::Result<()> {
+    let begin = Instant::now(&rt)?;
+    match check_marks(rt.alloc(), ready) {
+        Ok(sound) => marked(rt, sound.into_ready(), read),
+        Err(_) => {
+            let looked = begin.elapsed(&rt)?.as_nanos();
+            println!(rt; "marks that are not sound")?;
+            eprintln!(rt; "{} 0 {}", read, looked)
+        }
+    }
+}
+
+/// Times the reading and checking of a text.
+fn timed(rt: HostRuntime, text: &[u8]) -> io::Result<()> {
+    let begin = Instant::now(&rt)?;
+    match ready_of(rt.alloc(), text) {
+        Ok(ready) => {
+            let read = begin.elapsed(&rt)?.as_nanos();
+            given(rt, ready, read)
+        }
+        Err(_) => println!(rt; "no unit"),
+    }
+}
+
 fn main(rt: HostRuntime) -> io::Result<()> {
-    let alloc = rt.alloc();
     let mut from = ReaderSource::new(rt.stdin());
-    let Ok(text) = read_all(alloc, &mut from, MOST_BYTES) else {
-        println!(rt; "no text")?;
-        return Ok(());
-    };
-    let begin = Instant::now(&rt)?;
-    let Ok(ready) = ready_of(alloc, text.as_slice()) else {
-        println!(rt; "no unit")?;
-        return Ok(());
-    };
-    let read = begin.elapsed(&rt)?;
-    let begin = Instant::now(&rt)?;
-    let Ok(marked) = mark(alloc, ready) else {
-        println!(rt; "no memory")?;
-        return Ok(());
-    };
-    let made = begin.elapsed(&rt)?;
-    let notes = marked.notes.as_slice();
-    println!(rt; "{} edges may take, {} do", notes.len(), taken(notes))?;
-    eprintln!(rt; "{} {}", read.as_nanos(), made.as_nanos())?;
-    Ok(())
+    match read_all(rt.alloc(), &mut from, MOST_BYTES) {
+        Ok(text) => timed(rt, text.as_slice()),
+        Err(_) => println!(rt; "no text"),
+    }
 }

@@ -17,7 +17,7 @@ use Rattle.if1_marks.specs.Laws.{IsTakenOnce, IsTakerLast, IsTakenAlone, IsSound
 use Rattle.if1_marks.proofs.Lists.{in-filter}
 use Rattle.if1_marks.proofs.Tests.{same-number, both, one-only}
 
-itself : (l port : ℕ) → leaves l port (Port l port) ≡ true
+pub itself : (l port : ℕ) → leaves l port (Port l port) ≡ true
 itself l port = both (l == l) (port == port) (eq-eqb l l refl) (eq-eqb port port refl)
 
 -- an edge from an owned port is among those that leave it

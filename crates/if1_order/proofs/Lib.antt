@@ -3,3 +3,4 @@ pub mod Within
 pub mod Walks
 pub mod Orders
 pub mod Units
+pub mod Onward

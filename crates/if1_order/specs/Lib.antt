@@ -4,3 +4,4 @@ pub mod Walks
 pub mod Feeders
 pub mod Parts
 pub mod Arranged
+pub mod Rising

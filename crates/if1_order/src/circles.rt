@@ -10,6 +10,7 @@ ghost use Rattle.if1_order.specs.Orders.{IsLinked, Orders, HasNoCircle, IsCircle
 ghost use Rattle.if1_order.specs.Parts.{IsLinkedInside, AreLinkedInside, NodesAreLinked, IsClear, AreClear, NodesAreClear, HasCircle, HaveCircle, NodesHaveCircle};
 
 use crate::arranged::{NodeOrder, order};
+use crate::rising::all_lead_on;
 use flow_value::NoMemory;
 use if1_graph::{Graph, Node, Unit1};
 use std::alloc::Global;
@@ -23,10 +24,14 @@ fn circle_of(number: u32, found: &NodeOrder) -> Option<(u32, u32)>
     }
 }
 
+/// Where all edges lead to greater labels, as in most texts, no order is sought.
 fn circle_in(alloc: Global, graph: &Graph) -> Result<Option<(u32, u32)>, NoMemory>
     requires { IsLinked graph.now }
     ensures { IfOk result (λ r. MatchOption r (HasNoCircle graph.now) (IsCircle graph.now)) }
 {
+    if all_lead_on(graph.edges.as_slice()) {
+        return Ok(None);
+    }
     let found = order(alloc, graph)?;
     let at = circle_of(graph.number, &found);
     Ok(at)

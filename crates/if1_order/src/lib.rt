@@ -4,6 +4,7 @@
 mod arranged;
 mod circles;
 mod feeders;
+mod rising;
 mod walk;
 
 pub use arranged::{NodeOrder, labelled, order};

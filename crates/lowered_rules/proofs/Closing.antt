@@ -1,7 +1,6 @@
 -- A graph inside a node is closed: what it uses of the graphs around are inputs of the node, and so inputs of its own.
-use Rattle.std.proofs.Common.{◌≡◌, ℕ, zero, suc, ◌+◌, Bool, true, false, List, [], ◌∷◌, ◌++◌, map, length, slice_get, Option, Some, refl, sym, ap, subst, ◌∙◌, arith, nat_eq}
+use Rattle.std.proofs.Common.{◌≡◌, ℕ, zero, suc, ◌+◌, Bool, true, false, List, [], ◌∷◌, ◌++◌, map, length, slice_get, Option, Some, refl, sym, ap, subst, ◌∙◌, arith}
 use Rattle.std.specs.Prelude.{if◌then◌else◌}
-use Rattle.std.proofs.lemmas.Bool.{eqb-true, eq-eqb}
 use Rattle.std.proofs.lemmas.List.{append_assoc}
 use Rattle.std.proofs.lemmas.Option.{same_Some}
 use Rattle.if1_graph.specs.declared.op.Compound.{Compound}
@@ -21,6 +20,7 @@ use Rattle.lowering.specs.declared.graph.LoweredNode.{LoweredNode}
 use Rattle.lowering.specs.declared.graph.LoweredGraph.{LoweredGraph}
 use Rattle.lowering.specs.declared.graph.Lowered.{Lowered}
 use Rattle.lowering.specs.Graphs.{used_by, used, uses, resolved, closed_wires, closed_nodes, closed, all_uses, inputs, size, numbers, closed_graphs}
+use Rattle.lowering_meaning.proofs.Wires.{is-port-same, is-port-self}
 use Rattle.lowered_rules.specs.Ports.{Outs, type_at}
 use Rattle.lowered_rules.specs.Parts.{IsShown}
 use Rattle.lowered_rules.specs.Rules.{IsFrom, AreFrom, AreNodes, IsGraph}
@@ -28,30 +28,6 @@ use Rattle.lowered_rules.proofs.Scopes.{Level, level, output_type, reach, IsValu
 use Rattle.lowered_rules.proofs.Made.{slice-left, Sits, sits-right, AreOpen, HaveParts, Right}
 
 -- ---- inputs, each once
-
-same-port : (f g : Feed) → is_port f g ≡ true → f ≡ g
-same-port (Port a b c) (Port d e h) is =
-    let t = three (nat_eq a d) (nat_eq b e) (nat_eq c h) is in
-    let x = eqb-true a d t.0 in
-    let y = eqb-true b e t.1 in
-    let z = eqb-true c h t.2 in
-    ap (λ i. Port i b c) x ∙ ap (λ i. Port d i c) y ∙ ap (λ i. Port d e i) z
-  where
-    three : (x y z : Bool) → (if x then (if y then z else false) else false) ≡ true → (x ≡ true) × (y ≡ true) × (z ≡ true)
-    three true true true e = (refl, refl, refl)
-    three true true false e = absurd cc
-    three true false z e = absurd cc
-    three false y z e = absurd cc
-same-port (Port a b c) (Literal x) is = absurd cc
-same-port (Port a b c) (Named x) is = absurd cc
-same-port (Port a b c) Absent is = absurd cc
-same-port (Literal x) g is = absurd cc
-same-port (Named x) g is = absurd cc
-same-port Absent g is = absurd cc
-
-self-port : (a b c : ℕ) → is_port (Port a b c) (Port a b c) ≡ true
-self-port a b c =
-    ap (λ x. if x then (if nat_eq b b then nat_eq c c else false) else false) (eq-eqb a a refl) ∙ ap (λ x. if x then nat_eq c c else false) (eq-eqb b b refl) ∙ eq-eqb c c refl
 
 has-left : (ks xs : List Wire) (f : Feed) → has ks f ≡ true → has (ks ++ xs) f ≡ true
 has-left [] xs f e = absurd cc
@@ -96,7 +72,7 @@ key-of (k ∷ ks) f h = by (is_port k.feed f) refl (key-of ks f)
     Goal i = (x : Wire) × (x.feed ≡ f) × (slice_get (k ∷ ks) i ≡ Some x)
 
     by : (b : Bool) → is_port k.feed f ≡ b → (has ks f ≡ true → (x : Wire) × (x.feed ≡ f) × (slice_get ks (place ks f) ≡ Some x)) → Goal (place (k ∷ ks) f)
-    by true e rest = subst (λ b. Goal (if b then 0 else suc (place ks f))) (sym e) (k, same-port k.feed f e, refl)
+    by true e rest = subst (λ b. Goal (if b then 0 else suc (place ks f))) (sym e) (k, is-port-same k.feed f e, refl)
     by false e rest =
         let x = rest (ap (λ b. if b then true else has ks f) (sym e) ∙ h) in
         subst (λ b. Goal (if b then 0 else suc (place ks f))) (sym e) (x.0, x.1, x.2)
@@ -122,7 +98,7 @@ cover ks (w ∷ ws) = by w.feed w.ty (λ js. cover js ws)
     by (Port zero n p) t r = (tt, r ks)
     by (Port (suc up) n p) t r =
         let k = wire (Port up n p) t in
-        (distinct-keeps (with_new ks k) (outsides ws) (Port up n p) (has-new ks k (self-port up n p)), r (with_new ks k))
+        (distinct-keeps (with_new ks k) (outsides ws) (Port up n p) (has-new ks k (is-port-self up n p)), r (with_new ks k))
 
 pub covered-left : (ks vs ws : List Wire) → AreCovered ks (vs ++ ws) → AreCovered ks vs
 covered-left ks [] ws a = tt

@@ -74,7 +74,7 @@ pays-times each (Slice l k r) = omega arith
 pays-times each (Leave l) = omega arith
 pays-times each (Inside l k i) = pays-times each i
 
-times-add : (a b c : ℕ) → a * (b + c) ≡ a * b + a * c
+pub times-add : (a b c : ℕ) → a * (b + c) ≡ a * b + a * c
 times-add a b c = nlinear
   where
     nlinear : a * (b + c) ≡ a * b + a * c
@@ -103,7 +103,7 @@ early-limited run limit (Idle w ∷ h) g = early-limited run limit h g.0
 early-limited run limit (Ended w k ∷ h) g = early-limited run limit h g.0
 early-limited run limit (Finish w i o ∷ h) g = early-limited run limit h g.0
 
-times-mono : (a b c : ℕ) → b ≤ c → a * b ≤ a * c
+pub times-mono : (a b c : ℕ) → b ≤ c → a * b ≤ a * c
 times-mono a b c le =
     let d = c - b in
     let e : c ≡ b + d = omega (arith, le) in

@@ -16,12 +16,12 @@ use Rattle.graph_meaning.specs.StorageUnits.{storage_of, takes}
 use Rattle.graph_meaning.proofs.Lists.{found-in}
 use Rattle.run_states.specs.Standing.{Live, Table}
 use Rattle.run_states.specs.Storing.{Kept, Port, Owned, Lent, Store, IsRead}
-use Rattle.run_storage.specs.Marked.{AreReadsOf}
+use Rattle.run_storage.specs.Marked.{AreReadsOf, IsReader, IsEnteredWith}
 use Rattle.run_storage.proofs.Owning.{and-right, true-not-false}
 use Rattle.run_hands.specs.Hands.{Hand, Hands, HasInHand, IsFree, HandsStand, IsAtHand, AreFilled, IsTakenOver}
-use Rattle.run_hands.proofs.Hands.{none-cell, none-key, owned-lent}
+use Rattle.run_hands.proofs.Hands.{none-cell, none-key, owned-lent, at-hand-unowned}
 use Rattle.run_entered.specs.Modes.{Mode, Takes, Input, Own, Borrowed, Gone, into_owner, into_selector, into_later, into_part, mode_of, AreModesRight}
-use Rattle.run_entered.specs.Handing.{IsFromPort, AreInputsBy, AreHandsLeft, IsEnteredRight, AreAllEnteredByModes, IsResultTaken, CameFrom, had, of_result, of_input, copied, AreResultsBy, AreLeftByMarks, AreOutputsBy, AreOutputsFilled}
+use Rattle.run_entered.specs.Handing.{IsFromPort, AreInputsBy, AreHandsLeft, IsEnteredRight, AreAllEnteredByModes, IsResultTaken, CameFrom, had, of_result, of_input, copied, AreResultsBy, AreLeftByMarks, AreOutputsBy, AreOutputsFilled, AreAllEnteredWith}
 use Rattle.run_entered.proofs.Modes.{modes-right, borrowed-gone, and-left}
 
 own-borrowed : {P : Type 0} → Own ≡ Borrowed → P
@@ -148,6 +148,77 @@ entered-by-modes u p l n table stores others hands after f g found there not-0 a
           (record { graph = fun; home = Function k }) reads same left w
           (λ i h. modes.untaken (suc i) (not-by-owner (mode_of (storage_of u) (number_of p) l (suc i)) h))
           (λ i below o. modes.argument_owned k i fun is names o);
+    }
+  where
+    modes : AreModesRight u p l n
+    modes = modes-right u p l n found there not-0 at
+
+-- ---- what it is entered with
+
+module _ (p : Place) (l first : ℕ) (port : ℕ → ℕ) (how : ℕ → Input) (table : Table) (stores : ℕ → Store) (hands : Hands) (f : ℕ) (store : Store) (st : HandsStand table stores hands) (w : AreInputsBy p l first port how table stores hands f store)
+    (untaken : (i : ℕ) → how i ≡ Borrowed → takes (edge_into p.graph l (port i)) ≡ false)
+  where
+    at-hand : (a : Port) (key : ℕ) → store.cell a ≡ Some (Kept key) → store.owning a ≡ Owned → IsAtHand table stores hands f l key
+    at-hand (suc m, i) key ca oa = none-cell (Kept key) (sym (w.outputs m i).0 ∙ ca)
+    at-hand (zero, i) key ca oa = go (at-most i first)
+      where
+        by-how : i ≤ first → (h : Input) → how i ≡ h → IsAtHand table stores hands f l key
+        by-how below Own e = (w.own i below e).1 key ca
+        by-how below Borrowed e = owned-lent (store.owning (0, i)) oa (w.borrowed i below e).0
+        by-how below Gone e = none-cell (Kept key) (sym (w.gone i below e) ∙ ca)
+
+        go : (i ≤ first) ⊎ (first < i) → IsAtHand table stores hands f l key
+        go (inl below) = by-how below (how i) refl
+        go (inr above) = (w.further i above).1 key ca
+
+    same-input : (a b : Port) (key : ℕ) → store.cell a ≡ Some (Kept key) → store.cell b ≡ Some (Kept key) → store.owning a ≡ Owned → store.owning b ≡ Owned → a ≡ b
+    same-input (suc m, i) b key ca cb oa ob = none-cell (Kept key) (sym (w.outputs m i).0 ∙ ca)
+    same-input (zero, i) (suc m, j) key ca cb oa ob = none-cell (Kept key) (sym (w.outputs m j).0 ∙ cb)
+    same-input (zero, i) (zero, j) key ca cb oa ob = ap (λ z. (0, z)) (w.once i j key ca cb oa ob)
+
+    reader : (a : Port) (key : ℕ) → store.cell a ≡ Some (Kept key) → store.owning a ≡ Lent → (b : Port) × IsReader p l b × ((stores f).cell b ≡ Some (Kept key))
+    reader (suc m, i) key ca oa = none-cell (Kept key) (sym (w.outputs m i).0 ∙ ca)
+    reader (zero, i) key ca oa = go (at-most i first)
+      where
+        from : how i ≡ Borrowed → IsFromPort p (stores f) l (port i) key → (b : Port) × IsReader p l b × ((stores f).cell b ≡ Some (Kept key))
+        from e s =
+            let found = found-in (λ z. (z.node == l) && (z.port == port i)) (out-Graph p.graph).edges s.edge s.into in (
+              s.from,
+              record {
+                edge = s.edge;
+                there = found.0;
+                node = same-number s.edge.node l (and-left (s.edge.node == l) (s.edge.port == port i) found.1);
+                from = s.origin;
+                takes = sym (ap takes s.into) ∙ untaken i e;
+              },
+              s.kept,
+            )
+
+        by-how : i ≤ first → (h : Input) → how i ≡ h → (b : Port) × IsReader p l b × ((stores f).cell b ≡ Some (Kept key))
+        by-how below Own e = owned-lent (store.owning (0, i)) (w.own i below e).0 oa
+        by-how below Borrowed e = from e ((w.borrowed i below e).1 key ca)
+        by-how below Gone e = none-cell (Kept key) (sym (w.gone i below e) ∙ ca)
+
+        go : (i ≤ first) ⊎ (first < i) → (b : Port) × IsReader p l b × ((stores f).cell b ≡ Some (Kept key))
+        go (inl below) = by-how below (how i) refl
+        go (inr above) = owned-lent (store.owning (0, i)) (w.further i above).0 oa
+
+    entered-with-these : IsEnteredWith p table stores f l store
+    entered-with-these =
+        record {
+          owned = λ a key ca oa. (at-hand-unowned table stores hands st f l key (at-hand a key ca oa), λ b cb ob. same-input a b key ca cb oa ob);
+          lent = reader;
+        }
+
+pub entered-with : AreAllEnteredWith
+entered-with u p l n table stores hands f store found there not-0 at st =
+    record {
+      of_part = λ c x k is e w.
+          entered-with-these p l (width p.graph (label_of n)) (λ i. i) (λ i. into_part x (mode_of (storage_of u) (number_of p) l i)) table stores hands f store st w
+          (λ i h. modes.untaken i (not-taken x (mode_of (storage_of u) (number_of p) l i) h));
+      of_function = λ first w.
+          entered-with-these p l first (λ i. suc i) (λ i. into_owner (mode_of (storage_of u) (number_of p) l (suc i))) table stores hands f store st w
+          (λ i h. modes.untaken (suc i) (not-by-owner (mode_of (storage_of u) (number_of p) l (suc i)) h));
     }
   where
     modes : AreModesRight u p l n

@@ -1,5 +1,5 @@
 -- What a node does with its ports goes by the marks.
-use Rattle.std.proofs.Common.{◌≡◌, ◌≢◌, ℕ, zero, suc, ◌-◌, ◌≤◌, Bool, true, false, ◌&&◌, if◌then◌else◌, find, slice_get, Option, Some, None, Contains, refl, sym, ap, ◌∙◌, subst, arith, ◌==◌}
+use Rattle.std.proofs.Common.{◌≡◌, ◌≢◌, ℕ, zero, suc, ◌-◌, ◌≤◌, Bool, true, false, ◌&&◌, ◌↔◌, not, if◌then◌else◌, find, slice_get, Option, Some, None, Contains, refl, sym, ap, ◌∙◌, subst, arith, ◌==◌}
 use Rattle.std.proofs.lemmas.List.Elements.{All-contains}
 use Rattle.if1_graph.specs.declared.graph.Edge.{Edge}
 use Rattle.if1_graph.specs.declared.graph.Graph.{Graph}
@@ -27,12 +27,24 @@ use Rattle.if1_marks.proofs.Tests.{same-number}
 use Rattle.graph_meaning.proofs.Lists.{found-in}
 use Rattle.graph_meaning.specs.StorageUnits.{storage_of, takes, test_in}
 use Rattle.run_storage.proofs.Owning.{and-right, true-not-false, same, all-at}
-use Rattle.run_entered.specs.Modes.{Mode, Takes, Copies, Lends, mode_by, mode_of, Own, Borrowed, Gone, into_owner, into_selector, into_later, into_part, AreAllModesRight}
+use Rattle.run_entered.specs.Modes.{Mode, Takes, Copies, Lends, mode_by, mode_of, Own, Borrowed, Gone, into_owner, into_selector, into_later, into_part, AreAllModesRight, AreCopiesCounted}
 
 takes-copies : {P : Type 0} → Takes ≡ Copies → P
 takes-copies e = absurd (clash e)
   where
     clash : Takes ≡ Copies → ⊥
+    clash e = cc
+
+copies-lends : {P : Type 0} → Lends ≡ Copies → P
+copies-lends e = absurd (clash e)
+  where
+    clash : Lends ≡ Copies → ⊥
+    clash e = cc
+
+false-true : {P : Type 0} → false ≡ true → P
+false-true e = absurd (clash e)
+  where
+    clash : false ≡ true → ⊥
     clash e = cc
 
 lends-takes : {P : Type 0} → Lends ≡ Takes → P
@@ -217,3 +229,16 @@ modes-right u p l n found there not-0 at =
       argument_owned = λ k port f is names own. argument-owned u p l n found not-0 at k port f is names own;
       gone_unused = λ sound c x k port g is e sub gone. gone-unused u p l n found not-0 at c is sound there x k port g e sub gone;
     }
+
+-- ---- what is copied
+
+counted-by : (t g a : Bool) → (g && (a && not t) ≡ true) ↔ ((mode_by t g ≡ Copies) × (a ≡ true))
+counted-by true true true = ((λ e. false-true e), (λ e. takes-copies e.0))
+counted-by true true false = ((λ e. false-true e), (λ e. takes-copies e.0))
+counted-by true false a = ((λ e. false-true e), (λ e. takes-copies e.0))
+counted-by false true true = ((λ e. (refl, refl)), (λ e. refl))
+counted-by false true false = ((λ e. false-true e), (λ e. false-true e.1))
+counted-by false false a = ((λ e. false-true e), (λ e. copies-lends e.0))
+
+pub copies-counted : AreCopiesCounted
+copies-counted s g l port = counted-by (s.is_taken g l port) (s.is_given g l port) (s.is_aggregate g l port)

@@ -154,7 +154,7 @@ module _ (table : Table) (stores : ℕ → Store) (homes : ℕ → Place) (wante
         go (no ne) = inr (ne, sym (put-other table f (Some (with_state x l s)) h ne) ∙ is)
 
     -- what the ports of the changed graph have
-    there-now : (others : ℕ → Store) → ((h : ℕ) → ¬ (h ≡ f) → others h ≡ stores h) → ((a : Port) → wanted f a ≡ true → IsGiven (with_state x l s) a → ¬ WasTaken (homes f) (with_state x l s) a → (c : Cell) × ((others f).cell a ≡ Some c))
+    there-now : (others : ℕ → Store) → ((h : ℕ) (a : Port) → ¬ (h ≡ f) → (others h).cell a ≡ (stores h).cell a) → ((a : Port) → wanted f a ≡ true → IsGiven (with_state x l s) a → ¬ WasTaken (homes f) (with_state x l s) a → (c : Cell) × ((others f).cell a ≡ Some c))
         → ArePortsThere (put table f (Some (with_state x l s))) others homes wanted
     there-now others same own h y a is want given taken = go (row h y is)
       where
@@ -162,17 +162,17 @@ module _ (table : Table) (stores : ℕ → Store) (homes : ℕ → Place) (wante
         go (inl q) =
             let c = own a (subst (λ z. wanted z a ≡ true) q.0 want) (subst (λ z. IsGiven z a) (sym q.1) given) (λ w. taken (subst (λ z. WasTaken (homes h) z a) q.1 (subst (λ z. WasTaken (homes z) (with_state x l s) a) (sym q.0) w))) in
             (c.0, ap (λ z. (others z).cell a) q.0 ∙ c.1)
-        go (inr q) = let c = ports h y a q.1 want given taken in (c.0, ap (λ z. z.cell a) (same h q.0) ∙ c.1)
+        go (inr q) = let c = ports h y a q.1 want given taken in (c.0, same h a q.0 ∙ c.1)
 
   there-moved : (f l : ℕ) (x : Live) (s : State) → table f ≡ Some x → s ≢ Done → s ≢ Waiting → ArePortsThere (put table f (Some (with_state x l s))) stores homes wanted
   there-moved f l x s at not-done not-waiting =
-      there-now f l x s at not-waiting stores (λ h ne. refl)
+      there-now f l x s at not-waiting stores (λ h a ne. refl)
       (λ a want given taken. ports f x a at want (was-given f l x s at not-waiting a (inr not-done) given) (λ w. taken (still-taken f l x s at not-waiting (homes f) a w)))
 
   done-waiting : Done ≢ Waiting
   done-waiting e = waiting-done (sym e)
 
-  there-done : (others : ℕ → Store) (f l : ℕ) (x : Live) → table f ≡ Some x → ((h : ℕ) → ¬ (h ≡ f) → others h ≡ stores h) → ((a : Port) → ¬ (a.0 ≡ l) → (others f).cell a ≡ (stores f).cell a)
+  there-done : (others : ℕ → Store) (f l : ℕ) (x : Live) → table f ≡ Some x → ((h : ℕ) (a : Port) → ¬ (h ≡ f) → (others h).cell a ≡ (stores h).cell a) → ((a : Port) → ¬ (a.0 ≡ l) → (others f).cell a ≡ (stores f).cell a)
       → ((a : Port) → a.0 ≡ l → wanted f a ≡ true → (c : Cell) × ((others f).cell a ≡ Some c)) → ArePortsThere (put table f (Some (with_state x l Done))) others homes wanted
   there-done others f l x at same cells filled = there-now f l x Done at done-waiting others same own
     where
@@ -185,7 +185,7 @@ module _ (table : Table) (stores : ℕ → Store) (homes : ℕ → Place) (wante
               let c = ports f x a at want (was-given f l x Done at done-waiting a (inl ne) given) (λ w. taken (still-taken f l x Done at done-waiting (homes f) a w)) in
               (c.0, cells a ne ∙ c.1)
 
-  there-taken : (others : ℕ → Store) (f : ℕ) (x : Live) → table f ≡ Some x → ((h : ℕ) → ¬ (h ≡ f) → others h ≡ stores h) → ((a : Port) → ((others f).cell a ≡ (stores f).cell a) ⊎ WasTaken (homes f) x a) → ArePortsThere table others homes wanted
+  there-taken : (others : ℕ → Store) (f : ℕ) (x : Live) → table f ≡ Some x → ((h : ℕ) (a : Port) → ¬ (h ≡ f) → (others h).cell a ≡ (stores h).cell a) → ((a : Port) → ((others f).cell a ≡ (stores f).cell a) ⊎ WasTaken (homes f) x a) → ArePortsThere table others homes wanted
   there-taken others f x at same cells h y a is want given taken = go (ℕ_discrete h f)
     where
       go : Dec (h ≡ f) → (c : Cell) × ((others h).cell a ≡ Some c)
@@ -196,7 +196,7 @@ module _ (table : Table) (stores : ℕ → Store) (homes : ℕ → Place) (wante
           by-cell (inr w) =
               let live : x ≡ y = some-same x y (sym at ∙ (sym (ap table e) ∙ is)) in
               absurd (taken (subst (λ z. WasTaken (homes h) z a) live (subst (λ z. WasTaken (homes z) x a) (sym e) w)))
-      go (no ne) = let c = ports h y a is want given taken in (c.0, ap (λ z. z.cell a) (same h ne) ∙ c.1)
+      go (no ne) = let c = ports h y a is want given taken in (c.0, same h a ne ∙ c.1)
 
   there-added : (others : ℕ → Store) (later : ℕ → Place) (more : ℕ → Port → Bool) (g : ℕ) (y : Live) → ((h : ℕ) → ¬ (h ≡ g) → (others h ≡ stores h) × (later h ≡ homes h) × ((a : Port) → more h a ≡ true → wanted h a ≡ true))
       → ((l : ℕ) → y.states l ≡ Waiting) → ((i : ℕ) → more g (0, i) ≡ true → (c : Cell) × ((others g).cell (0, i) ≡ Some c)) → ArePortsThere (put table g (Some y)) others later more

@@ -17,7 +17,7 @@ use Rattle.if1_marks.specs.Sound.{IsSound}
 use Rattle.graph_meaning.specs.StorageUnits.{storage_of}
 use Rattle.run_states.specs.Standing.{Live, Table}
 use Rattle.run_states.specs.Storing.{Kept, Port, Owned, Lent, Store}
-use Rattle.run_storage.specs.Marked.{AreReadsOf}
+use Rattle.run_storage.specs.Marked.{AreReadsOf, IsEnteredWith}
 use Rattle.run_hands.specs.Hands.{Hand, Hands, HasInHand, IsFree, HandsStand, OtherHandsSame, IsAtHand, AreFilled, IsEntered, IsTakenOver}
 use Rattle.run_entered.specs.Modes.{Input, Own, Borrowed, Gone, into_owner, into_part, mode_of}
 
@@ -72,6 +72,22 @@ AreAllEnteredByModes = (u : Unit1) (p : Place) (l : ℕ) (n : Node) (table : Tab
     → ((h : ℕ) → ¬ (h ≡ g) → others h ≡ stores h)
     → AreHandsLeft others hands after f l g
     → AreEnteredByModes u p l n table stores others hands after f g
+
+-- Each of its inputs owns an aggregate that no port owned, and no other input owns it, or has that of a port from which an edge leads to
+-- the node that does not take: so `run_storage` says what a graph is entered with.
+pub record AreEnteredWith (u : Unit1) (p : Place) (l : ℕ) (n : Node) (table : Table) (stores : ℕ → Store) (hands : Hands) (f : ℕ) (store : Store) : Type 0 where
+  pub of_part : (c : Compound) (x : Part) (k : ℕ) → compound_at (out-Node n).op ≡ Some c → part_at c k ≡ Some x
+      → AreInputsBy p l (width p.graph (label_of n)) (λ i. i) (λ i. into_part x (mode_of (storage_of u) (number_of p) l i)) table stores hands f store
+      → IsEnteredWith p table stores f l store
+  pub of_function : (first : ℕ) → AreInputsBy p l first (λ i. suc i) (λ i. into_owner (mode_of (storage_of u) (number_of p) l (suc i))) table stores hands f store → IsEnteredWith p table stores f l store
+
+abbrev pub AreAllEnteredWith : Type 0
+AreAllEnteredWith = (u : Unit1) (p : Place) (l : ℕ) (n : Node) (table : Table) (stores : ℕ → Store) (hands : Hands) (f : ℕ) (store : Store) → find (λ q. number_of q == number_of p) (places u) ≡ Some p
+    → Contains (places u) p
+    → l ≢ 0
+    → node_at (out-Graph p.graph).nodes l ≡ Some n
+    → HandsStand table stores hands
+    → AreEnteredWith u p l n table stores hands f store
 
 -- ---- a graph is left
 

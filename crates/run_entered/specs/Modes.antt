@@ -1,6 +1,6 @@
 -- What a Call or a compound node does with what is carried into its ports, by the table that copies go by: it takes it, copies it, or
 -- lends it to what it enters.
-use Rattle.std.specs.Prelude.{◌≡◌, ◌≢◌, ℕ, suc, Bool, true, false, ◌≤◌, find, slice_get, Contains, Some, ◌==◌}
+use Rattle.std.specs.Prelude.{◌≡◌, ◌≢◌, ℕ, suc, Bool, true, false, ◌&&◌, ◌↔◌, ◌≤◌, find, slice_get, Contains, Some, ◌==◌}
 use Rattle.if1_graph.specs.declared.graph.Graph.{Graph}
 use Rattle.if1_graph.specs.declared.graph.Graph.TheViews.{out-Graph}
 use Rattle.if1_graph.specs.declared.graph.Node.{Node, out-Node}
@@ -15,7 +15,7 @@ use Rattle.if1_graph.specs.Units.{label_of, node_at, edge_into, width, Place, pl
 use Rattle.if1_marks.specs.Given.{is_call, called, is_used_inside}
 use Rattle.if1_marks.specs.Owned.{is_owned}
 use Rattle.if1_marks.specs.Sound.{IsSound}
-use Rattle.graph_meaning.specs.Storage.{Storage}
+use Rattle.graph_meaning.specs.Storage.{Storage, is_left}
 use Rattle.graph_meaning.specs.StorageUnits.{storage_of, takes}
 
 pub data Mode : Type 0 where
@@ -91,3 +91,7 @@ abbrev pub AreAllModesRight : Type 0
 AreAllModesRight = (u : Unit1) (p : Place) (l : ℕ) (n : Node) → find (λ q. number_of q == number_of p) (places u) ≡ Some p → Contains (places u) p → l ≢ 0
     → node_at (out-Graph p.graph).nodes l ≡ Some n
     → AreModesRight u p l n
+
+-- What a node copies so is what its copies count: what is given to it at a port, is an aggregate and is not taken.
+abbrev pub AreCopiesCounted : Type 0
+AreCopiesCounted = (s : Storage) (g l port : ℕ) → (s.is_given g l port && is_left s g l port ≡ true) ↔ ((mode_of s g l port ≡ Copies) × (s.is_aggregate g l port ≡ true))

@@ -67,11 +67,11 @@ pub record IsThereKept (table : Table) (stores : ℕ → Store) (homes : ℕ →
   -- a node is claimed, or goes on
   pub moved : (f l : ℕ) (x : Live) (s : State) → table f ≡ Some x → s ≢ Done → s ≢ Waiting → ArePortsThere (put table f (Some (with_state x l s))) stores homes wanted
   -- ports are emptied whose takers were claimed
-  pub taken : (others : ℕ → Store) (f : ℕ) (x : Live) → table f ≡ Some x → ((h : ℕ) → ¬ (h ≡ f) → others h ≡ stores h)
+  pub taken : (others : ℕ → Store) (f : ℕ) (x : Live) → table f ≡ Some x → ((h : ℕ) (a : Port) → ¬ (h ≡ f) → (others h).cell a ≡ (stores h).cell a)
       → ((a : Port) → ((others f).cell a ≡ (stores f).cell a) ⊎ WasTaken (homes f) x a)
       → ArePortsThere table others homes wanted
   -- a node is done, and its ports are filled
-  pub done : (others : ℕ → Store) (f l : ℕ) (x : Live) → table f ≡ Some x → ((h : ℕ) → ¬ (h ≡ f) → others h ≡ stores h)
+  pub done : (others : ℕ → Store) (f l : ℕ) (x : Live) → table f ≡ Some x → ((h : ℕ) (a : Port) → ¬ (h ≡ f) → (others h).cell a ≡ (stores h).cell a)
       → ((a : Port) → ¬ (a.0 ≡ l) → (others f).cell a ≡ (stores f).cell a)
       → ((a : Port) → a.0 ≡ l → wanted f a ≡ true → (c : Cell) × ((others f).cell a ≡ Some c))
       → ArePortsThere (put table f (Some (with_state x l Done))) others homes wanted

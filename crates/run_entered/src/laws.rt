@@ -1,6 +1,7 @@
 //! The laws of graphs that are entered.
-ghost use Rattle.run_entered.specs.Handing.{AreAllEnteredByModes, AreLeftByMarks, AreOutputsFilled};
-ghost use Rattle.run_entered.specs.Modes.{AreAllModesRight};
+ghost use Rattle.run_entered.specs.Handing.{AreAllEnteredByModes, AreAllEnteredWith, AreLeftByMarks, AreOutputsFilled};
+ghost use Rattle.run_entered.specs.Iterated.{AreIterationsTold, DoIterationsLook};
+ghost use Rattle.run_entered.specs.Modes.{AreAllModesRight, AreCopiesCounted};
 ghost use Rattle.run_entered.specs.Stages.{AreAllStagesTold, ArePartsTold};
 ghost use Rattle.run_entered.specs.There.{AreOperandsThere, IsAllThereKept};
 
@@ -44,4 +45,24 @@ pub fn operands_are_there()
 /// A port that was given something has it until its taker is claimed, after each event.
 pub fn given_ports_stay_full()
     ensures { IsAllThereKept }
+{}
+
+/// An iteration of a ForAll has the operands of the node, and behind them the element of each multiple at its place.
+pub fn iterations_are_told()
+    ensures { AreIterationsTold }
+{}
+
+/// It owns none of these.
+pub fn iterations_only_look()
+    ensures { DoIterationsLook }
+{}
+
+/// So it is entered with what `run_storage` asks.
+pub fn graphs_are_entered_with_these()
+    ensures { AreAllEnteredWith }
+{}
+
+/// What a node copies by its modes is what its copies count.
+pub fn copies_are_counted()
+    ensures { AreCopiesCounted }
 {}

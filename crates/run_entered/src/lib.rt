@@ -5,6 +5,8 @@
 mod laws;
 
 pub use laws::{
-    given_ports_stay_full, graphs_are_entered_by_modes, graphs_are_left_by_marks,
-    modes_go_by_marks, operands_are_there, outputs_fill_ports, parts_are_told, stages_are_told,
+    copies_are_counted, given_ports_stay_full, graphs_are_entered_by_modes,
+    graphs_are_entered_with_these, graphs_are_left_by_marks, iterations_are_told,
+    iterations_only_look, modes_go_by_marks, operands_are_there, outputs_fill_ports,
+    parts_are_told, stages_are_told,
 };

@@ -40,7 +40,7 @@ this-node g f n l = go (ℕ_discrete g f) (ℕ_discrete n l)
 -- ---- who has a key
 
 module _ (table : Table) (stores : ℕ → Store) (hands : Hands) (st : HandsStand table stores hands) where
-  at-hand-unowned : (f l key : ℕ) → IsAtHand table stores hands f l key → IsUnowned table stores key
+  pub at-hand-unowned : (f l key : ℕ) → IsAtHand table stores hands f l key → IsUnowned table stores key
   at-hand-unowned f l key (inl free) = free.unowned
   at-hand-unowned f l key (inr h) = st.unowned f l h.0 key h.1
 

@@ -1,2 +1,5 @@
 pub mod Sums
 pub mod Leases
+pub mod Scattered
+pub mod Few
+pub mod Same

@@ -3,7 +3,7 @@ use Rattle.std.specs.Prelude.{◌≡◌, ℕ, suc, ◌+◌, ◌*◌, eqb, if◌t
 use Rattle.graph_meaning.specs.Entered.{Item, Slice, IsIn}
 use Rattle.graph_meaning.specs.Histories.{Run}
 use Rattle.run_states.specs.Standing.{Test, Status, Open, Taken, Finished, Opens, State, GoingOn, Stands, Live, Table, TableStands, mark}
-use Rattle.run_states.specs.Storing.{Kept, Port, Owned, Store, IsAtWork, NoReader}
+use Rattle.run_states.specs.Storing.{Kept, Port, Owned, Store, IsRead, IsAtWork, NoReader}
 use Rattle.run_states.specs.Leasing.{is_at_work, one_if, ports_with, node_leases, leases}
 use Rattle.run_storage.specs.Scattering.{Takers, Scatters}
 use Rattle.run_hands.specs.Hands.{Hands, HasInHand, HandsStand}
@@ -98,3 +98,16 @@ pub record AreSlicesCounted (os : Opens) (l k r : ℕ) : Type 0 where
 
 abbrev pub AreAllSlicesCounted : Type 0
 AreAllSlicesCounted = (os : Opens) (l k r : ℕ) → StandOnce os → AreSlicesCounted os l k r
+
+-- ---- where leases stay
+
+-- A node that is not at work has no lease, so a graph may come or go of which no node is at work.
+abbrev pub DoIdleNodesLeaseNothing : Type 0
+DoIdleNodesLeaseNothing = (key : ℕ) (stores : ℕ → Store) (lent : Lent) (f : ℕ) (x : Live) (l : ℕ) → ¬ IsAtWork (x.states l) → all_of_node key stores lent f x l ≡ 0
+
+-- Where ports are filled or emptied that no node at work reads, all leases stay.
+abbrev pub AreLeasesSame : Type 0
+AreLeasesSame = (key : ℕ) (table : Table) (stores others : ℕ → Store) (lent : Lent)
+    → ((f : ℕ) (x : Live) (l : ℕ) → table f ≡ Some x → IsIn l x.labels → IsAtWork (x.states l) → ((others f).reads l ≡ (stores f).reads l) × ((a : Port) → IsRead a ((stores f).reads l) → (others f).cell a ≡ (stores f).cell a))
+    → (n : ℕ)
+    → all_leases key table others lent n ≡ all_leases key table stores lent n

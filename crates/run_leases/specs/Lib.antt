@@ -1,2 +1,4 @@
 pub mod Sums
 pub mod Leases
+pub mod Scattered
+pub mod Few

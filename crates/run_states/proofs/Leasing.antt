@@ -120,7 +120,7 @@ leases-moved key table stores f l (suc n) x s at once lt = go (ℕ_discrete n f)
 
 -- ---- one port changes
 
-same-with : (key : ℕ) (s t : Store) (ports : List Port) → ((a : Port) → IsRead a ports → t.cell a ≡ s.cell a) → ports_with key t ports ≡ ports_with key s ports
+pub same-with : (key : ℕ) (s t : Store) (ports : List Port) → ((a : Port) → IsRead a ports → t.cell a ≡ s.cell a) → ports_with key t ports ≡ ports_with key s ports
 same-with key s t [] h = refl
 same-with key s t (a ∷ ports) h =
     same-sum (one_if (has_key key (t.cell a))) (one_if (has_key key (s.cell a))) (ports_with key t ports) (ports_with key s ports)

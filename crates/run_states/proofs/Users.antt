@@ -37,7 +37,7 @@ module _ (run : Run) (limit : ℕ) (h : History) (table : Table) (root f : ℕ) 
   by-last n Done st e = refl
 
   -- a node that is not waiting was claimed
-  was-claimed : (l : ℕ) → IsIn l x.labels → (s : State) → NodeStands x.run c m l x.last s → ¬ (s ≡ Waiting) → c (Node l) ≡ true
+  pub was-claimed : (l : ℕ) → IsIn l x.labels → (s : State) → NodeStands x.run c m l x.last s → ¬ (s ≡ Waiting) → c (Node l) ≡ true
   was-claimed l in-x Waiting st n = absurd (n refl)
   was-claimed l in-x Claimed st n = st.0
   was-claimed l in-x (Within k g) st n =

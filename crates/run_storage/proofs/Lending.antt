@@ -1,5 +1,5 @@
 -- The operands of a node are the first inputs of each graph that it enters.
-use Rattle.std.proofs.Common.{◌≡◌, ℕ, zero, suc, ◌-◌, ◌+◌, Bool, true, false, if◌then◌else◌, pos, negsuc, List, [], ◌∷◌, ◌++◌, map, get_or, slice_get, Option, Some, None, refl, sym, ap, ◌∙◌, subst, rules, arith}
+use Rattle.std.proofs.Common.{◌≡◌, ℕ, zero, suc, ◌-◌, Bool, true, false, if◌then◌else◌, pos, negsuc, List, [], ◌∷◌, ◌++◌, map, get_or, slice_get, Option, Some, None, refl, sym, ap, ◌∙◌, subst, rules, arith}
 use Rattle.flow_value.specs.declared.cause.Cause.{Cause}
 use Rattle.flow_value.specs.declared.cause.Cause.TheVariants as cause
 use Rattle.flow_value.specs.declared.value.Val.{Val}
@@ -12,10 +12,12 @@ use Rattle.graph_meaning.specs.Demand.{Source, Port as Out, Network}
 use Rattle.graph_meaning.specs.Plain.{Carries, input, CarryAll, no_port, port}
 use Rattle.graph_meaning.proofs.PlainValues.{carried-once, operands-stand}
 use Rattle.run_states.specs.Phases.{Comes, skips, begins, enters, iterates}
-use Rattle.run_states.specs.Paths.{EntersAt, at_first, at_step, inside, CarriesAt}
+use Rattle.run_states.specs.Standing.{Path}
+use Rattle.run_states.specs.Paths.{IsWhole, EntersAt, at_first, at_step, LeadsTo, inside, CarriesAt}
 use Rattle.run_states.proofs.Lookups.{some-same}
 use Rattle.run_states.proofs.Paths.{path-once}
-use Rattle.run_storage.specs.Lending.{BeginWith, AllBeginWith, IsOfArm, HasOperands, AreAllOperandsFirst, AreInputsLent}
+use Rattle.run_storage.specs.Lending.{BeginWith, AllBeginWith, IsOfArm, HasOperands, AreAllOperandsFirst, AreInputsLent, AreArmsLent, AreAllArmsLent}
+use Rattle.run_storage.specs.Carrying.{content_in, content_of}
 
 append-none : (xs : List Carried) → xs ++ [] ≡ xs
 append-none [] = refl
@@ -290,3 +292,46 @@ inputs-lent u g ins p h l k j i is js ks form e o c to w entering first-ones at 
     own-carried (q, qs, way, (d, x)) b y =
         let s = path-once u g ins p q h qs is way to in
         one-carried u h is o b c w.given.0 d y (subst (λ z. Carries u d h z o c) s.1 (subst (λ z. Carries u d z qs o c) s.0 x))
+
+-- ---- what the inputs of an arm carry
+
+module _ (u : Network) (g : ℕ) (ins : List Carried) (p : Path) (h l k j : ℕ) (is js ks : List Carried) (form : Form) (e : Item) (to : LeadsTo u g ins p h is) (w : IsWhole u h is l form ks) (entering : EntersAt u form ks l k e j js) (arm : IsOfArm ks js) where
+  -- the source of an operand carries it
+  operand-at : (i : ℕ) (o : Source) (c : Carried) → slice_get w.node.ins i ≡ Some o → CarriesAt u g ins p o c → slice_get ks i ≡ Some c
+  operand-at i o c at (q, qs, way, (d, x)) =
+      let all = operands-stand u w.given.0 w.given.0 (omega arith) h is w.node.ins ks w.given.1 in
+      let own = carried-there u w.given.0 h is w.node.ins ks i o all at in
+      let s = path-once u g ins p q h qs is way to in
+      let same = one-carried u h is o own.0 c w.given.0 d own.2 (subst (λ z. Carries u d h z o c) s.1 (subst (λ z. Carries u d z qs o c) s.0 x)) in
+      own.1 ∙ ap (λ z. Some z) same
+
+  input-at : (i : ℕ) (c : Carried) → get_or js i Unfilled ≡ c → CarriesAt u g ins ((l, k) ∷ p) (Out 0 (suc i)) c
+  input-at i c value =
+      let back : suc i - 1 ≡ i = omega arith in
+      (j, js, inside l k e p h is form ks j js to w entering, (0, subst (Carries u 0 j js (Out 0 (suc i))) (ap (λ z. get_or js z Unfilled) back ∙ value) (input 0 j js (suc i))))
+
+  first-operand : (c : Carried) → slice_get ks 0 ≡ Some c → arm.union ≡ c
+  first-operand c e = some-same arm.union c (sym (ap (λ z. slice_get z 0) arm.operands) ∙ e)
+
+  at-place : (xs : List Carried) (i : ℕ) (c : Carried) → slice_get xs i ≡ Some c → get_or xs i Unfilled ≡ c
+  at-place [] i c e = absurd (none e)
+    where
+      none : slice_get [] i ≡ Some c → ⊥
+      none e = cc
+  at-place (x ∷ xs) zero c e = some-same x c e
+  at-place (x ∷ xs) (suc i) c e = at-place xs i c e
+
+  arms-here : AreArmsLent u g ins p l k w.node.ins
+  arms-here =
+      record {
+        union = λ o c d at carried content.
+            let same = first-operand c (operand-at 0 o c at carried) in
+            let value : Value arm.content ≡ d = some-same (Value arm.content) d (sym (ap content_in arm.is_union) ∙ (ap content_of same ∙ content)) in
+            input-at 0 d (ap (λ z. get_or z 0 Unfilled) arm.inputs ∙ value);
+        others = λ i o c at carried.
+            let there = sym (ap (λ z. slice_get z (suc i)) arm.operands) ∙ operand-at (suc i) o c at carried in
+            input-at (suc i) c (ap (λ z. get_or z (suc i) Unfilled) arm.inputs ∙ at-place arm.others i c there);
+      }
+
+pub arms-lent : AreAllArmsLent
+arms-lent u g ins p h l k j is js ks form e to w entering arm = arms-here u g ins p h l k j is js ks form e to w entering arm

@@ -57,7 +57,7 @@ module _ (table : Table) (stores : ℕ → Store) (takers : Takers) (key : ℕ) 
     moved-scatters g n y z same (of_generator h w a is cell own not-taken) = let v = there h w is in of_generator h v.0 a v.1 cell own not-taken
     moved-scatters g n y z same (of_left un) = of_left (still-unowned un)
 
-    scatters-moved : (g n : ℕ) (y : Live) → table g ≡ Some y → Scatters table stores takers y g n key → (z : Live) × (put table f (Some (with_state x l s)) g ≡ Some z) × Scatters (put table f (Some (with_state x l s))) stores takers z g n key
+    pub scatters-moved : (g n : ℕ) (y : Live) → table g ≡ Some y → Scatters table stores takers y g n key → (z : Live) × (put table f (Some (with_state x l s)) g ≡ Some z) × Scatters (put table f (Some (with_state x l s))) stores takers z g n key
     scatters-moved g n y is sc = go (ℕ_discrete g f)
       where
         go : Dec (g ≡ f) → (z : Live) × (put table f (Some (with_state x l s)) g ≡ Some z) × Scatters (put table f (Some (with_state x l s))) stores takers z g n key
@@ -75,7 +75,7 @@ module _ (table : Table) (stores : ℕ → Store) (takers : Takers) (key : ℕ) 
     had-then : (g : ℕ) (b : Port) → (others g).cell b ≡ Some (Kept key) → ¬ ((g ≡ f) × (b ≡ a))
     had-then g b cell q = new (sym (ap (λ z. (others z).cell b) q.0 ∙ ap (others f).cell q.1) ∙ cell)
 
-    scatters-filled : (g n : ℕ) (y : Live) → Scatters table stores takers y g n key → Scatters table others takers y g n key
+    pub scatters-filled : (g n : ℕ) (y : Live) → Scatters table stores takers y g n key → Scatters table others takers y g n key
     scatters-filled g n y (lent h) =
         lent (record { inside = h.inside; work = h.work; port = h.port; reads = subst (IsRead h.port) (sym (differ.reads g n)) h.reads; kept = (differ.cells g h.port (has-still g h.port h.kept)).0 ∙ h.kept })
     scatters-filled g n y (of_generator h w b is cell own not-taken) =
@@ -92,7 +92,7 @@ module _ (table : Table) (stores : ℕ → Store) (takers : Takers) (key : ℕ) 
         go (yes e) = none-some w (sym (ap (put table f None) e ∙ put-same table f None) ∙ is)
         go (no ne) = (ne, sym (put-other table f None h ne) ∙ is)
 
-    scatters-left : (g n : ℕ) (y : Live) → Scatters table stores takers y g n key → Scatters (put table f None) stores takers y g n key
+    pub scatters-left : (g n : ℕ) (y : Live) → Scatters table stores takers y g n key → Scatters (put table f None) stores takers y g n key
     scatters-left g n y (lent h) = lent h
     scatters-left g n y (of_generator h w b is cell own not-taken) = go (ℕ_discrete h f)
       where

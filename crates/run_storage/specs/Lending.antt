@@ -10,6 +10,7 @@ use Rattle.graph_meaning.specs.Demand.{Source, Port as Out, Network}
 use Rattle.run_states.specs.Standing.{Path}
 use Rattle.run_states.specs.Phases.{Comes}
 use Rattle.run_states.specs.Paths.{IsWhole, EntersAt, LeadsTo, CarriesAt}
+use Rattle.run_storage.specs.Carrying.{content_of}
 
 -- the operands stand first among these
 abbrev pub BeginWith : List Carried → List Carried → Type 0
@@ -52,3 +53,16 @@ AreInputsLent = (u : Network) (g : ℕ) (ins : List Carried) (p : Path) (h l k j
     → slice_get whole.node.ins i ≡ Some o
     → CarriesAt u g ins p o c
     → CarriesAt u g ins ((l, k) ∷ p) (Out 0 (suc i)) c
+
+-- In an arm the first input carries the content of what the source of the union does, and each further one what the source of the operand
+-- at its place does.
+pub record AreArmsLent (u : Network) (g : ℕ) (ins : List Carried) (p : Path) (l k : ℕ) (os : List Source) : Type 0 where
+  pub union : (o : Source) (c d : Carried) → slice_get os 0 ≡ Some o → CarriesAt u g ins p o c → content_of c ≡ Some d → CarriesAt u g ins ((l, k) ∷ p) (Out 0 1) d
+  pub others : (i : ℕ) (o : Source) (c : Carried) → slice_get os (suc i) ≡ Some o → CarriesAt u g ins p o c → CarriesAt u g ins ((l, k) ∷ p) (Out 0 (suc (suc i))) c
+
+abbrev pub AreAllArmsLent : Type 0
+AreAllArmsLent = (u : Network) (g : ℕ) (ins : List Carried) (p : Path) (h l k j : ℕ) (is js ks : List Carried) (form : Form) (e : Item) → LeadsTo u g ins p h is
+    → (whole : IsWhole u h is l form ks)
+    → EntersAt u form ks l k e j js
+    → IsOfArm ks js
+    → AreArmsLent u g ins p l k whole.node.ins

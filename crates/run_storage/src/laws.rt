@@ -1,6 +1,6 @@
 //! The laws of what live graphs keep in their ports.
-ghost use Rattle.run_storage.specs.Carrying.{AreAllPortsKept, AreAllToldCarried};
-ghost use Rattle.run_storage.specs.Lending.{AreAllOperandsFirst, AreInputsLent};
+ghost use Rattle.run_storage.specs.Carrying.{AreAllPortsKept, AreAllToldCarried, AreContentsTold};
+ghost use Rattle.run_storage.specs.Lending.{AreAllOperandsFirst, AreInputsLent, AreAllArmsLent};
 ghost use Rattle.run_storage.specs.Marked.{AreTakersAlone, DoTakersLeaseNothing, AreEmptiedUnowned, AreInputsMarked};
 ghost use Rattle.run_storage.specs.Owning.{AreAllTakenOwned};
 ghost use Rattle.run_storage.specs.Scattering.{IsNoneScattered, AreAllScattersKept};
@@ -66,4 +66,15 @@ pub fn takers_lease_nothing()
 /// What a node takes the function that it calls owns, and each of its parts that uses it, but for a selector.
 pub fn taken_inputs_are_owned()
     ensures { AreAllTakenOwned }
+{}
+
+/// What is told of a union is told of its content, where one union more is opened.
+pub fn contents_are_told()
+    ensures { AreContentsTold }
+{}
+
+/// The first input of an arm carries the content of what the source of the union does, and each further one what the
+/// source of the operand at its place does.
+pub fn arms_are_lent_by_operands()
+    ensures { AreAllArmsLent }
 {}

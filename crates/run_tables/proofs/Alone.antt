@@ -2,7 +2,7 @@
 use Rattle.std.proofs.Common.{◌≡◌, ℕ, zero, suc, ◌+◌, ◌≤◌, ◌<◌, Bool, true, false, [], ◌∷◌, ◌⊎◌, inl, inr, refl, ap, ◌∙◌, subst, arith}
 use native.Mathlib.Decide.{dec_le}
 use Rattle.graph_meaning.specs.Entered.{Item}
-use Rattle.graph_meaning.specs.Histories.{Run, Exists, Outcome, EndKind, TurnLimit, Claim, Idle, Ended, Finish, History, Legal, Allowed, HasEnded, IsOn, IsSettled, Gives, Claimable, ClaimedBy, IsNeverStuck, early, count, is_claimed, is_finished}
+use Rattle.graph_meaning.specs.Histories.{Run, Exists, Outcome, EndKind, TurnLimit, Claim, Idle, Ended, Finish, History, Legal, Allowed, HasEnded, IsOn, IsSettled, Gives, Claimable, ClaimedBy, IsNeverStuck, early, count, is_claimed, is_finished, Made, OverLimit, NoMemory, OutOfMemory, FinishEnds}
 use Rattle.run_bounds.specs.Bounds.{claims_in}
 use Rattle.run_states.proofs.Ready.{clash}
 use Rattle.run_states.proofs.Items.{or-same, or-more, or-cases}
@@ -62,8 +62,17 @@ module _ (run : Run) (limit : ℕ) where
     module _ (stuck : IsNeverStuck run limit) (decided : (k : History) → Legal run limit k → ((e : EndKind) × HasEnded run limit k e) ⊎ IsOn run limit k) (gives : (i : Item) → Exists run i → (o : Outcome) × Gives run limit i o)
         (bound : ℕ) (few : (k : History) → Legal run limit k → claims_in k ≤ bound)
       where
+        -- the work finds memory each time, and so it did
+        abbrev IsClean : Type 0
+        IsClean = ((i : Item) (e : Exists run i) → ¬ ((gives i e).0 ≡ NoMemory)) × (HasEnded run limit h OutOfMemory → ⊥)
+
         abbrev Ends : Type 0
-        Ends = (n : ℕ) × (k : History) × Rounds run limit w h n k × ComesToEnd run limit w k
+        Ends = (n : ℕ) × (k : History) × Rounds run limit w h n k × ComesToEnd run limit w k × (IsClean → HasEnded run limit k OutOfMemory → ⊥)
+
+        with-memory : (k : History) (i : Item) (o : Outcome) → ¬ (o ≡ NoMemory) → FinishEnds run limit k w i o OutOfMemory → ⊥
+        with-memory k i (Made n) ne f = f
+        with-memory k i OverLimit ne f = f
+        with-memory k i NoMemory ne f = ne refl
 
         still-settled : (k : History) (i : Item) (o : Outcome) → IsSettled k → IsSettled (Finish w i o ∷ Claim w i ∷ k)
         still-settled k i o settled j e = go (or-cases i (is_claimed k) j e)
@@ -76,28 +85,33 @@ module _ (run : Run) (limit : ℕ) where
         may-finish k i o g un gs = (inl (refl, refl), not-true (is_finished k i) (λ e. clash (is_claimed k i) (finished-claimed k g i e) un), gs)
 
         abbrev OnFrom : ℕ → Type 0
-        OnFrom fuel = (n : ℕ) (k : History) → Rounds run limit w h n k → Legal run limit k → IsSettled k → bound < claims_in k + fuel → Ends
+        OnFrom fuel = (n : ℕ) (k : History) → Rounds run limit w h n k → Legal run limit k → IsSettled k → (IsClean → HasEnded run limit k OutOfMemory → ⊥) → bound < claims_in k + fuel → Ends
 
         to-end : (fuel : ℕ) → OnFrom fuel
-        to-end zero n k r g settled lt = absurd (let x = few k g in omega (arith, x, lt))
-        to-end (suc fuel) n k r g settled lt = by (decided k g) (to-end fuel)
+        to-end zero n k r g settled clean lt = absurd (let x = few k g in omega (arith, x, lt))
+        to-end (suc fuel) n k r g settled clean lt = by (decided k g) (to-end fuel)
           where
             ended-next : (i : Item) → Claimable run k i → IsOn run limit k → limit < early i + count k → ComesToEnd run limit w k
             ended-next i can on over = inr ((g, inr (on, (i, can, over))), ((TurnLimit, inr (on, refl)), λ j e. settled j e))
+
+            still-clean : (i : Item) (o : Outcome) → ¬ (o ≡ NoMemory) → IsClean → HasEnded run limit (Finish w i o ∷ Claim w i ∷ k) OutOfMemory → ⊥
+            still-clean i o ne c (inl (inl e)) = clean c e
+            still-clean i o ne c (inl (inr e)) = e.1
+            still-clean i o ne c (inr e) = with-memory (Claim w i ∷ k) i o ne e.1
 
             goes : (i : Item) → Claimable run k i → IsOn run limit k → Dec (early i + count k ≤ limit) → OnFrom fuel → Ends
             goes i can on (yes le) rec =
                 let o = gives i can.0 in
                 let a = may-finish k i o.0 g can.1 o.1 in
-                rec (suc n) (Finish w i o.0 ∷ Claim w i ∷ k) (round n k i o.0 r (on, can, le) a) ((g, (on, can, le)), a) (still-settled k i o.0 settled) (one-more (claims_in k) fuel lt)
+                rec (suc n) (Finish w i o.0 ∷ Claim w i ∷ k) (round n k i o.0 r (on, can, le) a) ((g, (on, can, le)), a) (still-settled k i o.0 settled) (λ c e. still-clean i o.0 (c.0 i can.0) c e) (one-more (claims_in k) fuel lt)
               where
                 one-more : (c fuel : ℕ) → bound < c + suc fuel → bound < 1 + c + fuel
                 one-more c fuel a = omega (arith, a)
-            goes i can on (no over) rec = (n, k, r, ended-next i can on (omega (arith, over)))
+            goes i can on (no over) rec = (n, k, r, ended-next i can on (omega (arith, over)), clean)
 
             by : ((e : EndKind) × HasEnded run limit k e) ⊎ IsOn run limit k → OnFrom fuel → Ends
-            by (inl e) rec = (n, k, r, inl (e, settled))
+            by (inl e) rec = (n, k, r, inl (e, settled), clean)
             by (inr on) rec = let i = stuck.some_item k g on settled in goes i.0 i.1 on (dec_le (early i.0 + count k) limit) rec
 
         pub comes-to-end : IsSettled h → Ends
-        comes-to-end settled = to-end (suc bound) 0 h none legal settled (omega arith)
+        comes-to-end settled = to-end (suc bound) 0 h none legal settled (λ c. c.1) (omega arith)

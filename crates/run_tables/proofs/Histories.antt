@@ -1,15 +1,11 @@
 -- Each legal history has ended or has a table, and so one worker comes to an end.
-use Rattle.std.proofs.Common.{◌≡◌, ℕ, ◌+◌, ◌*◌, ◌≤◌, true, false, List, [], ◌∷◌, Some, None, ◌⊎◌, inl, inr, refl, sym, ap, ◌∙◌, subst, arith}
+use Rattle.std.proofs.Common.{◌≡◌, ℕ, ◌+◌, ◌≤◌, true, false, List, [], ◌∷◌, Some, None, ◌⊎◌, inl, inr, refl, sym, ap, ◌∙◌, subst, arith}
 use native.Mathlib.Decide.{dec_le}
 use Rattle.graph_meaning.specs.Carried.{Carried}
 use Rattle.graph_meaning.specs.Entered.{Item, Node, Slice, Inside, IsIn, Has}
 use Rattle.graph_meaning.specs.Demand.{Vertex, Network, Cut, IsCut, AreOrderly, operands, of_node, leads_to, nodes_tree, tree_from, tree}
-use Rattle.graph_meaning.specs.Histories.{Run, OwnFirings, History, Legal, Made, OverLimit, NoMemory, EndKind, Results as HasResults, TurnLimit, OutOfMemory, Event, Claim, Idle, Ended, Finish, HasEnded, IsOn, MadeWith, Claimable, ClaimedBy, Gives, count, early, is_slice, is_claimed, is_finished, is_made}
+use Rattle.graph_meaning.specs.Histories.{Run, OwnFirings, History, Legal, Made, OverLimit, NoMemory, EndKind, Results as HasResults, TurnLimit, OutOfMemory, Event, Claim, Idle, Ended, Finish, HasEnded, MadeWith, Claimable, ClaimedBy, Gives, count, early, is_slice, is_claimed, is_finished, is_made}
 use Rattle.graph_meaning.specs.Laws.{run_of}
-use Rattle.graph_meaning.proofs.Theorems.{runs-never-stuck}
-use Rattle.run_bounds.specs.Bounds.{claims_in}
-use Rattle.run_bounds.proofs.Bounded.{workers-bounded}
-use Rattle.run_states.specs.Sliced.{sliced}
 use Rattle.run_states.specs.Standing.{Path, plug, label_of, IsOuter, Open, Taken, Opens, State, Waiting, Claimed, Within, GoingOn, Done, Stands, GoesOn, NodeStands, Live, Table, tests_at, TableStands, ReadyAs, IsReady, or_item, taken, with_state, put}
 use Rattle.run_states.specs.Events.{IsOwn, also}
 use Rattle.run_states.specs.Paths.{here}
@@ -22,16 +18,15 @@ use Rattle.run_states.proofs.Kept.{claim-kept, busy-kept}
 use Rattle.run_states.proofs.Lookups.{put-other, set-same}
 use Rattle.run_states.proofs.Paths.{paths-exact}
 use Rattle.run_states.proofs.Runs.{ends-with-results, goes-on-after}
-use Rattle.run_states.proofs.Sliced.{slices-cut}
 use Rattle.run_states.proofs.Users.{users-done}
 use Rattle.run_tables.specs.Known.{IsKnownAs}
-use Rattle.run_tables.specs.Followed.{HasTable, AreTablesThere, DoRunsEnd}
+use Rattle.run_tables.specs.Followed.{HasTable, AreTablesThere}
 use Rattle.run_tables.proofs.Rows.{OpenRow, open-row}
-use Rattle.run_tables.proofs.Alone.{claimed-by, claimed-exists, rounds-legal, rounds-claim, comes-to-end}
+use Rattle.run_tables.proofs.Alone.{claimed-by, claimed-exists}
 use Rattle.run_tables.proofs.Followed.{After, vertex-of, put-known, entered-known, state-known, beyond-put, mark-items, all-done, claimed-taken}
 use Rattle.run_tables.proofs.Stepped.{by-kind, further-after}
 
-plug-slice : (p : Path) (i : Item) → is_slice (plug p i) ≡ is_slice i
+pub plug-slice : (p : Path) (i : Item) → is_slice (plug p i) ≡ is_slice i
 plug-slice [] i = refl
 plug-slice ((l, k) ∷ p) i = plug-slice p (Inside l k i)
 
@@ -260,26 +255,3 @@ module _ (cut : Cut) (u : Network) (g : ℕ) (ins : List Carried) (limit : ℕ) 
 
 pub tables-there : AreTablesThere
 tables-there cut u g ins limit h is-cut orderly legal = followed cut u g ins limit is-cut orderly h legal
-
--- ---- one worker
-
-pub runs-end : DoRunsEnd
-runs-end workers u g ins limit w h some orderly legal settled =
-    record {
-      ends = λ gives.
-          comes-to-end (run_of (sliced workers) u g ins) limit w h legal (runs-never-stuck (sliced workers) u g ins limit (slices-cut workers some) orderly) decided gives ((4 * workers + 3) * limit) few settled;
-      few = λ n k r.
-          let a = rounds-claim (run_of (sliced workers) u g ins) limit w h legal n k r in
-          let b = few k (rounds-legal (run_of (sliced workers) u g ins) limit w h legal n k r) in
-          omega (arith, a, b);
-    }
-  where
-    few : (k : History) → Legal (run_of (sliced workers) u g ins) limit k → claims_in k ≤ (4 * workers + 3) * limit
-    few k l = (workers-bounded workers u g ins limit k some orderly l).limited
-
-    decided : (k : History) → Legal (run_of (sliced workers) u g ins) limit k → ((e : EndKind) × HasEnded (run_of (sliced workers) u g ins) limit k e) ⊎ IsOn (run_of (sliced workers) u g ins) limit k
-    decided k l = go (followed (sliced workers) u g ins limit (slices-cut workers some) orderly k l)
-      where
-        go : ((e : EndKind) × HasEnded (run_of (sliced workers) u g ins) limit k e) ⊎ HasTable (sliced workers) u g ins limit k → ((e : EndKind) × HasEnded (run_of (sliced workers) u g ins) limit k e) ⊎ IsOn (run_of (sliced workers) u g ins) limit k
-        go (inl e) = inl e
-        go (inr T) = inr T.stands.on

@@ -6,3 +6,4 @@ pub mod Alone
 pub mod Followed
 pub mod Stepped
 pub mod Histories
+pub mod Decided

@@ -1,10 +1,11 @@
 -- Each legal history has a table that stands for it.
-use Rattle.std.specs.Prelude.{◌≡◌, ℕ, suc, ◌+◌, ◌*◌, ◌≤◌, ◌<◌, List, ◌∷◌, ◌⊎◌, None}
+use Rattle.std.specs.Prelude.{◌≡◌, ◌≢◌, ℕ, suc, ◌+◌, ◌*◌, ◌≤◌, ◌<◌, List, ◌∷◌, ◌⊎◌, None}
 use Rattle.graph_meaning.specs.Carried.{Carried}
 use Rattle.graph_meaning.specs.Entered.{Item}
 use Rattle.graph_meaning.specs.Demand.{Network, Cut, IsCut, AreOrderly}
-use Rattle.graph_meaning.specs.Histories.{Run, Exists, Outcome, EndKind, TurnLimit, Claim, Ended, Finish, History, Legal, Allowed, HasEnded, IsSettled, IsComplete, Gives}
+use Rattle.graph_meaning.specs.Histories.{Run, Exists, Outcome, NoMemory, EndKind, TurnLimit, Claim, Ended, Finish, History, Legal, Allowed, HasEnded, IsSettled, IsComplete, Gives}
 use Rattle.graph_meaning.specs.Laws.{run_of}
+use Rattle.graph_meaning.specs.Plain.{Costs}
 use Rattle.run_bounds.specs.Bounds.{claims_in}
 use Rattle.run_states.specs.Sliced.{sliced}
 use Rattle.run_states.specs.Standing.{Table}
@@ -36,14 +37,20 @@ pub data Rounds (run : Run) (limit w : ℕ) (h : History) : ℕ → History → 
 abbrev pub ComesToEnd : Run → ℕ → ℕ → History → Type 0
 ComesToEnd run limit w k = IsComplete run limit k ⊎ (Legal run limit (Ended w TurnLimit ∷ k) × IsComplete run limit (Ended w TurnLimit ∷ k))
 
--- With the slices for so many workers, where the work on each item gives an outcome, one worker comes to an end from each legal history in
--- which all that was claimed is finished; and no rounds of it are more than the bound on claims.
+-- With the slices for so many workers, from each legal history in which all that was claimed is finished one worker comes to an end,
+-- whatever outcomes the work on items gives; some outcome there always is; and no rounds of it are more than the bound on claims.
 pub record DoesRunEnd (workers : ℕ) (u : Network) (g : ℕ) (ins : List Carried) (limit w : ℕ) (h : History) : Type 0 where
   pub ends : ((i : Item) → Exists (run_of (sliced workers) u g ins) i → (o : Outcome) × Gives (run_of (sliced workers) u g ins) limit i o)
       → (n : ℕ) × (k : History) × Rounds (run_of (sliced workers) u g ins) limit w h n k × ComesToEnd (run_of (sliced workers) u g ins) limit w k
+  pub gives : (i : Item) → Exists (run_of (sliced workers) u g ins) i → (o : Outcome) × Gives (run_of (sliced workers) u g ins) limit i o × (o ≢ NoMemory)
   pub few : (n : ℕ) (k : History) → Rounds (run_of (sliced workers) u g ins) limit w h n k → n + claims_in h ≤ (4 * workers + 3) * limit
 
 abbrev pub DoRunsEnd : Type 0
 DoRunsEnd = (workers : ℕ) (u : Network) (g : ℕ) (ins : List Carried) (limit w : ℕ) (h : History) → 0 < workers → AreOrderly u → Legal (run_of (sliced workers) u g ins) limit h
     → IsSettled h
     → DoesRunEnd workers u g ins limit w h
+
+-- So it is known of each limit whether the cost of a graph on its inputs is within it, or above it wherever it is defined.
+abbrev pub AreCostsDecided : Type 0
+AreCostsDecided = (u : Network) (g : ℕ) (ins : List Carried) (limit : ℕ) → AreOrderly u
+    → ((c : ℕ) × ((n : ℕ) × Costs u n g ins c) × (c ≤ limit)) ⊎ ((n c : ℕ) → Costs u n g ins c → limit < c)

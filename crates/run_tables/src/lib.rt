@@ -4,4 +4,4 @@
 
 mod laws;
 
-pub use laws::{histories_have_tables, runs_of_one_worker_end};
+pub use laws::{costs_are_decided, histories_have_tables, runs_of_one_worker_end};

@@ -69,9 +69,14 @@ pub fn shrink(cells: &mut Vec<Cell>, keep: usize)
 #[inline(always)]
 fn let_go(last: Option<Cell>) {
     match last {
-        Some(Cell::Int(_)) => {}
-        Some(Cell::Empty) => {}
-        Some(Cell::Bool(_)) => {}
+        Some(
+            Cell::Empty
+            | Cell::Error(_)
+            | Cell::Int(_)
+            | Cell::Bool(_)
+            | Cell::Char(_)
+            | Cell::Null,
+        ) => {}
         other => let_any_go(other),
     }
 }

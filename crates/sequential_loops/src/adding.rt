@@ -17,6 +17,7 @@ use step_code::Code;
 
 /// Puts values to collections. Where none is read behind its collection, one that is not copied goes
 /// into it, which takes memory only where it has to grow.
+#[inline(always)]
 pub fn add(
     machine: &mut Machine,
     alloc: Global,

@@ -29,8 +29,52 @@ pub fn lay(cells: &mut Vec<Cell>, place: usize, cell: Cell)
     ensures others { (q : ℕ) → (q ≡ place → ⊥) → heap_of cells.new.items q ≡ heap_of cells.old.items q }
     ensures size { length cells.new.items ≡ length cells.old.items }
 {
+    // of a scalar nothing but its kind is read
+    if is_scalar(&cells[place]) {
+        lay_over(cells, place, cell);
+    } else {
+        lay_apart(cells, place, cell);
+    }
+}
+
+#[inline(always)]
+fn is_scalar(cell: &Cell) -> bool {
+    match cell {
+        Cell::Int(_) | Cell::Empty | Cell::Bool(_) => true,
+        _ => false,
+    }
+}
+
+#[inline(always)]
+fn lay_over(cells: &mut Vec<Cell>, place: usize, cell: Cell)
+    requires { place < length cells.old.items }
+    ensures here { heap_of cells.new.items place ≡ held cell }
+    ensures others { (q : ℕ) → (q ≡ place → ⊥) → heap_of cells.new.items q ≡ heap_of cells.old.items q }
+    ensures size { length cells.new.items ≡ length cells.old.items }
+{
     let before = mem::replace(&mut cells[place], cell);
     let_go(before);
+}
+
+#[inline(always)]
+fn lay_apart(cells: &mut Vec<Cell>, place: usize, cell: Cell)
+    requires { place < length cells.old.items }
+    ensures here { heap_of cells.new.items place ≡ held cell }
+    ensures others { (q : ℕ) → (q ≡ place → ⊥) → heap_of cells.new.items q ≡ heap_of cells.old.items q }
+    ensures size { length cells.new.items ≡ length cells.old.items }
+{
+    lay_any(cells, place, cell);
+}
+
+#[inline(never)]
+fn lay_any(cells: &mut Vec<Cell>, place: usize, cell: Cell)
+    requires { place < length cells.old.items }
+    ensures here { heap_of cells.new.items place ≡ held cell }
+    ensures others { (q : ℕ) → (q ≡ place → ⊥) → heap_of cells.new.items q ≡ heap_of cells.old.items q }
+    ensures size { length cells.new.items ≡ length cells.old.items }
+{
+    let before = mem::replace(&mut cells[place], cell);
+    give_up(before);
 }
 
 /// Lets what a cell had go, which is a scalar as a rule.

@@ -70,8 +70,17 @@ fn long_of(code: &Code, cells: &[Cell], base: usize, from: Operand) -> usize
     match direct(code, cells, base, from) {
         Some(Cell::Range(many, lo)) => risen(*many, *lo),
         Some(Cell::Many(v)) => listed(v.get()),
-        _ => places_in(sight(code, cells, base, from)),
+        _ => places_seen(code, cells, base, from),
     }
+}
+
+#[inline(never)]
+fn places_seen(code: &Code, cells: &[Cell], base: usize, from: Operand) -> usize
+    requires { IsInside code.now (length cells.now - base) from }
+    ensures places { result ≡ length (items (stored.seen (heap_of cells.now) base (mode_in code.now from) (operand_in code.now from))) }
+    ensures few { result < 2 ^ 63 }
+{
+    places_in(sight(code, cells, base, from))
 }
 
 /// The cause of the first multiple that is an error.

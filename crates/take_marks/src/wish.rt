@@ -10,13 +10,16 @@ use if1_order::{Places, place_of};
 use if1_reach::PortUsers;
 use std::alloc::Global;
 
-/// Where links and wishes lead from each place, and how many of them each place waits for.
+/// Where links and wishes lead from each place, from where wishes lead to it, how many of both each place
+/// waits for, and whether those from where wishes lead to it were called already.
 #[derive(Drop)]
 struct Waits {
     led: Vec<Places>,
     wished: Vec<Places>,
+    wishing: Vec<Places>,
     links: Places,
     wishes: Places,
+    called: Seq<bool>,
 }
 
 fn counts(alloc: Global, places: usize) -> Result<Places, NoMemory> {
@@ -79,6 +82,7 @@ fn add_wish(waits: &mut Waits, labels: &[u32], user: u32, taker: usize) -> Resul
 {
     if let Some(place) = place_of(labels, user) {
         put(&mut waits.wished, place, taker)?;
+        put(&mut waits.wishing, taker, place)?;
         raise(&mut waits.wishes, taker);
     }
     Ok(())
@@ -243,7 +247,60 @@ fn release_wishes(
     Ok(())
 }
 
-fn release(
+// those that lack nothing come next
+fn call(
+    users: &[usize],
+    links: &[usize],
+    wishes: &[usize],
+    ready: &mut Places,
+) -> Result<(), NoMemory> {
+    for user in users {
+        if count_at(links, *user) == 0 && count_at(wishes, *user) == 0 {
+            ready.add(*user)?;
+        }
+    }
+    Ok(())
+}
+
+// when the first user of a presumed taker comes, so do the others, that they stand near each other
+fn call_users(waits: &mut Waits, taker: usize, ready: &mut Places) -> Result<(), NoMemory> {
+    let Some(false) = waits.called.as_slice().get(taker) else {
+        return Ok(());
+    };
+    waits.called.set(taker, true);
+    let Some(users) = waits.wishing.as_slice().get(taker) else {
+        return Ok(());
+    };
+    call(
+        users.as_slice(),
+        waits.links.as_slice(),
+        waits.wishes.as_slice(),
+        ready,
+    )
+}
+
+fn call_all(waits: &mut Waits, place: usize, ready: &mut Places) -> Result<(), NoMemory> {
+    let takers = match waits.wished.as_slice().get(place) {
+        Some(takers) => takers.len(),
+        None => 0,
+    };
+    for index in 0..takers {
+        if let Some(taker) = taker_at(waits.wished.as_slice(), place, index) {
+            call_users(waits, taker, ready)?;
+        }
+    }
+    Ok(())
+}
+
+fn taker_at(wished: &[Places], place: usize, index: usize) -> Option<usize> {
+    let takers = wished.get(place)?;
+    match takers.as_slice().get(index) {
+        Some(taker) => Some(*taker),
+        None => None,
+    }
+}
+
+fn release_led(
     waits: &mut Waits,
     place: usize,
     ready: &mut Places,
@@ -252,16 +309,24 @@ fn release(
     let Some(led) = waits.led.as_slice().get(place) else {
         return Ok(());
     };
-    let Some(wished) = waits.wished.as_slice().get(place) else {
-        return Ok(());
-    };
     release_links(
         led.as_slice(),
         &mut waits.links,
         waits.wishes.as_slice(),
         ready,
         half,
-    )?;
+    )
+}
+
+fn release_wished(
+    waits: &mut Waits,
+    place: usize,
+    ready: &mut Places,
+    half: &mut Places,
+) -> Result<(), NoMemory> {
+    let Some(wished) = waits.wished.as_slice().get(place) else {
+        return Ok(());
+    };
     release_wishes(
         wished.as_slice(),
         waits.links.as_slice(),
@@ -269,6 +334,17 @@ fn release(
         ready,
         half,
     )
+}
+
+fn release(
+    waits: &mut Waits,
+    place: usize,
+    ready: &mut Places,
+    half: &mut Places,
+) -> Result<(), NoMemory> {
+    release_led(waits, place, ready, half)?;
+    call_all(waits, place, ready)?;
+    release_wished(waits, place, ready, half)
 }
 
 fn file_all(
@@ -290,7 +366,7 @@ fn file_all(
     Ok(())
 }
 
-// the place that lacks nothing and came last is next, or else one that lacks wishes alone
+// the place that lacks nothing and came last, or was called last, is next, or else one that lacks wishes alone
 fn order_by(alloc: Global, waits: &mut Waits, places: usize) -> Result<Places, NoMemory> {
     let mut done = no_flags(alloc, places)?;
     let mut ready = Seq::new(alloc);
@@ -326,8 +402,10 @@ pub fn wished(
     let mut waits = Waits {
         led: lists(alloc, places)?,
         wished: lists(alloc, places)?,
+        wishing: lists(alloc, places)?,
         links: counts(alloc, places)?,
         wishes: counts(alloc, places)?,
+        called: no_flags(alloc, places)?,
     };
     for (place, list) in feeders.iter().enumerate() {
         add_links(&mut waits, list.as_slice(), place)?;

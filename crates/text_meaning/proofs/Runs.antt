@@ -13,7 +13,7 @@ use Rattle.lowered_units.specs.Fitting.{IsFitting}
 use Rattle.lowering_meaning.specs.Laws.{IsRun}
 use Rattle.lowering_meaning.proofs.Alone.{typed-covered}
 use Rattle.lowering_meaning.proofs.Runs.{runs-meant, runs-sourced}
-use Rattle.text_meaning.specs.Laws.{IsTextRun, AreTextsMeant, AreTextsSourced}
+use Rattle.text_meaning.specs.Laws.{IsTextRun, AreMarkedTextsReady, AreTextsMeant, AreTextsSourced}
 
 slice-map : {A B : Type 0} (f : A → B) (xs : List A) (i : ℕ) (x : A) → slice_get xs i ≡ Some x → slice_get (map f xs) i ≡ Some (f x)
 slice-map f [] i x e = absurd cc
@@ -23,16 +23,17 @@ slice-map f (y ∷ xs) zero x e = go e
     go e = cc
 slice-map f (y ∷ xs) (suc i) x e = slice-map f xs i x e
 
-module _ (bytes : List ℕ) (u : tree.Unit) (p : Program) (v : Unit1) (f : ℕ) (args : List Val) (r : IsTextRun bytes u p v f args) where
+module _ (ready : AreMarkedTextsReady) (bytes : List ℕ) (u : tree.Unit) (p : Program) (v : Unit1) (f : ℕ) (args : List Val) (r : IsTextRun bytes u p v f args) where
   run : IsRun p v f args
   run =
-      let h = r.text in
+      let x = r.unit in
+      let h = x.text in
       let t = h.typed in
-      let fit = texts_fit bytes u p h r.shallow r.types in
+      let fit = texts_fit bytes u p h x.shallow x.types in
       let fits : IsFitting p = record {
         headers = headers (signatures t.declared);
         tree = subst (λ names. IsFittingTree p.types names (headers (signatures t.declared)) p.functions) (sym t.names) (tree_fits bytes u p h);
-        types = r.types;
+        types = x.types;
         results = fit.results;
         shallow = fit.shallow;
         visible = fit.visible;
@@ -43,15 +44,15 @@ module _ (bytes : List ℕ) (u : tree.Unit) (p : Program) (v : Unit1) (f : ℕ) 
       record {
         fits = fits;
         forms = typed-covered u p (names_once bytes u.tokens h.lexed) t;
-        unit = r.unit;
-        ready = r.ready;
+        unit = x.translated;
+        ready = ready bytes u p v x;
         header = header r.signature;
         there = slice-map header (signatures t.declared) f r.signature r.there;
         typed = r.typed;
       }
 
-pub texts-meant : AreTextsMeant
-texts-meant bytes u p v f args values steps r g = runs-meant p v f args values steps (run bytes u p v f args r) g
+pub texts-meant : AreMarkedTextsReady → AreTextsMeant
+texts-meant ready bytes u p v f args values steps r g = runs-meant p v f args values steps (run ready bytes u p v f args r) g
 
-pub texts-sourced : AreTextsSourced
-texts-sourced bytes u p v f args results depth cost r c m = runs-sourced p v f args results depth cost (run bytes u p v f args r) c m
+pub texts-sourced : AreMarkedTextsReady → AreTextsSourced
+texts-sourced ready bytes u p v f args results depth cost r c m = runs-sourced p v f args results depth cost (run ready bytes u p v f args r) c m

@@ -1,5 +1,5 @@
 -- What the unit of a text gives, the source gives.
-use Rattle.std.specs.Prelude.{◌≡◌, ℕ, ◌≤◌, List, map, Some, slice_get}
+use Rattle.std.specs.Prelude.{◌≡◌, ℕ, ◌≤◌, List, map, Some, None, slice_get}
 use Rattle.flow_value.specs.declared.value.Val.{Val}
 use Rattle.if1_graph.specs.declared.graph.Unit1.{Unit1}
 use Rattle.if1_graph.specs.Ready.{IsReady}
@@ -18,19 +18,30 @@ use Rattle.graph_meaning.specs.Carried.{Carried, Value, val_of}
 use Rattle.graph_meaning.specs.Networks.{network}
 use Rattle.graph_meaning.specs.Plain.{Means, Costs}
 use Rattle.lowering.specs.Programs.{number_of}
+use Rattle.lowering.specs.TooMany.{too_many}
+use Rattle.lowered_units.specs.Fitting.{HaveMembers}
 use Rattle.lowered_units.specs.Units.{IsTranslated}
 use Rattle.lowering_meaning.specs.Laws.{IsMeant, IsSourced}
 
--- A function of the program of a text, on arguments of the types of its parameters. The program's unit is ready with the marks that
--- are made, with which it runs.
-pub record IsTextRun (bytes : List ℕ) (u : tree.Unit) (p : Program) (v : Unit1) (f : ℕ) (args : List Val) : Type 0 where
+-- The unit of the program of a text that is at most 200 deep and within the limits of units. Each record of the program's types has a
+-- field and each union a tag.
+pub record IsTextUnit (bytes : List ℕ) (u : tree.Unit) (p : Program) (v : Unit1) : Type 0 where
   pub text : IsTypedText bytes u p
   pub shallow : depth_of u.items ≤ 200
   pub types : IsTable p.types
-  pub unit : IsTranslated p v
-  pub ready : IsReady (marks_of v)
+  pub members : HaveMembers p.types
+  pub within : too_many p ≡ None
+  pub translated : IsTranslated p v
+
+-- with the marks that are made it is ready
+abbrev pub AreMarkedTextsReady : Type 0
+AreMarkedTextsReady = (bytes : List ℕ) (u : tree.Unit) (p : Program) (v : Unit1) → IsTextUnit bytes u p v → IsReady (marks_of v)
+
+-- a function of it, on arguments of the types of its parameters
+pub record IsTextRun (bytes : List ℕ) (u : tree.Unit) (p : Program) (v : Unit1) (f : ℕ) (args : List Val) : Type 0 where
+  pub unit : IsTextUnit bytes u p v
   pub signature : Signature
-  pub there : slice_get (signatures text.typed.declared) f ≡ Some signature
+  pub there : slice_get (signatures unit.text.typed.declared) f ≡ Some signature
   pub typed : AreOf signature.params args
 
 abbrev pub AreTextsMeant : Type 0
