@@ -7,8 +7,9 @@ use Rattle.mark_units.specs.declared.marked.Marked.{Marked}
 use Rattle.unit_drawing.specs.Notes.{note_lines}
 use Rattle.compile_call.specs.Calls.{IsMarked, IsTextBy, PrintsBy}
 
-pub prints : (dot why : Bool) (p : Program) (m : Marked) (text : List ℕ) → IsMarked p m → IsTextBy dot why m text → PrintsBy dot why p text
-prints true why p m text is t = record { unit = is.unit; has = is.has }
-prints false true p m text is t =
+pub prints : (dot why code : Bool) (p : Program) (m : Marked) (text : List ℕ) → IsMarked p m → IsTextBy dot why code m text → PrintsBy dot why code p text
+prints true why code p m text is t = record { unit = is.unit; has = is.has }
+prints false true code p m text is t =
     record { unit = is.unit; has = is.has; notes = m.notes; are = is.notes; is = t ∙ ap (λ (u : Unit1). if1_text u ++ note_lines m.notes) is.marks }
-prints false false p m text is t = record { unit = is.unit; has = is.has; is = t ∙ ap if1_text is.marks }
+prints false false true p m text is t = record { unit = is.unit; has = is.has }
+prints false false false p m text is t = record { unit = is.unit; has = is.has; is = t ∙ ap if1_text is.marks }

@@ -41,8 +41,8 @@ pub record IsExplained (p : Program) (text : List ℕ) : Type 0 where
   pub are : AreNotes unit (places unit) notes
   pub is : text ≡ if1_text (marks_of unit) ++ note_lines notes
 
--- there is a unit, and its drawing may be any text
-pub record IsDrawn (p : Program) (text : List ℕ) : Type 0 where
+-- there is a unit, and what is drawn or listed of it may be any text
+pub record IsShown (p : Program) (text : List ℕ) : Type 0 where
   pub unit : Unit1
   pub has : HasUnit p unit
 
@@ -52,13 +52,14 @@ IsRefused p (fault.TooMany line) = too_many p ≡ Some line
 IsRefused p fault.NoMemory = Unit {0}
 
 -- what `compile` prints of a program
-abbrev pub PrintsBy : (dot why : Bool) → Program → List ℕ → Type 0
-PrintsBy true why p text = IsDrawn p text
-PrintsBy false true p text = IsExplained p text
-PrintsBy false false p text = IsCompiled p text
+abbrev pub PrintsBy : (dot why code : Bool) → Program → List ℕ → Type 0
+PrintsBy true why code p text = IsShown p text
+PrintsBy false true code p text = IsExplained p text
+PrintsBy false false true p text = IsShown p text
+PrintsBy false false false p text = IsCompiled p text
 
 abbrev pub Prints : Program → CompileSet → List ℕ → Type 0
-Prints p set text = PrintsBy set.dot set.why p text
+Prints p set text = PrintsBy set.dot set.why set.code p text
 
 -- ---- on the way
 
@@ -70,7 +71,8 @@ pub record IsMarked (p : Program) (m : Marked) : Type 0 where
   pub notes : AreNotes unit (places unit) m.notes
 
 -- the text of a marked unit
-abbrev pub IsTextBy : (dot why : Bool) → Marked → List ℕ → Type 0
-IsTextBy true why m text = Unit {0}
-IsTextBy false true m text = text ≡ if1_text m.sound ++ note_lines m.notes
-IsTextBy false false m text = text ≡ if1_text m.sound
+abbrev pub IsTextBy : (dot why code : Bool) → Marked → List ℕ → Type 0
+IsTextBy true why code m text = Unit {0}
+IsTextBy false true code m text = text ≡ if1_text m.sound ++ note_lines m.notes
+IsTextBy false false true m text = Unit {0}
+IsTextBy false false false m text = text ≡ if1_text m.sound

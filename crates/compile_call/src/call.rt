@@ -5,6 +5,7 @@ ghost use Rattle.lowered_units.specs.Fitting.{IsFitting};
 ghost use Rattle.unit_drawing.specs.Notes.{note_lines};
 ghost use Rattle.compile_call.specs.Calls.{IsMarked, IsRefused, IsTextBy, Prints};
 
+use code_listing::listing;
 use flow_value::{NoMemory, Text};
 use if1_write::write_if1;
 use mark_units::{Marked, mark};
@@ -12,6 +13,7 @@ use run_words::CompileSet;
 use std::alloc::Global;
 use translate::{TranslateFault, translate};
 use typed_tree::Program;
+use unit_code::unit_code;
 use unit_drawing::{add_notes, drawing};
 
 /// The unit of graphs of a program with the marks that are made, which is ready and has sound marks.
@@ -42,22 +44,30 @@ fn explained(alloc: Global, marked: &Marked) -> Result<Text, NoMemory>
     Ok(text)
 }
 
+/// The code of a marked unit, listed.
+fn listed(alloc: Global, marked: &Marked) -> Result<Text, NoMemory> {
+    let code = unit_code(alloc, &marked.sound)?;
+    listing(alloc, marked.sound.unit(), &code)
+}
+
 /// What is printed of a marked unit.
 fn text_of(alloc: Global, marked: &Marked, set: &CompileSet) -> Result<Text, NoMemory>
-    ensures { IfOk result (IsTextBy set.now.dot set.now.why marked.now) }
+    ensures { IfOk result (IsTextBy set.now.dot set.now.why set.now.code marked.now) }
 {
     if set.dot {
         drawing(alloc, marked.sound.unit())
     } else if set.why {
         explained(alloc, marked)
+    } else if set.code {
+        listed(alloc, marked)
     } else {
         compiled(alloc, marked)
     }
 }
 
 /// What `compile` prints of a program: the canonical text of its unit of graphs with the marks that are
-/// made (IF1 manual M-170), or with `dot` a drawing of it, or with `why` behind the text a comment line
-/// for each edge that may take and does not. Refused where types, graphs or ports would be too large or
+/// made (IF1 manual M-170), or with `dot` a drawing of it, or with `code` a listing of the code that runs
+/// it, or with `why` behind the text a comment line for each edge that may take and does not. Refused where types, graphs or ports would be too large or
 /// too many, with the line of the function in which this shows.
 pub fn compile(alloc: Global, program: &Program, set: &CompileSet) -> Result<Text, TranslateFault>
     requires fits { IsFitting program.now }

@@ -32,7 +32,7 @@ use Rattle.if1_read.proofs.Naming.{named_unit, named_fits, given_named}
 use Rattle.if1_read.proofs.Levels.{graph_levels, deepest_of_graphs}
 use Rattle.if1_read.proofs.Placing.{IsRight, all_right}
 
-formed_at : (u : Unit1) (p : Place) → IsRight u p → IsGraph u p
+pub formed_at : (u : Unit1) (p : Place) → IsRight u p → IsGraph u p
 formed_at u p r = record {
   number = r.numbered;
   header = r.header;
@@ -42,7 +42,7 @@ formed_at u p r = record {
   edges = r.fine.edges;
 }
 
-normal_at : (u : Unit1) (p : Place) → IsRight u p → IsNormalGraph u p
+pub normal_at : (u : Unit1) (p : Place) → IsRight u p → IsNormalGraph u p
 normal_at u p r = record {
   nodes = r.fine.rising;
   lists = λ k d i. (r.fine.nodes k d i).before;

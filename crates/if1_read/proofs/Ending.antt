@@ -36,10 +36,10 @@ use Rattle.if1_read.proofs.Marking.{clear_there, clear_free}
 
 -- ---- canonical edges
 
-abbrev canon : Known → List Node → Edge → Edge
+abbrev pub canon : Known → List Node → Edge → Edge
 canon k ns e = record e { from = canonical_from k ns e e.from }
 
-abbrev IsRight : Known → List Node → Edge → Type 0
+abbrev pub IsRight : Known → List Node → Edge → Type 0
 IsRight k ns e = IsLiteralFrom k ns e e.from
 
 each_canon : (k : Known) (ns : List Node) (es fs : List Edge) → Each (IsCanonical k ns) es fs → All (IsEdgeMade k) es →
@@ -58,7 +58,7 @@ module _ (k : Known) (u : Unit1) (h : Graph) (ns : List Node) (fits : Fits k u) 
       (ap (λ (w : Option Want). canonical_as w (entry_at u.types e.ty) text) (want_like ns (out-Graph h).nodes like e.node e.port)
       ∙ ap (λ (ts : List TypeEntry). canonical_as (want_in ns e.node e.port) (entry_at ts e.ty) text) fits.types)
 
-  canon_is : (e : Edge) → canonical_edge u h e ≡ canon k ns e
+  pub canon_is : (e : Edge) → canonical_edge u h e ≡ canon k ns e
   canon_is e = ap (λ (o : Origin). record e { from = o }) (origin_is e e.from)
 
   record Source (w : Option Want) (e : Edge) (text t : List ℕ) : Type 0 where
@@ -91,9 +91,9 @@ module _ (k : Known) (u : Unit1) (h : Graph) (ns : List Node) (fits : Fits k u) 
   there None h = absurd cc
   there (Some en) h = (en, refl)
 
-  record EdgeFine (e : Edge) : Type 0 where
-    edge : IsEdge u h e
-    stays : canonical_edge u h e ≡ e
+  pub record EdgeFine (e : Edge) : Type 0 where
+    pub edge : IsEdge u h e
+    pub stays : canonical_edge u h e ≡ e
 
   edge_at : (e : Edge) (o : Origin) → IsTableSound k.table → IsSpelled (origin_line e o) → NoLiteralTakes e o → IsClear k.table e.ty → IsLiteralFrom k ns e o →
       EdgeFine (record e { from = canonical_from k ns e o })
@@ -116,7 +116,7 @@ module _ (k : Known) (u : Unit1) (h : Graph) (ns : List Node) (fits : Fits k u) 
             ∙ ap (λ (t : List ℕ). record e { from = Lit t }) s.stays;
       }
 
-  edge_fine : (e : Edge) → IsTableSound k.table → IsEdgeMade k e → IsRight k ns e → EdgeFine (canon k ns e)
+  pub edge_fine : (e : Edge) → IsTableSound k.table → IsEdgeMade k e → IsRight k ns e → EdgeFine (canon k ns e)
   edge_fine e sound made right = edge_at e e.from sound made.spelled made.takes made.ty right
 
 -- ---- the order of edges
@@ -125,7 +125,7 @@ bounded_at : (e : Edge) (o : Origin) → IsSpelled (origin_line e o) → IsBound
 bounded_at e (Port node port) sp = record { node = omega (arith, sp.2); port = omega (arith, sp.3.1) }
 bounded_at e (Lit text) sp = record { node = omega (arith, sp.0); port = omega (arith, sp.1.1) }
 
-bounded : (k : Known) (e : Edge) → IsEdgeMade k e → IsBounded e
+pub bounded : (k : Known) (e : Edge) → IsEdgeMade k e → IsBounded e
 bounded k e made = bounded_at e e.from made.spelled
 
 place_0 : (n p : ℕ) → n ≡ 0 → place_of n p ≡ 4294967295 * 4294967296 + p
@@ -169,7 +169,7 @@ length_mapped : (f : Edge → Edge) (xs : List Edge) → length (map f xs) ≡ l
 length_mapped f [] = refl
 length_mapped f (x ∷ xs) = ap suc (length_mapped f xs)
 
-in_order : (k : Known) (ns : List Node) (es : List Edge) → IsNonDecreasingBy edge_place es → All (IsEdgeMade k) es → AllPairs Precedes (map (canon k ns) es)
+pub in_order : (k : Known) (ns : List Node) (es : List Edge) → IsNonDecreasingBy edge_place es → All (IsEdgeMade k) es → AllPairs Precedes (map (canon k ns) es)
 in_order k ns es up made i j d lt short =
     let c : Edge → Edge = canon k ns in
     let inside : j < length es = omega (arith, short, length_mapped c es) in
@@ -186,7 +186,7 @@ none_if : (b : Bool) (e : Edge) (es : List Edge) → (b ≡ true → ⊥) → es
 none_if true e es ne h = absurd (ne refl)
 none_if false e es ne h = h
 
-none_into : (l port : ℕ) (es : List Edge) → All IsBounded es → (l < 4294967296 → port < 4294967296 → ⊥) → into_port l port es ≡ []
+pub none_into : (l port : ℕ) (es : List Edge) → All IsBounded es → (l < 4294967296 → port < 4294967296 → ⊥) → into_port l port es ≡ []
 none_into l port [] b out = refl
 none_into l port (e ∷ es) b out =
     none_if ((e.node == l) && (e.port == port)) e (into_port l port es)

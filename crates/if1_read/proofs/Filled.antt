@@ -104,7 +104,7 @@ into_place es l port b x y =
     filter_alike (λ e. (e.node == l) && (e.port == port)) (λ e. edge_place e == place_of l port) es
     (λ i d lt. let h : IsBounded (get_or es i d) = b i d lt in by_place (get_or es i d).node (get_or es i d).port l port h.node h.port x y)
 
-ports_kept : (es fs : List Edge) → IsArranged edge_place es fs → All IsBounded es → (l port : ℕ) → l < 4294967296 → port < 4294967296 → into_port l port fs ≡ into_port l port es
+pub ports_kept : (es fs : List Edge) → IsArranged edge_place es fs → All IsBounded es → (l port : ℕ) → l < 4294967296 → port < 4294967296 → into_port l port fs ≡ into_port l port es
 ports_kept es fs arranged b l port x y =
     into_place fs l port (All-permutation IsBounded es fs arranged.these b) x y
     ∙ arranged.same (place_of l port)

@@ -7,8 +7,8 @@ use lowered_rules::lowered_graphs_obey_the_rules;
 use lowered_types::right_programs_have_typed_units;
 use lowered_units::translated_units_are_formed;
 
-/// The unit of a fitting program within the limits is ready, where each record of the program's types
-/// has a field and each union a tag, and its loops are such that graphs can obey the rules.
+/// The unit of a fitting program within the limits is ready, where its loops are such that graphs can
+/// obey the rules.
 pub fn translated_units_are_ready()
     ensures { AreReady }
 {

@@ -1,5 +1,5 @@
 -- The lowered graphs of a fitting program obey the rules.
-use Rattle.std.proofs.Common.{◌≡◌, ℕ, zero, suc, ◌+◌, List, [], ◌∷◌, ◌++◌, map, slice_get, get_or, Option, Some, None, refl, sym, ap, subst, ◌∙◌, arith}
+use Rattle.std.proofs.Common.{◌≡◌, ℕ, zero, suc, inl, inr, ◌+◌, List, [], ◌∷◌, ◌++◌, map, slice_get, get_or, Option, Some, None, refl, sym, ap, subst, ◌∙◌, arith}
 use Rattle.std.specs.Prelude.{All}
 use Rattle.std.proofs.lemmas.List.{length-map, append-nil}
 use Rattle.std.proofs.lemmas.List.Elements.{All-nil, All-cons}
@@ -10,6 +10,7 @@ use Rattle.if1_graph.specs.Types.{Sort, Plain, Function}
 use Rattle.if1_graph.specs.Ports.{arguments_of, results_of}
 use Rattle.if1_graph.specs.Typing.{IsListed}
 use Rattle.type_table.specs.declared.form.Form.{Form}
+use Rattle.type_table.specs.declared.form.Form.TheVariants as form
 use Rattle.typed_tree.specs.declared.expr.TypedExpr.{TypedExpr}
 use Rattle.typed_tree.specs.declared.program.Function.{Function as TypedFunction}
 use Rattle.typed_tree.specs.Types.{AreNumbers}
@@ -28,6 +29,7 @@ use Rattle.lowering.specs.Graphs.{closed, closed_graphs, numbers, size, uses, ne
 use Rattle.lowering.specs.Loops.{own_inputs}
 use Rattle.lowering.specs.Phrases.{phrase, lowers}
 use Rattle.lowering.specs.Programs.{bodies, function_lowered, functions_lowered, graphs, graph_at}
+use Rattle.lowered_units.specs.Fitting.{HaveMembers}
 use Rattle.lowered_units.proofs.Programs.{has-basics}
 use Rattle.lowered_units.proofs.Wired.{typed-ports}
 use Rattle.lowered_rules.specs.Rules.{HasPartsRight, AreListed, IsFunctionGraph}
@@ -179,7 +181,7 @@ parts-at sort at forms names (y ∷ ds) h zero d e = subst (λ (d : LoweredGraph
 parts-at sort at forms names (y ∷ ds) h (suc i) d e = parts-at sort at forms names ds h.1 i d e
 
 pub obey-rules : ObeyRules
-obey-rules p fit members covered bare sort sorting =
+obey-rules p fit covered bare sort sorting =
     let basics = has-basics p.types fit.types in
     let x : World = record {
       forms = p.types;
@@ -189,7 +191,7 @@ obey-rules p fit members covered bare sort sorting =
       sort = sort;
       at = graph_at p;
       sorting = sorting;
-      members = members;
+      members = filled;
       booleans = number.boolean basics.booleans;
       characters = number.character basics.characters;
       integers = number.integer basics.integers;
@@ -206,6 +208,10 @@ obey-rules p fit members covered bare sort sorting =
       parts = λ q d e. at-number q d e all;
     }
   where
+    filled : HaveMembers p.types
+    filled t ms (inl e) = fit.types.well.members t (form.Record ms) e
+    filled t ms (inr e) = fit.types.well.members t (form.Union ms) e
+
     at-number : (q : ℕ) (d : LoweredGraph) → graph_at p q ≡ Some d → AllHaveParts p.types p.names sort (graph_at p) (graphs p) → All (HasPartsRight sort (graph_at p)) d.nodes
     at-number zero d e h = absurd cc
     at-number (suc q) d e h = parts-at sort (graph_at p) p.types p.names (graphs p) h q d e

@@ -5,7 +5,7 @@ use Rattle.if1_graph.specs.Types.{Sort}
 use Rattle.typed_tree.specs.declared.expr.Source.{Source}
 use Rattle.typed_tree.specs.declared.program.Program.{Program}
 use Rattle.lowering.specs.declared.feed.Carried.{Carried}
-use Rattle.lowered_units.specs.Fitting.{HaveMembers, IsFitting}
+use Rattle.lowered_units.specs.Fitting.{IsFitting}
 use Rattle.lowering_meaning.specs.Coverage.{Coverage, AreCovered, masks_alone, all_one}
 use Rattle.lowered_rules.specs.Sorts.{IsSorting}
 use Rattle.lowered_rules.specs.Rules.{AreRight}
@@ -21,4 +21,4 @@ rule_forms = record { operation = λ o. true; product = λ p ks. has_source p.so
 
 -- the graphs of a fitting program obey the rules of ports and types
 abbrev pub ObeyRules : Type 0
-ObeyRules = (p : Program) (fit : IsFitting p) → HaveMembers p.types → AreCovered rule_forms p.functions → (bare : Ty → Ty) (sort : Carried → Sort) → IsSorting p.types p.names fit.headers bare sort → AreRight sort p
+ObeyRules = (p : Program) (fit : IsFitting p) → AreCovered rule_forms p.functions → (bare : Ty → Ty) (sort : Carried → Sort) → IsSorting p.types p.names fit.headers bare sort → AreRight sort p

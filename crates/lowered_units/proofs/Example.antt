@@ -10,7 +10,7 @@
 --     G 6 "f"
 --     N 1 155
 --     E 1 1 0 1 3
-use Rattle.std.proofs.Common.{◌≡◌, ℕ, zero, suc, ◌<◌, ◌≤◌, ◌⊎◌, inl, inr, false, List, [], ◌∷◌, length, slice_get, Some, None, refl, sym, ap, subst, ◌∙◌, arith}
+use Rattle.std.proofs.Common.{◌≡◌, ℕ, zero, suc, ◌<◌, ◌≤◌, false, List, [], ◌∷◌, length, slice_get, Some, None, refl, sym, ap, subst, ◌∙◌, arith}
 use Rattle.std.specs.Prelude.{codes}
 use Rattle.std.proofs.lemmas.List.Elements.{All-nil, All-cons, All-from_recursion}
 use Rattle.flow_value.specs.declared.ty.Ty.TheVariants as ty
@@ -25,14 +25,13 @@ use Rattle.if1_graph.specs.declared.graph.TypeEntry.{TypeEntry}
 use Rattle.if1_graph.specs.declared.graph.Unit1.{Unit1}
 use Rattle.type_table.specs.declared.form.Form.{Form}
 use Rattle.type_table.specs.declared.form.Form.TheVariants as form
-use Rattle.type_table.specs.declared.form.Member.{Member}
-use Rattle.type_table.specs.Tables.{depths, IsOver, IsTable, basic_forms}
+use Rattle.type_table.specs.Tables.{depths, HasMember, IsOver, IsTable, basic_forms}
 use Rattle.typed_tree.specs.declared.program.Function.{Function}
 use Rattle.typed_tree.specs.declared.program.Program.{Program}
 use Rattle.typed_tree.specs.Types as number
 use Rattle.lowering.specs.TooMany.{too_many}
 use Rattle.bound_trees.specs.Depths.{AreWithin}
-use Rattle.lowered_units.specs.Fitting.{HasName, HaveMembers, IsFitting}
+use Rattle.lowered_units.specs.Fitting.{HasName, IsFitting}
 use Rattle.lowered_units.specs.Listed.{Listing, NodeListing, list_graph, list_node, listing}
 use Rattle.lowered_units.specs.Units.{IsTranslated}
 
@@ -107,6 +106,14 @@ over (suc (suc (suc zero))) f e = subst (IsOver 3) (same form.Null f e) (All-nil
 over (suc (suc (suc (suc zero)))) f e = subst (IsOver 4) (same (form.Array 1) f e) (All-cons (λ t. t < 4) 1 [] (omega arith) (All-nil (λ t. t < 4)))
 over (suc (suc (suc (suc (suc k))))) f e = absurd cc
 
+filled : (k : ℕ) (f : Form) → slice_get basic_forms k ≡ Some f → HasMember f
+filled zero f e = subst HasMember (same form.Boolean f e) tt
+filled (suc zero) f e = subst HasMember (same form.Character f e) tt
+filled (suc (suc zero)) f e = subst HasMember (same form.Integer f e) tt
+filled (suc (suc (suc zero))) f e = subst HasMember (same form.Null f e) tt
+filled (suc (suc (suc (suc zero)))) f e = subst HasMember (same (form.Array 1) f e) tt
+filled (suc (suc (suc (suc (suc k))))) f e = absurd cc
+
 basics : IsTable basic_forms
 basics = record {
   rest = [];
@@ -114,23 +121,10 @@ basics = record {
   well = record {
     once = λ k m f e h. placed k f e ∙ sym (placed m f h);
     after_parts = over;
+    members = filled;
     shallow = All-from_recursion (λ d. d ≤ 64) (depths basic_forms) (omega arith, (omega arith, (omega arith, (omega arith, (omega arith, tt)))));
   };
 }
-
-no-members : (t : ℕ) (ms : List Member) → (slice_get basic_forms t ≡ Some (form.Record ms)) ⊎ (slice_get basic_forms t ≡ Some (form.Union ms)) → 1 ≤ length ms
-no-members zero ms (inl e) = absurd cc
-no-members zero ms (inr e) = absurd cc
-no-members (suc zero) ms (inl e) = absurd cc
-no-members (suc zero) ms (inr e) = absurd cc
-no-members (suc (suc zero)) ms (inl e) = absurd cc
-no-members (suc (suc zero)) ms (inr e) = absurd cc
-no-members (suc (suc (suc zero))) ms (inl e) = absurd cc
-no-members (suc (suc (suc zero))) ms (inr e) = absurd cc
-no-members (suc (suc (suc (suc zero)))) ms (inl e) = absurd cc
-no-members (suc (suc (suc (suc zero)))) ms (inr e) = absurd cc
-no-members (suc (suc (suc (suc (suc t))))) ms (inl e) = absurd cc
-no-members (suc (suc (suc (suc (suc t))))) ms (inr e) = absurd cc
 
 only : (i : ℕ) (name : List ℕ) → HasName program i name → i ≡ 0
 only zero name h = refl
@@ -138,9 +132,6 @@ only (suc i) name h = absurd (none h.function h.there)
   where
     none : (f : Function) → slice_get (function ∷ []) (suc i) ≡ Some f → ⊥
     none f e = absurd cc
-
-pub example-members : HaveMembers program.types
-example-members = no-members
 
 pub example-fits : IsFitting program
 example-fits = record {

@@ -25,6 +25,7 @@ pub mod Running
 pub mod Ordered
 pub mod Canonical
 pub mod Normality
+pub mod Filled
 pub mod Depths
 pub mod Lines
 pub mod Tabled

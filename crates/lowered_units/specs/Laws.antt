@@ -8,7 +8,7 @@ use Rattle.graph_meaning.specs.Networks.{network}
 use Rattle.lowering.specs.declared.graph.LoweredGraph.{LoweredGraph}
 use Rattle.lowering.specs.Programs.{graph_at, number_of}
 use Rattle.lowering.specs.TooMany.{too_many}
-use Rattle.lowered_units.specs.Fitting.{HaveMembers, IsFitting}
+use Rattle.lowered_units.specs.Fitting.{IsFitting}
 use Rattle.lowered_units.specs.Networks.{net_of, shapes}
 use Rattle.lowered_units.specs.Small.{HasSmallPorts}
 use Rattle.lowered_units.specs.Units.{IsTranslated}
@@ -28,7 +28,7 @@ AreNormal = (p : Program) (u : Unit1) → IsFitting p → IsTranslated p u → I
 
 -- each type of the unit is formed, and there are no more than a unit may have
 abbrev pub AreTablesFormed : Type 0
-AreTablesFormed = (p : Program) (u : Unit1) → IsFitting p → HaveMembers p.types → too_many p ≡ None → IsTranslated p u → IsTable u.types
+AreTablesFormed = (p : Program) (u : Unit1) → IsFitting p → too_many p ≡ None → IsTranslated p u → IsTable u.types
 
 -- the ports of a program within the limits, and the labels of their nodes, fit 32 bits
 abbrev pub ArePortsSmall : Type 0
@@ -36,4 +36,4 @@ ArePortsSmall = (p : Program) → IsFitting p → too_many p ≡ None → HasSma
 
 -- a unit within the limits is formed and normal
 abbrev pub AreFormed : Type 0
-AreFormed = (p : Program) (u : Unit1) → IsFitting p → HaveMembers p.types → too_many p ≡ None → IsTranslated p u → IsFormed u × IsNormal u
+AreFormed = (p : Program) (u : Unit1) → IsFitting p → too_many p ≡ None → IsTranslated p u → IsFormed u × IsNormal u

@@ -14,8 +14,7 @@ pub fn a_program_is_one_unit()
 {}
 
 /// The types of a translated unit within the limits are formed: each has a label of its own, its parts
-/// are types of the unit, and there are at most 65,535. Each record of the program's types has a field
-/// and each union a tag, as those of a text have.
+/// are types of the unit, and there are at most 65,535.
 pub fn tables_of_translated_units_are_formed()
     ensures { AreTablesFormed }
 {}
@@ -31,9 +30,8 @@ pub fn ports_within_the_limits_are_small()
     ensures { ArePortsSmall }
 {}
 
-/// A translated unit within the limits is formed and normal, where each record of the program's types
-/// has a field and each union a tag; its graphs nest no deeper than the expressions of the program,
-/// which are at most 200 deep.
+/// A translated unit within the limits is formed and normal; its graphs nest no deeper than the
+/// expressions of the program, which are at most 200 deep.
 pub fn translated_units_are_formed()
     ensures { AreFormed }
 {}

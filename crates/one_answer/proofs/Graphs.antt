@@ -10,14 +10,15 @@ use Rattle.one_answer.specs.Laws.{AreGraphsOnce}
 pub within_either : (o : Option ℕ) (line : ℕ) → o ≡ None → o ≡ Some line → ⊥
 within_either o line a b = let e : None ≡ Some line = sym a ∙ b in cc
 
-pub compiled : (dot why : Bool) (p : Program) (t : List ℕ) → dot ≡ false → why ≡ false → PrintsBy dot why p t → IsCompiled p t
-compiled true why p t d w x = cc
-compiled false true p t d w x = cc
-compiled false false p t d w x = x
+pub compiled : (dot why code : Bool) (p : Program) (t : List ℕ) → dot ≡ false → why ≡ false → code ≡ false → PrintsBy dot why code p t → IsCompiled p t
+compiled true why code p t d w k x = cc
+compiled false true code p t d w k x = cc
+compiled false false true p t d w k x = cc
+compiled false false false p t d w k x = x
 
 pub graphs_once : IsOneUnit → IsOneText → AreGraphsOnce
 graphs_once units texts = record {
   units = λ p u v a b. units p u v a.translated b.translated;
-  texts = λ p set s t d w a b. texts p s t (compiled set.dot set.why p s d w a) (compiled set.dot set.why p t d w b);
+  texts = λ p set s t d w k a b. texts p s t (compiled set.dot set.why set.code p s d w k a) (compiled set.dot set.why set.code p t d w k b);
   within = λ p u line a b. within_either (too_many p) line a.within b;
 }

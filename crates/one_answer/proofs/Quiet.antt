@@ -255,18 +255,18 @@ text_run_reply set bytes (Err status.TooLong) i plain p t = source.long p.1
 text_run_reply set bytes (Err status.Later) i plain p t = absurd (p plain)
 text_run_reply set bytes (Err (status.Unlinked name)) i plain p t = no_text_run set bytes i (refusal.Unlinked name) (status.Unlinked name) (λ e. cc e) p.1 refl
 
-pub compile_reply : (set : CompileSet) (bytes : List ℕ) (r : Result (List ℕ) Status) → set.dot ≡ false → set.why ≡ false → IsBuilt set → Replies (command.Compile set) bytes r → Tells r → source.TextReply bytes (source.CompileRest bytes) r
-compile_reply set bytes (Ok out) d w built p t = source.made (Ok out) (source.printed out p.1.program p.1.typed (compiled set.dot set.why p.1.program out d w p.1.is))
-compile_reply set bytes (Err status.Done) d w built p t = absurd p
-compile_reply set bytes (Err (status.Usage f)) d w built p t = absurd p
-compile_reply set bytes (Err status.ReadFault) d w built p t = absurd t
-compile_reply set bytes (Err status.WriteFault) d w built p t = absurd p
-compile_reply set bytes (Err status.NoMemory) d w built p t = absurd t
-compile_reply set bytes (Err (status.Syntax f)) d w built p t = source.bad f p.1
-compile_reply set bytes (Err (status.Typing rule line)) d w built p t = no_graphs bytes (source.CompileRest bytes) rule line p.1
-compile_reply set bytes (Err (status.If1 f)) d w built p t = absurd p
-compile_reply set bytes (Err (status.Argument f)) d w built p t = absurd p
-compile_reply set bytes (Err status.TurnLimit) d w built p t = absurd p
-compile_reply set bytes (Err status.TooLong) d w built p t = source.long p.1
-compile_reply set bytes (Err status.Later) d w built p t = absurd (p built)
-compile_reply set bytes (Err (status.Unlinked name)) d w built p t = absurd p
+pub compile_reply : (set : CompileSet) (bytes : List ℕ) (r : Result (List ℕ) Status) → set.dot ≡ false → set.why ≡ false → set.code ≡ false → IsBuilt set → Replies (command.Compile set) bytes r → Tells r → source.TextReply bytes (source.CompileRest bytes) r
+compile_reply set bytes (Ok out) d w k built p t = source.made (Ok out) (source.printed out p.1.program p.1.typed (compiled set.dot set.why set.code p.1.program out d w k p.1.is))
+compile_reply set bytes (Err status.Done) d w k built p t = absurd p
+compile_reply set bytes (Err (status.Usage f)) d w k built p t = absurd p
+compile_reply set bytes (Err status.ReadFault) d w k built p t = absurd t
+compile_reply set bytes (Err status.WriteFault) d w k built p t = absurd p
+compile_reply set bytes (Err status.NoMemory) d w k built p t = absurd t
+compile_reply set bytes (Err (status.Syntax f)) d w k built p t = source.bad f p.1
+compile_reply set bytes (Err (status.Typing rule line)) d w k built p t = no_graphs bytes (source.CompileRest bytes) rule line p.1
+compile_reply set bytes (Err (status.If1 f)) d w k built p t = absurd p
+compile_reply set bytes (Err (status.Argument f)) d w k built p t = absurd p
+compile_reply set bytes (Err status.TurnLimit) d w k built p t = absurd p
+compile_reply set bytes (Err status.TooLong) d w k built p t = source.long p.1
+compile_reply set bytes (Err status.Later) d w k built p t = absurd (p built)
+compile_reply set bytes (Err (status.Unlinked name)) d w k built p t = absurd p

@@ -123,8 +123,9 @@ module _ (grammar : (tokens : List Placed) (o p : Outline) → Spells unit token
       → Tells r → Tells s → IsBuilt set ⊎ (¬ IsBuilt set) → AreOne r s
   compiles_one set bytes r s n p q t w (inl built) =
       let d = is_false set.dot (λ e. n (built, inl e)) in
-      let y = is_false set.why (λ e. n (built, inr e)) in
-      compile_one (unit_one grammar) (unit_refused grammar) no_program lowered graphs bytes r s (compile_reply set bytes r d y built p t) (compile_reply set bytes s d y built q w)
+      let y = is_false set.why (λ e. n (built, inr (inl e))) in
+      let k = is_false set.code (λ e. n (built, inr (inr e))) in
+      compile_one (unit_one grammar) (unit_refused grammar) no_program lowered graphs bytes r s (compile_reply set bytes r d y k built p t) (compile_reply set bytes s d y k built q w)
   compiles_one set bytes r s n p q t w (inr never) = both_later r s (compile_later set bytes r never p t) (compile_later set bytes s never q w)
 
   replies_one : (c : Command) (bytes : List ℕ) (r s : Result (List ℕ) Status) → ¬ IsLoose c → Replies c bytes r → Replies c bytes s → Tells r → Tells s → AreOne r s

@@ -32,9 +32,9 @@ Tells (Err status.NoMemory) = ⊥
 Tells (Err status.ReadFault) = ⊥
 Tells _ = Unit {0}
 
--- `compile` of a drawing or with notes, of which the definitions let several be printed
+-- `compile` of a drawing, with notes or of a listing, of which the definitions let several be printed
 abbrev pub IsLoose : Command → Type 0
-IsLoose (command.Compile set) = IsBuilt set × ((set.dot ≡ true) ⊎ (set.why ≡ true))
+IsLoose (command.Compile set) = IsBuilt set × ((set.dot ≡ true) ⊎ ((set.why ≡ true) ⊎ (set.code ≡ true)))
 IsLoose _ = ⊥
 
 abbrev pub AskLoosely : List (List ℕ) → Type 0

@@ -42,5 +42,5 @@ pub record IsRunOnce : Type 0 where
 -- a typed program has one unit of graphs and one text of it, or is past a limit
 pub record AreGraphsOnce : Type 0 where
   pub units : (p : Program) (u v : Unit1) → HasUnit p u → HasUnit p v → u ≡ v
-  pub texts : (p : Program) (set : CompileSet) (s t : List ℕ) → set.dot ≡ false → set.why ≡ false → Prints p set s → Prints p set t → s ≡ t
+  pub texts : (p : Program) (set : CompileSet) (s t : List ℕ) → set.dot ≡ false → set.why ≡ false → set.code ≡ false → Prints p set s → Prints p set t → s ≡ t
   pub within : (p : Program) (u : Unit1) (line : ℕ) → HasUnit p u → too_many p ≡ Some line → ⊥

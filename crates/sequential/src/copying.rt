@@ -1,5 +1,5 @@
 //! Copies of lists of values.
-ghost use Rattle.std.specs.Prelude.{◌≡◌, ◌∷◌, [], ◌++◌, IfOk, OnOk};
+ghost use Rattle.std.specs.Prelude.{◌≡◌, ◌∷◌, [], ◌++◌, true, IfOk, IfSome, OnOk};
 ghost use Rattle.flow_value.specs.declared.value.Val.TheVariants as val;
 
 use flow_value::{Array, Items, NoMemory, Val, copy};
@@ -7,6 +7,52 @@ use std::alloc::Global;
 
 /// Equal values, in the same order.
 pub fn copies_of(alloc: Global, items: &[Val]) -> Result<Items, NoMemory>
+    ensures { IfOk result (λ vs. vs ≡ items.now) }
+{
+    match integers_of(alloc, items)? {
+        Some(copies) => Ok(copies),
+        None => copies_of_any(alloc, items),
+    }
+}
+
+/// The same of integers alone, in a list that nothing else holds while it grows.
+fn integers_of(alloc: Global, items: &[Val]) -> Result<Option<Items>, NoMemory>
+    ensures { IfOk result (λ o. IfSome o (λ vs. vs ≡ items.now)) }
+{
+    if !begins_with_integer(items) {
+        return Ok(None);
+    }
+    let mut copies = Items::with_room(alloc, items.len())?;
+    for item in items {
+        if !is_put(&mut copies, item) {
+            return Ok(None);
+        }
+    }
+    Ok(Some(copies))
+}
+
+#[inline(always)]
+fn begins_with_integer(items: &[Val]) -> bool {
+    match items {
+        [Val::Int(_), ..] => true,
+        _ => false,
+    }
+}
+
+#[inline(always)]
+fn is_put(copies: &mut Items, item: &Val) -> bool
+    ensures { result ≡ true → copies.new ≡ copies.old ++ item.now ∷ [] }
+{
+    match item {
+        Val::Int(n) => match copies.push_in_room(Val::Int(*n)) {
+            Ok(()) => true,
+            Err(_) => false,
+        },
+        _ => false,
+    }
+}
+
+fn copies_of_any(alloc: Global, items: &[Val]) -> Result<Items, NoMemory>
     ensures { IfOk result (λ vs. vs ≡ items.now) }
 {
     let mut copies = Items::with_room(alloc, items.len())?;
@@ -23,6 +69,15 @@ fn put_copy(alloc: Global, copies: &mut Items, item: &Val) -> Result<(), NoMemor
 {
     match item {
         Val::Int(n) => put_int(copies, *n),
+        _ => put_part(alloc, copies, item),
+    }
+}
+
+#[inline(never)]
+fn put_part(alloc: Global, copies: &mut Items, item: &Val) -> Result<(), NoMemory>
+    ensures { OnOk result (copies.new ≡ copies.old ++ item.now ∷ []) }
+{
+    match item {
         Val::Arr(row) => put_row(alloc, copies, row),
         _ => put_any(alloc, copies, item),
     }
@@ -57,6 +112,15 @@ fn put_row(alloc: Global, copies: &mut Items, row: &Array) -> Result<(), NoMemor
 }
 
 fn copies_in_row(alloc: Global, items: &[Val]) -> Result<Items, NoMemory>
+    ensures { IfOk result (λ vs. vs ≡ items.now) }
+{
+    match integers_of(alloc, items)? {
+        Some(copies) => Ok(copies),
+        None => copies_in_any_row(alloc, items),
+    }
+}
+
+fn copies_in_any_row(alloc: Global, items: &[Val]) -> Result<Items, NoMemory>
     ensures { IfOk result (λ vs. vs ≡ items.now) }
 {
     let mut copies = Items::with_room(alloc, items.len())?;

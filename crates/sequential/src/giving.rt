@@ -32,10 +32,17 @@ fn items_go(items: Items) {
     while let Some(v) = left.pop() {
         match v {
             Val::Int(_) => {}
-            Val::Arr(a) => row_goes(a.into_parts().1),
-            other => {
-                let _given_up = other;
-            }
+            other => item_goes(other),
+        }
+    }
+}
+
+#[inline(never)]
+fn item_goes(v: Val) {
+    match v {
+        Val::Arr(a) => row_goes(a.into_parts().1),
+        other => {
+            let _given_up = other;
         }
     }
 }
@@ -46,11 +53,14 @@ fn row_goes(items: Items) {
     while let Some(v) = left.pop() {
         match v {
             Val::Int(_) => {}
-            other => {
-                let _given_up = other;
-            }
+            other => part_goes(other),
         }
     }
+}
+
+#[inline(never)]
+fn part_goes(v: Val) {
+    let _given_up = v;
 }
 
 // ---- cells, which are scalars as a rule

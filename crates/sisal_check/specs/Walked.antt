@@ -5,6 +5,15 @@ use Rattle.sisal_tree.specs.declared.expr.Clause.{Clause}
 use Rattle.sisal_tree.specs.declared.expr.Def.{Def}
 use Rattle.sisal_tree.specs.declared.expr.Generator.{Generator}
 use Rattle.sisal_tree.specs.declared.expr.Expr.{Expr}
+use Rattle.sisal_tree.specs.declared.expr.Arm.{Arm}
+use Rattle.sisal_tree.specs.declared.expr.Elements.{Elements}
+use Rattle.sisal_tree.specs.declared.expr.ExprKind.{ExprKind}
+use Rattle.sisal_tree.specs.declared.expr.ExprKind.TheOpen.{ExprKind-F}
+use Rattle.sisal_tree.specs.declared.expr.FieldValue.{FieldValue}
+use Rattle.sisal_tree.specs.declared.expr.Loop.{Loop}
+use Rattle.sisal_tree.specs.declared.expr.Mask.{Mask}
+use Rattle.sisal_tree.specs.declared.expr.TagCase.{TagCase}
+use Rattle.sisal_tree.specs.declared.expr.Turn.{Turn}
 use Rattle.sisal_tree.specs.declared.unit.FunDef.{FunDef}
 use Rattle.sisal_tree.specs.declared.unit.FunKind.{FunKind}
 use Rattle.sisal_tree.specs.declared.unit.FunKind.TheVariants as fun
@@ -90,6 +99,12 @@ pub record IsArrayHead (g : by.Given) (x : Option ℕ) (has_elements : Bool) (h 
   pub named : Option ℕ
   pub is : h ≡ array_form has_elements named
   pub found : AreFound g.named x named
+
+-- neither a `tagcase` nor a loop
+abbrev pub IsPlain : ExprKind-F ExprKind Loop Arm Clause Def Elements Expr FieldValue Generator Mask TagCase Turn → Type 0
+IsPlain (ExprKind-F.TagCase cases) = ⊥
+IsPlain (ExprKind-F.For l) = ⊥
+IsPlain _ = Unit {0}
 
 -- ---- loops
 

@@ -14,6 +14,7 @@ use typed_tree::{BuiltIn, TypedExpr, TypedKind, built_in_named};
 
 /// A call of a function of the program, or of one that is built in: rule 11 where the name is
 /// neither.
+#[inline(never)]
 pub(crate) fn call(
     line: u32,
     name: u32,

@@ -37,6 +37,7 @@ struct Arms {
 
 /// A `tagcase`: rule 18, on its line, where its subject is no union, an arm has results of other
 /// types than the first, or a tag has no arm and there is no `otherwise`.
+#[inline(never)]
 #[cycle(walk)]
 pub(crate) fn tag_case(
     cases: &TagCase,

@@ -20,6 +20,7 @@ use unit_types::denoted;
 
 /// The form of an expression over operands, in which names of types are resolved: rule 2 on the
 /// expression's line.
+#[inline(never)]
 pub(crate) fn head_of(
     kind: &ExprKind,
     line: u32,

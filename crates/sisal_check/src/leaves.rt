@@ -28,6 +28,7 @@ pub(crate) fn single(alloc: Global, number: u32) -> Result<Numbers, NoMemory>
 }
 
 /// A constant.
+#[inline(never)]
 pub(crate) fn constant(line: u32, c: &Constant, given: &Given<'_>) -> Result<TypedExpr, TypeFault>
     ensures is { IfOk result (λ t. t ≡ with line (constant_number c.now ∷ []) (TypedKind.Constant c.now)) }
     ensures breaks { IfErr result (IsRule (λ rule at_line. Never rule at_line)) }
@@ -42,6 +43,7 @@ pub(crate) fn constant(line: u32, c: &Constant, given: &Given<'_>) -> Result<Typ
 }
 
 /// A name: rule 9 where it is not in force.
+#[inline(never)]
 pub(crate) fn value(
     line: u32,
     name: u32,
@@ -62,6 +64,7 @@ pub(crate) fn value(
 }
 
 /// `old` and a name: rule 10 where it is no loop name in a turn.
+#[inline(never)]
 pub(crate) fn old_value(
     line: u32,
     name: u32,

@@ -19,6 +19,7 @@ use type_rules::TypeFault;
 use typed_tree::{Product, Turns, TypedExpr, TypedKind};
 
 /// The typed tree of a loop, whose names are in force in it alone.
+#[inline(never)]
 #[cycle(walk)]
 pub(crate) fn looped(
     line: u32,
@@ -55,6 +56,7 @@ pub(crate) fn looped(
 /// A loop over groups of generators: over the last one stand the definitions and the clauses, and
 /// each one before it is a loop of its own over the results of the loop behind it. A loop without
 /// groups, which no text has, is want of memory.
+#[inline(never)]
 fn product(
     line: u32,
     cs: &[Clause],
@@ -159,6 +161,7 @@ fn around(
 }
 
 /// A `for initial`.
+#[inline(never)]
 fn initial(
     line: u32,
     cs: &[Clause],

@@ -16,6 +16,7 @@ use type_table::BOOLEAN;
 use typed_tree::{TypedExpr, TypedKind};
 
 /// A form over operands, with the operation that it stands for over operands of their types.
+#[inline(never)]
 pub(crate) fn finish(
     line: u32,
     head: Head,
@@ -52,6 +53,7 @@ pub(crate) fn at_line<T>(line: u32, made: Result<T, Refused>) -> Result<T, TypeF
 }
 
 /// An expression in parentheses, which has the values of the one inside.
+#[inline(never)]
 pub(crate) fn group(line: u32, inner: TypedExpr, given: &Given<'_>) -> Result<TypedExpr, TypeFault>
     ensures is { IfOk result (λ t. t ≡ with line inner.types (TypedKind.Group (inner ∷ []))) }
     ensures breaks { IfErr result (IsRule (λ rule at_line. Never rule at_line)) }
@@ -67,6 +69,7 @@ pub(crate) fn group(line: u32, inner: TypedExpr, given: &Given<'_>) -> Result<Ty
 }
 
 /// Definitions with the results behind them.
+#[inline(never)]
 pub(crate) fn let_in(line: u32, defined: Defined, results: Parts) -> TypedExpr
     ensures is { result ≡ with line results.types (TypedKind.Let defined.exprs results.exprs) }
 {
@@ -79,6 +82,7 @@ pub(crate) fn let_in(line: u32, defined: Defined, results: Parts) -> TypedExpr
 }
 
 /// `if`: rule 17 where the test is no boolean, or the results of its two parts have other types.
+#[inline(never)]
 pub(crate) fn if_else(
     line: u32,
     test: Parts,

@@ -77,6 +77,7 @@ pub(crate) fn turn_of(
 }
 
 /// The test of a loop on a line: rule 23, on that line, where it is no boolean.
+#[inline(never)]
 fn truth(line: u32, tests: Parts) -> Result<Seq<TypedExpr>, TypeFault>
     ensures exprs { IfOk result (λ exprs. exprs ≡ tests.exprs) }
     ensures truth { OnOk result (tests.types ≡ 0 ∷ []) }
@@ -90,6 +91,7 @@ fn truth(line: u32, tests: Parts) -> Result<Seq<TypedExpr>, TypeFault>
 }
 
 /// The turn with its test.
+#[inline(never)]
 fn whole(is_first: bool, is_until: bool, test: Seq<TypedExpr>, renewing: Renewing) -> Turned
     ensures { turned_of result ≡ record { is_first = is_first; is_until = is_until; test = test; renewed = renewing.renewed; exprs = renewing.exprs } }
 {
@@ -129,6 +131,7 @@ fn turn_defs(
 
 /// A turn begins: for each name that it defines the place of the loop name that it renews, if it
 /// is one.
+#[inline(never)]
 fn begin(
     ds: &[Def],
     first: u32,

@@ -1,7 +1,7 @@
 //! Expressions.
 ghost use Rattle.breaking_laws.specs.Broken.{Broken, BrokenForm};
 ghost use Rattle.breaking_laws.specs.Refusals.{HasElements, Never};
-ghost use Rattle.sisal_check.specs.Walked.{given_of, parts_of};
+ghost use Rattle.sisal_check.specs.Walked.{IsPlain, given_of, parts_of};
 ghost use Rattle.sisal_tree.specs.declared.expr.ExprKind.TheVariants as tree;
 ghost use Rattle.sisal_tree.specs.declared.expr.ExprKind.TheViews.{out-ExprKind};
 ghost use Rattle.std.specs.Prelude.{IfErr, IfOk, OnOk, Option, Some, [], length, ℕ, ◌<◌, ◌≡◌};
@@ -27,6 +27,25 @@ use typed_tree::TypedExpr;
 /// The typed tree of an expression: SISAL Language Reference Manual 1.2, expressions.
 #[cycle(walk)]
 pub(crate) fn typed(e: &Expr, given: &Given<'_>, walk: &mut Walk) -> Result<TypedExpr, TypeFault>
+    ensures used { OnOk result (IsUsedIn (given_of given.now) walk.old.types walk.new.types) }
+    ensures names { OnOk result (walk.new.names ≡ walk.old.names) }
+    ensures typed { IfOk result (λ t. Typed (given_of given.now) walk.new.types walk.old.names e.now t) }
+    ensures line { IfOk result (λ t. t.line ≡ e.now.line) }
+    ensures breaks { IfErr result (IsRule (λ rule at_line. Broken (given_of given.now) walk.old.types walk.old.names e.now rule at_line)) }
+{
+    let Expr { line, kind } = e;
+    match kind {
+        ExprKind::TagCase(cases) => tag_case(cases, *line, given, walk),
+        ExprKind::For(l) => looped(*line, l, given, walk),
+        _ => plain(e, given, walk),
+    }
+}
+
+/// An expression that is neither a `tagcase` nor a loop: these need the stack for more.
+#[inline(never)]
+#[cycle(walk)]
+fn plain(e: &Expr, given: &Given<'_>, walk: &mut Walk) -> Result<TypedExpr, TypeFault>
+    requires { IsPlain (out-ExprKind e.now.kind) }
     ensures used { OnOk result (IsUsedIn (given_of given.now) walk.old.types walk.new.types) }
     ensures names { OnOk result (walk.new.names ≡ walk.old.names) }
     ensures typed { IfOk result (λ t. Typed (given_of given.now) walk.new.types walk.old.names e.now t) }
@@ -61,13 +80,13 @@ pub(crate) fn typed(e: &Expr, given: &Given<'_>, walk: &mut Walk) -> Result<Type
             walk.types.holds();
             if_else(*line, test, then, otherwise)
         }
-        ExprKind::TagCase(cases) => tag_case(cases, *line, given, walk),
-        ExprKind::For(l) => looped(*line, l, given, walk),
+        ExprKind::TagCase(_) | ExprKind::For(_) => unreachable!(),
         _ => applied(kind, *line, given, walk),
     }
 }
 
 /// A form over operands that have one value each.
+#[inline(never)]
 #[cycle(walk)]
 fn applied(
     kind: &ExprKind,

@@ -57,9 +57,9 @@ IsRefused bytes f = HasNoTokens bytes f ⊎ HasNoUnit bytes f
 abbrev pub IsPlain : RunSet → Type 0
 IsPlain set = (set.workers ≡ 1) × (set.order ≡ 0) × (set.opt ≡ false) × (set.trace ≡ false)
 
--- `compile` of the graphs as translated, that prints IF1, a drawing or why edges copy
+-- `compile` of the graphs as translated
 abbrev pub IsBuilt : CompileSet → Type 0
-IsBuilt set = (set.opt ≡ false) × (set.code ≡ false)
+IsBuilt set = set.opt ≡ false
 
 -- the commands that read the text as SISAL: a plain `run` without `--if1`, `mean` and `compile`
 abbrev pub ReadsSisal : Command → Type 0

@@ -37,11 +37,11 @@ fn is_plain(set: &RunSet) -> bool
     set.workers == 1 && set.order == 0 && !set.opt && !set.trace
 }
 
-/// Whether `compile` neither optimises nor lists the code of a run.
+/// Whether `compile` takes the graphs as they are translated.
 fn is_built(set: &CompileSet) -> bool
     ensures { IsTrue result ↔ IsBuilt set.now }
 {
-    !set.opt && !set.code
+    !set.opt
 }
 
 /// Reads the text to its end.

@@ -10,7 +10,7 @@ The program text is read from standard input.
 
 run [OPTIONS] [VALUES]   runs the entry function and prints one result a line
 mean [OPTIONS] [VALUES]  evaluates a SISAL text by the meaning of its source
-compile [--dot or --why] prints the graphs of a SISAL text as IF1, with their marks
+compile [OPTION]         prints the graphs of a SISAL text as IF1, with their marks
 if1                      checks an IF1 text and prints it in canonical form
 gen N                    prints a generated program, N from 1 to 500
 --help, --version        print this text, and the version
@@ -18,10 +18,11 @@ gen N                    prints a generated program, N from 1 to 500
 Options of run and mean: --entry NAME, --limit T; of run: --if1, the text is IF1,
 --stats, a line of totals.
 The word -- ends the options.
-Options of compile: --dot prints a drawing for Graphviz, --why what copies, and why.
+Options of compile: --dot prints a drawing for Graphviz, --why what copies, and why;
+--code lists the code that runs.
 
 To come, until then status 11: of run --workers above 1, --order above 0, --opt and
---trace; compile --opt, compile --code; and
+--trace; compile --opt; and
 link                                      joins the parts of an IF1 text
 verify [--entry NAME] [--limit T] [VALUES]
                                           checks the trace of a run

@@ -19,17 +19,14 @@ use Rattle.graph_meaning.specs.Networks.{network}
 use Rattle.graph_meaning.specs.Plain.{Means, Costs}
 use Rattle.lowering.specs.Programs.{number_of}
 use Rattle.lowering.specs.TooMany.{too_many}
-use Rattle.lowered_units.specs.Fitting.{HaveMembers}
 use Rattle.lowered_units.specs.Units.{IsTranslated}
 use Rattle.lowering_meaning.specs.Laws.{IsMeant, IsSourced}
 
--- The unit of the program of a text that is at most 200 deep and within the limits of units. Each record of the program's types has a
--- field and each union a tag.
+-- The unit of the program of a text that is at most 200 deep and within the limits of units
 pub record IsTextUnit (bytes : List ℕ) (u : tree.Unit) (p : Program) (v : Unit1) : Type 0 where
   pub text : IsTypedText bytes u p
   pub shallow : depth_of u.items ≤ 200
   pub types : IsTable p.types
-  pub members : HaveMembers p.types
   pub within : too_many p ≡ None
   pub translated : IsTranslated p v
 

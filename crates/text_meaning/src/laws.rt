@@ -6,8 +6,7 @@ use lowered_units::translated_units_are_normal;
 use mark_units::marks_made_keep_units_ready;
 use text_ready::units_of_texts_are_ready;
 
-/// The unit of a text within the limits is ready with the marks that are made, where each record of the
-/// program's types has a field and each union a tag.
+/// The unit of a text within the limits is ready with the marks that are made.
 pub fn marked_units_of_texts_are_ready()
     ensures { AreMarkedTextsReady }
 {

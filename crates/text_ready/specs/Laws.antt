@@ -8,7 +8,6 @@ use Rattle.sisal_tree.specs.Depth.{depth_of}
 use Rattle.typed_tree.specs.declared.program.Program.{Program}
 use Rattle.fitting_texts.specs.Laws.{IsTypedText}
 use Rattle.lowering.specs.TooMany.{too_many}
-use Rattle.lowered_units.specs.Fitting.{HaveMembers}
 use Rattle.lowered_units.specs.Units.{IsTranslated}
 use Rattle.lowering_meaning.specs.Coverage.{AreCovered}
 use Rattle.lowered_rules.specs.Laws.{rule_forms}
@@ -17,4 +16,4 @@ abbrev pub AreTextsCovered : Type 0
 AreTextsCovered = (bytes : List ℕ) (u : tree.Unit) (p : Program) → IsTypedText bytes u p → AreCovered rule_forms p.functions
 
 abbrev pub AreTextsReady : Type 0
-AreTextsReady = (bytes : List ℕ) (u : tree.Unit) (p : Program) (v : Unit1) → IsTypedText bytes u p → depth_of u.items ≤ 200 → IsTable p.types → HaveMembers p.types → too_many p ≡ None → IsTranslated p v → IsReady v
+AreTextsReady = (bytes : List ℕ) (u : tree.Unit) (p : Program) (v : Unit1) → IsTypedText bytes u p → depth_of u.items ≤ 200 → IsTable p.types → too_many p ≡ None → IsTranslated p v → IsReady v

@@ -15,8 +15,7 @@ pub fn programs_of_texts_are_covered()
     typed_programs_are_covered();
 }
 
-/// The unit of the program of a text within the limits is ready, where the text is at most 200 deep
-/// and each record of the program's types has a field and each union a tag.
+/// The unit of the program of a text within the limits is ready, where the text is at most 200 deep.
 pub fn units_of_texts_are_ready()
     ensures { AreTextsReady }
 {

@@ -1,7 +1,6 @@
 //! The unit of IF1 graphs of a typed program, known to be valid.
 #![tactic(auto)]
 
-mod members;
 mod program;
 mod ready;
 

@@ -6,7 +6,6 @@ ghost use Rattle.lowered_units.specs.Fitting.{IsFitting};
 ghost use Rattle.lowered_units.specs.Units.{IsTranslated};
 ghost use Rattle.unit_build.specs.Labels.{AreLabelsOf};
 
-use crate::members::have_members;
 use flow_value::{NoMemory, Seq};
 use if1_valid::{Ready, valid};
 use line_labels::Labels;
@@ -16,9 +15,9 @@ use std::alloc::Global;
 use typed_tree::Program;
 use unit_build::unit_of;
 
-/// The unit of a program within the limits, of its lowered functions and its labels. That each record of
-/// the program's types has a field and each union a tag is looked at first, and the unit is checked; a
-/// refusal counts as want of memory: that none comes of the program of a text is not proved.
+/// The unit of a program within the limits, of its lowered functions and its labels. The unit is
+/// checked, and a refusal counts as want of memory: none comes of the program of a text, as the law of
+/// `text_ready` on its unit tells.
 pub fn ready_unit(
     alloc: Global,
     program: &Program,
@@ -31,9 +30,6 @@ pub fn ready_unit(
     requires labels { AreLabelsOf program.now labels.now }
     ensures { IfOk result (λ ready. IsTranslated program.now ready) }
 {
-    if !have_members(&program.types) {
-        return Err(NoMemory);
-    }
     let unit = unit_of(alloc, program, lowered, labels)?;
     translated_units_are_formed();
     match valid(alloc, unit) {

@@ -1,6 +1,6 @@
 //! What a form makes of its operands.
 ghost use Rattle.std.specs.Prelude.{◌≡◌, ◌<◌, IfOk, IfErr, OnOk, OnErr, IsTrue, length, All, map};
-ghost use Rattle.type_table.specs.Tables.{IsOver};
+ghost use Rattle.type_table.specs.Tables.{HasMember, IsOver};
 ghost use Rattle.type_rules.specs.Applies.{applies, rule_of, Grows, Adds, IsSorted, IsTooDeep, IsApplied, IsRefused};
 
 use crate::calls::called;
@@ -69,18 +69,22 @@ fn are_over(types: &Types, members: &[Member]) -> bool
     true
 }
 
-/// Whether a form is made of types that are in the table.
-fn over(types: &Types, form: &Form) -> bool
-    ensures { IsTrue result → IsOver (length types.now) form.now }
+/// Whether a form is made of types that are in the table, and a record has a field, a union a tag.
+fn may_stand(types: &Types, form: &Form) -> bool
+    ensures parts { IsTrue result → IsOver (length types.now) form.now }
+    ensures members { IsTrue result → HasMember form.now }
 {
     match form {
         Form::Array(ty) | Form::Stream(ty) => (*ty as usize) < types.len(),
-        Form::Record(members) | Form::Union(members) => are_over(types, members.as_slice()),
+        Form::Record(members) | Form::Union(members) => {
+            !members.is_empty() && are_over(types, members.as_slice())
+        }
         _ => true,
     }
 }
 
-/// The number of the type of a form, which is made of types that are in the table.
+/// The number of the type of a form. One that is made of types that are not in the table, a record
+/// without a field and a union without a tag, which no caller has, are refused.
 fn number_made(types: &mut Types, form: Form) -> Result<u32, Refused>
     ensures typed { IfOk result (λ k. IsSorted types.new (Sort.Made form) k) }
     ensures refused { IfErr result (λ e. IsTooDeep types.old (Sort.Made form) e) }
@@ -88,7 +92,7 @@ fn number_made(types: &mut Types, form: Form) -> Result<u32, Refused>
     ensures adds { OnOk result (Adds types.old (Sort.Made form) types.new) }
     ensures err { OnErr result (types.new ≡ types.old) }
 {
-    if !over(types, &form) {
+    if !may_stand(types, &form) {
         return Err(Refused::NoMemory);
     }
     match types.number(form)? {

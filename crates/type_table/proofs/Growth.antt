@@ -4,7 +4,7 @@ use Rattle.std.specs.List.{list_any}
 use Rattle.std.proofs.lemmas.List.Elements.{All-push}
 use Rattle.type_table.specs.declared.form.Form.{Form}
 use Rattle.type_table.specs.Forms.{form_depth}
-use Rattle.type_table.specs.Tables.{depths_onto, depths, basic_forms, AddsAtMost, IsOver, IsWell, IsTable}
+use Rattle.type_table.specs.Tables.{depths_onto, depths, basic_forms, AddsAtMost, HasMember, IsOver, IsWell, IsTable}
 use Rattle.type_table.specs.Keys.{key_of, has_key, with_form}
 use Rattle.type_table.proofs.Lists.{which, IsEarlier, IsLast}
 use Rattle.type_table.proofs.Codes.{is_absent}
@@ -16,10 +16,11 @@ onto_more ds (g ∷ fs) f = onto_more (ds ++ form_depth ds g ∷ []) fs f
 pub depths_more : (fs : List Form) (f : Form) → depths (fs ++ f ∷ []) ≡ depths fs ++ form_depth (depths fs) f ∷ []
 depths_more fs f = onto_more [] fs f
 
-pub well_more : (fs : List Form) (f : Form) → IsWell fs → IsOver (length fs) f → position (has_key (key_of f)) fs ≡ None → form_depth (depths fs) f ≤ 64 → IsWell (fs ++ f ∷ [])
-well_more fs f w over absent shallow = record {
+pub well_more : (fs : List Form) (f : Form) → IsWell fs → IsOver (length fs) f → HasMember f → position (has_key (key_of f)) fs ≡ None → form_depth (depths fs) f ≤ 64 → IsWell (fs ++ f ∷ [])
+well_more fs f w over member absent shallow = record {
   once = λ k m g a b. once k m g (which fs f k g a) (which fs f m g b);
   after_parts = λ k g a. after k g (which fs f k g a);
+  members = λ k g a. filled k g (which fs f k g a);
   shallow = subst (All (λ d. d ≤ 64)) (sym (depths_more fs f)) (All-push (λ d. d ≤ 64) (depths fs) (form_depth (depths fs) f) w.shallow shallow);
 }
   where
@@ -32,6 +33,10 @@ well_more fs f w over absent shallow = record {
     after : (k : ℕ) (g : Form) → IsEarlier fs k g ⊎ IsLast fs f k g → IsOver k g
     after k g (inl a) = w.after_parts k g a.is
     after k g (inr a) = subst (λ n. IsOver n g) (sym a.place) (subst (IsOver (length fs)) a.is over)
+
+    filled : (k : ℕ) (g : Form) → IsEarlier fs k g ⊎ IsLast fs f k g → HasMember g
+    filled k g (inl a) = w.members k g a.is
+    filled k g (inr a) = subst HasMember a.is member
 
 pub adds_at_most : (fs : List Form) (f : Form) → AddsAtMost fs f (with_form fs f)
 adds_at_most fs f = by (list_any (has_key (key_of f)) fs)

@@ -10,7 +10,7 @@ use Rattle.type_table.specs.declared.form.Form.{Form}
 use Rattle.type_table.specs.declared.form.Member.{Member}
 use Rattle.type_table.specs.declared.store.Known.{Known}
 use Rattle.type_table.specs.Forms.{deepest, form_depth, first_member, members_of}
-use Rattle.type_table.specs.Tables.{depths, members_if, members_at, member_at, IsOver, IsWell}
+use Rattle.type_table.specs.Tables.{depths, members_if, members_at, member_at, HasMember, IsOver, IsWell}
 use Rattle.type_table.specs.Keys.{key_of, has_key}
 use Rattle.type_table.specs.Kept.{forms_in, place_of, IsKept}
 use Rattle.type_table.proofs.Lists.{position-map, which, none_found, insert_last}
@@ -38,11 +38,11 @@ module _ {K S : Type 0} {numbers : K → List ℕ} {es : List (K × Known)} {pla
   -- one form more
   pub kept_more : (key : K) (known : Known) (after : HashMap (ℕ × ℕ) ℕ S)
       → numbers key ≡ key_of known.form → known.depth ≡ form_depth (depths (forms_in es)) known.form → known.depth ≤ 64
-      → position (has_key (key_of known.form)) (forms_in es) ≡ None → IsOver (length (forms_in es)) known.form → length es < 2 ^ 32
+      → position (has_key (key_of known.form)) (forms_in es) ≡ None → IsOver (length (forms_in es)) known.form → HasMember known.form → length es < 2 ^ 32
       → ((name : ℕ) → IsNoted (place_of after (length es) name) (first_member name 0 (members_of known.form)))
       → ((k name : ℕ) → k ≢ length es → place_of after k name ≡ place_of places k name)
       → IsKept numbers (es ++ (key, known) ∷ []) after
-  kept_more key known after keyed deep shallow absent over few here others =
+  kept_more key known after keyed deep shallow absent over member few here others =
       let fs = forms_in es in
       let f = known.form in
       let e : K × Known = (key, known) in
@@ -63,7 +63,7 @@ module _ {K S : Type 0} {numbers : K → List ℕ} {es : List (K × Known)} {pla
             ∙ ap depths (sym forms);
         placed = λ k name. subst (λ fs. IsNoted (place_of after k name) (member_at fs k name)) (sym forms) (placed k name);
         few = subst (λ n. n ≤ 2 ^ 32) (sym (length-append es (e ∷ []))) (omega (arith, few));
-        well = subst IsWell (sym forms) (well_more fs f kept.well over absent (subst (λ d. d ≤ 64) deep shallow));
+        well = subst IsWell (sym forms) (well_more fs f kept.well over member absent (subst (λ d. d ≤ 64) deep shallow));
       }
     where
       count : length (forms_in es) ≡ length es
@@ -106,11 +106,11 @@ pub record IsMore {K S : Type 0} (numbers : K → List ℕ) (new : List (K × Kn
 pub kept_after : {K S : Type 0} (numbers : K → List ℕ) (es new : List (K × Known)) (places after : HashMap (ℕ × ℕ) ℕ S) (fs : List Form) (n : ℕ) (ms : List Member) (key : K) (known : Known)
     → IsKept numbers es places → forms_in es ≡ fs → n ≡ length es → n < 2 ^ 32 → ms ≡ members_of known.form
     → numbers key ≡ key_of known.form → known.depth ≡ form_depth (depths fs) known.form → known.depth ≤ 64
-    → position (has_key (key_of known.form)) fs ≡ None → IsOver (length fs) known.form
+    → position (has_key (key_of known.form)) fs ≡ None → IsOver (length fs) known.form → HasMember known.form
     → ((name : ℕ) → IsNoted (place_of after n name) (first_member name 0 ms))
     → ((k name : ℕ) → k ≢ n → place_of after k name ≡ place_of places k name)
     → new ≡ insert_entry (λ x y. bytes_eq (numbers x) (numbers y)) es key known → IsMore numbers new after fs known.form
-kept_after {K} {S} numbers es new places after fs n ms key known kept view count few members keyed deep shallow absent over here others entries =
+kept_after {K} {S} numbers es new places after fs n ms key known kept view count few members keyed deep shallow absent over member here others entries =
     let f = known.form in
     let absent_here : position (has_key (key_of f)) (forms_in es) ≡ None = ap (position (has_key (key_of f))) view ∙ absent in
     let no_key : position (λ k. bytes_eq (numbers key) (numbers k)) (keys_of es) ≡ None =
@@ -124,6 +124,7 @@ kept_after {K} {S} numbers es new places after fs n ms key known kept view count
           (deep ∙ ap (λ fs. form_depth (depths fs) f) (sym view))
           shallow absent_here
           (subst (λ fs. IsOver (length fs) f) (sym view) over)
+          member
           (subst (λ n. n < 2 ^ 32) count few)
           (λ name. subst (λ n. IsNoted (place_of after n name) (first_member name 0 (members_of f))) count (subst (λ ms. IsNoted (place_of after n name) (first_member name 0 ms)) members (here name)))
           (λ k name ne. others k name (λ e. ne (e ∙ count))));

@@ -1,7 +1,7 @@
 -- The types of a program, by number: each once, after its parts, at most 64 deep.
 use Rattle.std.specs.Prelude.{◌≡◌, ℕ, ◌<◌, ◌≤◌, List, [], ◌∷◌, ◌++◌, All, length, slice_get, Option, Some, None, ◌⊎◌}
 use Rattle.type_table.specs.declared.form.Form.{Form}
-use Rattle.type_table.specs.declared.form.Form.TheVariants.{Boolean, Character, Integer, Null, Array}
+use Rattle.type_table.specs.declared.form.Form.TheVariants.{Boolean, Character, Integer, Null, Array, Record, Union}
 use Rattle.type_table.specs.declared.form.Member.{Member}
 use Rattle.type_table.specs.Forms.{members_of, parts, form_depth, first_member}
 
@@ -18,10 +18,17 @@ depths fs = depths_onto [] fs
 abbrev pub IsOver : ℕ → Form → Type 0
 IsOver n f = All (λ t. t < n) (parts f)
 
--- Types by number: no form twice, each after its parts, none deeper than 64.
+-- a record has a field, and a union a tag
+abbrev pub HasMember : Form → Type 0
+HasMember (Record ms) = 1 ≤ length ms
+HasMember (Union ms) = 1 ≤ length ms
+HasMember _ = Unit {0}
+
+-- Types by number: no form twice, each after its parts, no record or union empty, none deeper than 64.
 pub record IsWell (fs : List Form) : Type 0 where
   pub once : (k m : ℕ) (f : Form) → slice_get fs k ≡ Some f → slice_get fs m ≡ Some f → k ≡ m
   pub after_parts : (k : ℕ) (f : Form) → slice_get fs k ≡ Some f → IsOver k f
+  pub members : (k : ℕ) (f : Form) → slice_get fs k ≡ Some f → HasMember f
   pub shallow : All (λ d. d ≤ 64) (depths fs)
 
 -- the types that are always there: boolean, character, integer, null and the array of characters

@@ -2,7 +2,7 @@
 ghost use Rattle.std.specs.Prelude.{◌≡◌, ℕ, ◌+◌, ◌^◌, ◌<◌, ◌≤◌, ◌≢◌, [], ◌∷◌, ◌++◌, length, map, position, slice_get, get_or, Some, None, IfSome, IfOk, OnOk, OnErr, IsNone, ◌↔◌};
 ghost use Rattle.std.specs.Option.{option_copied};
 ghost use Rattle.type_table.specs.Forms.{deepest, form_depth, first_member, members_of};
-ghost use Rattle.type_table.specs.Tables.{depths, member_at, IsOver, IsWell};
+ghost use Rattle.type_table.specs.Tables.{depths, member_at, HasMember, IsOver, IsWell};
 ghost use Rattle.type_table.specs.Keys.{key_of, has_key, with_form};
 ghost use Rattle.type_table.specs.Kept.{place_of, named_at};
 
@@ -103,7 +103,8 @@ impl Store {
     /// The number of a form, which is a new one where it is not there yet; none where it is too
     /// deep.
     pub fn number(&mut self, form: Form) -> Result<Option<u32>, NoMemory>
-        requires { IsOver (length self.old) form }
+        requires parts { IsOver (length self.old) form }
+        requires members { HasMember form }
         ensures number { IfOk result (λ o. IfSome o (λ k. slice_get self.new k ≡ Some form)) }
         ensures table { IfOk result (λ o. IfSome o (λ k. self.new ≡ with_form self.old form)) }
         ensures deep { IfOk result (λ o. IsNone o ↔ (64 < form_depth (depths self.old) form)) }
@@ -171,6 +172,7 @@ impl Store {
     /// Adds a form that is not there yet, and gives its number.
     fn add(&mut self, key: Vec<u32>, form: Form, depth: u32) -> Result<u32, NoMemory>
         requires parts { IsOver (length self.old) form }
+        requires members { HasMember form }
         requires deep { depth ≡ form_depth (depths self.old) form }
         requires shallow { depth ≤ 64 }
         requires keyed { key.items ≡ key_of form }

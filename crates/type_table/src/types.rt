@@ -2,7 +2,7 @@
 ghost use Rattle.std.specs.Prelude.{◌≡◌, ◌<◌, length, slice_get, Some, IfSome, IfOk, OnErr, IsNone, ◌↔◌};
 ghost use Rattle.std.specs.Option.{option_copied};
 ghost use Rattle.type_table.specs.Forms.{form_depth};
-ghost use Rattle.type_table.specs.Tables.{depths, member_at, basic_forms, AddsAtMost, IsOver, IsTable};
+ghost use Rattle.type_table.specs.Tables.{depths, member_at, basic_forms, AddsAtMost, HasMember, IsOver, IsTable};
 
 use crate::form::Form;
 use crate::store::Store;
@@ -94,7 +94,8 @@ impl Types {
     /// The number of a form, which is a new one where it is not there yet; none, and the table is
     /// as before, where it is deeper than 64. On want of memory the table is as before.
     pub fn number(&mut self, form: Form) -> Result<Option<u32>, NoMemory>
-        requires { IsOver (length self.old) form }
+        requires parts { IsOver (length self.old) form }
+        requires members { HasMember form }
         ensures number { IfOk result (λ o. IfSome o (λ k. slice_get self.new k ≡ Some form)) }
         ensures table { AddsAtMost self.old form self.new }
         ensures too_deep { IfOk result (λ o. IsNone o ↔ (64 < form_depth (depths self.old) form)) }

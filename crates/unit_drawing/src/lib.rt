@@ -8,4 +8,6 @@ mod notes;
 mod put;
 
 pub use draw::drawing;
+pub use names::name_of;
 pub use notes::add_notes;
+pub use put::put_numbered;

@@ -1,13 +1,13 @@
 //! Numbers of types.
 ghost use Rattle.std.specs.Prelude.{◌≡◌, ◌↔◌, ◌<◌, length, map, All, true, slice_get, Some, IfSome, IfOk, IsNone};
 ghost use Rattle.type_table.specs.Forms.{form_depth};
-ghost use Rattle.type_table.specs.Tables.{depths, AddsAtMost, IsOver};
+ghost use Rattle.type_table.specs.Tables.{depths, AddsAtMost, HasMember, IsOver};
 
 use flow_value::NoMemory;
 use type_table::{Form, Member, Types};
 
 /// The number of a form, none where it is deeper than 64. A form with a part that is not in the
-/// table, which no caller has, is refused.
+/// table, a record without a field and a union without a tag, which no caller has, are refused.
 pub fn number(types: &mut Types, form: Form) -> Result<Option<u32>, NoMemory>
     ensures number { IfOk result (λ o. IfSome o (λ k. slice_get types.new k ≡ Some form)) }
     ensures table { AddsAtMost types.old form types.new }
@@ -15,19 +15,22 @@ pub fn number(types: &mut Types, form: Form) -> Result<Option<u32>, NoMemory>
     ensures over { IfOk result (λ o. IsOver (length types.old) form) }
     ensures refused { IfOk result (λ o. IsNone o → types.new ≡ types.old) }
 {
-    if !is_over(types, &form) {
+    if !may_stand(types, &form) {
         return Err(NoMemory);
     }
     types.number(form)
 }
 
-/// Whether the parts of a form are in the table.
-fn is_over(types: &Types, form: &Form) -> bool
-    ensures { result ≡ true → IsOver (length types.now) form.now }
+/// Whether the parts of a form are in the table, and a record has a field, a union a tag.
+fn may_stand(types: &Types, form: &Form) -> bool
+    ensures parts { result ≡ true → IsOver (length types.now) form.now }
+    ensures members { result ≡ true → HasMember form.now }
 {
     match form {
         Form::Array(ty) | Form::Stream(ty) => (*ty as usize) < types.len(),
-        Form::Record(members) | Form::Union(members) => are_below(members.as_slice(), types.len()),
+        Form::Record(members) | Form::Union(members) => {
+            !members.is_empty() && are_below(members.as_slice(), types.len())
+        }
         _ => true,
     }
 }

@@ -958,8 +958,8 @@ typed::applied-returns-clause-breaks t c =
     (λ rule line q. refused_breaks g f0 f1 f2 names c.args.kind.now c.in_ok-head.head made c.args.line rule line (used_on g f0 f1 f2 c.in_ok-head.ensures.used c.in_ok-operands.ensures.used) c.holds.ensures
     c.in_ok-head.ensures.head c.in_ok-operands.ensures.used.grows operands c.in_ok-operands.ensures.elements q) c.finish.ensures.breaks
 
-pub typed::typed-returns-in_err-inner-in-Group-clause-breaks : goal.typed::typed-returns-in_err-inner-in-Group-clause-breaks
-typed::typed-returns-in_err-inner-in-Group-clause-breaks t c =
+pub typed::plain-returns-in_err-inner-in-Group-clause-breaks : goal.typed::plain-returns-in_err-inner-in-Group-clause-breaks
+typed::plain-returns-in_err-inner-in-Group-clause-breaks t c =
     let g = given_of c.args.given.now in
     let f = c.args.walk.now.types in
     let n = c.args.walk.now.names in
@@ -968,8 +968,8 @@ typed::typed-returns-in_err-inner-in-Group-clause-breaks t c =
     (λ rule line q. subst (λ k. Broken g f n (at l k) rule line) (sym c.in-Group.is) (group_breaks g f n l c.in-Group.inner rule line (subst (λ e. Broken g f n e rule line) c.get.ensures q)))
     c.in_err-inner-in-Group.ensures.breaks
 
-pub typed::typed-returns-in_err-operands-in-Call-clause-breaks : goal.typed::typed-returns-in_err-operands-in-Call-clause-breaks
-typed::typed-returns-in_err-operands-in-Call-clause-breaks t c =
+pub typed::plain-returns-in_err-operands-in-Call-clause-breaks : goal.typed::plain-returns-in_err-operands-in-Call-clause-breaks
+typed::plain-returns-in_err-operands-in-Call-clause-breaks t c =
     let g = given_of c.args.given.now in
     let f = c.args.walk.now.types in
     let n = c.args.walk.now.names in
@@ -978,8 +978,8 @@ typed::typed-returns-in_err-operands-in-Call-clause-breaks t c =
     (λ rule line q. subst (λ k. Broken g f n (at l k) rule line) (sym c.in-Call.is) (arguments_break g f n l c.in-Call.x c.in-Call.es rule line (subst (λ es. BrokenIn g f n es rule line) c.as_slice.ensures q)))
     c.in_err-operands-in-Call.ensures.breaks
 
-pub typed::typed-returns-in_err-defined-in-Let-clause-breaks : goal.typed::typed-returns-in_err-defined-in-Let-clause-breaks
-typed::typed-returns-in_err-defined-in-Let-clause-breaks t c =
+pub typed::plain-returns-in_err-defined-in-Let-clause-breaks : goal.typed::plain-returns-in_err-defined-in-Let-clause-breaks
+typed::plain-returns-in_err-defined-in-Let-clause-breaks t c =
     let g = given_of c.args.given.now in
     let f = c.args.walk.now.types in
     let n = c.args.walk.now.names in
@@ -989,8 +989,8 @@ typed::typed-returns-in_err-defined-in-Let-clause-breaks t c =
     (definitions_break g f n l c.in-Let.ds c.in-Let.es rule line (subst (λ ds. BrokenDefs g f n None ds rule line) c.as_slice-in-Let.ensures q)))
     c.in_err-defined-in-Let.ensures.breaks
 
-pub typed::typed-returns-in_err-results-in-Let-clause-breaks : goal.typed::typed-returns-in_err-results-in-Let-clause-breaks
-typed::typed-returns-in_err-results-in-Let-clause-breaks t c =
+pub typed::plain-returns-in_err-results-in-Let-clause-breaks : goal.typed::plain-returns-in_err-results-in-Let-clause-breaks
+typed::plain-returns-in_err-results-in-Let-clause-breaks t c =
     let g = given_of c.args.given.now in
     let f = c.args.walk.now.types in
     let n = c.args.walk.now.names in
@@ -1005,8 +1005,8 @@ typed::typed-returns-in_err-results-in-Let-clause-breaks t c =
     (subst (λ es. BrokenIn g f1 inside es rule line) c.as_slice-in-Let-2.ensures q)))
     c.in_err-results-in-Let.ensures.breaks
 
-pub typed::typed-returns-in_err-test-in-If-clause-breaks : goal.typed::typed-returns-in_err-test-in-If-clause-breaks
-typed::typed-returns-in_err-test-in-If-clause-breaks t c =
+pub typed::plain-returns-in_err-test-in-If-clause-breaks : goal.typed::plain-returns-in_err-test-in-If-clause-breaks
+typed::plain-returns-in_err-test-in-If-clause-breaks t c =
     let g = given_of c.args.given.now in
     let f = c.args.walk.now.types in
     let n = c.args.walk.now.names in
@@ -1016,8 +1016,8 @@ typed::typed-returns-in_err-test-in-If-clause-breaks t c =
     (test_breaks g f n l c.in-If.test c.in-If.then c.in-If.otherwise rule line (subst (λ e. BrokenOne g f n e rule line) c.get-in-If.ensures q)))
     c.in_err-test-in-If.ensures.breaks
 
-pub typed::typed-returns-in_err-then-in-If-clause-breaks : goal.typed::typed-returns-in_err-then-in-If-clause-breaks
-typed::typed-returns-in_err-then-in-If-clause-breaks t c =
+pub typed::plain-returns-in_err-then-in-If-clause-breaks : goal.typed::plain-returns-in_err-then-in-If-clause-breaks
+typed::plain-returns-in_err-then-in-If-clause-breaks t c =
     let g = given_of c.args.given.now in
     let f = c.args.walk.now.types in
     let f1 = c.only.new.walk.types in
@@ -1029,8 +1029,8 @@ typed::typed-returns-in_err-then-in-If-clause-breaks t c =
     (subst (λ m. BrokenIn g f1 m c.in-If.then rule line) c.in_ok-test-in-If.ensures.names (subst (λ es. BrokenIn g f1 c.only.new.walk.names es rule line) c.as_slice-in-If.ensures q))))
     c.in_err-then-in-If.ensures.breaks
 
-pub typed::typed-returns-in_err-otherwise-in-If-clause-breaks : goal.typed::typed-returns-in_err-otherwise-in-If-clause-breaks
-typed::typed-returns-in_err-otherwise-in-If-clause-breaks t c =
+pub typed::plain-returns-in_err-otherwise-in-If-clause-breaks : goal.typed::plain-returns-in_err-otherwise-in-If-clause-breaks
+typed::plain-returns-in_err-otherwise-in-If-clause-breaks t c =
     let g = given_of c.args.given.now in
     let f = c.args.walk.now.types in
     let f1 = c.only.new.walk.types in
@@ -1044,16 +1044,16 @@ typed::typed-returns-in_err-otherwise-in-If-clause-breaks t c =
     (subst (λ es. BrokenIn g f2 c.all-in-If.new.walk.names es rule line) c.as_slice-in-If-2.ensures q))))
     c.in_err-otherwise-in-If.ensures.breaks
 
-pub typed::typed-returns-in-Constant-clause-typed : goal.typed::typed-returns-in-Constant-clause-typed
-typed::typed-returns-in-Constant-clause-typed t c =
+pub typed::plain-returns-in-Constant-clause-typed : goal.typed::plain-returns-in-Constant-clause-typed
+typed::plain-returns-in-Constant-clause-typed t c =
     let g = given_of c.args.given.now in
     let n = c.args.walk.now.names in
     let e = c.args.e.now in
     let f = c.args.walk.now.types in
     if_ok_weaker c.constant.result (λ u is. kind_typed g f n e (tree.Constant c.in-Constant.c) u c.in-Constant.is (constant_typed g f n e.line c.in-Constant.c u is)) c.constant.ensures.is
 
-pub typed::typed-returns-in_ok-inner-in-Group-clause-typed : goal.typed::typed-returns-in_ok-inner-in-Group-clause-typed
-typed::typed-returns-in_ok-inner-in-Group-clause-typed t c =
+pub typed::plain-returns-in_ok-inner-in-Group-clause-typed : goal.typed::plain-returns-in_ok-inner-in-Group-clause-typed
+typed::plain-returns-in_ok-inner-in-Group-clause-typed t c =
     let g = given_of c.args.given.now in
     let n = c.args.walk.now.names in
     let e = c.args.e.now in
@@ -1062,8 +1062,8 @@ typed::typed-returns-in_ok-inner-in-Group-clause-typed t c =
     if_ok_weaker c.group.result (λ u is. kind_typed g f n e (tree.Group c.in-Group.inner) u c.in-Group.is
     (group_typed g f n e.line c.in-Group.inner t u (subst (λ x. Typed g f n x t) c.get.ensures c.in_ok-inner-in-Group.ensures.typed) is)) c.group.ensures.is
 
-pub typed::typed-returns-in_ok-operands-in-Call-clause-typed : goal.typed::typed-returns-in_ok-operands-in-Call-clause-typed
-typed::typed-returns-in_ok-operands-in-Call-clause-typed t c =
+pub typed::plain-returns-in_ok-operands-in-Call-clause-typed : goal.typed::plain-returns-in_ok-operands-in-Call-clause-typed
+typed::plain-returns-in_ok-operands-in-Call-clause-typed t c =
     let g = given_of c.args.given.now in
     let n = c.args.walk.now.names in
     let e = c.args.e.now in
@@ -1073,8 +1073,8 @@ typed::typed-returns-in_ok-operands-in-Call-clause-typed t c =
     (call_typed g f c.call.new.walk.types n e.line c.in-Call.x c.in-Call.es (parts_of ops) u
     (subst (λ l. AllTyped g f n l ops.exprs ops.types) c.as_slice.ensures c.in_ok-operands-in-Call.ensures.typed) used.grows is)) c.call.ensures.calls c.call.ensures.used
 
-pub typed::typed-returns-in_ok-operands-in-Call-clause-breaks : goal.typed::typed-returns-in_ok-operands-in-Call-clause-breaks
-typed::typed-returns-in_ok-operands-in-Call-clause-breaks t c =
+pub typed::plain-returns-in_ok-operands-in-Call-clause-breaks : goal.typed::plain-returns-in_ok-operands-in-Call-clause-breaks
+typed::plain-returns-in_ok-operands-in-Call-clause-breaks t c =
     let g = given_of c.args.given.now in
     let f = c.args.walk.now.types in
     let f1 = c.all.new.walk.types in
@@ -1086,13 +1086,13 @@ typed::typed-returns-in_ok-operands-in-Call-clause-breaks t c =
     (refused_call_breaks g f f1 n l c.in-Call.x c.in-Call.es p rule line c.in_ok-operands-in-Call.ensures.used c.holds.ensures
     (subst (λ es. AllTyped g f1 n es p.exprs p.types) c.as_slice.ensures c.in_ok-operands-in-Call.ensures.typed) q)) c.call.ensures.breaks
 
-pub typed::typed-returns-in_ok-results-in-Let-clause-names : goal.typed::typed-returns-in_ok-results-in-Let-clause-names
-typed::typed-returns-in_ok-results-in-Let-clause-names t c =
+pub typed::plain-returns-in_ok-results-in-Let-clause-names : goal.typed::plain-returns-in_ok-results-in-Let-clause-names
+typed::plain-returns-in_ok-results-in-Let-clause-names t c =
     let_left c.args.walk.now.names c.defs.new.walk.names c.all-in-Let.new.walk.names c.leave.new.self c.mark-outer.result c.leave.ensures c.mark-outer.ensures c.in_ok-results-in-Let.ensures.names
     c.in_ok-defined-in-Let.ensures.typed.above
 
-pub typed::typed-returns-in_ok-results-in-Let-clause-typed : goal.typed::typed-returns-in_ok-results-in-Let-clause-typed
-typed::typed-returns-in_ok-results-in-Let-clause-typed t c =
+pub typed::plain-returns-in_ok-results-in-Let-clause-typed : goal.typed::plain-returns-in_ok-results-in-Let-clause-typed
+typed::plain-returns-in_ok-results-in-Let-clause-typed t c =
     let g = given_of c.args.given.now in
     let n = c.args.walk.now.names in
     let e = c.args.e.now in
@@ -1109,8 +1109,8 @@ typed::typed-returns-in_ok-results-in-Let-clause-typed t c =
     (subst (λ l. AreDistinct (targets l)) c.as_slice-in-Let.ensures c.in_ok-defined-in-Let.ensures.distinct)
     (subst (λ l. AllTyped g f2 inside l r.exprs r.types) c.as_slice-in-Let-2.ensures c.in_ok-results-in-Let.ensures.typed) c.let_in.ensures.is)
 
-pub typed::typed-returns-in_ok-otherwise-in-If-clause-typed : goal.typed::typed-returns-in_ok-otherwise-in-If-clause-typed
-typed::typed-returns-in_ok-otherwise-in-If-clause-typed t c =
+pub typed::plain-returns-in_ok-otherwise-in-If-clause-typed : goal.typed::plain-returns-in_ok-otherwise-in-If-clause-typed
+typed::plain-returns-in_ok-otherwise-in-If-clause-typed t c =
     let g = given_of c.args.given.now in
     let n = c.args.walk.now.names in
     let e = c.args.e.now in
@@ -1129,8 +1129,8 @@ typed::typed-returns-in_ok-otherwise-in-If-clause-typed t c =
     (subst (λ m. AllTyped g f2 m c.in-If.otherwise o.exprs o.types) again (subst (λ l. AllTyped g f2 c.all-in-If.new.walk.names l o.exprs o.types) c.as_slice-in-If-2.ensures c.in_ok-otherwise-in-If.ensures.typed))
     is)) c.if_else.ensures.is
 
-pub typed::typed-returns-in_ok-otherwise-in-If-clause-breaks : goal.typed::typed-returns-in_ok-otherwise-in-If-clause-breaks
-typed::typed-returns-in_ok-otherwise-in-If-clause-breaks t c =
+pub typed::plain-returns-in_ok-otherwise-in-If-clause-breaks : goal.typed::plain-returns-in_ok-otherwise-in-If-clause-breaks
+typed::plain-returns-in_ok-otherwise-in-If-clause-breaks t c =
     let g = given_of c.args.given.now in
     let f = c.args.walk.now.types in
     let f1 = c.only.new.walk.types in

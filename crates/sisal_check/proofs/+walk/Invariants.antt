@@ -10,73 +10,76 @@ use Rattle.sisal_check.specs.Walked.{given_of, parts_of, arms_of, group_of}
 use Rattle.sisal_check.proofs.+walk.Given as goal
 
 abbrev pub decreases-cases::each_arm : goal.decreases-cases::each_arm
-decreases-cases::each_arm l = 4 * goal.size-cases::each_arm l + 1
+decreases-cases::each_arm l = 5 * goal.size-cases::each_arm l + 2
 
 abbrev pub decreases-cases::last : goal.decreases-cases::last
-decreases-cases::last l = 4 * goal.size-cases::last l + 3
+decreases-cases::last l = 5 * goal.size-cases::last l + 4
 
 abbrev pub decreases-cases::one_arm : goal.decreases-cases::one_arm
-decreases-cases::one_arm l = 4 * goal.size-cases::one_arm l + 0
+decreases-cases::one_arm l = 5 * goal.size-cases::one_arm l + 1
 
 abbrev pub decreases-cases::tag_case : goal.decreases-cases::tag_case
-decreases-cases::tag_case l = 4 * goal.size-cases::tag_case l + 0
+decreases-cases::tag_case l = 5 * goal.size-cases::tag_case l + 1
 
 abbrev pub decreases-clauses::clause_value : goal.decreases-clauses::clause_value
-decreases-clauses::clause_value l = 4 * goal.size-clauses::clause_value l + 0
+decreases-clauses::clause_value l = 5 * goal.size-clauses::clause_value l + 1
 
 abbrev pub decreases-clauses::clause_values : goal.decreases-clauses::clause_values
-decreases-clauses::clause_values l = 4 * goal.size-clauses::clause_values l + 1
+decreases-clauses::clause_values l = 5 * goal.size-clauses::clause_values l + 2
 
 abbrev pub decreases-defs::def : goal.decreases-defs::def
-decreases-defs::def l = 4 * goal.size-defs::def l + 0
+decreases-defs::def l = 5 * goal.size-defs::def l + 1
 
 abbrev pub decreases-defs::defs : goal.decreases-defs::defs
-decreases-defs::defs l = 4 * goal.size-defs::defs l + 1
+decreases-defs::defs l = 5 * goal.size-defs::defs l + 2
 
 abbrev pub decreases-generators::generator : goal.decreases-generators::generator
-decreases-generators::generator l = 4 * goal.size-generators::generator l + 0
+decreases-generators::generator l = 5 * goal.size-generators::generator l + 1
 
 abbrev pub decreases-generators::groups : goal.decreases-generators::groups
-decreases-generators::groups l = 4 * goal.size-generators::groups l + 2
+decreases-generators::groups l = 5 * goal.size-generators::groups l + 3
 
 abbrev pub decreases-generators::one_group : goal.decreases-generators::one_group
-decreases-generators::one_group l = 4 * goal.size-generators::one_group l + 1
+decreases-generators::one_group l = 5 * goal.size-generators::one_group l + 2
 
 abbrev pub decreases-lists::all : goal.decreases-lists::all
-decreases-lists::all l = 4 * goal.size-lists::all l + 2
+decreases-lists::all l = 5 * goal.size-lists::all l + 3
 
 abbrev pub decreases-lists::fields : goal.decreases-lists::fields
-decreases-lists::fields l = 4 * goal.size-lists::fields l + 0
+decreases-lists::fields l = 5 * goal.size-lists::fields l + 1
 
 abbrev pub decreases-lists::many : goal.decreases-lists::many
-decreases-lists::many l = 4 * goal.size-lists::many l + 1
+decreases-lists::many l = 5 * goal.size-lists::many l + 2
 
 abbrev pub decreases-lists::one : goal.decreases-lists::one
-decreases-lists::one l = 4 * goal.size-lists::one l + 1
+decreases-lists::one l = 5 * goal.size-lists::one l + 2
 
 abbrev pub decreases-lists::only : goal.decreases-lists::only
-decreases-lists::only l = 4 * goal.size-lists::only l + 2
+decreases-lists::only l = 5 * goal.size-lists::only l + 3
 
 abbrev pub decreases-loops::looped : goal.decreases-loops::looped
-decreases-loops::looped l = 4 * goal.size-loops::looped l + 0
+decreases-loops::looped l = 5 * goal.size-loops::looped l + 1
 
 abbrev pub decreases-turns::turn_defs : goal.decreases-turns::turn_defs
-decreases-turns::turn_defs l = 4 * goal.size-turns::turn_defs l + 2
+decreases-turns::turn_defs l = 5 * goal.size-turns::turn_defs l + 3
 
 abbrev pub decreases-turns::turn_of : goal.decreases-turns::turn_of
-decreases-turns::turn_of l = 4 * goal.size-turns::turn_of l + 0
+decreases-turns::turn_of l = 5 * goal.size-turns::turn_of l + 1
 
 abbrev pub decreases-typed::applied : goal.decreases-typed::applied
-decreases-typed::applied l = 4 * goal.size-typed::applied l + 1
+decreases-typed::applied l = 5 * goal.size-typed::applied l + 2
 
 abbrev pub decreases-typed::elements_of : goal.decreases-typed::elements_of
-decreases-typed::elements_of l = 4 * goal.size-typed::elements_of l + 0
+decreases-typed::elements_of l = 5 * goal.size-typed::elements_of l + 1
 
 abbrev pub decreases-typed::operands : goal.decreases-typed::operands
-decreases-typed::operands l = 4 * goal.size-typed::operands l + 0
+decreases-typed::operands l = 5 * goal.size-typed::operands l + 1
+
+abbrev pub decreases-typed::plain : goal.decreases-typed::plain
+decreases-typed::plain l = 5 * goal.size-typed::plain l + 0
 
 abbrev pub decreases-typed::typed : goal.decreases-typed::typed
-decreases-typed::typed l = 4 * goal.size-typed::typed l + 0
+decreases-typed::typed l = 5 * goal.size-typed::typed l + 1
 
 -- ---- what the loops keep
 

@@ -3,10 +3,10 @@ use Rattle.lowered_ready.proofs.Sorting.{sorting}
 use Rattle.lowered_ready.proofs.laws.translated_units_are_ready.Goals as goal
 
 pub returns : goal.returns
-returns c = λ p u fit members covered few t.
-    let rules = c.lowered_graphs_obey_the_rules.ensures p fit members covered bare (sort_of p) (sorting p fit) in
+returns c = λ p u fit covered few t.
+    let rules = c.lowered_graphs_obey_the_rules.ensures p fit covered bare (sort_of p) (sorting p fit) in
     record {
-      formed = (c.translated_units_are_formed.ensures p u fit members few t).0;
+      formed = (c.translated_units_are_formed.ensures p u fit few t).0;
       ports = c.ports_hold_where_rules_do.ensures p u fit t rules;
       types = c.right_programs_have_typed_units.ensures p u fit t rules;
       acyclic = c.translated_units_are_acyclic.ensures p u t;

@@ -33,4 +33,4 @@ returns-clause-well c =
     sym (ap (λ key. position (has_key key) c.args.self.now) c.in_ok-key.ensures) ∙ sym c.place.ensures ∙ c.in_default.is in
     let shallow : form_depth (depths c.args.self.now) c.args.form ≤ 64 = omega (arith, c.depth_over-depth.ensures.value) in
     let well : IsWell c.args.self.now = subst IsWell c.self.view_is c.self.invariant.well in
-    subst IsWell (sym c.in_ok-number.ensures.ok) (well_more c.args.self.now c.args.form well c.requires none shallow)
+    subst IsWell (sym c.in_ok-number.ensures.ok) (well_more c.args.self.now c.args.form well c.requires.parts c.requires.members none shallow)

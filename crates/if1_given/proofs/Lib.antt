@@ -1,0 +1,11 @@
+pub mod Sorting
+pub mod Marks
+pub mod Clean
+pub mod Tables
+pub mod Counting
+pub mod Literals
+pub mod Ended
+pub mod Closed
+pub mod Runs
+pub mod Trees
+pub mod Units
