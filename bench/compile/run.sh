@@ -1,23 +1,24 @@
 #!/bin/bash
-# Times `compile` on the 4 MB text of bench/parse beside lexing, parsing and checking it (bench_texts), in turns: the
-# difference is translating, marking and printing. It prints seconds, the least of some rounds, and the memory a byte of text;
-# then how long a loop that is nested 20 deep in the clauses of others is refused in, with a large phrase inside and without.
-# All times are of the whole program without its start. Run it at the top of the repository, on an idle machine; the argument is
-# the rounds. SISAL and BENCH_TEXTS may name programs that are built already.
+# Times translating the 4 MB text of bench/parse and printing its graphs beside lexing, parsing and checking it, all by one
+# program in one run (bench_compile), and the making of the marks apart. It prints seconds, the least of some rounds; then the
+# memory of `compile` a byte of text, beside that of the check alone (bench_texts); then how long loops nested in the clauses
+# of others are refused in, 21 deep, and 20 deep with a large phrase inside. Run it at the top of the repository, on
+# an idle machine; the argument is the rounds. SISAL, BENCH_TEXTS and BENCH_COMPILE may name programs that are built already.
 source bench/long_text.sh
 python3 - "$build" <<'PY'
 import sys
-def nested(phrase):
-    for _ in range(20):
+def nested(phrase, depth):
+    for _ in range(depth):
         phrase = f"for initial i := 1 while i < 1 repeat i := old i + 1 returns value of {phrase} end for"
     return f"define main\nfunction main(n: integer returns integer)\n{phrase}\nend function\n"
-open(sys.argv[1] + "/few.sis", "w").write(nested("n"))
-open(sys.argv[1] + "/many.sis", "w").write(nested("array_size(array [1: n" + ", n + 1" * 60000 + "])"))
+open(sys.argv[1] + "/few.sis", "w").write(nested("n", 21))
+open(sys.argv[1] + "/many.sis", "w").write(nested("array_size(array [1: n" + ", n + 1" * 60000 + "])", 20))
 PY
 
 sisal=${SISAL:-./sisal}
 checker=${BENCH_TEXTS:-$(bench/texts.sh)}
-[ -x "$checker" ] || exit 1
+program=$(bench/built.sh bench_compile)
+[ -x "$checker" ] && [ -x "$program" ] || exit 1
 
 milliseconds() { # a program, its word, a text
     local begin end
@@ -37,20 +38,20 @@ PY
 declare -A least
 keep() { [ -n "${least[$1]}" ] && [ "${least[$1]}" -le "$2" ] || least[$1]=$2; }
 for ((i = 0; i < rounds; i++)); do
-    for size in short long; do
-        keep "checker $size" "$(milliseconds "$checker" check "$build/$size.sis")"
-        keep "compile $size" "$(milliseconds "$sisal" compile "$build/$size.sis")"
-    done
+    "$program" <"$build/long.sis" >"$build/printed" 2>"$build/times"
+    read -r checked translated marked printed <"$build/times"
+    keep checked "$checked"
+    keep translated "$translated"
+    keep marked "$marked"
+    keep printed "$printed"
     for size in few many; do
         keep "checker $size" "$(milliseconds "$checker" check "$build/$size.sis")"
         keep "compile $size" "$(milliseconds "$sisal" compile "$build/$size.sis")"
         cat "$build/refused"
     done
 done
-checked=$((least[checker long] - least[checker short]))
-all=$((least[compile long] - least[compile short]))
-awk -v a=$((all - checked)) -v b=$checked \
-    'BEGIN { printf "translate, mark and print %.3f s, lex, parse and check %.3f s, ratio %.2f\n", a / 1000, b / 1000, a / b }'
+awk -v t="${least[translated]}" -v m="${least[marked]}" -v p="${least[printed]}" -v c="${least[checked]}" 'BEGIN {
+    printf "translate %.3f s and print %.3f s, lex, parse and check %.3f s, ratio %.2f; mark %.3f s\n", t / 1e9, p / 1e9, c / 1e9, (t + p) / c, m / 1e9 }'
 awk -v p="$(peak "$sisal" compile)" -v q="$(peak "$checker" check)" -v n="$(stat -c %s "$build/long.sis")" \
     'BEGIN { printf "memory %.1f bytes a byte of text, %.1f for the check alone\n", p / n, q / n }'
 echo "nested loops: compile ${least[compile few]} ms, check ${least[checker few]} ms; with a large phrase ${least[compile many]} and ${least[checker many]} ms"

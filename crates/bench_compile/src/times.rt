@@ -1,0 +1,69 @@
+//! How long each step takes.
+ghost use Rattle.lowered_units.specs.Fitting.{IsFitting};
+
+use crate::texts::typed;
+use if1_sound::Sound;
+use if1_valid::Ready;
+use if1_write::write_if1;
+use mark_units::mark;
+use std::io;
+use std::time::Instant;
+use translate::translate;
+use typed_tree::Program;
+
+/// Times the printing, behind the times that the rest took.
+fn printed(
+    rt: HostRuntime,
+    unit: &Sound,
+    checked: u128,
+    translated: u128,
+    marked: u128,
+) -> io::Result<()> {
+    let begin = Instant::now(&rt)?;
+    match write_if1(rt.alloc(), unit.unit()) {
+        Ok(text) => {
+            let printed = begin.elapsed(&rt)?.as_nanos();
+            println!(rt; "{} bytes", text.len())?;
+            eprintln!(rt; "{} {} {} {}", checked, translated, marked, printed)
+        }
+        Err(_) => println!(rt; "no memory"),
+    }
+}
+
+/// Times the making of the marks.
+fn marked(rt: HostRuntime, ready: Ready, checked: u128, translated: u128) -> io::Result<()> {
+    let begin = Instant::now(&rt)?;
+    match mark(rt.alloc(), ready) {
+        Ok(marked) => {
+            let marks = begin.elapsed(&rt)?.as_nanos();
+            printed(rt, &marked.sound, checked, translated, marks)
+        }
+        Err(_) => println!(rt; "no memory"),
+    }
+}
+
+/// Times the translating.
+fn translated(rt: HostRuntime, program: &Program, checked: u128) -> io::Result<()>
+    requires { IsFitting program.now }
+{
+    let begin = Instant::now(&rt)?;
+    match translate(rt.alloc(), program) {
+        Ok(ready) => {
+            let taken = begin.elapsed(&rt)?.as_nanos();
+            marked(rt, ready, checked, taken)
+        }
+        Err(_) => println!(rt; "no unit"),
+    }
+}
+
+/// Times the lexing, parsing and checking of a text.
+pub fn timed(rt: HostRuntime, text: &[u8]) -> io::Result<()> {
+    let begin = Instant::now(&rt)?;
+    match typed(rt.alloc(), text) {
+        Some(program) => {
+            let taken = begin.elapsed(&rt)?.as_nanos();
+            translated(rt, &program, taken)
+        }
+        None => println!(rt; "no program"),
+    }
+}
