@@ -1,5 +1,5 @@
 -- Trees by number, with one more.
-use Rattle.std.proofs.Common.{◌≡◌, ℕ, zero, suc, ◌+◌, ◌<◌, ◌≤◌, Bool, true, false, ◌&&◌, nat_eq, List, [], ◌∷◌, ◌++◌, length, get_or, slice_get, position, Option, Some, None, refl, sym, ap, ◌∙◌, subst, arith, append_assoc, ◌⊎◌, inl, inr, true≢false, eqb-true, ◌≢◌}
+use Rattle.std.proofs.Common.{◌≡◌, ℕ, zero, suc, ◌+◌, ◌<◌, ◌≤◌, Bool, true, false, ◌&&◌, nat_eq, List, [], ◌∷◌, ◌++◌, length, get_or, slice_get, position, Option, Some, None, if◌then◌else◌, refl, sym, ap, ◌∙◌, subst, arith, append_assoc, ◌⊎◌, inl, inr, true≢false, eqb-true, ◌≢◌}
 use Rattle.std.proofs.lemmas.List.{length-append, length-map, map-append}
 use Rattle.std.specs.Map.{keys_of}
 use Rattle.indexmap.specs.IndexMap.{insert_entry}
@@ -291,3 +291,42 @@ over_some ks ts k n kept h some = over_node k (tree_at ts n) (is_there ks ts n k
 
 pub over_some_both : (ks : List Key) (ts : List Tree) (k n m : ℕ) → IsKept ks ts → n ≤ length ts → m ≤ length ts → n ≢ 0 → m ≢ 0 → over_both k (tree_at ts n) (tree_at ts m) ≡ node k (tree_at ts n) (tree_at ts m)
 over_some_both ks ts k n m kept h i some other = over_nodes k (tree_at ts n) (tree_at ts m) (is_there ks ts n kept h some) (is_there ks ts m kept i other)
+
+-- ---- a list has no more members than there are trees
+
+abbrev AreFew : List Tree → Type 0
+AreFew ts = (n : ℕ) → members_in (tree_at ts n) ≤ length ts
+
+members_node : (j : ℕ) (a b : Tree) → members_in (node j a b) ≤ suc (members_in b)
+members_node j a b = by (nat_eq j 9)
+  where
+    by : (is : Bool) → (if is then suc (members_in b) else 0) ≤ suc (members_in b)
+    by true = omega arith
+    by false = omega arith
+
+few_more : (ts : List Tree) (t : Tree) → AreFew ts → members_in t ≤ suc (length ts) → AreFew (ts ++ t ∷ [])
+few_more ts t few h zero = omega arith
+few_more ts t few h (suc i) =
+    let longer = length-append ts (t ∷ []) in
+    elim (split (suc i) (length ts)) [
+      | inl before ↦ omega (arith, longer, ap members_in (tree_before ts (t ∷ []) (suc i) before), few (suc i))
+      | inr behind ↦ elim (split i (length ts)) [
+        | inl here ↦
+            let same : i ≡ length ts = omega (arith, behind, here) in
+            omega (arith, longer, h, ap (λ n. members_in (get_or (ts ++ t ∷ []) n leaf)) same ∙ ap members_in (got_last ts t))
+        | inr past ↦ omega (arith, ap members_in (no_tree (ts ++ t ∷ []) i (omega (arith, past, longer))))
+      ]
+    ]
+
+few_onto : (ts : List Tree) (ks : List Key) → AreFew ts → AreFew (trees_onto ts ks)
+few_onto ts [] few = few
+few_onto ts (k ∷ ks) few =
+    few_onto (ts ++ key_tree ts k ∷ []) ks
+    (few_more ts (key_tree ts k) few (omega (arith, members_node k.0 (tree_at ts k.1) (tree_at ts k.2), few k.2)))
+
+pub few_members : (ks : List Key) (n : ℕ) → members_in (tree_at (trees_in ks) n) ≤ length (trees_in ks)
+few_members ks = few_onto [] ks none
+  where
+    none : AreFew []
+    none zero = omega arith
+    none (suc n) = omega arith

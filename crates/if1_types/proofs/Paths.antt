@@ -1,10 +1,11 @@
 -- An order of places, by paths.
-use Rattle.std.proofs.Common.{◌≡◌, ◌≢◌, ℕ, zero, suc, ◌+◌, ◌<◌, Bool, true, List, [], ◌∷◌, ◌++◌, length, take, get_or, set, false, reverse, ◌⊎◌, inl, inr, All, Contains, refl, sym, ap, ◌∙◌, subst, arith, append_assoc, not, true≢false}
+use Rattle.std.proofs.Common.{◌≡◌, ◌≢◌, ℕ, zero, suc, ◌+◌, ◌<◌, ◌≤◌, Bool, true, List, [], ◌∷◌, ◌++◌, length, replicate, take, get_or, set, false, reverse, ◌⊎◌, inl, inr, All, Contains, refl, sym, ap, ◌∙◌, subst, arith, append_assoc, not, true≢false}
 use Rattle.std.proofs.lemmas.Bool.{cases_lt, cases_eq}
-use Rattle.std.proofs.lemmas.List.{append-nil, reverse-append, length_push, get_or-set_other, get_or_append_left, get_or_push, take_at, take-append-le}
+use Rattle.std.proofs.lemmas.List.{length-append, length-reverse, length-replicate, get_or-replicate, append-nil, reverse-append, length_push, get_or-set_other, get_or_append_left, get_or_push, take_at, take-append-le}
+use Rattle.std.proofs.lemmas.List.Sums.{sum_by-cons}
 use Rattle.std.proofs.lemmas.List.Elements.{All-push, All-contains, Contains-push, Contains-append_left, Contains-append_right}
 use Rattle.if1_order.proofs.Members.{contains_here, contains_there, contains_cases, contains_none}
-use Rattle.if1_types.specs.Ways.{hop, hops, IsReady, ended, before, endless, AreLaid, IsPath, IsMet, Follows}
+use Rattle.if1_types.specs.Ways.{hop, hops, IsReady, ended, before, endless, AreLaid, IsPath, IsMet, freshness, unmet_in, Follows}
 
 -- ---- an order with one place more
 
@@ -91,10 +92,25 @@ path_closed next p xs q path inside meets (suc k) x h =
 
 -- ---- a place is met
 
--- how many places were not met is the measure of a walk
-abbrev pub freshness : Bool → ℕ
-freshness true = 0
-freshness false = 1
+pub unmet_set : (met : List Bool) (p : ℕ) → not (get_or met p true) ≡ true → suc (unmet_in (set met p true)) ≤ unmet_in met
+unmet_set [] p h = absurd (true≢false (sym h))
+unmet_set (true ∷ met) zero h = absurd (true≢false (sym h))
+unmet_set (false ∷ met) zero h =
+    let now : unmet_in (set (false ∷ met) 0 true) ≡ 0 + unmet_in met = sum_by-cons freshness true met in
+    let was : unmet_in (false ∷ met) ≡ 1 + unmet_in met = sum_by-cons freshness false met in
+    omega (arith, now, was)
+unmet_set (b ∷ met) (suc p) h =
+    let now : unmet_in (set (b ∷ met) (suc p) true) ≡ freshness b + unmet_in (set met p true) = sum_by-cons freshness b (set met p true) in
+    omega (arith, now, sum_by-cons freshness b met, unmet_set met p h)
+
+pub unmet_all : (n : ℕ) → unmet_in (replicate n false) ≡ n
+unmet_all zero = refl
+unmet_all (suc n) =
+    let more : unmet_in (replicate (suc n) false) ≡ 1 + unmet_in (replicate n false) = sum_by-cons freshness false (replicate n false) in
+    omega (arith, more, unmet_all n)
+
+pub length_laid : (order path more : List ℕ) → more ≡ order ++ reverse path → length more ≡ length order + length path
+length_laid order path more is = omega (arith, ap length is, length-append order (reverse path), length-reverse path)
 
 pub fresh_in : (met : List Bool) (p : ℕ) → not (get_or met p true) ≡ true → p < length met
 fresh_in [] p h = absurd (true≢false (sym h))
@@ -121,6 +137,16 @@ pub record AreKept (next : List ℕ) (met : List Bool) (order : List ℕ) : Type
   pub fits : length met ≡ length next
   pub laid : AreLaid next order
   pub kept : (p : ℕ) → p < length next → IsMet met p → Contains order p
+
+-- where nothing is met, nothing is in the order
+pub none_kept : (next : List ℕ) (met : List Bool) (order : List ℕ) → met ≡ replicate (length next) false → order ≡ [] → AreKept next met order
+none_kept next met order unmet empty =
+    subst (AreKept next met) (sym empty)
+    (record {
+      fits = ap length unmet ∙ length-replicate (length next) false;
+      laid = record { inside = λ k d h. absurd (omega (arith, h)); ready = λ i h. absurd (omega (arith, h)) };
+      kept = λ p h e. absurd (true≢false (sym e ∙ (ap (λ (ms : List Bool). get_or ms p true) unmet ∙ get_or-replicate (length next) p false true h)));
+    })
 
 end_ready : (next : List ℕ) (old new : List Bool) (start : ℕ) (path order : List ℕ) → AreKept next old order → (f : Follows next old new start path)
     → IsReady next order f.end

@@ -8,3 +8,4 @@ pub mod Forms
 pub mod Skips
 pub mod Numbering
 pub mod Parameters
+pub mod Room

@@ -1,5 +1,6 @@
 -- The lines of a kind by their places, and an order of them in which the rest of each list comes first.
-use Rattle.std.specs.Prelude.{◌≡◌, ◌≢◌, ℕ, zero, suc, ◌<◌, ◌≤◌, ◌==◌, ◌⊎◌, Bool, true, List, [], ◌∷◌, length, take, slice_get, slice_index, slice_index_or, All, Contains, Option, Some, None, option_map, unwrap_or, if◌then◌else◌}
+use Rattle.std.specs.Prelude.{◌≡◌, ◌≢◌, ℕ, zero, suc, ◌+◌, ◌<◌, ◌≤◌, ◌==◌, ◌⊎◌, Bool, true, false, List, [], ◌∷◌, length, take, slice_get, slice_index, slice_index_or, All, Contains, Option, Some, None, option_map, unwrap_or, if◌then◌else◌}
+use Rattle.std.specs.List.{sum_by}
 use Rattle.if1_graph.specs.declared.graph.TypeEntry.{TypeEntry}
 use Rattle.if1_graph.specs.declared.kind.TypeKind.{TypeKind}
 use Rattle.if1_graph.specs.Kinds.{kind_at}
@@ -49,6 +50,7 @@ pub record AreLaid (next order : List ℕ) : Type 0 where
 pub record IsOrder (next order : List ℕ) : Type 0 where
   pub laid : AreLaid next order
   pub all : (p : ℕ) → p < length next → Contains order p
+  pub few : length order ≤ length next
 
 pub record IsWay (is : Option TypeKind → Bool) (ts : List TypeEntry) (way : Way) : Type 0 where
   pub next : AreNexts is ts way.next
@@ -65,6 +67,14 @@ IsPath next p (x ∷ xs) q = (p ≡ x) × IsPath next (hop next x) xs q
 abbrev pub IsMet : List Bool → ℕ → Type 0
 IsMet met p = slice_index_or met p true ≡ true
 
+-- how many places were not met is the measure of a walk
+abbrev pub freshness : Bool → ℕ
+freshness true = 0
+freshness false = 1
+
+abbrev pub unmet_in : List Bool → ℕ
+unmet_in met = sum_by freshness met
+
 -- a path that ends where it meets another one, itself, or the end, and is met from then on
 pub record Follows (next : List ℕ) (old new : List Bool) (start : ℕ) (path : List ℕ) : Type 0 where
   pub fits : length new ≡ length next
@@ -74,3 +84,4 @@ pub record Follows (next : List ℕ) (old new : List Bool) (start : ℕ) (path :
   pub stops : IsMet new end
   pub inside : All (λ p. p < length next) path
   pub met : (p : ℕ) → p < length next → IsMet new p → IsMet old p ⊎ Contains path p
+  pub counts : length path + unmet_in new ≤ unmet_in old

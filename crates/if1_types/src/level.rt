@@ -1,10 +1,12 @@
 //! The numbers of types, a level of depth at a time.
-ghost use Rattle.std.specs.Prelude.{◌≡◌, ◌≤◌, ◌↔◌, All, IsTrue, IfOk, map, length};
+ghost use Rattle.std.specs.Prelude.{◌≡◌, ◌≤◌, ◌<◌, ◌+◌, ◌*◌, ◌^◌, ◌↔◌, suc, All, IsTrue, IfOk, map, length};
 ghost use Rattle.std.specs.List.Sorted.{IsStrictlyIncreasing};
+ghost use Rattle.if1_graph.specs.Formed.{most};
 ghost use Rattle.if1_graph.specs.Kinds.{kind_at};
 ghost use Rattle.if1_graph.specs.Types.{is_field, is_tag, most_deep};
 ghost use Rattle.if1_types.specs.Trees.{over, scalar_tree, tree_of, kind_number};
 ghost use Rattle.if1_types.specs.Shapes.{trees_in, IsLater, Stands};
+ghost use Rattle.if1_types.specs.Room.{a_level};
 ghost use Rattle.if1_types.specs.Tables.{labels_in, part_by, AreWithin, AreTold, IsLevel};
 ghost use Rattle.if1_types.specs.Lists.{listed, AreListed};
 ghost use Rattle.if1_types.specs.Ways.{IsWay};
@@ -22,8 +24,10 @@ use if1_graph::{Basic, TypeEntry, TypeKind, basic_of, kind_of};
 const DEEPEST: u32 = 64;
 
 fn scalar_number(shapes: &mut Shapes, basic: Option<Basic>) -> Result<u32, NoMemory>
+    requires room { suc (length (trees_in shapes.old)) < 2 ^ 32 }
     ensures number { IfOk result (λ n. Stands (trees_in shapes.new) n (scalar_tree basic)) }
     ensures later { IsLater (trees_in shapes.old) (trees_in shapes.new) }
+    ensures grows { length (trees_in shapes.new) ≤ suc (length (trees_in shapes.old)) }
 {
     match basic {
         Some(Basic::Boolean) => shapes.number(Kind::Boolean, 0, 0),
@@ -43,8 +47,10 @@ fn list_over(
 ) -> Result<u32, NoMemory>
     requires rising { IsStrictlyIncreasing labels.now }
     requires within { All (λ n. n ≤ length (trees_in shapes.old)) lists.now }
+    requires room { suc (length (trees_in shapes.old)) < 2 ^ 32 }
     ensures number { IfOk result (λ n. Stands (trees_in shapes.new) n (over (kind_number kind) (listed (trees_in shapes.old) labels.now lists.now first))) }
     ensures later { IsLater (trees_in shapes.old) (trees_in shapes.new) }
+    ensures grows { length (trees_in shapes.new) ≤ suc (length (trees_in shapes.old)) }
 {
     let list = list_number(shapes, labels, lists, first);
     let number = shapes.over(kind, list)?;
@@ -62,8 +68,10 @@ pub fn part_over(
     requires rising { IsStrictlyIncreasing (map (λ e. e.label) types.now) }
     requires labels { labels.now ≡ labels_in types.now }
     requires within { AreWithin (trees_in shapes.old) types.now numbers.now }
+    requires room { suc (length (trees_in shapes.old)) < 2 ^ 32 }
     ensures number { IfOk result (λ n. Stands (trees_in shapes.new) n (over (kind_number kind) (part_by (trees_in shapes.old) types.now numbers.now label))) }
     ensures later { IsLater (trees_in shapes.old) (trees_in shapes.new) }
+    ensures grows { length (trees_in shapes.new) ≤ suc (length (trees_in shapes.old)) }
 {
     let _ = types;
     let part = number_at(labels, numbers, label);
@@ -86,8 +94,10 @@ fn ty_number(
     requires within { AreWithin (trees_in shapes.old) types.now numbers.now }
     requires fields { AreListed (trees_in shapes.old) (part_by (trees_in shapes.old) types.now numbers.now) is_field types.now fields.now }
     requires tags { AreListed (trees_in shapes.old) (part_by (trees_in shapes.old) types.now numbers.now) is_tag types.now tags.now }
+    requires room { suc (length (trees_in shapes.old)) < 2 ^ 32 }
     ensures number { IfOk result (λ n. Stands (trees_in shapes.new) n (tree_of (part_by (trees_in shapes.old) types.now numbers.now) types.now entry.now (kind_at entry.now.code))) }
     ensures later { IsLater (trees_in shapes.old) (trees_in shapes.new) }
+    ensures grows { length (trees_in shapes.new) ≤ suc (length (trees_in shapes.old)) }
 {
     match kind_of(entry.code) {
         Some(TypeKind::Basic) => scalar_number(shapes, basic_of(entry.first)),
@@ -126,8 +136,10 @@ fn ty_numbers(
     requires within { AreWithin (trees_in shapes.old) types.now numbers.now }
     requires fields { AreListed (trees_in shapes.old) (part_by (trees_in shapes.old) types.now numbers.now) is_field types.now fields.now }
     requires tags { AreListed (trees_in shapes.old) (part_by (trees_in shapes.old) types.now numbers.now) is_tag types.now tags.now }
+    requires room { length (trees_in shapes.old) + length types.now < 2 ^ 32 }
     ensures numbers { IfOk result (AreTold (trees_in shapes.new) (λ e. tree_of (part_by (trees_in shapes.old) types.now numbers.now) types.now e (kind_at e.code)) types.now) }
     ensures later { IsLater (trees_in shapes.old) (trees_in shapes.new) }
+    ensures grows { IfOk result (λ _. length (trees_in shapes.new) ≤ length (trees_in shapes.old) + length types.now) }
 {
     let mut next = Seq::with_room(shapes.allocator(), types.len())?;
     for entry in types {
@@ -151,8 +163,11 @@ fn level(
     requires within { AreWithin (trees_in shapes.old) types.now numbers.now }
     requires fields { IsWay is_field types.now fields.now }
     requires tags { IsWay is_tag types.now tags.now }
+    requires few { length types.now ≤ most }
+    requires room { length (trees_in shapes.old) + a_level < 2 ^ 32 }
     ensures numbers { IfOk result (AreTold (trees_in shapes.new) (λ e. tree_of (part_by (trees_in shapes.old) types.now numbers.now) types.now e (kind_at e.code)) types.now) }
     ensures later { IsLater (trees_in shapes.old) (trees_in shapes.new) }
+    ensures grows { IfOk result (λ _. length (trees_in shapes.new) ≤ length (trees_in shapes.old) + a_level) }
 {
     let records = list_numbers(shapes, types, labels, numbers, Line::Field, fields)?;
     let unions = list_numbers(shapes, types, labels, numbers, Line::Tag, tags)?;
@@ -181,7 +196,10 @@ pub fn type_numbers(
 ) -> Result<Numbers, NoMemory>
     requires rising { IsStrictlyIncreasing (map (λ e. e.label) types.now) }
     requires labels { labels.now ≡ labels_in types.now }
+    requires few { length types.now ≤ most }
+    requires room { length (trees_in shapes.old) + most_deep * a_level < 2 ^ 32 }
     ensures numbers { IfOk result (λ ns. IsLevel (trees_in shapes.new) types.now ns most_deep) }
+    ensures grows { IfOk result (λ _. length (trees_in shapes.new) ≤ length (trees_in shapes.old) + most_deep * a_level) }
 {
     let fields = way_of(shapes.allocator(), types, labels, Line::Field)?;
     let tags = way_of(shapes.allocator(), types, labels, Line::Tag)?;

@@ -1,5 +1,5 @@
 //! Lists of members by number, a step for each line.
-ghost use Rattle.std.specs.Prelude.{◌≡◌, ◌≤◌, All, length, map, IfOk};
+ghost use Rattle.std.specs.Prelude.{◌≡◌, ◌≤◌, ◌<◌, ◌+◌, ◌^◌, suc, All, length, map, IfOk};
 ghost use Rattle.std.specs.List.Sorted.{IsStrictlyIncreasing};
 ghost use Rattle.if1_types.specs.Trees.{ending, over_both};
 ghost use Rattle.if1_types.specs.Shapes.{trees_in, tree_at, IsLater, Stands};
@@ -17,8 +17,10 @@ use if1_graph::{TypeEntry, kind_of};
 
 /// For each place no list, and behind all places the list with no member.
 fn no_lists(shapes: &mut Shapes, places: usize) -> Result<Numbers, NoMemory>
+    requires room { suc (length (trees_in shapes.old)) < 2 ^ 32 }
     ensures blank { IfOk result (AreBlank (trees_in shapes.new) places) }
     ensures later { IsLater (trees_in shapes.old) (trees_in shapes.new) }
+    ensures grows { length (trees_in shapes.new) ≤ suc (length (trees_in shapes.old)) }
 {
     let mut lists = Seq::new(shapes.allocator());
     for _ in 0..places {
@@ -43,8 +45,10 @@ fn longer(
     requires labels { labels.now ≡ labels_in types.now }
     requires within { AreWithin (trees_in shapes.old) types.now numbers.now }
     requires rest { rest ≤ length (trees_in shapes.old) }
+    requires room { suc (length (trees_in shapes.old)) < 2 ^ 32 }
     ensures number { IfOk result (λ n. Stands (trees_in shapes.new) n (over_both 9 (part_at (part_by (trees_in shapes.old) types.now numbers.now) (is_line line) types.now place) (tree_at (trees_in shapes.old) rest))) }
     ensures later { IsLater (trees_in shapes.old) (trees_in shapes.new) }
+    ensures grows { length (trees_in shapes.new) ≤ suc (length (trees_in shapes.old)) }
 {
     let Some(entry) = item_at(types, place) else {
         return Ok(0);
@@ -71,8 +75,10 @@ pub fn list_numbers(
     requires labels { labels.now ≡ labels_in types.now }
     requires within { AreWithin (trees_in shapes.old) types.now numbers.now }
     requires way { IsWay (is_line line) types.now way.now }
+    requires room { suc (length (trees_in shapes.old) + length way.now.order) < 2 ^ 32 }
     ensures lists { IfOk result (AreListed (trees_in shapes.new) (part_by (trees_in shapes.old) types.now numbers.now) (is_line line) types.now) }
     ensures later { IsLater (trees_in shapes.old) (trees_in shapes.new) }
+    ensures grows { IfOk result (λ _. length (trees_in shapes.new) ≤ suc (length (trees_in shapes.old) + length way.now.order)) }
 {
     let mut lists = no_lists(shapes, types.len())?;
     let next = way.next.as_slice();

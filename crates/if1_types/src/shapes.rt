@@ -1,5 +1,5 @@
 //! Trees by number.
-ghost use Rattle.std.specs.Prelude.{◌≡◌, ℕ, ◌≤◌, [], length, suc, IfOk};
+ghost use Rattle.std.specs.Prelude.{◌≡◌, ℕ, ◌≤◌, ◌<◌, ◌^◌, [], length, suc, IfOk};
 ghost use Rattle.if1_types.specs.Trees.{Tree, node, over, over_both, kind_number};
 ghost use Rattle.if1_types.specs.Shapes.{trees_in, tree_at, members_in, key_at, IsKeyOf, IsOnce, IsLater, Stands};
 
@@ -47,8 +47,10 @@ impl Shapes {
     pub fn number(&mut self, kind: Kind, first: u32, second: u32) -> Result<u32, NoMemory>
         requires first { first ≤ length (trees_in self.old) }
         requires second { second ≤ length (trees_in self.old) }
+        requires room { suc (length (trees_in self.old)) < 2 ^ 32 }
         ensures number { IfOk result (λ n. Stands (trees_in self.new) n (node (kind_number kind) (tree_at (trees_in self.old) first) (tree_at (trees_in self.old) second))) }
         ensures later { IsLater (trees_in self.old) (trees_in self.new) }
+        ensures grows { length (trees_in self.new) ≤ suc (length (trees_in self.old)) }
     {
         self.number_by(kind_number(kind), first, second)
     }
@@ -57,25 +59,29 @@ impl Shapes {
     fn number_by(&mut self, kind: u32, first: u32, second: u32) -> Result<u32, NoMemory>
         requires first { first ≤ length (trees_in self.old) }
         requires second { second ≤ length (trees_in self.old) }
+        requires room { suc (length (trees_in self.old)) < 2 ^ 32 }
         ensures number { IfOk result (λ n. Stands (trees_in self.new) n (node kind (tree_at (trees_in self.old) first) (tree_at (trees_in self.old) second))) }
         ensures later { IsLater (trees_in self.old) (trees_in self.new) }
+        ensures grows { length (trees_in self.new) ≤ suc (length (trees_in self.old)) }
     {
         let key = (kind, first, second);
         if let Some(place) = self.keys.get_index_of(&key) {
-            let number = number_after(place)?;
-            return Ok(number);
+            let found = number_after(place);
+            return Ok(found);
         }
-        let number = number_after(self.keys.len())?;
-        let members = self.members_over(kind, second)?;
+        let number = number_after(self.keys.len());
+        let members = self.members_over(kind, second);
         self.keys.insert(key, members)?;
         Ok(number)
     }
 
     /// The number of a tree over one part; nothing is over nothing.
     pub fn over(&mut self, kind: Kind, part: u32) -> Result<u32, NoMemory>
-        requires { part ≤ length (trees_in self.old) }
+        requires part { part ≤ length (trees_in self.old) }
+        requires room { suc (length (trees_in self.old)) < 2 ^ 32 }
         ensures number { IfOk result (λ n. Stands (trees_in self.new) n (over (kind_number kind) (tree_at (trees_in self.old) part))) }
         ensures later { IsLater (trees_in self.old) (trees_in self.new) }
+        ensures grows { length (trees_in self.new) ≤ suc (length (trees_in self.old)) }
     {
         let _ = &self.keys;
         if part == 0 {
@@ -89,8 +95,10 @@ impl Shapes {
     pub fn over_both(&mut self, kind: Kind, first: u32, second: u32) -> Result<u32, NoMemory>
         requires first { first ≤ length (trees_in self.old) }
         requires second { second ≤ length (trees_in self.old) }
+        requires room { suc (length (trees_in self.old)) < 2 ^ 32 }
         ensures number { IfOk result (λ n. Stands (trees_in self.new) n (over_both (kind_number kind) (tree_at (trees_in self.old) first) (tree_at (trees_in self.old) second))) }
         ensures later { IsLater (trees_in self.old) (trees_in self.new) }
+        ensures grows { length (trees_in self.new) ≤ suc (length (trees_in self.old)) }
     {
         let _ = &self.keys;
         if first == 0 {
@@ -139,14 +147,14 @@ impl Shapes {
     }
 
     /// How many members a tree of a kind has, over this second part.
-    fn members_over(&self, kind: u32, second: u32) -> Result<u32, NoMemory>
-        ensures { IfOk result (λ n. (a : Tree) → n ≡ members_in (node kind a (tree_at (trees_in self.now) second))) }
+    fn members_over(&self, kind: u32, second: u32) -> u32
+        requires { suc (length (trees_in self.now)) < 2 ^ 32 }
+        ensures { (a : Tree) → result ≡ members_in (node kind a (tree_at (trees_in self.now) second)) }
     {
         if kind != 9 {
-            return Ok(0);
+            return 0;
         }
-        let members = number_after(self.members(second) as usize)?;
-        Ok(members)
+        number_after(self.members(second) as usize)
     }
 
     /// Each tree has one number, and its key is that of its parts.
@@ -158,12 +166,10 @@ impl Shapes {
     }
 }
 
-/// The number after a count. More than a `u32` counts would want more memory than there is.
-fn number_after(count: usize) -> Result<u32, NoMemory>
-    ensures { IfOk result (λ n. n ≡ suc count) }
+/// The number after a count.
+fn number_after(count: usize) -> u32
+    requires { suc count < 2 ^ 32 }
+    ensures { result ≡ suc count }
 {
-    match u32::try_from(count) {
-        Ok(number) if number < u32::MAX => Ok(number + 1),
-        _ => Err(NoMemory),
-    }
+    count as u32 + 1
 }

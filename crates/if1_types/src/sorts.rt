@@ -1,6 +1,7 @@
 //! What the labels of a table stand for, by number.
-ghost use Rattle.std.specs.Prelude.{◌≡◌, ◌≤◌, ◌<◌, ◌-◌, ℕ, All, IsSome, List, Some, IfOk, map, length};
+ghost use Rattle.std.specs.Prelude.{◌≡◌, ◌≤◌, ◌<◌, ◌-◌, ◌+◌, ◌^◌, suc, ℕ, All, IsSome, List, Some, IfOk, map, length};
 ghost use Rattle.std.specs.List.Sorted.{IsStrictlyIncreasing};
+ghost use Rattle.if1_graph.specs.Formed.{most};
 ghost use Rattle.if1_graph.specs.Kinds.{kind_at};
 ghost use Rattle.flow_value.specs.declared.ty.Ty.{Ty};
 ghost use Rattle.if1_graph.specs.declared.graph.TypeEntry.{TypeEntry};
@@ -8,6 +9,7 @@ ghost use Rattle.if1_graph.specs.Types.{Sort, Plain, is_tuple, sort_at};
 ghost use Rattle.if1_types.specs.Numbering.{IsNumbering};
 ghost use Rattle.if1_types.specs.Parameters.{type_at};
 ghost use Rattle.if1_types.specs.Trees.{over_both, sort_tree};
+ghost use Rattle.if1_types.specs.Room.{the_sorts};
 ghost use Rattle.if1_types.specs.Shapes.{trees_in, tree_at, members_in, IsLater, Stands};
 ghost use Rattle.if1_types.specs.Tables.{labels_in, number_at, part_by, AreWithin, AreTold, AreSorts};
 ghost use Rattle.if1_types.specs.Lists.{listed, AreListed};
@@ -200,8 +202,10 @@ fn function_number(
 ) -> Result<u32, NoMemory>
     requires rising { IsStrictlyIncreasing labels.now }
     requires within { All (λ n. n ≤ length (trees_in shapes.old)) lists.now }
+    requires room { suc (length (trees_in shapes.old)) < 2 ^ 32 }
     ensures number { IfOk result (λ n. Stands (trees_in shapes.new) n (over_both 12 (listed (trees_in shapes.old) labels.now lists.now arguments) (listed (trees_in shapes.old) labels.now lists.now results))) }
     ensures later { IsLater (trees_in shapes.old) (trees_in shapes.new) }
+    ensures grows { length (trees_in shapes.new) ≤ suc (length (trees_in shapes.old)) }
 {
     let first = list_number(shapes, labels, lists, arguments);
     let second = list_number(shapes, labels, lists, results);
@@ -223,8 +227,10 @@ fn sort_number(
     requires labels { labels.now ≡ labels_in types.now }
     requires within { AreWithin (trees_in shapes.old) types.now numbers.now }
     requires lists { AreListed (trees_in shapes.old) (part_by (trees_in shapes.old) types.now numbers.now) is_tuple types.now lists.now }
+    requires room { suc (length (trees_in shapes.old)) < 2 ^ 32 }
     ensures number { IfOk result (λ n. Stands (trees_in shapes.new) n (sort_tree (part_by (trees_in shapes.old) types.now numbers.now) types.now entry.now (kind_at entry.now.code))) }
     ensures later { IsLater (trees_in shapes.old) (trees_in shapes.new) }
+    ensures grows { length (trees_in shapes.new) ≤ suc (length (trees_in shapes.old)) }
 {
     match kind_of(entry.code) {
         Some(TypeKind::Multiple) => part_over(
@@ -257,6 +263,7 @@ fn sorts_by(
     requires labels { labels.now ≡ labels_in types.now }
     requires within { AreWithin (trees_in shapes.old) types.now numbers.now }
     requires lists { AreListed (trees_in shapes.old) (part_by (trees_in shapes.old) types.now numbers.now) is_tuple types.now lists.now }
+    requires room { length (trees_in shapes.old) + length types.now < 2 ^ 32 }
     ensures { IfOk result (AreTold (trees_in shapes.new) (λ e. sort_tree (part_by (trees_in shapes.old) types.now numbers.now) types.now e (kind_at e.code)) types.now) }
 {
     let mut sorts = Seq::with_room(shapes.allocator(), types.len())?;
@@ -276,6 +283,8 @@ fn sort_numbers(
     requires rising { IsStrictlyIncreasing (map (λ e. e.label) types.now) }
     requires labels { labels.now ≡ labels_in types.now }
     requires within { AreWithin (trees_in shapes.old) types.now numbers.now }
+    requires few { length types.now ≤ most }
+    requires room { length (trees_in shapes.old) + the_sorts < 2 ^ 32 }
     ensures { IfOk result (AreTold (trees_in shapes.new) (λ e. sort_tree (part_by (trees_in shapes.old) types.now numbers.now) types.now e (kind_at e.code)) types.now) }
 {
     let way = way_of(shapes.allocator(), types, labels, Line::Tuple)?;
@@ -288,7 +297,8 @@ fn sort_numbers(
 /// where they stand for the same, names left out, and a label's number is 0 exactly where it stands
 /// for nothing (IF1 manual M-170, type table). No type is written out.
 pub fn sorts_of(alloc: Global, types: &[TypeEntry]) -> Result<Sorts, NoMemory>
-    requires { IsStrictlyIncreasing (map (λ e. e.label) types.now) }
+    requires rising { IsStrictlyIncreasing (map (λ e. e.label) types.now) }
+    requires few { length types.now ≤ most }
     ensures numbers { IfOk result (λ s. AreSorts types.now s.labels s.numbers) }
     ensures stand { IfOk result (λ s. Stand types.now s.shapes s.labels s.numbers) }
     ensures labels { IfOk result (λ s. s.labels ≡ labels_in types.now) }

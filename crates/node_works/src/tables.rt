@@ -1,6 +1,7 @@
 //! What the nodes of a unit need of its types and functions.
-ghost use Rattle.std.specs.Prelude.{◌≡◌, ℕ, IfOk, map};
+ghost use Rattle.std.specs.Prelude.{◌≡◌, ◌≤◌, ℕ, IfOk, map, length};
 ghost use Rattle.std.specs.List.Sorted.{IsStrictlyIncreasing};
+ghost use Rattle.if1_graph.specs.Formed.{most};
 ghost use Rattle.if1_graph.specs.Types.{sort_at};
 ghost use Rattle.if1_ports.specs.Outlines.{outline_of, types_in};
 ghost use Rattle.node_works.specs.Tables.{AreTablesOf, function_inputs};
@@ -25,7 +26,8 @@ pub struct UnitTables {
 }
 
 fn types_of(alloc: Global, types: &[TypeEntry]) -> Result<Outlines, NoMemory>
-    requires { IsStrictlyIncreasing (map (λ e. e.label) types.now) }
+    requires rising { IsStrictlyIncreasing (map (λ e. e.label) types.now) }
+    requires few { length types.now ≤ most }
     ensures { IfOk result (λ o. (label : ℕ) → types_in o label ≡ outline_of (sort_at types.now label)) }
 {
     let sorts = sorts_of(alloc, types)?;

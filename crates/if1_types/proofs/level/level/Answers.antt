@@ -1,4 +1,4 @@
-use Rattle.std.proofs.Common.{sym, subst}
+use Rattle.std.proofs.Common.{sym, subst, arith}
 use Rattle.if1_graph.specs.Kinds.{kind_at}
 use Rattle.if1_graph.specs.Types.{is_field, is_tag}
 use Rattle.if1_types.specs.Trees.{tree_of}
@@ -33,3 +33,38 @@ returns-clause-numbers c =
     (parts_later (trees_in c.args.shapes.now) (trees_in c.list_numbers-2.new.shapes) c.args.types.now c.args.numbers.now
     (later_then c.in_ok-records.ensures.later c.in_ok-unions.ensures.later) c.requires.within)
     c.in_ok-next.ensures.numbers
+
+pub list_numbers-requires-clause-room : goal.list_numbers-requires-clause-room
+list_numbers-requires-clause-room c = omega (arith, c.requires.few, c.requires.room, c.requires.fields.order.few, c.requires.fields.next.fits)
+
+pub list_numbers-requires-2-clause-room : goal.list_numbers-requires-2-clause-room
+list_numbers-requires-2-clause-room c =
+    omega (arith, c.requires.few, c.requires.room, c.in_ok-records.ensures.grows, c.requires.fields.order.few, c.requires.fields.next.fits, c.requires.tags.order.few, c.requires.tags.next.fits)
+
+pub ty_numbers-requires-clause-room : goal.ty_numbers-requires-clause-room
+ty_numbers-requires-clause-room c =
+    omega (
+      arith,
+      c.requires.few,
+      c.requires.room,
+      c.in_ok-records.ensures.grows,
+      c.in_ok-unions.ensures.grows,
+      c.requires.fields.order.few,
+      c.requires.fields.next.fits,
+      c.requires.tags.order.few,
+      c.requires.tags.next.fits,
+    )
+
+pub returns-clause-grows : goal.returns-clause-grows
+returns-clause-grows c =
+    omega (
+      arith,
+      c.requires.few,
+      c.in_ok-records.ensures.grows,
+      c.in_ok-unions.ensures.grows,
+      c.in_ok-next.ensures.grows,
+      c.requires.fields.order.few,
+      c.requires.fields.next.fits,
+      c.requires.tags.order.few,
+      c.requires.tags.next.fits,
+    )

@@ -1,4 +1,4 @@
-use Rattle.std.proofs.Common.{◌≡◌, ◌+◌, ◌∙◌, ◌++◌, ◌∷◌, [], sym, ap, take}
+use Rattle.std.proofs.Common.{◌≡◌, ◌+◌, ◌∙◌, ◌++◌, ◌∷◌, [], sym, ap, take, arith}
 use Rattle.std.proofs.lemmas.List.{take_more}
 use Rattle.if1_graph.specs.Kinds.{kind_at}
 use Rattle.if1_graph.specs.Types.{is_field, is_tag}
@@ -20,6 +20,8 @@ loop-entry-preserved c =
           entry_told (λ part e. tree_of part c.args.types.now e (kind_at e.code)) (trees_in c.args.shapes.now) (trees_in c.loop-entry.shapes) (trees_in c.ty_number.new.shapes)
           c.args.types.now c.args.numbers.now c.loop-entry.entry-index c.loop-entry.next c.add.new.self c.entry-item.result c.in_ok-number.number
           c.loop-entry.invariant.later c.in_ok-number.ensures.later c.requires.within c.loop-entry.invariant.told c.in_ok-number.ensures.number is c.in_ok-add.ensures.ok;
+      within = omega (arith, c.loop-entry-test.true);
+      grows = omega (arith, c.loop-entry.invariant.grows, c.in_ok-number.ensures.grows);
       later = later_then c.loop-entry.invariant.later c.in_ok-number.ensures.later;
       fields =
           listed_later (trees_in c.loop-entry.shapes) (trees_in c.ty_number.new.shapes) (part_by (trees_in c.args.shapes.now) c.args.types.now c.args.numbers.now) is_field

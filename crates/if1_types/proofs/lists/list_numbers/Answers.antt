@@ -12,6 +12,8 @@ loop-place-init c = record {
   known =
       known_blank (trees_in c.no_lists.new.shapes) (part_at (part_by (trees_in c.args.shapes.now) c.args.types.now c.args.numbers.now) (is_line c.args.line) c.args.types.now)
       c.args.way.now.next (length c.args.types.now) c.in_ok-lists.lists c.in_ok-lists.ensures.blank (sym c.requires.way.next.fits);
+  within = omega arith;
+  grows = omega (arith, c.in_ok-lists.ensures.grows);
   later = c.in_ok-lists.ensures.later;
 }
 
@@ -29,6 +31,8 @@ loop-place-preserved c =
           c.requires.way c.loop-place.invariant.later c.in_ok-number.ensures.later c.requires.within c.loop-place.invariant.known
           (omega (arith, ap length order_is, c.loop-place-test.true)) (ap (λ order. get_or order c.loop-place.place-index 0) order_is) rest_is
           c.in_ok-number.ensures.number c.set.ensures;
+      within = omega (arith, ap length order_is, c.loop-place-test.true);
+      grows = omega (arith, c.loop-place.invariant.grows, c.in_ok-number.ensures.grows);
       later = later_then c.loop-place.invariant.later c.in_ok-number.ensures.later;
     }
 
@@ -38,3 +42,7 @@ returns-clause-lists c =
     lists_are (part_by (trees_in c.args.shapes.now) c.args.types.now c.args.numbers.now) (is_line c.args.line) c.args.types.now c.args.way.now.next c.requires.way.next
     (trees_in c.loop-place.shapes) (take c.loop-place.place-index c.args.way.now.order) c.loop-place.lists c.loop-place.invariant.known
     (λ p h. subst (λ ps. Contains ps p) (sym (take_all c.loop-place.place-index c.args.way.now.order done)) (c.requires.way.order.all p h))
+
+pub longer-requires-clause-room : goal.longer-requires-clause-room
+longer-requires-clause-room c =
+    omega (arith, c.loop-place.invariant.grows, c.requires.room, c.loop-place-test.true, ap length c.as_slice-place-items.ensures)

@@ -1,4 +1,4 @@
-use Rattle.std.proofs.Common.{sym, subst}
+use Rattle.std.proofs.Common.{sym, subst, arith}
 use Rattle.if1_graph.specs.Kinds.{kind_at}
 use Rattle.if1_graph.specs.Types.{is_tuple}
 use Rattle.if1_types.specs.Trees.{sort_tree}
@@ -8,6 +8,13 @@ use Rattle.if1_types.specs.Lists.{AreListed}
 use Rattle.if1_types.proofs.Levels.{parts_later}
 use Rattle.if1_types.proofs.Listed.{listed_by_later}
 use Rattle.if1_types.proofs.sorts.sort_numbers.Goals as goal
+
+pub list_numbers-requires-clause-room : goal.list_numbers-requires-clause-room
+list_numbers-requires-clause-room c = omega (arith, c.requires.few, c.requires.room, c.in_ok-way.ensures.order.few, c.in_ok-way.ensures.next.fits)
+
+pub sorts_by-requires-clause-room : goal.sorts_by-requires-clause-room
+sorts_by-requires-clause-room c =
+    omega (arith, c.requires.few, c.requires.room, c.in_ok-lists.ensures.grows, c.in_ok-way.ensures.order.few, c.in_ok-way.ensures.next.fits)
 
 pub sorts_by-requires-clause-lists : goal.sorts_by-requires-clause-lists
 sorts_by-requires-clause-lists c =

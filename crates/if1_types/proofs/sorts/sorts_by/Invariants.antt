@@ -1,4 +1,4 @@
-use Rattle.std.proofs.Common.{take}
+use Rattle.std.proofs.Common.{◌≤◌, ◌+◌, length, take}
 use Rattle.if1_graph.specs.Kinds.{kind_at}
 use Rattle.if1_graph.specs.Types.{is_tuple}
 use Rattle.if1_types.specs.Trees.{sort_tree}
@@ -10,6 +10,8 @@ use Rattle.if1_types.proofs.sorts.sorts_by.Given as goal
 abbrev pub invariant-loop-entry : goal.invariant-loop-entry
 invariant-loop-entry l = record {
   told : AreTold (trees_in l.shapes) (λ e. sort_tree (part_by (trees_in l.fn.shapes) l.types l.numbers) l.types e (kind_at e.code)) (take l.entry-index l.types) l.sorts;
+  within : l.entry-index ≤ length l.types;
+  grows : length (trees_in l.shapes) ≤ length (trees_in l.fn.shapes) + l.entry-index;
   later : IsLater (trees_in l.fn.shapes) (trees_in l.shapes);
   listed : AreListed (trees_in l.shapes) (part_by (trees_in l.fn.shapes) l.types l.numbers) is_tuple l.types l.lists;
 }

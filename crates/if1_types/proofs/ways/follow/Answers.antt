@@ -1,8 +1,8 @@
 use Rattle.std.proofs.Common.{◌≡◌, ◌<◌, length, get_or, true, not, subst, sym, ap, ◌∙◌, arith, All, Contains, ◌⊎◌}
-use Rattle.std.proofs.lemmas.List.{length-set, get_or_default}
+use Rattle.std.proofs.lemmas.List.{length-set, length_push, get_or_default}
 use Rattle.std.proofs.lemmas.List.Elements.{All-push}
-use Rattle.if1_types.specs.Ways.{IsPath, IsMet}
-use Rattle.if1_types.proofs.Paths.{path_push, fresh_in, met_set}
+use Rattle.if1_types.specs.Ways.{IsPath, IsMet, unmet_in}
+use Rattle.if1_types.proofs.Paths.{path_push, fresh_in, met_set, unmet_set}
 use Rattle.if1_types.proofs.ways.follow.Goals as goal
 
 pub loop-met-preserved : goal.loop-met-preserved
@@ -21,4 +21,6 @@ loop-met-preserved c =
       met = λ p h e.
           subst (λ path. IsMet c.args.met.now p ⊎ Contains path p) (sym c.in_ok-add.ensures.ok)
           (met_set c.args.met.now c.loop-met.met c.loop-met.path at p (c.loop-met.invariant.met p h) (subst (λ met. IsMet met p) c.set.ensures e));
+      counts =
+          omega (arith, c.loop-met.invariant.counts, ap unmet_in c.set.ensures, unmet_set c.loop-met.met at test, ap length c.in_ok-add.ensures.ok, length_push c.loop-met.path at);
     }

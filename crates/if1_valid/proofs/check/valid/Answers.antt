@@ -1,4 +1,4 @@
-use Rattle.std.proofs.Common.{ℕ, List, Option, MatchOption, IfErr, sym, subst}
+use Rattle.std.proofs.Common.{ℕ, List, length, Option, MatchOption, IfErr, sym, ap, subst, arith}
 use Rattle.std.proofs.lemmas.Result.{IfErr-weaker}
 use Rattle.if1_graph.specs.declared.graph.TypeEntry.{TypeEntry}
 use Rattle.if1_graph.specs.Ready.{PortsHold, BreaksPorts}
@@ -7,6 +7,9 @@ use Rattle.if1_types.specs.Numbering.{IsNumbering}
 use Rattle.if1_valid.specs.Refused.{IsRefused}
 use Rattle.if1_valid.proofs.Refusals.{numbering, given_up}
 use Rattle.if1_valid.proofs.check.valid.Goals as goal
+
+pub sorts_of-requires-clause-few : goal.sorts_of-requires-clause-few
+sorts_of-requires-clause-few c = omega (arith, ap length c.as_slice.ensures, c.requires.formed.types.few)
 
 pub wrong_ports-requires-clause-numbers : goal.wrong_ports-requires-clause-numbers
 wrong_ports-requires-clause-numbers c =

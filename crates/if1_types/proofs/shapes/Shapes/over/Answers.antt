@@ -9,5 +9,5 @@ returns-clause-number c =
     let ts = trees_in c.args.self.now in
     let kept : IsKept c.args.self.now ts = subst (λ ks. IsKept ks (trees_in ks)) c.self.view_is c.self.invariant.kept in
     subst (Stands (trees_in c.number.new.self) c.in_ok-number.number)
-    (sym (over_some c.args.self.now ts (kind_number c.args.kind) c.args.part kept c.requires (omega (arith, c.if-part-eq0.false))))
+    (sym (over_some c.args.self.now ts (kind_number c.args.kind) c.args.part kept c.requires.part (omega (arith, c.if-part-eq0.false))))
     c.in_ok-number.ensures.number
