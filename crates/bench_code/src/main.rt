@@ -3,6 +3,8 @@
 //! and check the text, to make the marks, and to make the code.
 #![tactic(auto)]
 
+ghost use Rattle.std.specs.Prelude.{◌<◌, ◌^◌, length};
+
 use flow_io::{ReaderSource, read_all};
 use if1_graph::If1Fault;
 use if1_read::read_if1;
@@ -18,7 +20,9 @@ use unit_code::unit_code;
 /// The most bytes of a text.
 const MOST_BYTES: usize = 8388608;
 
-fn ready_of(alloc: Global, text: &[u8]) -> Result<Ready, If1Fault> {
+fn ready_of(alloc: Global, text: &[u8]) -> Result<Ready, If1Fault>
+    requires { length text.now < 2 ^ 32 }
+{
     let unit = read_if1(alloc, text)?;
     valid(alloc, unit)
 }
@@ -64,7 +68,9 @@ fn marked(rt: HostRuntime, ready: Ready, read: u128) -> io::Result<()> {
 }
 
 /// Times the reading and checking of a text.
-fn timed(rt: HostRuntime, text: &[u8]) -> io::Result<()> {
+fn timed(rt: HostRuntime, text: &[u8]) -> io::Result<()>
+    requires { length text.now < 2 ^ 32 }
+{
     let begin = Instant::now(&rt)?;
     match ready_of(rt.alloc(), text) {
         Ok(ready) => {

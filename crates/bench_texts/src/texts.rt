@@ -1,4 +1,5 @@
 //! What a text is as SISAL and as IF1.
+ghost use Rattle.std.specs.Prelude.{◌<◌, ◌^◌, length};
 
 use crate::MOST_BYTES;
 use if1_call::canonical_text;
@@ -47,7 +48,9 @@ pub fn typed(alloc: Global, text: &[u8]) -> Typing {
 }
 
 /// How long the canonical text of an IF1 text is, if it is a unit.
-pub fn canonical_length(alloc: Global, text: &[u8]) -> Option<usize> {
+pub fn canonical_length(alloc: Global, text: &[u8]) -> Option<usize>
+    requires { length text.now < 2 ^ 32 }
+{
     match canonical_text(alloc, text) {
         Ok(text) => Some(text.len()),
         Err(_) => None,

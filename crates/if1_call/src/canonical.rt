@@ -1,5 +1,5 @@
 //! The canonical text of an IF1 text.
-ghost use Rattle.std.specs.Prelude.{◌≡◌, IfOk, IfErr};
+ghost use Rattle.std.specs.Prelude.{◌≡◌, ◌<◌, ◌^◌, length, IfOk, IfErr};
 ghost use Rattle.if1_call.specs.Calls.{IsCanonicalOf, IsRefusedFor};
 
 use flow_value::Text;
@@ -14,6 +14,7 @@ use std::alloc::Global;
 /// valid and its marks are sound. Else the first fault of the text, of its unit or of its marks (IF1
 /// manual M-170).
 pub fn canonical_text(alloc: Global, text: &[u8]) -> Result<Text, If1Fault>
+    requires { length text.now < 2 ^ 32 }
     ensures printed { IfOk result (IsCanonicalOf text.now) }
     ensures refused { IfErr result (IsRefusedFor text.now) }
 {

@@ -79,6 +79,12 @@ lines_give ls es gs k m u w spelled sorts names sound table made depth =
       normal = All-weaker (IsRight u) (IsNormalGraph u) (normal_at u) (places u) right;
     }
 
+-- each of the sorted lines was read
+pub all_read : (text : List ℕ) (os : List (Option Line)) (es : List TypeEntry) (gs : List Line) → os ≡ rows_of text → AreSorted os es gs → All IsRead gs
+all_read text os es gs are sorted =
+    let read : map line_of (lines_in text) ≡ map (λ l. Some l) sorted.lines = rows_read (lines_in text) sorted.lines (sym are ∙ sorted.are) sorted.labelled in
+    subst (All IsRead) (sym sorted.sorts.lines) (lines_read sorted.lines (spelled_lines (lines_in text) sorted.lines read))
+
 -- sorted lines that ran without a fault are those of the unit
 pub assembled : (text : List ℕ) (os : List (Option Line)) (es : List TypeEntry) (gs : List Line) (k : Known) (m : Machine) (u : Unit1) →
     os ≡ rows_of text → AreSorted os es gs → ((t : List ℕ) → list_any (λ n. bytes_eq n t) k.names ≡ has_name t gs) →
@@ -86,7 +92,7 @@ pub assembled : (text : List ℕ) (os : List (Option Line)) (es : List TypeEntry
 assembled text os es gs k m u are sorted names sound table ran w =
     let read : map line_of (lines_in text) ≡ map (λ l. Some l) sorted.lines = rows_read (lines_in text) sorted.lines (sym are ∙ sorted.are) sorted.labelled in
     let spelled = spelled_lines (lines_in text) sorted.lines read in
-    let runs = ran (subst (All IsRead) (sym sorted.sorts.lines) (lines_read sorted.lines spelled)) in
+    let runs = ran (all_read text os es gs are sorted) in
     record {
       lines = sorted.lines;
       read = read;

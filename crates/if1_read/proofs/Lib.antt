@@ -73,3 +73,7 @@ pub mod Edgewise
 pub mod Looking
 pub mod Paged
 pub mod Pagewise
+pub mod Shallow
+pub mod Fewer
+pub mod Itself
+pub mod Room

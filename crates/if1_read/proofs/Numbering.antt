@@ -1,6 +1,6 @@
 -- Graphs that are numbered one after another.
-use Rattle.std.proofs.Common.{◌≡◌, ℕ, suc, ◌+◌, List, [], ◌∷◌, ◌++◌, map, sum, arith, rules, ap, sym, subst, ◌∙◌}
-use Rattle.std.proofs.lemmas.List.Sums.{sum-map, sum_by-cons, sum_by_push}
+use Rattle.std.proofs.Common.{◌≡◌, ℕ, suc, ◌+◌, ◌<◌, ◌≤◌, List, [], ◌∷◌, ◌++◌, map, sum, length, get_or, take, arith, rules, refl, ap, sym, subst, ◌∙◌}
+use Rattle.std.proofs.lemmas.List.Sums.{sum-map, sum_by-cons, sum_by_push, sum_by_more_le}
 use Rattle.if1_graph.specs.declared.graph.Graph.{Graph}
 use Rattle.if1_graph.specs.declared.graph.Graph.TheViews.{out-Graph, roll-Graph, roll-Node}
 use Rattle.if1_graph.specs.declared.graph.Graph.TheViews as views
@@ -23,6 +23,31 @@ size_of_node n = fold_out-Node ℕ ℕ (λ g. suc (sum g.nodes)) (λ n. sum n.su
 
 pub size_of : (g : Graph) → size g ≡ suc (sum (map node_size (out-Graph g).nodes))
 size_of g = fold_out-Graph ℕ ℕ (λ g. suc (sum g.nodes)) (λ n. sum n.subs) g
+
+mutual
+  size_like : (g h : Graph) → IsLike g h → size h ≡ size g
+  size_like g h (graph g0 h0 s r) = omega (arith, size_of g, size_of h, node_sizes_like (out-Graph g).nodes (out-Graph h).nodes r)
+
+  pub node_sizes_like : (ns ms : List Node) → AreNodesLike ns ms → sum (map node_size ms) ≡ sum (map node_size ns)
+  node_sizes_like ns ms no_node = refl
+  node_sizes_like ns ms (node n m ns0 ms0 s l r) =
+      omega (
+        arith,
+        sum_cons node_size n ns0,
+        sum_cons node_size m ms0,
+        size_of_node n,
+        size_of_node m,
+        sizes_like (out-Node n).subs (out-Node m).subs l,
+        node_sizes_like ns0 ms0 r,
+      )
+
+  pub sizes_like : (gs hs : List Graph) → AreLike gs hs → sizes hs ≡ sizes gs
+  sizes_like gs hs no_graph = refl
+  sizes_like gs hs (more g h gs0 hs0 l r) = omega (arith, sum_cons size g gs0, sum_cons size h hs0, size_like g h l, sizes_like gs0 hs0 r)
+
+-- the elements before a place and the one there are as much as all at most
+pub sum_here : {A : Type 0} (f : A → ℕ) (xs : List A) (i : ℕ) (d : A) → i < length xs → sum (map f (take i xs)) + f (get_or xs i d) ≤ sum (map f xs)
+sum_here f xs i d l = omega (arith, sum-map f (take i xs), sum-map f xs, sum_by_more_le f xs i d l)
 
 -- ---- one more
 

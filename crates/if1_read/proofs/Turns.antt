@@ -8,7 +8,7 @@ use Rattle.if1_graph.specs.declared.graph.Node.{Node, out-Node}
 use Rattle.if1_graph.specs.Units.{size, sizes}
 use Rattle.if1_read.specs.Like.{IsLike, AreNodesLike, AreLike}
 use Rattle.if1_read.specs.Counted.{node_size, IsCounted, AreNodesCounted, AreCounted}
-use Rattle.if1_read.proofs.Numbering.{sum_push, size_of_node, like_push, nodes_like_push, counted_push, nodes_counted_push, with_subs, node_like, subs_are}
+use Rattle.if1_read.proofs.Numbering.{sum_push, sum_here, size_of_node, node_sizes_like, sizes_like, like_push, nodes_like_push, counted_push, nodes_counted_push, with_subs, node_like, subs_are}
 
 -- elements from a place on are as they were
 abbrev pub IsUnvisited : {A : Type 0} → List A → List A → ℕ → Type 0
@@ -47,6 +47,12 @@ numbered_more old new i number next after d h s lt like at counted e =
       next_is = omega (arith, e, s.next_is, ap sizes now, sum_push size (take i new) h);
     }
 
+-- there is room for the graphs inside the next one
+pub room_here : (old new : List Graph) (i number next : ℕ) (d : Graph) → Numbered old new i number next → i < length old →
+    next + size (get_or new i d) ≤ number + sizes old
+room_here old new i number next d s lt =
+    omega (arith, s.next_is, sizes_like (take i old) (take i new) s.like, ap size (s.unvisited.1 i d (omega arith)), sum_here size old i d lt)
+
 pub record NodesNumbered (old new : List Node) (i number next : ℕ) : Type 0 where
   pub unvisited : IsUnvisited new old i
   pub like : AreNodesLike (take i old) (take i new)
@@ -74,6 +80,18 @@ nodes_numbered_more old new i number next after d gs s lt like counted e =
       counted = subst (λ (ns : List Node). AreNodesCounted number ns) (sym now) (nodes_counted_push number (take i new) m s.counted here);
       next_is = omega (arith, e, s.next_is, ap (λ (ns : List Node). sum (map node_size ns)) now, sum_push node_size (take i new) m, size_of_node m, ap sizes subs);
     }
+
+pub room_in_node : (old new : List Node) (i number next : ℕ) (d : Node) → NodesNumbered old new i number next → i < length old →
+    next + sizes (out-Node (get_or new i d)).subs ≤ number + sum (map node_size old)
+room_in_node old new i number next d s lt =
+    omega (
+      arith,
+      s.next_is,
+      node_sizes_like (take i old) (take i new) s.like,
+      ap node_size (s.unvisited.1 i d (omega arith)),
+      size_of_node (get_or new i d),
+      sum_here node_size old i d lt,
+    )
 
 -- ---- the whole list
 

@@ -1,10 +1,11 @@
 -- The unit when its lines have ended.
-use Rattle.std.specs.Prelude.{◌≡◌, [], List, Option, Some, None}
+use Rattle.std.specs.Prelude.{◌≡◌, ◌<◌, ◌^◌, [], List, Option, Some, None}
 use Rattle.std.specs.List.{flat_map}
 use Rattle.if1_graph.specs.declared.fault.If1Fault.{If1Fault}
 use Rattle.if1_graph.specs.declared.fault.If1Fault.TheVariants.{Unclosed, NoMemory}
 use Rattle.if1_graph.specs.declared.graph.Graph.{Graph}
 use Rattle.if1_graph.specs.declared.graph.Unit1.{Unit1}
+use Rattle.if1_graph.specs.Units.{sizes}
 use Rattle.if1_read.specs.declared.fault.Fault.{Fault}
 use Rattle.if1_read.specs.declared.judge.Known.{Known}
 use Rattle.if1_read.specs.declared.machine.Machine.{Machine}
@@ -15,6 +16,10 @@ use Rattle.if1_read.specs.Pages.{sheet_faults}
 use Rattle.if1_read.specs.Rulings.{rules_of}
 use Rattle.if1_read.specs.Sheets.{sheets_of}
 use Rattle.if1_read.specs.Stands.{LevelEnds}
+
+-- the graphs have numbers of 32 bits where no line had a fault and no compound node is open
+abbrev pub HasRoom : Known → Machine → Type 0
+HasRoom k m = m.first ≡ None → m.outer.items ≡ [] → (read : List Graph) → LevelEnds k m.level.graphs m.level.part read → sizes read < 2 ^ 32
 
 -- no line had a fault, no compound node is open, and the functions have their numbers
 pub record IsWhole (k : Known) (m : Machine) (u : Unit1) : Type 0 where

@@ -1,5 +1,5 @@
 //! The lines of a text.
-ghost use Rattle.std.specs.Prelude.{◌≡◌, map, IfOk};
+ghost use Rattle.std.specs.Prelude.{◌≡◌, ◌≤◌, length, map, IfOk};
 ghost use Rattle.if1_line.specs.Lines.{lines_in};
 ghost use Rattle.if1_read.specs.Faults as spec;
 
@@ -48,7 +48,8 @@ fn row_of(alloc: Global, line: &[u8]) -> Result<Option<Line>, NoMemory>
 
 /// What each line of a text says; none where it is no line of IF1 text and closes no node.
 pub fn read_lines(alloc: Global, text: &[u8]) -> Result<Seq<Option<Line>>, NoMemory>
-    ensures { IfOk result (λ ls. ls ≡ spec.rows_of text.now) }
+    ensures rows { IfOk result (λ ls. ls ≡ spec.rows_of text.now) }
+    ensures few { IfOk result (λ ls. length ls ≤ length text.now) }
 {
     let mut lines = Seq::new(alloc);
     let mut at = 0;

@@ -1,5 +1,5 @@
 //! A unit from its text.
-ghost use Rattle.std.specs.Prelude.{◌≡◌, ◌≢◌, ◌-◌, ◌==◌, true, false, None, List, ℕ, suc, if◌then◌else◌, bytes_eq, IfOk, IfErr, OnOk};
+ghost use Rattle.std.specs.Prelude.{◌≡◌, ◌≢◌, ◌-◌, ◌^◌, ◌<◌, ◌≤◌, ◌==◌, true, false, None, List, length, ℕ, suc, if◌then◌else◌, bytes_eq, IfOk, IfErr, OnOk};
 ghost use Rattle.std.specs.List.{list_any, flat_map};
 ghost use Rattle.if1_graph.specs.declared.fault.If1Fault.TheVariants as if1_fault;
 ghost use Rattle.if1_graph.specs.declared.graph.Unit1.{Unit1};
@@ -16,7 +16,7 @@ ghost use Rattle.if1_read.specs.Rulings.{rules_of};
 ghost use Rattle.if1_read.specs.Sheets.{sheets_around};
 ghost use Rattle.if1_read.specs.Sorting.{with_name, has_name, spot_next};
 ghost use Rattle.if1_read.specs.Stands.{lines_of};
-ghost use Rattle.if1_read.specs.Whole.{IsWhole, IsRefused};
+ghost use Rattle.if1_read.specs.Whole.{HasRoom, IsWhole, IsRefused};
 
 use crate::fault::{Fault, Kind, after, refusal};
 use crate::judge::Known;
@@ -39,14 +39,12 @@ struct Sorted {
     first: Option<Fault>,
 }
 
-/// The number of a line. More than a `u32` counts would want more memory than there is.
-fn next_number(number: u32) -> Result<u32, NoMemory>
-    ensures { IfOk result (λ n. n ≡ suc number) }
+/// The number of the next line.
+fn next_number(number: u32) -> u32
+    requires { suc number < 2 ^ 32 }
+    ensures { result ≡ suc number }
 {
-    match number.checked_add(1) {
-        Some(next) => Ok(next),
-        None => Err(NoMemory),
-    }
+    number + 1
 }
 
 fn too_many(before: usize) -> Option<Kind>
@@ -153,6 +151,7 @@ fn put(sorted: Sorted, number: u32, line: Option<Line>) -> Result<Sorted, NoMemo
 }
 
 fn sort_out(alloc: Global, lines: Seq<Option<Line>>) -> Result<Sorted, NoMemory>
+    requires { length lines < 2 ^ 32 }
     ensures read { IfOk result (λ s. s.first ≡ None → AreSorted lines (entries_of s.entries.items) (lines_of s.lines.items)) }
     ensures sorted { IfOk result (λ s. AreSortedOut lines s) }
 {
@@ -163,7 +162,7 @@ fn sort_out(alloc: Global, lines: Seq<Option<Line>>) -> Result<Sorted, NoMemory>
     };
     let mut number = 0;
     for line in lines.into_vec() {
-        number = next_number(number)?;
+        number = next_number(number);
         sorted = put(sorted, number, line)?;
     }
     Ok(sorted)
@@ -173,7 +172,7 @@ fn sort_out(alloc: Global, lines: Seq<Option<Line>>) -> Result<Sorted, NoMemory>
 /// unit, has a graph whose lines are read or has none.
 #[derive(Clone, Copy)]
 struct Spot {
-    depth: u32,
+    depth: usize,
     reading: bool,
 }
 
@@ -203,16 +202,17 @@ fn begun(spot: Spot) -> Spot
     }
 }
 
-fn opened(spot: Spot) -> Result<Spot, NoMemory>
-    ensures { IfOk result (λ s. s ≡ (if spot.reading then record { depth = suc spot.depth; reading = false } else spot)) }
+fn opened(spot: Spot) -> Spot
+    requires { suc spot.depth < 2 ^ 64 }
+    ensures { result ≡ (if spot.reading then record { depth = suc spot.depth; reading = false } else spot) }
 {
     if spot.reading {
-        Ok(Spot {
-            depth: next_number(spot.depth)?,
+        Spot {
+            depth: spot.depth + 1,
             reading: false,
-        })
+        }
     } else {
-        Ok(spot)
+        spot
     }
 }
 
@@ -229,17 +229,27 @@ fn closed(spot: Spot) -> Spot
     }
 }
 
-fn next_spot(spot: Spot, line: &Line) -> Result<Spot, NoMemory>
-    ensures { IfOk result (λ s. s ≡ spot_next line.now spot) }
+fn spot_after(spot: Spot, line: &Line) -> Spot
+    requires { suc spot.depth < 2 ^ 64 }
+    ensures { result ≡ spot_next line.now spot }
 {
     match line {
-        Line::Function { .. } => Ok(named(spot, true)),
-        Line::Import { .. } => Ok(named(spot, false)),
-        Line::Subgraph { .. } => Ok(begun(spot)),
+        Line::Function { .. } => named(spot, true),
+        Line::Import { .. } => named(spot, false),
+        Line::Subgraph { .. } => begun(spot),
         Line::Open { .. } => opened(spot),
-        Line::Close { .. } => Ok(closed(spot)),
-        _ => Ok(spot),
+        Line::Close { .. } => closed(spot),
+        _ => spot,
     }
+}
+
+/// Where the line behind this one stands, one compound node deeper at most.
+fn next_spot(spot: Spot, line: &Line) -> Spot
+    requires { suc spot.depth < 2 ^ 64 }
+    ensures spot { result ≡ spot_next line.now spot }
+    ensures shallow { result.depth ≤ suc spot.depth }
+{
+    spot_after(spot, line)
 }
 
 fn add_name(alloc: Global, names: &mut Names, spot: Spot, line: &Line) -> Result<(), NoMemory>
@@ -264,7 +274,7 @@ fn names_in(alloc: Global, lines: &[(u32, Line)]) -> Result<Names, NoMemory>
     };
     for line in lines {
         add_name(alloc, &mut names, spot, &line.1)?;
-        spot = next_spot(spot, &line.1)?;
+        spot = next_spot(spot, &line.1);
     }
     Ok(names)
 }
@@ -289,6 +299,8 @@ fn all_ended(
 
 /// The unit when its lines have ended.
 fn whole(alloc: Global, known: Known, machine: Machine) -> Result<Unit1, If1Fault>
+    requires sound { IsTableSound known.table }
+    requires room { HasRoom known machine }
     ensures read { IfOk result (λ u. IsTableSound known.table → IsWhole known machine u) }
     ensures fault { IfErr result (λ e. IsTableSound known.table → IsRefused known machine e) }
 {
@@ -307,7 +319,7 @@ fn whole(alloc: Global, known: Known, machine: Machine) -> Result<Unit1, If1Faul
     if !is_closed {
         return Err(If1Fault::Unclosed);
     }
-    number_parts(&mut graphs, 1)?;
+    number_parts(&mut graphs, 0);
     let Known { table, names: _ } = known;
     Ok(Unit1 {
         types: table.types,
@@ -320,8 +332,9 @@ fn whole(alloc: Global, known: Known, machine: Machine) -> Result<Unit1, If1Faul
 ///
 /// A refusal names the first line at fault, and of several faults of that line the one of the
 /// least number; a text with no such line is refused where a compound node stays open, and else
-/// for want of memory alone.
+/// for want of memory alone. A text has fewer than 2^32 bytes.
 pub fn read_if1(alloc: Global, text: &[u8]) -> Result<Unit1, If1Fault>
+    requires { length text.now < 2 ^ 32 }
     ensures read { IfOk result (λ u. ReadsIf1 text.now u) }
     ensures fault { IfErr result (λ e. IsFaultOf text.now e) }
     ensures only { IfErr result (λ e. (u : Unit1) → ReadsIf1 text.now u → e ≡ if1_fault.NoMemory) }

@@ -1,5 +1,5 @@
 //! The unit of an IF1 text, for a run.
-ghost use Rattle.std.specs.Prelude.{◌≡◌, ℕ, List, IfOk, IfErr};
+ghost use Rattle.std.specs.Prelude.{◌≡◌, ◌<◌, ◌^◌, ℕ, List, length, IfOk, IfErr};
 ghost use Rattle.if1_graph.specs.Reads.{ReadsIf1};
 ghost use Rattle.if1_graph.specs.Ready.{IsReady};
 ghost use Rattle.if1_marks.specs.Sound.{IsSound};
@@ -33,6 +33,7 @@ fn marked(alloc: Global, unit: Ready) -> Result<Sound, If1Fault>
 /// list, and else with those that are made. Else the first fault of the text, of its unit or of its marks (IF1
 /// manual M-170).
 pub fn unit_of_text(alloc: Global, text: &[u8]) -> Result<Sound, If1Fault>
+    requires { length text.now < 2 ^ 32 }
     ensures unit { IfOk result (IsUnitOf text.now) }
     ensures refused { IfErr result (IsRefusedFor text.now) }
 {

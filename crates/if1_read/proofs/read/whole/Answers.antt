@@ -1,4 +1,4 @@
-use Rattle.std.proofs.Common.{refl, sym, subst, ◌∙◌}
+use Rattle.std.proofs.Common.{refl, sym, subst, ◌∙◌, arith}
 use Rattle.if1_read.specs.Known.{IsTableSound}
 use Rattle.if1_read.specs.Whole.{IsRefused, fault, unclosed, no_memory}
 use Rattle.if1_read.proofs.Levelwise.{all_named, no_some, none_open, some_open}
@@ -13,10 +13,12 @@ pub returns-in_err-first-clause-fault : goal.returns-in_err-first-clause-fault
 returns-in_err-first-clause-fault c =
     given_up (λ e. IsTableSound c.args.known.table → IsRefused c.args.known c.args.machine e) c.from_residual-in_err-first.result c.from_residual-in_err-first.ensures.1 (λ _. no_memory)
 
-pub returns-in_err-number_parts-clause-fault : goal.returns-in_err-number_parts-clause-fault
-returns-in_err-number_parts-clause-fault c =
-    given_up (λ e. IsTableSound c.args.known.table → IsRefused c.args.known c.args.machine e) c.from_residual-in_err-number_parts.result c.from_residual-in_err-number_parts.ensures.1
-    (λ _. no_memory)
+pub number_parts-requires : goal.number_parts-requires
+number_parts-requires c =
+    let clean = c.in_ok-first.ensures.clean (no_some c.in_ok-first.first c.in_default.not-Some) in
+    let outer = c.args.machine.outer in
+    let closed = none_open outer.items outer.len c.is_empty-is_closed.result outer.ok.0 c.is_empty-is_closed.ensures c.if-not-is_closed.false in
+    omega (arith, c.requires.room (c.in_ok-graphs.ensures.clean clean) closed c.in_ok-graphs.graphs (c.in_ok-graphs.ensures.ends clean c.requires.sound))
 
 pub returns-in-Some-clause-fault : goal.returns-in-Some-clause-fault
 returns-in-Some-clause-fault c = λ sound.
@@ -41,6 +43,6 @@ returns-clause-read c = λ sound.
       imports = refl;
       read = c.in_ok-graphs.graphs;
       ends = c.in_ok-graphs.ensures.ends clean sound;
-      like = c.in_ok-number_parts.ensures.like;
-      counted = c.in_ok-number_parts.ensures.counted;
+      like = c.number_parts.ensures.like;
+      counted = c.number_parts.ensures.counted;
     }

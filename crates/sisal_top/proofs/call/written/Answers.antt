@@ -1,8 +1,12 @@
+use Rattle.std.proofs.Common.{arith}
 use Rattle.run_words.specs.declared.command.Command.TheVariants as command
 use Rattle.sisal_top.specs.Refusals.{IsOfBytes}
 use Rattle.sisal_top.specs.Status.{of_unit}
 use Rattle.sisal_top.proofs.Replies.{invalid_of_bytes, invalid_reply, passed_on, reply_passed_on}
 use Rattle.sisal_top.proofs.call.written.Goals as goal
+
+pub canonical_text-requires : goal.canonical_text-requires
+canonical_text-requires c = omega (arith, c.requires.few)
 
 pub returns-in_err-printed-clause-replies : goal.returns-in_err-printed-clause-replies
 returns-in_err-printed-clause-replies c =
