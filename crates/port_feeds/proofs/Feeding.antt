@@ -1,5 +1,5 @@
 -- What lends an input is the source of the operand at its place.
-use Rattle.std.proofs.Common.{◌≡◌, ◌∙◌, ℕ, Bool, true, false, if◌then◌else◌, Option, Some, None, refl, sym, ap}
+use Rattle.std.proofs.Common.{◌≡◌, ℕ, Bool, true, false, if◌then◌else◌, Option, Some, None, refl, ap}
 use Rattle.if1_graph.specs.declared.graph.Edge.{Edge}
 use Rattle.if1_graph.specs.declared.graph.Origin.{Origin}
 use Rattle.if1_graph.specs.declared.graph.Origin.TheVariants as origin
@@ -9,7 +9,7 @@ use Rattle.if1_graph.specs.Formed.{want_at}
 use Rattle.if1_graph.specs.Units.{Inside, edge_into, label_of}
 use Rattle.if1_marks.specs.Aggregates.{is_aggregate}
 use Rattle.if1_marks.specs.Owned.{is_owned}
-use Rattle.graph_meaning.specs.Demand.{Source, Port as Out}
+use Rattle.graph_meaning.specs.Demand.{Port as Out}
 use Rattle.graph_meaning.specs.Networks.{source_by, source_from}
 use Rattle.port_feeds.specs.declared.lenders.Lender.{Lender}
 use Rattle.port_feeds.specs.Lenders.{aggregate_from, port_left, unless_owned, DoLendersFeed}

@@ -20,14 +20,13 @@ use Rattle.if1_graph.specs.Tables.{◌>>=◌}
 use Rattle.if1_graph.specs.Units.{Inside, Place, edge_into, label_of, node_at, number_of, places, width}
 use Rattle.if1_ports.proofs.Right.{node_found}
 use Rattle.if1_marks.specs.Aggregates.{is_aggregate}
-use Rattle.if1_marks.specs.Given.{called, consumes, consumes_node, is_call, is_call_as, is_consumed_by, is_consuming, is_given_to_called}
+use Rattle.if1_marks.specs.Given.{called, consumes, consumes_node, is_call_as, is_consumed_by, is_consuming, is_given_to_called}
 use Rattle.if1_marks.specs.Owned.{is_owned, is_owned_as, is_owned_in}
 use Rattle.if1_marks.proofs.Lent.{are-lent}
 use Rattle.if1_marks.proofs.Tests.{same-number}
 use Rattle.graph_meaning.proofs.Lists.{found-in}
 use Rattle.unit_laws.proofs.TypedNodes.{port-filled, width-over}
 use Rattle.storage_flags.specs.Flags.{AreRows, consumers_of}
-use Rattle.port_feeds.specs.declared.lenders.Lender.{Lender}
 use Rattle.port_feeds.specs.Found.{if_leading}
 use Rattle.port_feeds.specs.Lenders.{aggregate_from, does_own, input_lender, port_left, unless_owned, IsNodeIn}
 use Rattle.port_feeds.proofs.Search.{leading-is}
