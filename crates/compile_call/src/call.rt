@@ -1,6 +1,8 @@
 //! The texts of a program's unit.
 ghost use Rattle.std.specs.Prelude.{◌≡◌, ◌++◌, IfOk, IfErr};
 ghost use Rattle.if1_graph.specs.Lines.{if1_text};
+ghost use Rattle.lowering_meaning.specs.Coverage.{AreCovered};
+ghost use Rattle.lowered_rules.specs.Laws.{rule_forms};
 ghost use Rattle.lowered_units.specs.Fitting.{IsFitting};
 ghost use Rattle.unit_drawing.specs.Notes.{note_lines};
 ghost use Rattle.compile_call.specs.Calls.{IsMarked, IsRefused, IsTextBy, Prints};
@@ -20,6 +22,7 @@ use unit_drawing::{add_notes, drawing};
 /// Refused as `compile` refuses the program.
 pub fn marked(alloc: Global, program: &Program) -> Result<Marked, TranslateFault>
     requires fits { IsFitting program.now }
+    requires covered { AreCovered rule_forms program.now.functions }
     ensures marked { IfOk result (IsMarked program.now) }
     ensures refused { IfErr result (IsRefused program.now) }
 {
@@ -71,6 +74,7 @@ fn text_of(alloc: Global, marked: &Marked, set: &CompileSet) -> Result<Text, NoM
 /// too many, with the line of the function in which this shows.
 pub fn compile(alloc: Global, program: &Program, set: &CompileSet) -> Result<Text, TranslateFault>
     requires fits { IsFitting program.now }
+    requires covered { AreCovered rule_forms program.now.functions }
     ensures printed { IfOk result (Prints program.now set.now) }
     ensures refused { IfErr result (IsRefused program.now) }
 {

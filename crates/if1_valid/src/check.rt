@@ -1,4 +1,4 @@
-//! Whether a unit is valid.
+//! Whether a unit is valid, and units that are known to be.
 ghost use Rattle.std.specs.Prelude.{◌≡◌, IfOk, IfErr};
 ghost use Rattle.if1_graph.specs.Formed.{IsFormed};
 ghost use Rattle.if1_graph.specs.Normal.{IsNormal};
@@ -6,6 +6,7 @@ ghost use Rattle.if1_graph.specs.Ready.{IsReady};
 ghost use Rattle.if1_valid.specs.Refused.{IsRefused};
 
 use crate::ready::Ready;
+use flow_value::NoMemory;
 use if1_graph::{If1Fault, Unit1};
 use if1_order::{ports_link, wrong_order};
 use if1_ports::wrong_ports;
@@ -36,4 +37,14 @@ pub fn valid(alloc: Global, unit: Unit1) -> Result<Ready, If1Fault>
         return Err(If1Fault::Cycle { graph, node });
     }
     Ok(Ready::of(unit, known.sorts))
+}
+
+/// A unit that is ready by what is known of it, with the numbers of its types: nothing is checked.
+pub fn numbered(alloc: Global, unit: Unit1) -> Result<Ready, NoMemory>
+    requires ready { IsReady unit }
+    requires normal { IsNormal unit }
+    ensures { IfOk result (λ r. r ≡ unit) }
+{
+    let sorts = sorts_of(alloc, unit.types.as_slice())?;
+    Ok(Ready::of(unit, sorts))
 }

@@ -6,5 +6,5 @@ mod check;
 mod params;
 mod ready;
 
-pub use check::valid;
+pub use check::{numbered, valid};
 pub use ready::Ready;

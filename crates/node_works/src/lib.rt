@@ -15,6 +15,7 @@ mod works;
 
 pub use functions::Callee;
 pub use outputs::output_types;
+pub use shapes::shape_at;
 pub use tables::{UnitTables, function_inputs, tables_of};
 pub use task::Task;
 pub use widths::widths_of;

@@ -1,3 +1,4 @@
 pub mod Found
 pub mod Wanted
 pub mod Filled
+pub mod Lenders

@@ -1,5 +1,7 @@
 //! From the bytes of a text to its typed program.
 ghost use Rattle.std.specs.Prelude.{ℕ, List, IfOk, IfErr};
+ghost use Rattle.lowering_meaning.specs.Coverage.{AreCovered};
+ghost use Rattle.lowered_rules.specs.Laws.{rule_forms};
 ghost use Rattle.lowered_units.specs.Fitting.{IsFitting};
 ghost use Rattle.sisal_top.specs.Outputs.{HasProgram};
 ghost use Rattle.sisal_top.specs.Program.{Fits, IsUnitOf};
@@ -12,6 +14,7 @@ use sisal_lex::lex;
 use sisal_parse::parse;
 use sisal_tree::Unit;
 use std::alloc::Global;
+use text_ready::programs_of_texts_are_covered;
 use typed_tree::Program;
 
 /// The unit that a text is.
@@ -30,6 +33,7 @@ pub fn typed(alloc: Global, text: &[u8]) -> Result<Program, Status>
     requires { Fits text.now }
     ensures program { IfOk result (HasProgram text.now) }
     ensures fits { IfOk result IsFitting }
+    ensures covered { IfOk result (λ program. AreCovered rule_forms program.functions) }
     ensures refused { IfErr result (IsNoProgram text.now) }
 {
     let unit = unit_of(alloc, text)?;
@@ -41,9 +45,11 @@ pub fn typed(alloc: Global, text: &[u8]) -> Result<Program, Status>
 fn program_of(alloc: Global, unit: Unit) -> Result<Program, Status>
     ensures program { IfOk result (λ program. (bytes : List ℕ) → IsUnitOf bytes unit → HasProgram bytes program) }
     ensures fits { IfOk result (λ program. (bytes : List ℕ) → IsUnitOf bytes unit → IsFitting program) }
+    ensures covered { IfOk result (λ program. (bytes : List ℕ) → IsUnitOf bytes unit → AreCovered rule_forms program.functions) }
     ensures refused { IfErr result (λ s. (bytes : List ℕ) → IsUnitOf bytes unit → IsNoProgram bytes s) }
 {
     programs_of_texts_fit();
+    programs_of_texts_are_covered();
     let program = check(alloc, unit)?;
     Ok(program)
 }

@@ -2,6 +2,8 @@
 ghost use Rattle.std.specs.Prelude.{◌≡◌, ℕ, Some, None, IfOk, IfErr, OnOk};
 ghost use Rattle.lowering.specs.TooMany.{program_over, too_many, types_over};
 ghost use Rattle.lowering.specs.Types.{basics, needs};
+ghost use Rattle.lowering_meaning.specs.Coverage.{AreCovered};
+ghost use Rattle.lowered_rules.specs.Laws.{rule_forms};
 ghost use Rattle.lowered_units.specs.Fitting.{IsFitting};
 ghost use Rattle.lowered_units.specs.Units.{IsTranslated};
 ghost use Rattle.unit_build.specs.Labels.{AreLabelsOf};
@@ -73,6 +75,7 @@ fn sizes(program: &Program) -> Result<(), TranslateFault>
 /// manual M-170).
 pub fn translate(alloc: Global, program: &Program) -> Result<Ready, TranslateFault>
     requires fits { IsFitting program.now }
+    requires covered { AreCovered rule_forms program.now.functions }
     ensures unit { IfOk result (λ r. IsTranslated program.now r) }
     ensures within { IfOk result (λ r. too_many program.now ≡ None) }
     ensures too_many { IfErr result (λ e. (line : ℕ) → e ≡ TranslateFault.TooMany line → too_many program.now ≡ Some line) }

@@ -1,23 +1,25 @@
-//! The unit of a program is valid.
+//! The unit of a program is ready.
 ghost use Rattle.std.specs.Prelude.{◌≡◌, None, IfOk};
 ghost use Rattle.lowering.specs.Programs.{functions_lowered};
 ghost use Rattle.lowering.specs.TooMany.{too_many};
+ghost use Rattle.lowering_meaning.specs.Coverage.{AreCovered};
+ghost use Rattle.lowered_rules.specs.Laws.{rule_forms};
 ghost use Rattle.lowered_units.specs.Fitting.{IsFitting};
 ghost use Rattle.lowered_units.specs.Units.{IsTranslated};
 ghost use Rattle.unit_build.specs.Labels.{AreLabelsOf};
 
 use flow_value::{NoMemory, Seq};
-use if1_valid::{Ready, valid};
+use if1_valid::{Ready, numbered};
 use line_labels::Labels;
-use lowered_units::translated_units_are_formed;
+use lowered_ready::translated_units_are_ready;
+use lowered_units::translated_units_are_normal;
 use lowering::Lowered;
 use std::alloc::Global;
 use typed_tree::Program;
 use unit_build::unit_of;
 
-/// The unit of a program within the limits, of its lowered functions and its labels. The unit is
-/// checked, and a refusal counts as want of memory: none comes of the program of a text, as the law of
-/// `text_ready` on its unit tells.
+/// The unit of a program within the limits, of its lowered functions and its labels. It is ready by a law
+/// where the program's loops are such as texts have, so nothing of it is checked.
 pub fn ready_unit(
     alloc: Global,
     program: &Program,
@@ -25,15 +27,14 @@ pub fn ready_unit(
     labels: &Labels,
 ) -> Result<Ready, NoMemory>
     requires fits { IsFitting program.now }
+    requires covered { AreCovered rule_forms program.now.functions }
     requires within { too_many program.now ≡ None }
     requires functions { lowered ≡ functions_lowered program.now }
     requires labels { AreLabelsOf program.now labels.now }
     ensures { IfOk result (λ ready. IsTranslated program.now ready) }
 {
     let unit = unit_of(alloc, program, lowered, labels)?;
-    translated_units_are_formed();
-    match valid(alloc, unit) {
-        Ok(ready) => Ok(ready),
-        Err(_) => Err(NoMemory),
-    }
+    translated_units_are_ready();
+    translated_units_are_normal();
+    numbered(alloc, unit)
 }

@@ -17,5 +17,11 @@ returns-clause-fits c = λ bytes is.
     (record { lexed = is.lexed; spelled = is.spelled; typed = c.in_ok-program.ensures.typed text; standing = c.in_ok-program.ensures.standing text })
     is.shallow c.in_ok-program.ensures.types
 
+pub returns-clause-covered : goal.returns-clause-covered
+returns-clause-covered c = λ bytes is.
+    let text = is_text bytes c.args.unit is in
+    c.programs_of_texts_are_covered.ensures bytes c.args.unit c.in_ok-program.program
+    (record { lexed = is.lexed; spelled = is.spelled; typed = c.in_ok-program.ensures.typed text; standing = c.in_ok-program.ensures.standing text })
+
 pub returns-in_err-program-clause-refused : goal.returns-in_err-program-clause-refused
 returns-in_err-program-clause-refused c = checker_cause c.args.unit c.in_err-program.field-0.0 c.from_residual.result c.in_err-program.ensures.breaks c.from_residual.ensures.1

@@ -10,3 +10,6 @@ returns-in_err-unit-clause-refused c =
 pub returns-in_err-program-clause-refused : goal.returns-in_err-program-clause-refused
 returns-in_err-program-clause-refused c =
     passed_on (IsNoProgram c.args.text.now) c.in_err-program.field-0.0 c.from_residual-in_err-program.result (c.in_err-program.ensures.refused c.args.text.now c.in_ok-unit.ensures.unit) c.from_residual-in_err-program.ensures.1
+
+pub returns-clause-covered : goal.returns-clause-covered
+returns-clause-covered c = c.in_ok-program.ensures.covered c.args.text.now c.in_ok-unit.ensures.unit

@@ -1,9 +1,8 @@
 use Rattle.translate.proofs.ready.ready_unit.Goals as goal
 
-pub valid-requires-clause-formed : goal.valid-requires-clause-formed
-valid-requires-clause-formed c =
-    (c.translated_units_are_formed.ensures c.args.program.now c.in_ok-unit.unit c.requires.fits c.requires.within c.in_ok-unit.ensures).0
+pub numbered-requires-clause-ready : goal.numbered-requires-clause-ready
+numbered-requires-clause-ready c =
+    c.translated_units_are_ready.ensures c.args.program.now c.in_ok-unit.unit c.requires.fits c.requires.covered c.requires.within c.in_ok-unit.ensures
 
-pub valid-requires-clause-normal : goal.valid-requires-clause-normal
-valid-requires-clause-normal c =
-    (c.translated_units_are_formed.ensures c.args.program.now c.in_ok-unit.unit c.requires.fits c.requires.within c.in_ok-unit.ensures).1
+pub numbered-requires-clause-normal : goal.numbered-requires-clause-normal
+numbered-requires-clause-normal c = c.translated_units_are_normal.ensures c.args.program.now c.in_ok-unit.unit c.requires.fits c.in_ok-unit.ensures
