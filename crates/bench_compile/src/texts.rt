@@ -1,5 +1,7 @@
 //! The typed program of a text.
 ghost use Rattle.std.specs.Prelude.{◌≡◌, ◌≤◌, ◌<◌, ℕ, List, Ok, IfSome, length};
+ghost use Rattle.lowering_meaning.specs.Coverage.{AreCovered};
+ghost use Rattle.lowered_rules.specs.Laws.{rule_forms};
 ghost use Rattle.lowered_units.specs.Fitting.{IsFitting};
 ghost use Rattle.sisal_lex.specs.Tokens.{tokens_of};
 ghost use Rattle.sisal_top.specs.Program.{IsUnitOf};
@@ -11,6 +13,7 @@ use sisal_lex::{Tokens, lex};
 use sisal_parse::parse;
 use sisal_tree::Unit;
 use std::alloc::Global;
+use text_ready::programs_of_texts_are_covered;
 use typed_tree::Program;
 
 /// The unit that tokens are, if they are one.
@@ -37,9 +40,11 @@ fn unit_of(alloc: Global, text: &[u8]) -> Option<Unit>
 
 /// The program of a unit, if it breaks no typing rule.
 fn program_of(alloc: Global, unit: Unit) -> Option<Program>
-    ensures { IfSome result (λ program. (bytes : List ℕ) → IsUnitOf bytes unit → IsFitting program) }
+    ensures fits { IfSome result (λ program. (bytes : List ℕ) → IsUnitOf bytes unit → IsFitting program) }
+    ensures covered { IfSome result (λ program. (bytes : List ℕ) → IsUnitOf bytes unit → AreCovered rule_forms program.functions) }
 {
     programs_of_texts_fit();
+    programs_of_texts_are_covered();
     match check(alloc, unit) {
         Ok(program) => Some(program),
         Err(_) => None,
@@ -48,7 +53,8 @@ fn program_of(alloc: Global, unit: Unit) -> Option<Program>
 
 /// The program that a text is, if it is one.
 pub fn typed(alloc: Global, text: &[u8]) -> Option<Program>
-    ensures { IfSome result IsFitting }
+    ensures fits { IfSome result IsFitting }
+    ensures covered { IfSome result (λ program. AreCovered rule_forms program.functions) }
 {
     if text.len() > MOST_BYTES {
         return None;

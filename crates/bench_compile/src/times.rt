@@ -1,4 +1,6 @@
 //! How long each step takes.
+ghost use Rattle.lowering_meaning.specs.Coverage.{AreCovered};
+ghost use Rattle.lowered_rules.specs.Laws.{rule_forms};
 ghost use Rattle.lowered_units.specs.Fitting.{IsFitting};
 
 use crate::texts::typed;
@@ -44,7 +46,8 @@ fn marked(rt: HostRuntime, ready: Ready, checked: u128, translated: u128) -> io:
 
 /// Times the translating.
 fn translated(rt: HostRuntime, program: &Program, checked: u128) -> io::Result<()>
-    requires { IsFitting program.now }
+    requires fits { IsFitting program.now }
+    requires covered { AreCovered rule_forms program.now.functions }
 {
     let begin = Instant::now(&rt)?;
     match translate(rt.alloc(), program) {

@@ -42,7 +42,13 @@ fn counted_words(counted: Counted) -> &'static [u8] {
 }
 
 /// The name of a node and its operands.
-fn put_node(text: &mut Text, code: &Code, row: Simple, ins: u32, many: u32) -> Result<(), NoMemory> {
+fn put_node(
+    text: &mut Text,
+    code: &Code,
+    row: Simple,
+    ins: u32,
+    many: u32,
+) -> Result<(), NoMemory> {
     text.extend(b" ")?;
     text.extend(simple_name(row))?;
     put_operands(text, code, ins, many)
@@ -111,7 +117,13 @@ fn put_behind(text: &mut Text, code: &Code, gap: usize, at: usize) -> Result<(),
     }
 }
 
-fn put_sparse(text: &mut Text, code: &Code, gaps: u32, ins: u32, many: u32) -> Result<(), NoMemory> {
+fn put_sparse(
+    text: &mut Text,
+    code: &Code,
+    gaps: u32,
+    ins: u32,
+    many: u32,
+) -> Result<(), NoMemory> {
     for place in 0..many {
         let behind = place as usize;
         put_behind(text, code, gaps as usize + behind, ins as usize + behind)?;
@@ -133,7 +145,11 @@ fn put_bringing(text: &mut Text, code: &Code, step: &Step) -> Result<(), NoMemor
             text.extend(sparse_words(*row))?;
             put_sparse(text, code, *gaps, *ins, *many)?;
             put_outs(text, *out, 1)?;
-            text.extend(if *copies { b"; counts copied operands" } else { b"" })
+            text.extend(if *copies {
+                b"; counts copied operands"
+            } else {
+                b""
+            })
         }
         Step::Bring { from, out, next } => {
             text.extend(b" bring")?;
