@@ -9,3 +9,4 @@ pub mod Pieces
 pub mod RoundTrip
 pub mod Endings
 pub mod ReadSpelled
+pub mod Begun

@@ -6,3 +6,4 @@ pub mod Reading
 pub mod Spelling
 pub mod Lines
 pub mod Places
+pub mod Begun

@@ -1,5 +1,6 @@
 //! Lines as they are written.
-ghost use Rattle.std.specs.Prelude.{◌≡◌, ◌++◌, ◌∷◌, [], ◌≤◌, OnOk, OnErr, IfOk, codes, decimal, drop, length, map};
+ghost use Rattle.std.specs.Prelude.{◌≡◌, ◌++◌, ◌∷◌, [], ◌≤◌, OnOk, OnErr, IfOk, codes, decimal, drop, length, map, take};
+ghost use Rattle.if1_line.specs.Begun.{Begins};
 ghost use Rattle.if1_line.specs.Entries.{entry_form};
 ghost use Rattle.if1_line.specs.Spelling.{number, name_part, take_part, before_part, entry_parts, function_letter, line_text, node_pragmas, after_blanks, after_commas, text_of, opening};
 ghost use Rattle.if1_line.specs.Parts.{Quoted};
@@ -10,24 +11,30 @@ use flow_value::{NoMemory, Text};
 use itoa::Buffer;
 use std::alloc::Global;
 
+#[tactic(auto, using(crate::proofs::Begun::kept_same, crate::proofs::Begun::kept_then))]
 fn put_decimal(n: u32, to: &mut Text) -> Result<(), NoMemory>
-    ensures { OnOk result (to.new ≡ to.old ++ decimal n) }
+    ensures ok { OnOk result (to.new ≡ to.old ++ decimal n) }
+    ensures kept { OnErr result (Begins to.old to.new) }
 {
     let mut buffer = Buffer::new();
     to.extend(buffer.format(n).as_bytes())
 }
 
 /// Adds a number behind a blank.
+#[tactic(auto, using(crate::proofs::Begun::kept_same, crate::proofs::Begun::kept_then))]
 fn put_number(n: u32, to: &mut Text) -> Result<(), NoMemory>
-    ensures { OnOk result (to.new ≡ to.old ++ after_blanks (number n ∷ [])) }
+    ensures ok { OnOk result (to.new ≡ to.old ++ after_blanks (number n ∷ [])) }
+    ensures kept { OnErr result (Begins to.old to.new) }
 {
     to.extend(b" ")?;
     put_decimal(n, to)
 }
 
 /// Adds a count behind a blank.
+#[tactic(auto, using(crate::proofs::Begun::kept_same, crate::proofs::Begun::kept_then))]
 fn put_count(n: usize, to: &mut Text) -> Result<(), NoMemory>
-    ensures { OnOk result (to.new ≡ to.old ++ after_blanks (number n ∷ [])) }
+    ensures ok { OnOk result (to.new ≡ to.old ++ after_blanks (number n ∷ [])) }
+    ensures kept { OnErr result (Begins to.old to.new) }
 {
     to.extend(b" ")?;
     let mut buffer = Buffer::new();
@@ -35,8 +42,10 @@ fn put_count(n: usize, to: &mut Text) -> Result<(), NoMemory>
 }
 
 /// Adds numbers, each behind a blank.
+#[tactic(auto, using(crate::proofs::Begun::kept_same, crate::proofs::Begun::kept_then, crate::proofs::Begun::kept_past))]
 fn put_numbers(ns: &[u32], to: &mut Text) -> Result<(), NoMemory>
-    ensures { OnOk result (to.new ≡ to.old ++ after_blanks (map number ns.now)) }
+    ensures ok { OnOk result (to.new ≡ to.old ++ after_blanks (map number ns.now)) }
+    ensures kept { OnErr result (Begins to.old to.new) }
 {
     for n in ns {
         put_number(*n, to)?;
@@ -45,8 +54,10 @@ fn put_numbers(ns: &[u32], to: &mut Text) -> Result<(), NoMemory>
 }
 
 /// Adds a text in quotes behind a blank.
+#[tactic(auto, using(crate::proofs::Begun::kept_same, crate::proofs::Begun::kept_then))]
 fn put_quoted(text: &[u8], to: &mut Text) -> Result<(), NoMemory>
-    ensures { OnOk result (to.new ≡ to.old ++ after_blanks (Quoted text.now ∷ [])) }
+    ensures ok { OnOk result (to.new ≡ to.old ++ after_blanks (Quoted text.now ∷ [])) }
+    ensures kept { OnErr result (Begins to.old to.new) }
 {
     to.extend(b" \"")?;
     to.extend(text)?;
@@ -54,8 +65,10 @@ fn put_quoted(text: &[u8], to: &mut Text) -> Result<(), NoMemory>
 }
 
 /// Adds the pragma of a name that is not empty.
+#[tactic(auto, using(crate::proofs::Begun::kept_same, crate::proofs::Begun::kept_then))]
 fn put_name(name: &[u8], to: &mut Text) -> Result<(), NoMemory>
-    ensures { OnOk result (to.new ≡ to.old ++ after_blanks (name_part name.now)) }
+    ensures ok { OnOk result (to.new ≡ to.old ++ after_blanks (name_part name.now)) }
+    ensures kept { OnErr result (Begins to.old to.new) }
 {
     if name.is_empty() {
         return Ok(());
@@ -65,15 +78,19 @@ fn put_name(name: &[u8], to: &mut Text) -> Result<(), NoMemory>
 }
 
 /// Adds the pragma of an edge that takes.
+#[tactic(auto, using(crate::proofs::Begun::kept_same, crate::proofs::Begun::kept_then))]
 fn put_take(takes: bool, to: &mut Text) -> Result<(), NoMemory>
-    ensures { OnOk result (to.new ≡ to.old ++ after_blanks (take_part takes)) }
+    ensures ok { OnOk result (to.new ≡ to.old ++ after_blanks (take_part takes)) }
+    ensures kept { OnErr result (Begins to.old to.new) }
 {
     if takes { to.extend(b" %tk=1") } else { Ok(()) }
 }
 
 /// Adds the pragma of a list of labels that is not empty.
+#[tactic(auto, using(crate::proofs::Begun::kept_same, crate::proofs::Begun::kept_then))]
 fn put_before(before: &[u32], to: &mut Text) -> Result<(), NoMemory>
-    ensures { OnOk result (to.new ≡ to.old ++ after_blanks (before_part before.now)) }
+    ensures ok { OnOk result (to.new ≡ to.old ++ after_blanks (before_part before.now)) }
+    ensures kept { OnErr result (Begins to.old to.new) }
 {
     if before.is_empty() {
         return Ok(());
@@ -84,9 +101,11 @@ fn put_before(before: &[u32], to: &mut Text) -> Result<(), NoMemory>
 }
 
 /// Adds the numbers of a list from a place on, each behind a comma.
+#[tactic(auto, using(crate::proofs::Begun::kept_same, crate::proofs::Begun::kept_then, crate::proofs::Begun::kept_past))]
 fn put_after_commas(ns: &[u32], from: usize, to: &mut Text) -> Result<(), NoMemory>
     requires { from ≤ length ns.now }
-    ensures { OnOk result (to.new ≡ to.old ++ after_commas (drop from ns.now)) }
+    ensures ok { OnOk result (to.new ≡ to.old ++ after_commas (drop from ns.now)) }
+    ensures kept { OnErr result (Begins to.old to.new) }
 {
     for i in from..ns.len() {
         to.extend(b",")?;
@@ -95,13 +114,15 @@ fn put_after_commas(ns: &[u32], from: usize, to: &mut Text) -> Result<(), NoMemo
     Ok(())
 }
 
+#[tactic(auto, using(crate::proofs::Begun::kept_same, crate::proofs::Begun::kept_then))]
 fn put_entry_numbers(
     form: Option<EntryForm>,
     first: u32,
     second: u32,
     to: &mut Text,
 ) -> Result<(), NoMemory>
-    ensures { OnOk result (to.new ≡ to.old ++ after_blanks (entry_parts form first second)) }
+    ensures ok { OnOk result (to.new ≡ to.old ++ after_blanks (entry_parts form first second)) }
+    ensures kept { OnErr result (Begins to.old to.new) }
 {
     put_number(first, to)?;
     match form {
@@ -111,32 +132,37 @@ fn put_entry_numbers(
 }
 
 /// Adds the letter of a line, and its numbers, each behind a blank.
+#[tactic(auto, using(crate::proofs::Begun::kept_same, crate::proofs::Begun::kept_then))]
 fn put_head(letter: u8, numbers: &[u32], to: &mut Text) -> Result<(), NoMemory>
-    ensures { OnOk result (to.new ≡ to.old ++ letter ∷ after_blanks (map number numbers.now)) }
+    ensures ok { OnOk result (to.new ≡ to.old ++ letter ∷ after_blanks (map number numbers.now)) }
+    ensures kept { OnErr result (Begins to.old to.new) }
 {
     to.add(letter)?;
     put_numbers(numbers, to)
 }
 
 /// Adds the pragmas of a node.
-#[tactic(auto, using(crate::proofs::Written::after_blanks_append))]
+#[tactic(auto, using(crate::proofs::Written::after_blanks_append, crate::proofs::Begun::kept_same, crate::proofs::Begun::kept_then))]
 fn put_node_pragmas(name: &[u8], before: &[u32], to: &mut Text) -> Result<(), NoMemory>
-    ensures { OnOk result (to.new ≡ to.old ++ after_blanks (node_pragmas name.now before.now)) }
+    ensures ok { OnOk result (to.new ≡ to.old ++ after_blanks (node_pragmas name.now before.now)) }
+    ensures kept { OnErr result (Begins to.old to.new) }
 {
     put_name(name, to)?;
     put_before(before, to)
 }
 
 /// Adds the association list and the pragmas of a compound node.
+#[tactic(auto, using(crate::proofs::Begun::kept_same, crate::proofs::Begun::kept_then))]
 fn put_lists(assoc: &[u32], name: &[u8], before: &[u32], to: &mut Text) -> Result<(), NoMemory>
-    ensures { OnOk result (to.new ≡ to.old ++ after_blanks (map number assoc.now ++ node_pragmas name.now before.now)) }
+    ensures ok { OnOk result (to.new ≡ to.old ++ after_blanks (map number assoc.now ++ node_pragmas name.now before.now)) }
+    ensures kept { OnErr result (Begins to.old to.new) }
 {
     put_numbers(assoc, to)?;
     put_node_pragmas(name, before, to)
 }
 
 /// Adds the line with which a compound node ends, without the line feed that ends the line.
-#[tactic(auto, using(crate::proofs::Written::after_blanks_append))]
+#[tactic(auto, using(crate::proofs::Written::after_blanks_append, crate::proofs::Begun::kept_same, crate::proofs::Begun::kept_then))]
 fn put_close(
     label: u32,
     op: u32,
@@ -146,7 +172,8 @@ fn put_close(
     name: &[u8],
     to: &mut Text,
 ) -> Result<(), NoMemory>
-    ensures { OnOk result (to.new ≡ to.old ++ line_text (line.Close label op graphs assoc.now before.now name.now)) }
+    ensures ok { OnOk result (to.new ≡ to.old ++ line_text (line.Close label op graphs assoc.now before.now name.now)) }
+    ensures kept { OnErr result (Begins to.old to.new) }
 {
     put_head(b'}', &[label, op], to)?;
     put_count(graphs, to)?;
@@ -160,9 +187,10 @@ fn function_letter(exported: bool) -> u8
 }
 
 /// Adds a line without the line feed that ends it.
-#[tactic(auto, using(crate::proofs::Written::after_blanks_append))]
+#[tactic(auto, using(crate::proofs::Written::after_blanks_append, crate::proofs::Begun::kept_same, crate::proofs::Begun::kept_then))]
 fn put_line(line: &Line, to: &mut Text) -> Result<(), NoMemory>
-    ensures { OnOk result (to.new ≡ to.old ++ line_text line.now) }
+    ensures ok { OnOk result (to.new ≡ to.old ++ line_text line.now) }
+    ensures kept { OnErr result (Begins to.old to.new) }
 {
     match line {
         Line::Blank => Ok(()),
@@ -252,16 +280,58 @@ fn put_line(line: &Line, to: &mut Text) -> Result<(), NoMemory>
     }
 }
 
+/// Adds a line and the line feed that ends it.
+#[tactic(auto, using(crate::proofs::Begun::kept_same, crate::proofs::Begun::kept_then))]
+fn put_ended(line: &Line, to: &mut Text) -> Result<(), NoMemory>
+    ensures ok { OnOk result (to.new ≡ to.old ++ text_of (line.now ∷ [])) }
+    ensures kept { OnErr result (Begins to.old to.new) }
+{
+    put_line(line, to)?;
+    to.extend(b"\n")
+}
+
+/// Adds the line with which a compound node ends, and the line feed.
+#[tactic(auto, using(crate::proofs::Begun::kept_same, crate::proofs::Begun::kept_then))]
+fn put_close_ended(
+    label: u32,
+    op: u32,
+    graphs: usize,
+    assoc: &[u32],
+    before: &[u32],
+    name: &[u8],
+    to: &mut Text,
+) -> Result<(), NoMemory>
+    ensures ok { OnOk result (to.new ≡ to.old ++ text_of (line.Close label op graphs assoc.now before.now name.now ∷ [])) }
+    ensures kept { OnErr result (Begins to.old to.new) }
+{
+    put_close(label, op, graphs, assoc, before, name, to)?;
+    to.extend(b"\n")
+}
+
+/// Takes off again what was added to the first bytes where memory was wanting.
+fn undone(added: Result<(), NoMemory>, before: usize, to: &mut Text) -> Result<(), NoMemory>
+    ensures same { result ≡ added }
+    ensures ok { OnOk result (to.new ≡ to.old) }
+    ensures err { OnErr result (to.new ≡ take before to.old) }
+{
+    match added {
+        Ok(()) => Ok(()),
+        Err(e) => {
+            to.truncate(before);
+            Err(e)
+        }
+    }
+}
+
 /// Appends the spelling of a line and the line feed that ends it. Where memory is wanting, `to` is as
 /// before.
 pub fn write_line(line: &Line, to: &mut Text) -> Result<(), NoMemory>
     ensures ok { OnOk result (to.new ≡ to.old ++ text_of (line.now ∷ [])) }
     ensures err { OnErr result (to.new ≡ to.old) }
 {
-    let mut piece = to.fresh();
-    put_line(line, &mut piece)?;
-    piece.extend(b"\n")?;
-    to.extend(piece.as_slice())
+    let before = to.len();
+    let added = put_ended(line, to);
+    undone(added, before, to)
 }
 
 /// Appends the line with which a compound node of so many graphs ends, however many they are. Where
@@ -278,10 +348,9 @@ pub fn write_close(
     ensures ok { OnOk result (to.new ≡ to.old ++ text_of (line.Close label op graphs assoc.now before.now name.now ∷ [])) }
     ensures err { OnErr result (to.new ≡ to.old) }
 {
-    let mut piece = to.fresh();
-    put_close(label, op, graphs, assoc, before, name, &mut piece)?;
-    piece.extend(b"\n")?;
-    to.extend(piece.as_slice())
+    let length = to.len();
+    let added = put_close_ended(label, op, graphs, assoc, before, name, to);
+    undone(added, length, to)
 }
 
 /// The line with which a compound node of this label and opcode begins.

@@ -4,8 +4,8 @@ use Rattle.if1_line.specs.Spelling.{number, node_pragmas}
 use Rattle.if1_line.proofs.Written.{written_both}
 use Rattle.if1_line.proofs.write.put_lists.Goals as goal
 
-pub returns : goal.returns
-returns c =
+pub returns-clause-ok : goal.returns-clause-ok
+returns-clause-ok c =
     on_ok_weaker c.put_node_pragmas.result
-    (λ e. written_both c.args.to.now c.put_numbers.new.to c.put_node_pragmas.new.to (map number c.args.assoc.now) (node_pragmas c.args.name.now c.args.before.now) c.in_ok-put_numbers.ensures e)
-    c.put_node_pragmas.ensures
+    (λ e. written_both c.args.to.now c.put_numbers.new.to c.put_node_pragmas.new.to (map number c.args.assoc.now) (node_pragmas c.args.name.now c.args.before.now) c.in_ok-put_numbers.ensures.ok e)
+    c.put_node_pragmas.ensures.ok
