@@ -32,3 +32,7 @@ kept_then r old mid new more e h = on_err_weaker r (λ b. begun old more new (su
 pub kept_past : {T E : Type 0} (r : Result T E) (old mid new : List ℕ) → Begins old mid → OnErr r (Begins mid new) → OnErr r (Begins old new)
 kept_past r old mid new b h =
     kept_then r old mid new (drop (length old) mid) (sym (take-append-drop (length old) mid) ∙ ap (λ t. t ++ drop (length old) mid) b) h
+
+-- nothing was added where memory is wanting
+pub kept_as : {T E : Type 0} (r : Result T E) (old new : List ℕ) → OnErr r (new ≡ old) → OnErr r (Begins old new)
+kept_as r old new h = on_err_weaker r (itself old new) h

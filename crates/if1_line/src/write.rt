@@ -11,7 +11,7 @@ use flow_value::{NoMemory, Text};
 use itoa::Buffer;
 use std::alloc::Global;
 
-#[tactic(auto, using(crate::proofs::Begun::kept_same, crate::proofs::Begun::kept_then))]
+#[tactic(auto, using(crate::proofs::Begun::kept_as, crate::proofs::Begun::kept_same, crate::proofs::Begun::kept_then))]
 fn put_decimal(n: u32, to: &mut Text) -> Result<(), NoMemory>
     ensures ok { OnOk result (to.new ≡ to.old ++ decimal n) }
     ensures kept { OnErr result (Begins to.old to.new) }
@@ -21,7 +21,7 @@ fn put_decimal(n: u32, to: &mut Text) -> Result<(), NoMemory>
 }
 
 /// Adds a number behind a blank.
-#[tactic(auto, using(crate::proofs::Begun::kept_same, crate::proofs::Begun::kept_then))]
+#[tactic(auto, using(crate::proofs::Begun::kept_as, crate::proofs::Begun::kept_same, crate::proofs::Begun::kept_then))]
 fn put_number(n: u32, to: &mut Text) -> Result<(), NoMemory>
     ensures ok { OnOk result (to.new ≡ to.old ++ after_blanks (number n ∷ [])) }
     ensures kept { OnErr result (Begins to.old to.new) }
@@ -31,7 +31,7 @@ fn put_number(n: u32, to: &mut Text) -> Result<(), NoMemory>
 }
 
 /// Adds a count behind a blank.
-#[tactic(auto, using(crate::proofs::Begun::kept_same, crate::proofs::Begun::kept_then))]
+#[tactic(auto, using(crate::proofs::Begun::kept_as, crate::proofs::Begun::kept_same, crate::proofs::Begun::kept_then))]
 fn put_count(n: usize, to: &mut Text) -> Result<(), NoMemory>
     ensures ok { OnOk result (to.new ≡ to.old ++ after_blanks (number n ∷ [])) }
     ensures kept { OnErr result (Begins to.old to.new) }
@@ -42,7 +42,7 @@ fn put_count(n: usize, to: &mut Text) -> Result<(), NoMemory>
 }
 
 /// Adds numbers, each behind a blank.
-#[tactic(auto, using(crate::proofs::Begun::kept_same, crate::proofs::Begun::kept_then, crate::proofs::Begun::kept_past))]
+#[tactic(auto, using(crate::proofs::Begun::kept_as, crate::proofs::Begun::kept_same, crate::proofs::Begun::kept_then, crate::proofs::Begun::kept_past))]
 fn put_numbers(ns: &[u32], to: &mut Text) -> Result<(), NoMemory>
     ensures ok { OnOk result (to.new ≡ to.old ++ after_blanks (map number ns.now)) }
     ensures kept { OnErr result (Begins to.old to.new) }
@@ -54,7 +54,7 @@ fn put_numbers(ns: &[u32], to: &mut Text) -> Result<(), NoMemory>
 }
 
 /// Adds a text in quotes behind a blank.
-#[tactic(auto, using(crate::proofs::Begun::kept_same, crate::proofs::Begun::kept_then))]
+#[tactic(auto, using(crate::proofs::Begun::kept_as, crate::proofs::Begun::kept_same, crate::proofs::Begun::kept_then))]
 fn put_quoted(text: &[u8], to: &mut Text) -> Result<(), NoMemory>
     ensures ok { OnOk result (to.new ≡ to.old ++ after_blanks (Quoted text.now ∷ [])) }
     ensures kept { OnErr result (Begins to.old to.new) }
@@ -65,7 +65,7 @@ fn put_quoted(text: &[u8], to: &mut Text) -> Result<(), NoMemory>
 }
 
 /// Adds the pragma of a name that is not empty.
-#[tactic(auto, using(crate::proofs::Begun::kept_same, crate::proofs::Begun::kept_then))]
+#[tactic(auto, using(crate::proofs::Begun::kept_as, crate::proofs::Begun::kept_same, crate::proofs::Begun::kept_then))]
 fn put_name(name: &[u8], to: &mut Text) -> Result<(), NoMemory>
     ensures ok { OnOk result (to.new ≡ to.old ++ after_blanks (name_part name.now)) }
     ensures kept { OnErr result (Begins to.old to.new) }
@@ -78,7 +78,7 @@ fn put_name(name: &[u8], to: &mut Text) -> Result<(), NoMemory>
 }
 
 /// Adds the pragma of an edge that takes.
-#[tactic(auto, using(crate::proofs::Begun::kept_same, crate::proofs::Begun::kept_then))]
+#[tactic(auto, using(crate::proofs::Begun::kept_as, crate::proofs::Begun::kept_same, crate::proofs::Begun::kept_then))]
 fn put_take(takes: bool, to: &mut Text) -> Result<(), NoMemory>
     ensures ok { OnOk result (to.new ≡ to.old ++ after_blanks (take_part takes)) }
     ensures kept { OnErr result (Begins to.old to.new) }
@@ -87,7 +87,7 @@ fn put_take(takes: bool, to: &mut Text) -> Result<(), NoMemory>
 }
 
 /// Adds the pragma of a list of labels that is not empty.
-#[tactic(auto, using(crate::proofs::Begun::kept_same, crate::proofs::Begun::kept_then))]
+#[tactic(auto, using(crate::proofs::Begun::kept_as, crate::proofs::Begun::kept_same, crate::proofs::Begun::kept_then))]
 fn put_before(before: &[u32], to: &mut Text) -> Result<(), NoMemory>
     ensures ok { OnOk result (to.new ≡ to.old ++ after_blanks (before_part before.now)) }
     ensures kept { OnErr result (Begins to.old to.new) }
@@ -101,7 +101,7 @@ fn put_before(before: &[u32], to: &mut Text) -> Result<(), NoMemory>
 }
 
 /// Adds the numbers of a list from a place on, each behind a comma.
-#[tactic(auto, using(crate::proofs::Begun::kept_same, crate::proofs::Begun::kept_then, crate::proofs::Begun::kept_past))]
+#[tactic(auto, using(crate::proofs::Begun::kept_as, crate::proofs::Begun::kept_same, crate::proofs::Begun::kept_then, crate::proofs::Begun::kept_past))]
 fn put_after_commas(ns: &[u32], from: usize, to: &mut Text) -> Result<(), NoMemory>
     requires { from ≤ length ns.now }
     ensures ok { OnOk result (to.new ≡ to.old ++ after_commas (drop from ns.now)) }
@@ -114,7 +114,7 @@ fn put_after_commas(ns: &[u32], from: usize, to: &mut Text) -> Result<(), NoMemo
     Ok(())
 }
 
-#[tactic(auto, using(crate::proofs::Begun::kept_same, crate::proofs::Begun::kept_then))]
+#[tactic(auto, using(crate::proofs::Begun::kept_as, crate::proofs::Begun::kept_same, crate::proofs::Begun::kept_then))]
 fn put_entry_numbers(
     form: Option<EntryForm>,
     first: u32,
@@ -132,7 +132,7 @@ fn put_entry_numbers(
 }
 
 /// Adds the letter of a line, and its numbers, each behind a blank.
-#[tactic(auto, using(crate::proofs::Begun::kept_same, crate::proofs::Begun::kept_then))]
+#[tactic(auto, using(crate::proofs::Begun::kept_as, crate::proofs::Begun::kept_same, crate::proofs::Begun::kept_then))]
 fn put_head(letter: u8, numbers: &[u32], to: &mut Text) -> Result<(), NoMemory>
     ensures ok { OnOk result (to.new ≡ to.old ++ letter ∷ after_blanks (map number numbers.now)) }
     ensures kept { OnErr result (Begins to.old to.new) }
@@ -142,7 +142,7 @@ fn put_head(letter: u8, numbers: &[u32], to: &mut Text) -> Result<(), NoMemory>
 }
 
 /// Adds the pragmas of a node.
-#[tactic(auto, using(crate::proofs::Written::after_blanks_append, crate::proofs::Begun::kept_same, crate::proofs::Begun::kept_then))]
+#[tactic(auto, using(crate::proofs::Written::after_blanks_append, crate::proofs::Begun::kept_as, crate::proofs::Begun::kept_same, crate::proofs::Begun::kept_then))]
 fn put_node_pragmas(name: &[u8], before: &[u32], to: &mut Text) -> Result<(), NoMemory>
     ensures ok { OnOk result (to.new ≡ to.old ++ after_blanks (node_pragmas name.now before.now)) }
     ensures kept { OnErr result (Begins to.old to.new) }
@@ -152,7 +152,7 @@ fn put_node_pragmas(name: &[u8], before: &[u32], to: &mut Text) -> Result<(), No
 }
 
 /// Adds the association list and the pragmas of a compound node.
-#[tactic(auto, using(crate::proofs::Begun::kept_same, crate::proofs::Begun::kept_then))]
+#[tactic(auto, using(crate::proofs::Begun::kept_as, crate::proofs::Begun::kept_same, crate::proofs::Begun::kept_then))]
 fn put_lists(assoc: &[u32], name: &[u8], before: &[u32], to: &mut Text) -> Result<(), NoMemory>
     ensures ok { OnOk result (to.new ≡ to.old ++ after_blanks (map number assoc.now ++ node_pragmas name.now before.now)) }
     ensures kept { OnErr result (Begins to.old to.new) }
@@ -162,7 +162,7 @@ fn put_lists(assoc: &[u32], name: &[u8], before: &[u32], to: &mut Text) -> Resul
 }
 
 /// Adds the line with which a compound node ends, without the line feed that ends the line.
-#[tactic(auto, using(crate::proofs::Written::after_blanks_append, crate::proofs::Begun::kept_same, crate::proofs::Begun::kept_then))]
+#[tactic(auto, using(crate::proofs::Written::after_blanks_append, crate::proofs::Begun::kept_as, crate::proofs::Begun::kept_same, crate::proofs::Begun::kept_then))]
 fn put_close(
     label: u32,
     op: u32,
@@ -187,7 +187,7 @@ fn function_letter(exported: bool) -> u8
 }
 
 /// Adds a line without the line feed that ends it.
-#[tactic(auto, using(crate::proofs::Written::after_blanks_append, crate::proofs::Begun::kept_same, crate::proofs::Begun::kept_then))]
+#[tactic(auto, using(crate::proofs::Written::after_blanks_append, crate::proofs::Begun::kept_as, crate::proofs::Begun::kept_same, crate::proofs::Begun::kept_then))]
 fn put_line(line: &Line, to: &mut Text) -> Result<(), NoMemory>
     ensures ok { OnOk result (to.new ≡ to.old ++ line_text line.now) }
     ensures kept { OnErr result (Begins to.old to.new) }
@@ -281,7 +281,7 @@ fn put_line(line: &Line, to: &mut Text) -> Result<(), NoMemory>
 }
 
 /// Adds a line and the line feed that ends it.
-#[tactic(auto, using(crate::proofs::Begun::kept_same, crate::proofs::Begun::kept_then))]
+#[tactic(auto, using(crate::proofs::Begun::kept_as, crate::proofs::Begun::kept_same, crate::proofs::Begun::kept_then))]
 fn put_ended(line: &Line, to: &mut Text) -> Result<(), NoMemory>
     ensures ok { OnOk result (to.new ≡ to.old ++ text_of (line.now ∷ [])) }
     ensures kept { OnErr result (Begins to.old to.new) }
@@ -291,7 +291,7 @@ fn put_ended(line: &Line, to: &mut Text) -> Result<(), NoMemory>
 }
 
 /// Adds the line with which a compound node ends, and the line feed.
-#[tactic(auto, using(crate::proofs::Begun::kept_same, crate::proofs::Begun::kept_then))]
+#[tactic(auto, using(crate::proofs::Begun::kept_as, crate::proofs::Begun::kept_same, crate::proofs::Begun::kept_then))]
 fn put_close_ended(
     label: u32,
     op: u32,
