@@ -11,6 +11,7 @@ pub mod ChangeSteps
 pub mod MakeSteps
 pub mod ElementSteps
 pub mod PartRows
+pub mod PairSteps
 pub mod RangeRows
 pub mod SparseSteps
 pub mod SumRows

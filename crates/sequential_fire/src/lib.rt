@@ -10,6 +10,7 @@ mod kept;
 mod loaded;
 mod making;
 mod outputs;
+mod pairs;
 mod parts;
 mod ranges;
 mod routes;
