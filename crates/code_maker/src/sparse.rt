@@ -77,14 +77,26 @@ fn is_unfilled(port: Port) -> bool
     matches!(port.feed, Feed::Literal(0)) && matches!(port.handled, Handled::Looks)
 }
 
-/// What is kept of ports, where the others are such that nothing fills them.
+/// Whether so few ports stand before those that are kept that a list of all is about as short.
+fn are_near(gaps: &[u32]) -> bool {
+    match gaps {
+        [a] => *a <= 2,
+        [a, b] => *a <= 2 && *b <= 2,
+        _ => false,
+    }
+}
+
+/// What is kept of ports, where the others are such that nothing fills them, and more than a few.
 fn kept_of<'a>(ports: &'a Gapped<Port>) -> Option<Items<'a, Port>>
     ensures same { IfSome result (λ k. ports.now ≡ spread k.filler k.gaps.now k.items.now) }
     ensures unfilled { IfSome result (λ k. IsUnfilled k.filler) }
     ensures even { IfSome result (λ k. length k.gaps.now ≡ length k.items.now) }
 {
     let kept = ports.kept();
-    if is_unfilled(kept.filler) && kept.gaps.len() == kept.items.len() {
+    if is_unfilled(kept.filler)
+        && kept.gaps.len() == kept.items.len()
+        && !are_near(kept.gaps)
+    {
         Some(kept)
     } else {
         None

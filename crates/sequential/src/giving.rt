@@ -61,7 +61,21 @@ pub fn shrink(cells: &mut Vec<Cell>, keep: usize)
     ensures { cells.new.items ≡ take keep cells.old.items }
 {
     while keep < cells.len() {
-        let_go(cells.pop());
+        // A scalar is looked at where it stands, and not moved.
+        if is_light(cells.as_slice()) {
+            let_go(cells.pop());
+        } else {
+            let_any_go(cells.pop());
+        }
+    }
+}
+
+/// Whether the last cell has nothing to give up.
+#[inline(always)]
+fn is_light(cells: &[Cell]) -> bool {
+    match cells {
+        [.., Cell::Int(_) | Cell::Empty | Cell::Bool(_)] => true,
+        _ => false,
     }
 }
 
