@@ -1,6 +1,7 @@
 //! What is given up. Most of what has parts is a list of integers, of which none needs to be given up
 //! by itself.
-ghost use Rattle.std.specs.Prelude.{◌≡◌, [], take};
+ghost use Rattle.std.specs.Prelude.{◌≡◌, ◌-◌, ◌<◌, [], take};
+ghost use Rattle.std.specs.Vec.{vec_len};
 
 use flow_value::{Items, Val};
 use run_cells::Cell;
@@ -61,12 +62,21 @@ pub fn shrink(cells: &mut Vec<Cell>, keep: usize)
     ensures { cells.new.items ≡ take keep cells.old.items }
 {
     while keep < cells.len() {
-        // A scalar is looked at where it stands, and not moved.
-        if is_light(cells.as_slice()) {
-            let_go(cells.pop());
-        } else {
-            let_any_go(cells.pop());
-        }
+        last_goes(cells);
+    }
+}
+
+/// Lets the last cell go. A scalar is looked at where it stands, and not moved.
+#[inline(always)]
+fn last_goes(cells: &mut Vec<Cell>)
+    requires { 0 < vec_len cells.old }
+    ensures rest { cells.new.items ≡ take (vec_len cells.old - 1) cells.old.items }
+    ensures fewer { vec_len cells.new < vec_len cells.old }
+{
+    if is_light(cells.as_slice()) {
+        let_go(cells.pop());
+    } else {
+        let_any_go(cells.pop());
     }
 }
 
