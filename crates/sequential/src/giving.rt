@@ -1,7 +1,6 @@
 //! What is given up. Most of what has parts is a list of integers, of which none needs to be given up
 //! by itself.
-ghost use Rattle.std.specs.Prelude.{◌≡◌, ◌-◌, ◌<◌, [], take};
-ghost use Rattle.std.specs.Vec.{vec_len};
+ghost use Rattle.std.specs.Prelude.{◌≡◌, [], take};
 
 use flow_value::{Items, Val};
 use run_cells::Cell;
@@ -62,30 +61,7 @@ pub fn shrink(cells: &mut Vec<Cell>, keep: usize)
     ensures { cells.new.items ≡ take keep cells.old.items }
 {
     while keep < cells.len() {
-        last_goes(cells);
-    }
-}
-
-/// Lets the last cell go. A scalar is looked at where it stands, and not moved.
-#[inline(always)]
-fn last_goes(cells: &mut Vec<Cell>)
-    requires { 0 < vec_len cells.old }
-    ensures rest { cells.new.items ≡ take (vec_len cells.old - 1) cells.old.items }
-    ensures fewer { vec_len cells.new < vec_len cells.old }
-{
-    if is_light(cells.as_slice()) {
         let_go(cells.pop());
-    } else {
-        let_any_go(cells.pop());
-    }
-}
-
-/// Whether the last cell has nothing to give up.
-#[inline(always)]
-fn is_light(cells: &[Cell]) -> bool {
-    match cells {
-        [.., Cell::Int(_) | Cell::Empty | Cell::Bool(_)] => true,
-        _ => false,
     }
 }
 
@@ -93,9 +69,14 @@ fn is_light(cells: &[Cell]) -> bool {
 #[inline(always)]
 fn let_go(last: Option<Cell>) {
     match last {
-        Some(Cell::Int(_)) => {}
-        Some(Cell::Empty) => {}
-        Some(Cell::Bool(_)) => {}
+        Some(
+            Cell::Empty
+            | Cell::Error(_)
+            | Cell::Int(_)
+            | Cell::Bool(_)
+            | Cell::Char(_)
+            | Cell::Null,
+        ) => {}
         other => let_any_go(other),
     }
 }
