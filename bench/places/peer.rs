@@ -6,19 +6,9 @@ use std::hint::black_box;
 const SHORT: i64 = 1000;
 const LONG: i64 = 10_000_000;
 
-#[allow(dead_code)]
-#[derive(Clone)]
-enum Val {
-    Err(u8),
-    Int(i64),
-    Bool(bool),
-    Char(u8),
-    Null,
-    Arr(i64, Vec<Val>),
-    Rec(Vec<Val>),
-    Uni(u32, Box<Val>),
-    Stream(Vec<Val>, u64),
-}
+#[path = "../value.rs"]
+mod value;
+use value::Val;
 
 fn replace_often(mut v: Vec<Val>, steps: i64) -> Vec<Val> {
     for i in 0..steps {

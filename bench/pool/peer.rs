@@ -7,18 +7,9 @@ const SHORT: u64 = 1000;
 const LONG: u64 = 4_000_000;
 const PLACES: usize = 1_000_000;
 
-#[allow(dead_code)]
-enum Val {
-    Err(u8),
-    Int(i64),
-    Bool(bool),
-    Char(u8),
-    Null,
-    Arr(i64, Vec<Val>),
-    Rec(Vec<Val>),
-    Uni(u32, Box<Val>),
-    Stream(Vec<Val>, u64),
-}
+#[path = "../value.rs"]
+mod value;
+use value::Val;
 
 fn number_of(value: &Val) -> u64 {
     match value {

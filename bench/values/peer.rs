@@ -5,19 +5,9 @@ use std::time::Instant;
 const MANY: u32 = 1_000_000;
 const TIMES: u32 = 10;
 
-#[allow(dead_code)]
-#[derive(Clone)]
-enum Val {
-    Err(u8),
-    Int(i64),
-    Bool(bool),
-    Char(u8),
-    Null,
-    Arr(i64, Vec<Val>),
-    Rec(Vec<Val>),
-    Uni(u32, Box<Val>),
-    Stream(Vec<Val>, u64),
-}
+#[path = "../value.rs"]
+mod value;
+use value::Val;
 
 fn integer_at(place: u32) -> i64 {
     i64::from(place.wrapping_mul(2_654_435_761)) - 2_147_483_648

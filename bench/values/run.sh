@@ -12,27 +12,20 @@ program=${BENCH_TEXTS:-$(bench/texts.sh)}
 [ -x "$program" ] || exit 1
 rustc -O -o "$build/peer" bench/values/peer.rs
 
-best= best_json=
-for ((i = 0; i < rounds; i++)); do
-    "$program" values-long </dev/null >"$build/printed" 2>"$build/time"
-    python3 bench/values/beside.py long >"$build/json" 2>"$build/json_time"
-    cmp "$build/printed" "$build/json"
-    a=$(<"$build/time") b=$(<"$build/json_time")
-    [ -n "$best" ] && [ "$best" -le "$a" ] || best=$a
-    [ -n "$best_json" ] && [ "$best_json" -le "$b" ] || best_json=$b
-done
-awk -v a="$best" -v b="$best_json" \
-    'BEGIN { printf "value text %.1f ms, json %.1f ms, ratio %.2f\n", a / 1e6, b / 1e6, a / b }'
+timed() { # what ours is called, its word, what the peer is called, the peer: both print the same, and their nanoseconds as errors
+    local i a b least='' least_peer=''
+    for ((i = 0; i < rounds; i++)); do
+        "$program" "$2" </dev/null >"$build/printed" 2>"$build/time"
+        "${@:4}" >"$build/peer_printed" 2>"$build/peer_time"
+        cmp "$build/printed" "$build/peer_printed"
+        a=$(<"$build/time") b=$(<"$build/peer_time")
+        [ -n "$least" ] && [ "$least" -le "$a" ] || least=$a
+        [ -n "$least_peer" ] && [ "$least_peer" -le "$b" ] || least_peer=$b
+    done
+    awk -v ours="$1" -v peer="$3" -v a="$least" -v b="$least_peer" \
+        'BEGIN { printf "%s %.1f ms, %s %.1f ms, ratio %.2f\n", ours, a / 1e6, peer, b / 1e6, a / b }'
+}
+timed "value text" values-long json python3 bench/values/beside.py long
 
 export MALLOC_MMAP_THRESHOLD_=1000000000 MALLOC_TRIM_THRESHOLD_=2000000000
-best= best_peer=
-for ((i = 0; i < rounds; i++)); do
-    "$program" copy-long </dev/null >"$build/printed" 2>"$build/time"
-    "$build/peer" >"$build/cloned" 2>"$build/peer_time"
-    cmp "$build/printed" "$build/cloned"
-    a=$(<"$build/time") b=$(<"$build/peer_time")
-    [ -n "$best" ] && [ "$best" -le "$a" ] || best=$a
-    [ -n "$best_peer" ] && [ "$best_peer" -le "$b" ] || best_peer=$b
-done
-awk -v a="$best" -v b="$best_peer" \
-    'BEGIN { printf "copy of an array %.1f ms, clone of a Vec %.1f ms, ratio %.2f\n", a / 1e6, b / 1e6, a / b }'
+timed "copy of an array" copy-long "clone of a Vec" "$build/peer"
