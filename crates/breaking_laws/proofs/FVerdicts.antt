@@ -169,7 +169,7 @@ module _ (forms : List Form) where
 
   too_deep : (s : Sort) (rule : ℕ) (t : Ty) → IsTooDeep forms s (refused.Rule rule) → IsAsDeep forms s t → (rule ≡ 4) × (IsShallow t → ⊥)
   too_deep (sort.There n) rule t d same = absurd d
-  too_deep (sort.Made f) rule t d same = (d.0, λ shallow. let more = d.1 in omega (arith, more, same, shallow))
+  too_deep (sort.Made f) rule t d same = (d.0, λ shallow. let more = d.1 same.over in let as_deep = same.deep in omega (arith, more, as_deep, shallow))
 
 pub verdict : (forms : List Form) (names : List (List ℕ)) → IsKnown forms names → (h : Head) → IsKnownHead forms names h → (ns : List ℕ) (ts : List Ty) → AreNumbers forms names ns ts
     → (rule : ℕ) → IsRefused forms h ns (refused.Rule rule) → IsVerdict forms names h ts rule

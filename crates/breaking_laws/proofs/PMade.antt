@@ -137,8 +137,8 @@ deep_made : (f : List Form) (names : List (List ℕ)) → IsTable f → (groups 
 deep_made f names table groups made.Array n a r e deep number =
     let fits = clauses_by_type f names table made.Array n a number in
     let new : r.sort ≡ sort.Made (form.Array n) = sym (ap (λ x. x.sort) (same_Some (record { folding = folding.Array; sort = sort.Made (form.Array n) }) r e)) in
-    let is_deep : 64 < form_depth (depths f) (form.Array n) = (subst (λ s. IsTooDeep f s (refused.Rule 4)) new deep).1 in
-    let same : form_depth (depths f) (form.Array n) ≡ depth_of (ty.Arr a) = fits.4 ∙ ap depth_of (arr_made a fits.0 fits.1) in
+    let is_deep : 64 < form_depth (depths f) (form.Array n) = (subst (λ s. IsTooDeep f s (refused.Rule 4)) new deep).1 fits.4.over in
+    let same : form_depth (depths f) (form.Array n) ≡ depth_of (ty.Arr a) = fits.4.deep ∙ ap depth_of (arr_made a fits.0 fits.1) in
     let t = arrays_deep groups (ty.Arr a) (omega (arith, is_deep, same)) in record { type = t.type; makes = through (array_of a) t.makes; deep = t.deep }
   where
     arr_made : (a b : Ty) → Makes made.Array a b → b ≡ ty.Arr a
@@ -146,8 +146,8 @@ deep_made f names table groups made.Array n a r e deep number =
 deep_made f names table groups made.Stream n a r e deep number =
     let fits = clauses_by_type f names table made.Stream n a number in
     let new : r.sort ≡ sort.Made (form.Stream n) = sym (ap (λ x. x.sort) (same_Some (record { folding = folding.Stream; sort = sort.Made (form.Stream n) }) r e)) in
-    let is_deep : 64 < form_depth (depths f) (form.Stream n) = (subst (λ s. IsTooDeep f s (refused.Rule 4)) new deep).1 in
-    let same : form_depth (depths f) (form.Stream n) ≡ depth_of (ty.Stream a) = fits.4 ∙ ap depth_of (stream_made a fits.0 fits.1) in
+    let is_deep : 64 < form_depth (depths f) (form.Stream n) = (subst (λ s. IsTooDeep f s (refused.Rule 4)) new deep).1 fits.4.over in
+    let same : form_depth (depths f) (form.Stream n) ≡ depth_of (ty.Stream a) = fits.4.deep ∙ ap depth_of (stream_made a fits.0 fits.1) in
     let t = streams_deep groups (ty.Stream a) (omega (arith, is_deep, same)) in record { type = t.type; makes = through (stream_of a) t.makes; deep = t.deep }
   where
     stream_made : (a b : Ty) → Makes made.Stream a b → b ≡ ty.Stream a

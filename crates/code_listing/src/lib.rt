@@ -7,3 +7,4 @@ mod operands;
 mod steps;
 
 pub use lines::listing;
+pub use unit_code::unit_code;

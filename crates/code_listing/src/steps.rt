@@ -94,6 +94,74 @@ fn put_firing(text: &mut Text, code: &Code, step: &Step) -> Result<(), NoMemory>
             text.extend(written_words(*written))?;
             text.extend(counted_words(*counted))
         }
+        _ => put_celled(text, code, step),
+    }
+}
+
+fn put_cell(text: &mut Text, cell: u32) -> Result<(), NoMemory> {
+    put_numbered(text, b" c", cell)
+}
+
+/// A step that fires a node and names its cells.
+fn put_celled(text: &mut Text, code: &Code, step: &Step) -> Result<(), NoMemory> {
+    match step {
+        Step::Int { from, out } => {
+            text.extend(b" Int")?;
+            put_cell(text, *from)?;
+            put_outs(text, *out, 1)
+        }
+        Step::Cells {
+            op,
+            left,
+            right,
+            out,
+        } => {
+            text.extend(b" ")?;
+            text.extend(simple_name(Simple::Two(*op)))?;
+            put_cell(text, *left)?;
+            put_cell(text, *right)?;
+            put_outs(text, *out, 1)
+        }
+        Step::Number {
+            op,
+            left,
+            literal,
+            out,
+            ..
+        } => {
+            text.extend(b" ")?;
+            text.extend(simple_name(Simple::Two(*op)))?;
+            put_cell(text, *left)?;
+            put_operand(text, code, Operand::Literal(*literal))?;
+            put_outs(text, *out, 1)
+        }
+        _ => put_placed(text, code, step),
+    }
+}
+
+/// A step that reads or replaces an element.
+fn put_placed(text: &mut Text, code: &Code, step: &Step) -> Result<(), NoMemory> {
+    match step {
+        Step::Element {
+            ins,
+            out,
+            counted,
+            ..
+        } => {
+            put_node(text, code, Simple::AElement, *ins, 2)?;
+            put_outs(text, *out, 1)?;
+            text.extend(counted_words(*counted))
+        }
+        Step::Replace {
+            ins,
+            out,
+            counted,
+            ..
+        } => {
+            put_node(text, code, Simple::AReplace, *ins, 3)?;
+            put_outs(text, *out, 1)?;
+            text.extend(counted_words(*counted))
+        }
         _ => Ok(()),
     }
 }
@@ -266,6 +334,19 @@ fn put_keeping(text: &mut Text, code: &Code, step: &Step) -> Result<(), NoMemory
             put_collects(text, code, *collects, *count)?;
             put_numbered(text, b" to ", *next)
         }
+        Step::Carry {
+            begins,
+            froms,
+            many,
+            out,
+            next,
+            ..
+        } => {
+            text.extend(if *begins { b" begin" } else { b" keep" })?;
+            put_operands(text, code, *froms, *many)?;
+            put_outs(text, *out, *many)?;
+            put_numbered(text, b" to ", *next)
+        }
         Step::Add {
             collects,
             count,
@@ -278,6 +359,19 @@ fn put_keeping(text: &mut Text, code: &Code, step: &Step) -> Result<(), NoMemory
             put_operands(text, code, *froms, *many)?;
             put_outs(text, *out, *count)?;
             put_collects(text, code, *collects, *count)?;
+            put_numbered(text, b" to ", *next)
+        }
+        Step::Push {
+            collects,
+            from,
+            out,
+            next,
+            ..
+        } => {
+            text.extend(b" add")?;
+            put_cell(text, *from)?;
+            put_outs(text, *out, 1)?;
+            put_collects(text, code, *collects, 1)?;
             put_numbered(text, b" to ", *next)
         }
         _ => put_turn(text, code, step),

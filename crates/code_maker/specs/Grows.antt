@@ -55,6 +55,11 @@ module _ (D : PlanData) (P : Plan) where
   abbrev pub IsTold : Step → List Mode → Origin → Type 0
   IsTold (step.One op a out) ms o = ⊥
   IsTold (step.Two op a b out) ms o = ⊥
+  IsTold (step.Int i out) ms o = ⊥
+  IsTold (step.Cells op i j out) ms o = ⊥
+  IsTold (step.Number op i l n out) ms o = ⊥
+  IsTold (step.Element ins i p out kept k) ms o = ⊥
+  IsTold (step.Replace ins i p e out kept k) ms o = ⊥
   IsTold (step.Fire row writes shape ins n out w kept copies) ms o = IsToldOf row writes copies w ms o
   IsTold (step.Sparse row g ins n out copies) ms o = IsToldOf (row_of row) written.Nothing (counted_by copies) 1 ms o
   IsTold x ms o = Unit {0}
@@ -103,6 +108,13 @@ abbrev pub IsKnit : PlanData → Plan → Code → Step → Origin → Type 0
 IsKnit D P code (step.One op a out) o = ⊥
 IsKnit D P code (step.Two op a b out) o = ⊥
 IsKnit D P code (step.Bring a out next) o = ⊥
+IsKnit D P code (step.Int i out) o = ⊥
+IsKnit D P code (step.Cells op i j out) o = ⊥
+IsKnit D P code (step.Number op i l n out) o = ⊥
+IsKnit D P code (step.Element ins i p out kept k) o = ⊥
+IsKnit D P code (step.Replace ins i p e out kept k) o = ⊥
+IsKnit D P code (step.Carry begins cs froms n out next) o = ⊥
+IsKnit D P code (step.Push cs froms i out next) o = ⊥
 IsKnit D P code step.Count o = Unit {0}
 IsKnit D P code (step.Fire row x shape ins n out w kept k) o = AreNamed code ins n
 IsKnit D P code (step.Sparse row g ins n out copies) o = AreNamedApart code g ins n

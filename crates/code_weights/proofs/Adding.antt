@@ -42,6 +42,12 @@ module _ (D : PlanData) (P : Plan) (W : Weighing) (code : Code) where
     writes-so (step.Fire row writes shape i n out w kept copies) ms OfNothing told = absurd told
     writes-so (step.One op a out) ms o told = absurd told
     writes-so (step.Two op a b out) ms o told = absurd told
+    writes-so (step.Int i out) ms o told = absurd told
+    writes-so (step.Cells op i j out) ms o told = absurd told
+    writes-so (step.Number op i l n out) ms o told = absurd told
+    writes-so (step.Element ins i p out kept k) ms o told = absurd told
+    writes-so (step.Replace ins i p e out kept k) ms o told = absurd told
+    writes-so (step.Carry begins cs froms n out next) ms o told = tt
     writes-so (step.Sparse row g i n out copies) ms (OfNode gr v) told =
         let here : IsWrittenSo D P W gr v (work.Plain (row_of row) told.1 written.Nothing (counted_by copies)) = subst (IsWrittenSo D P W gr v) told.3 (right gr told.0 v told.2) in
         λ ks rs long. here ks rs
@@ -59,6 +65,7 @@ module _ (D : PlanData) (P : Plan) (W : Weighing) (code : Code) where
     writes-so (step.Spread froms n cs k to turns out w next) ms o told = tt
     writes-so (step.Each multiples n from count kept turn leave) ms o told = tt
     writes-so (step.Add cs k froms n out next) ms o told = tt
+    writes-so (step.Push cs froms i out next) ms o told = tt
     writes-so (step.Call entry size room args n out w) ms o told = tt
     writes-so (step.Return froms n) ms o told = tt
 
@@ -76,6 +83,12 @@ module _ (D : PlanData) (P : Plan) (W : Weighing) (code : Code) where
     copies-so (step.Fire row writes shape i n out w kept copies) ms OfNothing told = absurd told
     copies-so (step.One op a out) ms o told = absurd told
     copies-so (step.Two op a b out) ms o told = absurd told
+    copies-so (step.Int i out) ms o told = absurd told
+    copies-so (step.Cells op i j out) ms o told = absurd told
+    copies-so (step.Number op i l n out) ms o told = absurd told
+    copies-so (step.Element ins i p out kept k) ms o told = absurd told
+    copies-so (step.Replace ins i p e out kept k) ms o told = absurd told
+    copies-so (step.Carry begins cs froms n out next) ms o told = tt
     copies-so (step.Sparse row g i n out copies) ms (OfNode gr v) told =
         let m = told.0 in
         let here : IsCopiedSo D P W gr v m (work.Plain (row_of row) told.1 written.Nothing (counted_by copies)) = subst (IsCopiedSo D P W gr v m) told.3 (right gr m v told.2) in
@@ -96,6 +109,7 @@ module _ (D : PlanData) (P : Plan) (W : Weighing) (code : Code) where
     copies-so (step.Spread froms n cs k to turns out w next) ms o told = tt
     copies-so (step.Each multiples n from count kept turn leave) ms o told = tt
     copies-so (step.Add cs k froms n out next) ms o told = tt
+    copies-so (step.Push cs froms i out next) ms o told = tt
     copies-so (step.Call entry size room args n out w) ms o told = tt
     copies-so (step.Return froms n) ms o told = tt
 

@@ -1,2 +1,3 @@
+pub use Rattle.code_maker.specs.Grows
 pub mod Weights
 pub mod Laws

@@ -7,7 +7,7 @@ ghost use Rattle.lowered_units.specs.Fitting.{IsFitting};
 ghost use Rattle.unit_drawing.specs.Notes.{note_lines};
 ghost use Rattle.compile_call.specs.Calls.{IsMarked, IsRefused, IsTextBy, Prints};
 
-use code_listing::listing;
+use code_listing::{listing, unit_code};
 use flow_value::{NoMemory, Text};
 use if1_write::write_if1;
 use mark_units::{Marked, mark};
@@ -15,7 +15,6 @@ use run_words::CompileSet;
 use std::alloc::Global;
 use translate::{TranslateFault, translate};
 use typed_tree::Program;
-use unit_code::unit_code;
 use unit_drawing::{add_notes, drawing};
 
 /// The unit of graphs of a program with the marks that are made, which is ready and has sound marks.

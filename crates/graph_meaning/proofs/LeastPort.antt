@@ -7,7 +7,7 @@ use Rattle.flow_value.specs.declared.operation.Scalar2.TheVariants as two
 use Rattle.flow_value.specs.declared.value.Val.{Val}
 use Rattle.flow_value.specs.declared.value.Val.TheOpen.{Val-F}
 use Rattle.flow_value.specs.declared.value.Val.TheViews as values
-use Rattle.flow_reduce.specs.Elements.{or_else, error_of}
+use Rattle.loop_folds.specs.Elements.{or_else, error_of}
 use Rattle.value_ops.specs.Arity.{unless_errors}
 use Rattle.value_ops.specs.Operations.{op_value}
 use Rattle.value_ops.specs.declared.operation.Operation.TheVariants as operation

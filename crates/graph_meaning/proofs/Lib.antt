@@ -1,3 +1,4 @@
+pub use Rattle.if1_marks.proofs.Taken
 pub mod ItemSums
 pub mod ItemsOnce
 pub mod Counting

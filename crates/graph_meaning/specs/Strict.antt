@@ -4,7 +4,7 @@ use Rattle.std.specs.Prelude.{◌≡◌, ℕ, suc, Bool, true, false, if◌then�
 use Rattle.flow_value.specs.declared.cause.Cause.{Cause}
 use Rattle.flow_value.specs.declared.value.Val.{Val}
 use Rattle.flow_value.specs.declared.value.Val.TheVariants as val
-use Rattle.flow_reduce.specs.Elements.{or_else, error_of}
+use Rattle.loop_folds.specs.Elements.{or_else, error_of}
 use Rattle.if1_graph.specs.Ops.{reducer_at}
 use Rattle.if1_graph.specs.Rows.{Operand, row_of, operand_of, is_strict}
 use Rattle.if1_graph.specs.declared.op.Reducer.{Reducer}

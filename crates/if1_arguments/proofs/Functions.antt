@@ -7,7 +7,6 @@ use Rattle.if1_graph.specs.declared.graph.Unit1.{Unit1}
 use Rattle.if1_graph.specs.Tables.{◌>>=◌}
 use Rattle.if1_graph.specs.Ready.{IsReady}
 use Rattle.if1_graph.specs.Types.{params_at}
-use Rattle.if1_types.proofs.Skipping.{HasKeys}
 use Rattle.if1_types.specs.declared.numbered.Sorts.{Sorts}
 use Rattle.if1_types.specs.declared.parameters.Parameter.{Parameter}
 use Rattle.if1_types.specs.Numbering.{IsNumbering}
@@ -42,14 +41,14 @@ label_there u function there is = by (function_of u function) there is
     by None some is = cc
     by (Some g) some is = cc
 
-module _ (u : Unit1) (s : Sorts) (ready : IsReady u) (n : IsNumbering u.types s) (keys : HasKeys s.shapes) where
+module _ (u : Unit1) (s : Sorts) (ready : IsReady u) (n : IsNumbering u.types s) where
   pub arguments_are : (function label : ℕ) (ps : List Parameter) (ns : List ℕ) → is_some (function_of u function) ≡ true → Some label ≡ option_map (λ g. (out-Graph g).fun) (function_of u function)
       → Some ps ≡ labelled u.types s label → ns ≡ map (λ p. p.ty) ps → AreArgumentsOf u function (numbered s.shapes) ns
   arguments_are function label ps ns there is found numbers =
       let h = has_types u function label ready there is in
-      record { arguments = h.types; are = h.are; stand = subst (λ ns. StandForAll (numbered s.shapes) ns h.types) (sym numbers) (parameters_stand u.types s n keys h.types label ps h.by_label found) }
+      record { arguments = h.types; are = h.are; stand = subst (λ ns. StandForAll (numbered s.shapes) ns h.types) (sym numbers) (parameters_stand u.types s n h.types label ps h.by_label found) }
 
   pub arguments_there : (function label : ℕ) → is_some (function_of u function) ≡ true → Some label ≡ option_map (λ g. (out-Graph g).fun) (function_of u function) → None ≡ labelled u.types s label → ⊥
   arguments_there function label there is found =
       let h = has_types u function label ready there is in
-      parameters_there u.types s n keys h.types label h.by_label found
+      parameters_there u.types s n h.types label h.by_label found

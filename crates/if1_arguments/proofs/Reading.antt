@@ -19,7 +19,7 @@ use Rattle.if1_types.specs.declared.forms.TyForm.TheVariants as form
 use Rattle.if1_types.specs.declared.numbered.Sorts.{Sorts}
 use Rattle.if1_types.specs.Trees.{Tree, leaf, node}
 use Rattle.if1_types.specs.Telling.{ty_tree, list_tree}
-use Rattle.if1_types.specs.Shapes.{Key, trees_in, tree_at, members_in, key_at, IsKeyOf, Stands}
+use Rattle.if1_types.specs.Shapes.{Key, trees_in, tree_at, members_in, key_at, HasKeys, IsKeyOf, Stands}
 use Rattle.if1_types.specs.Tables.{entry_on}
 use Rattle.if1_types.specs.Forms.{IsTy, IsSortForm, ty_form, list_form, ty_form_at, list_form_at, sort_form_at}
 use Rattle.if1_types.specs.Skips.{first_in, rest_in, members_at, members_by, member_at, AreCountedBy}
@@ -28,7 +28,7 @@ use Rattle.if1_arguments.specs.Numbered.{form_of, list_of, first_types, types_in
 use Rattle.if1_arguments.specs.Arguments.{AreArgumentsOf}
 use Rattle.if1_types.specs.Parameters.{member_labels, labels_by, param_labels, value_by, type_at, parameter, params_at as numbered_params}
 use Rattle.if1_types.specs.declared.parameters.Parameter.{Parameter}
-use Rattle.if1_types.proofs.Skipping.{HasKeys, no_member}
+use Rattle.if1_types.proofs.Skipping.{no_member}
 use Rattle.if1_types.proofs.Views.{Parts, parts_of, tree_is}
 use Rattle.if1_arguments.proofs.Bare.{one_tree}
 
@@ -144,7 +144,7 @@ module _ (ks : List Key) (keys : HasKeys ks) where
 
 -- ---- arguments of functions
 
-module _ (ts : List TypeEntry) (s : Sorts) (n : IsNumbering ts s) (keys : HasKeys s.shapes) where
+module _ (ts : List TypeEntry) (s : Sorts) (n : IsNumbering ts s) where
   -- a label with a type is one of no multiple and no function
   plain : (l : ℕ) (t : Ty) (e : TypeEntry) (k : Option TypeKind) (u : Ty) → ty_of with_names (ty_within with_names 63 ts) ts e k ≡ Some t → bare_at ts l ≡ Some u → sort_of ts l e k ≡ Some (Plain u)
   plain l t e (Some kind.Multiple) u h b = cc
@@ -182,7 +182,7 @@ module _ (ts : List TypeEntry) (s : Sorts) (n : IsNumbering ts s) (keys : HasKey
           let same : ty_tree t ≡ ty_tree u = same_Some (ty_tree t) (ty_tree u) (e ∙ ap (option_map ty_tree) b) in
           let stands = n.stand l (Plain u) (sort_is l t u h b) in
           let is : IsTy s.shapes (type_at s l) u = value_is _ u (n.read.sorts _ (Plain u) stands) in
-          λ levels. like s.shapes keys levels (type_at s l) t (record { within = is.stands.within; is = is.stands.is ∙ sym same })
+          λ levels. like s.shapes n.keys levels (type_at s l) t (record { within = is.stands.within; is = is.stands.is ∙ sym same })
 
   -- ---- lists of arguments
 

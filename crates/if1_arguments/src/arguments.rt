@@ -47,7 +47,6 @@ pub fn arguments_of(
     requires there { IsSome (function_of unit.now function) }
     ensures { IfOk result (AreArgumentsOf unit.now function (numbered sorts.now.shapes)) }
 {
-    sorts.shapes.holds();
     let Some(label) = label_of(unit.graphs.as_slice(), function) else {
         unreachable!();
     };

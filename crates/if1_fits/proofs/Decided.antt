@@ -21,7 +21,7 @@ use Rattle.if1_types.proofs.Views.{are_one}
 use Rattle.if1_types.specs.Skips.{first_in, rest_in}
 use Rattle.if1_fits.specs.Views.{arguments_in, results_in, value_of, many_of, array_of, sequence_of, kind_or, listed, listed_at, are_same}
 use Rattle.if1_fits.specs.Tests.{IsNumbered, elements_in, is_reducible, is_sequence_of}
-use Rattle.if1_fits.proofs.Viewed.{IsOnly, View, view_as, is_there, same_views, kind_is, sequence_view, plain_only, many_only, value_view, many_view, sequence_only, sequence_of_view, array_of_view, array_only, either_way, type_kind, of_bool, of_char, of_int, of_null, of_arr, of_stream, of_rec, kind_bool, kind_char, kind_int, kind_null, kind_arr, kind_stream, kind_rec}
+use Rattle.if1_fits.proofs.Viewed.{IsOnly, View, view_as, is_there, same_views, kind_is, sequence_view, plain_only, many_only, value_view, many_view, sequence_only, sequence_of_view, array_of_view, array_only, either_way, type_kind, kind_at, of_bool, of_char, of_int, of_null, of_arr, of_stream, of_rec, kind_bool, kind_char, kind_int, kind_null, kind_arr, kind_stream, kind_rec}
 
 plain_one : (t u : Ty) → Plain t ≡ Plain u → t ≡ u
 plain_one t u e = cc
@@ -56,34 +56,34 @@ module _ (ks : List Key) (once : AreOnce ks) (read : AreRead ks) where
   -- ---- by the kind of a value
 
   module _ (n : ℕ) (s : Sort) (h : IsSort ks n s) where
-    kind : (k : ℕ) → (9 == k) ≡ false → Decides (kind_or ks (value_of ks n) == k) ((t : Ty) × (s ≡ Plain t) × (type_kind t ≡ k))
-    kind k nine = kind_is ks read (value_of ks n) (λ t. s ≡ Plain t) k (plain_only ks read s) (value_view ks read n s h) nine
+    kind : (k : ℕ) → (8 == k) ≡ false → Decides (kind_at ks (value_of ks n) == k) ((t : Ty) × (s ≡ Plain t) × (type_kind t ≡ k))
+    kind k eight = kind_is ks read (value_of ks n) (λ t. s ≡ Plain t) k (plain_only ks read s) (value_view ks read n s h) eight
 
-    many_kind : (k : ℕ) → (9 == k) ≡ false → Decides (kind_or ks (many_of ks n) == k) ((t : Ty) × (s ≡ Many t) × (type_kind t ≡ k))
-    many_kind k nine = kind_is ks read (many_of ks n) (λ t. s ≡ Many t) k (many_only ks read s) (many_view ks read n s h) nine
+    many_kind : (k : ℕ) → (8 == k) ≡ false → Decides (kind_at ks (many_of ks n) == k) ((t : Ty) × (s ≡ Many t) × (type_kind t ≡ k))
+    many_kind k eight = kind_is ks read (many_of ks n) (λ t. s ≡ Many t) k (many_only ks read s) (many_view ks read n s h) eight
 
-    plain_of : (u : Ty) (k : ℕ) → (9 == k) ≡ false → ((t : Ty) → type_kind t ≡ k → t ≡ u) → type_kind u ≡ k → Decides (kind_or ks (value_of ks n) == k) (s ≡ Plain u)
-    plain_of u k nine of is = either_way (kind_or ks (value_of ks n) == k) (kind k nine) (λ r. r.1 ∙ ap (λ t. Plain t) (of r.0 r.2)) (λ e. (u, e, is))
+    plain_of : (u : Ty) (k : ℕ) → (8 == k) ≡ false → ((t : Ty) → type_kind t ≡ k → t ≡ u) → type_kind u ≡ k → Decides (kind_at ks (value_of ks n) == k) (s ≡ Plain u)
+    plain_of u k eight of is = either_way (kind_at ks (value_of ks n) == k) (kind k eight) (λ r. r.1 ∙ ap (λ t. Plain t) (of r.0 r.2)) (λ e. (u, e, is))
 
-    many_is : (u : Ty) (k : ℕ) → (9 == k) ≡ false → ((t : Ty) → type_kind t ≡ k → t ≡ u) → type_kind u ≡ k → Decides (kind_or ks (many_of ks n) == k) (s ≡ Many u)
-    many_is u k nine of is = either_way (kind_or ks (many_of ks n) == k) (many_kind k nine) (λ r. r.1 ∙ ap (λ t. Many t) (of r.0 r.2)) (λ e. (u, e, is))
+    many_is : (u : Ty) (k : ℕ) → (8 == k) ≡ false → ((t : Ty) → type_kind t ≡ k → t ≡ u) → type_kind u ≡ k → Decides (kind_at ks (many_of ks n) == k) (s ≡ Many u)
+    many_is u k eight of is = either_way (kind_at ks (many_of ks n) == k) (many_kind k eight) (λ r. r.1 ∙ ap (λ t. Many t) (of r.0 r.2)) (λ e. (u, e, is))
 
-    pub integer : Decides (kind_or ks (value_of ks n) == 2) (s ≡ Plain ty.Int)
+    pub integer : Decides (kind_at ks (value_of ks n) == 2) (s ≡ Plain ty.Int)
     integer = plain_of ty.Int 2 refl of_int (kind_int ty.Int refl)
 
-    pub boolean : Decides (kind_or ks (value_of ks n) == 0) (s ≡ Plain ty.Bool)
+    pub boolean : Decides (kind_at ks (value_of ks n) == 0) (s ≡ Plain ty.Bool)
     boolean = plain_of ty.Bool 0 refl of_bool (kind_bool ty.Bool refl)
 
-    pub character : Decides (kind_or ks (value_of ks n) == 1) (s ≡ Plain ty.Char)
+    pub character : Decides (kind_at ks (value_of ks n) == 1) (s ≡ Plain ty.Char)
     character = plain_of ty.Char 1 refl of_char (kind_char ty.Char refl)
 
-    pub null : Decides (kind_or ks (value_of ks n) == 3) (s ≡ Plain ty.Null)
+    pub null : Decides (kind_at ks (value_of ks n) == 3) (s ≡ Plain ty.Null)
     null = plain_of ty.Null 3 refl of_null (kind_null ty.Null refl)
 
-    pub integers : Decides (kind_or ks (many_of ks n) == 2) (s ≡ Many ty.Int)
+    pub integers : Decides (kind_at ks (many_of ks n) == 2) (s ≡ Many ty.Int)
     integers = many_is ty.Int 2 refl of_int (kind_int ty.Int refl)
 
-    pub booleans : Decides (kind_or ks (many_of ks n) == 0) (s ≡ Many ty.Bool)
+    pub booleans : Decides (kind_at ks (many_of ks n) == 0) (s ≡ Many ty.Bool)
     booleans = many_is ty.Bool 0 refl of_bool (kind_bool ty.Bool refl)
 
     pub any : Decides (is_some (value_of ks n)) ((t : Ty) × (s ≡ Plain t))
@@ -92,43 +92,43 @@ module _ (ks : List Key) (once : AreOnce ks) (read : AreRead ks) where
     pub multiple : Decides (is_some (many_of ks n)) ((t : Ty) × (s ≡ Many t))
     multiple = is_there ks (many_of ks n) (λ t. s ≡ Many t) (many_view ks read n s h)
 
-    pub array : Decides (kind_or ks (value_of ks n) == 4) ((t : Ty) × (s ≡ Plain (ty.Arr t)))
+    pub array : Decides (kind_at ks (value_of ks n) == 4) ((t : Ty) × (s ≡ Plain (ty.Arr t)))
     array =
-        either_way (kind_or ks (value_of ks n) == 4) (kind 4 refl)
+        either_way (kind_at ks (value_of ks n) == 4) (kind 4 refl)
         (λ r. let a = of_arr r.0 r.2 in (a.0, r.1 ∙ ap (λ t. Plain t) a.1)) (λ r. (ty.Arr r.0, r.1, kind_arr (ty.Arr r.0) r.0 refl))
 
-    pub stream : Decides (kind_or ks (value_of ks n) == 5) ((t : Ty) × (s ≡ Plain (ty.Stream t)))
+    pub stream : Decides (kind_at ks (value_of ks n) == 5) ((t : Ty) × (s ≡ Plain (ty.Stream t)))
     stream =
-        either_way (kind_or ks (value_of ks n) == 5) (kind 5 refl)
+        either_way (kind_at ks (value_of ks n) == 5) (kind 5 refl)
         (λ r. let a = of_stream r.0 r.2 in (a.0, r.1 ∙ ap (λ t. Plain t) a.1)) (λ r. (ty.Stream r.0, r.1, kind_stream (ty.Stream r.0) r.0 refl))
 
-    pub record_is : Decides (kind_or ks (value_of ks n) == 6) ((fs : List Member) × (s ≡ Plain (ty.Rec fs)))
+    pub record_is : Decides (kind_at ks (value_of ks n) == 6) ((fs : List Member) × (s ≡ Plain (ty.Rec fs)))
     record_is =
-        either_way (kind_or ks (value_of ks n) == 6) (kind 6 refl)
+        either_way (kind_at ks (value_of ks n) == 6) (kind 6 refl)
         (λ r. let a = of_rec r.0 r.2 in (a.0, r.1 ∙ ap (λ t. Plain t) a.1)) (λ r. (ty.Rec r.0, r.1, kind_rec (ty.Rec r.0) r.0 refl))
 
-    pub sequence : Decides ((kind_or ks (value_of ks n) == 4) || (kind_or ks (value_of ks n) == 5)) ((t : Ty) × IsSequence t s)
+    pub sequence : Decides ((kind_at ks (value_of ks n) == 4) || (kind_at ks (value_of ks n) == 5)) ((t : Ty) × IsSequence t s)
     sequence =
-        either_way ((kind_or ks (value_of ks n) == 4) || (kind_or ks (value_of ks n) == 5)) (or_decides (kind_or ks (value_of ks n) == 4) (kind_or ks (value_of ks n) == 5) array stream)
+        either_way ((kind_at ks (value_of ks n) == 4) || (kind_at ks (value_of ks n) == 5)) (or_decides (kind_at ks (value_of ks n) == 4) (kind_at ks (value_of ks n) == 5) array stream)
         (λ r. elim r [ inl x ↦ (x.0, inl x.1) | inr y ↦ (y.0, inr y.1) ]) back
       where
         back : (t : Ty) × IsSequence t s → ((t : Ty) × (s ≡ Plain (ty.Arr t))) ⊎ ((t : Ty) × (s ≡ Plain (ty.Stream t)))
         back (t, inl e) = inl (t, e)
         back (t, inr e) = inr (t, e)
 
-    arrays : Decides (kind_or ks (many_of ks n) == 4) ((t : Ty) × (s ≡ Many (ty.Arr t)))
+    arrays : Decides (kind_at ks (many_of ks n) == 4) ((t : Ty) × (s ≡ Many (ty.Arr t)))
     arrays =
-        either_way (kind_or ks (many_of ks n) == 4) (many_kind 4 refl)
+        either_way (kind_at ks (many_of ks n) == 4) (many_kind 4 refl)
         (λ r. let a = of_arr r.0 r.2 in (a.0, r.1 ∙ ap (λ t. Many t) a.1)) (λ r. (ty.Arr r.0, r.1, kind_arr (ty.Arr r.0) r.0 refl))
 
-    streams : Decides (kind_or ks (many_of ks n) == 5) ((t : Ty) × (s ≡ Many (ty.Stream t)))
+    streams : Decides (kind_at ks (many_of ks n) == 5) ((t : Ty) × (s ≡ Many (ty.Stream t)))
     streams =
-        either_way (kind_or ks (many_of ks n) == 5) (many_kind 5 refl)
+        either_way (kind_at ks (many_of ks n) == 5) (many_kind 5 refl)
         (λ r. let a = of_stream r.0 r.2 in (a.0, r.1 ∙ ap (λ t. Many t) a.1)) (λ r. (ty.Stream r.0, r.1, kind_stream (ty.Stream r.0) r.0 refl))
 
     pub reducible : (named : Option Reducer) → Decides (is_reducible named (kind_or ks (many_of ks n))) (IsReducible named s)
     reducible (Some reducer.Catenate) =
-        either_way ((kind_or ks (many_of ks n) == 4) || (kind_or ks (many_of ks n) == 5)) (or_decides (kind_or ks (many_of ks n) == 4) (kind_or ks (many_of ks n) == 5) arrays streams)
+        either_way ((kind_at ks (many_of ks n) == 4) || (kind_at ks (many_of ks n) == 5)) (or_decides (kind_at ks (many_of ks n) == 4) (kind_at ks (many_of ks n) == 5) arrays streams)
         (λ r. elim r [ inl x ↦ (x.0, inl x.1) | inr y ↦ (y.0, inr y.1) ]) back
       where
         back : (t : Ty) × ((s ≡ Many (ty.Arr t)) ⊎ (s ≡ Many (ty.Stream t))) → ((t : Ty) × (s ≡ Many (ty.Arr t))) ⊎ ((t : Ty) × (s ≡ Many (ty.Stream t)))

@@ -15,6 +15,7 @@ use Rattle.if1_types.specs.declared.forms.TyForm.{TyForm}
 use Rattle.if1_types.specs.declared.forms.TyForm.TheVariants as form
 use Rattle.if1_types.specs.Shapes.{Key}
 use Rattle.if1_types.specs.Forms.{IsTy, IsList, IsSort, IsSortForm, IsTyForm, AreOnce, AreOne, AreRead, sort_form_at, ty_form_at}
+use Rattle.if1_fits.specs.Views as views
 use Rattle.if1_fits.specs.Views.{value_in, many_in, array_in, sequence_in, fields_in, kind_in, value_of, many_of, array_of, sequence_of, fields_of, kind_or, are_same}
 
 -- ---- kinds of types
@@ -31,6 +32,9 @@ kind_number (Ty-F.Uni ms) = 7
 
 abbrev pub type_kind : Ty → ℕ
 type_kind t = kind_number (out-Ty t)
+
+abbrev pub kind_at : List Key → Option ℕ → ℕ
+kind_at ks x = views.kind_number (kind_or ks x)
 
 out_bool : out-Ty ty.Bool ≡ Ty-F.Bool
 out_bool = search (rules, the_lemmas)
@@ -274,7 +278,7 @@ module _ (ks : List Key) where
   -- ---- types
 
   module _ (read : AreRead ks) where
-    kind_of_form : (t : Ty) (f : TyForm) → IsTyForm ks t f → kind_in f ≡ type_kind t
+    kind_of_form : (t : Ty) (f : TyForm) → IsTyForm ks t f → views.kind_number (kind_in f) ≡ type_kind t
     kind_of_form t form.Nothing h = absurd h
     kind_of_form t form.Boolean h = sym (kind_bool t h)
     kind_of_form t form.Character h = sym (kind_char t h)
@@ -285,12 +289,12 @@ module _ (ks : List Key) where
     kind_of_form t (form.Record k) h = sym (kind_rec t h.0 h.1)
     kind_of_form t (form.Union k) h = sym (kind_uni t h.0 h.1)
 
-    pub kind_is : (x : Option ℕ) (P : Ty → Type 0) (k : ℕ) → IsOnly P → View x P → (9 == k) ≡ false → Decides (kind_or ks x == k) ((t : Ty) × P t × (type_kind t ≡ k))
-    kind_is None P k p h nine = (λ e. absurd (false_true (sym nine ∙ e)), λ r. absurd (h r.0 r.1))
-    kind_is (Some m) P k p h nine =
-        let same : kind_in (ty_form_at ks m) ≡ type_kind h.0 = kind_of_form h.0 (ty_form_at ks m) (read.types m h.0 h.2) in (
-          λ e. (h.0, h.1, sym same ∙ eqb-true (kind_in (ty_form_at ks m)) k e),
-          λ r. eq-eqb (kind_in (ty_form_at ks m)) k (same ∙ ap type_kind (p h.0 r.0 h.1 r.1) ∙ r.2),
+    pub kind_is : (x : Option ℕ) (P : Ty → Type 0) (k : ℕ) → IsOnly P → View x P → (8 == k) ≡ false → Decides (kind_at ks x == k) ((t : Ty) × P t × (type_kind t ≡ k))
+    kind_is None P k p h eight = (λ e. absurd (false_true (sym eight ∙ e)), λ r. absurd (h r.0 r.1))
+    kind_is (Some m) P k p h eight =
+        let same : views.kind_number (kind_in (ty_form_at ks m)) ≡ type_kind h.0 = kind_of_form h.0 (ty_form_at ks m) (read.types m h.0 h.2) in (
+          λ e. (h.0, h.1, sym same ∙ eqb-true (views.kind_number (kind_in (ty_form_at ks m))) k e),
+          λ r. eq-eqb (views.kind_number (kind_in (ty_form_at ks m))) k (same ∙ ap type_kind (p h.0 r.0 h.1 r.1) ∙ r.2),
         )
 
     pub sequence_view : (k : ℕ) (t : Ty) → IsTy ks k t → View (sequence_of ks k) (λ a. (t ≡ ty.Arr a) ⊎ (t ≡ ty.Stream a))

@@ -14,7 +14,9 @@ use Rattle.if1_types.specs.declared.forms.TyForm.TheVariants as form
 use Rattle.if1_types.specs.Shapes.{Key, tree_at, trees_in, members_in}
 use Rattle.if1_types.specs.Forms.{IsSort, sort_form_at, ty_form_at, list_form_at}
 use Rattle.if1_types.specs.Skips.{first_in, rest_in}
-use Rattle.if1_fits.specs.Views.{value_of, many_of, array_of, sequence_of, fields_of, kind_or, listed_at, arguments_in, results_in, are_same}
+use Rattle.if1_fits.specs.declared.kind.Kind.{Kind}
+use Rattle.if1_fits.specs.declared.kind.Kind.TheVariants as kind
+use Rattle.if1_fits.specs.Views.{value_of, many_of, array_of, sequence_of, fields_of, kind_or, is_kind, value_is, many_is, listed_at, arguments_in, results_in, are_same}
 
 -- a number stands for what is carried, and 0 for nothing
 abbrev pub IsNumbered : List Key → Option Sort → ℕ → Type 0
@@ -27,10 +29,10 @@ elements_in ks (sort.Value k) = sequence_of ks k
 elements_in ks (sort.Multiple k) = Some k
 elements_in ks _ = None
 
-abbrev pub is_reducible : Option Reducer → ℕ → Bool
-is_reducible (Some reducer.Catenate) kind = (kind == 4) || (kind == 5)
-is_reducible (Some _) kind = kind == 2
-is_reducible None kind = false
+abbrev pub is_reducible : Option Reducer → Kind → Bool
+is_reducible (Some reducer.Catenate) k = is_kind k kind.Array || is_kind k kind.Stream
+is_reducible (Some _) k = is_kind k kind.Integer
+is_reducible None k = false
 
 -- an array or stream, of what is carried, if anything is
 abbrev pub is_sequence_of : List Key → Option ℕ → ℕ → Bool
@@ -65,27 +67,26 @@ module _ (ks : List Key) (at : ℕ → ℕ) where
   is_built_value (Some k) = is_built (ty_form_at ks k)
 
   abbrev pub fits_at : ℕ → Option Reducer → Want → ℕ → Bool
-  fits_at callee reducer want.Integer n = kind_or ks (value_of ks n) == 2
-  fits_at callee reducer want.Boolean n = kind_or ks (value_of ks n) == 0
-  fits_at callee reducer want.Character n = kind_or ks (value_of ks n) == 1
-  fits_at callee reducer want.IntegerOrBoolean n = (kind_or ks (value_of ks n) == 2) || (kind_or ks (value_of ks n) == 0)
-  fits_at callee reducer want.IntegerOrCharacter n = (kind_or ks (value_of ks n) == 2) || (kind_or ks (value_of ks n) == 1)
-  fits_at callee reducer want.Discrete n =
-      (kind_or ks (value_of ks n) == 2) || ((kind_or ks (value_of ks n) == 0) || (kind_or ks (value_of ks n) == 1))
+  fits_at callee reducer want.Integer n = value_is ks n kind.Integer
+  fits_at callee reducer want.Boolean n = value_is ks n kind.Boolean
+  fits_at callee reducer want.Character n = value_is ks n kind.Character
+  fits_at callee reducer want.IntegerOrBoolean n = value_is ks n kind.Integer || value_is ks n kind.Boolean
+  fits_at callee reducer want.IntegerOrCharacter n = value_is ks n kind.Integer || value_is ks n kind.Character
+  fits_at callee reducer want.Discrete n = value_is ks n kind.Integer || (value_is ks n kind.Boolean || value_is ks n kind.Character)
   fits_at callee reducer want.Scalar n =
-      (kind_or ks (value_of ks n) == 2)
-      || ((kind_or ks (value_of ks n) == 0) || ((kind_or ks (value_of ks n) == 1) || (kind_or ks (value_of ks n) == 3)))
+      value_is ks n kind.Integer
+      || (value_is ks n kind.Boolean || (value_is ks n kind.Character || value_is ks n kind.Null))
   fits_at callee reducer want.Any n = is_some (value_of ks n)
-  fits_at callee reducer want.Array n = kind_or ks (value_of ks n) == 4
-  fits_at callee reducer want.Stream n = kind_or ks (value_of ks n) == 5
-  fits_at callee reducer want.Sequence n = (kind_or ks (value_of ks n) == 4) || (kind_or ks (value_of ks n) == 5)
-  fits_at callee reducer want.Record n = kind_or ks (value_of ks n) == 6
+  fits_at callee reducer want.Array n = value_is ks n kind.Array
+  fits_at callee reducer want.Stream n = value_is ks n kind.Stream
+  fits_at callee reducer want.Sequence n = value_is ks n kind.Array || value_is ks n kind.Stream
+  fits_at callee reducer want.Record n = value_is ks n kind.Record
   fits_at callee reducer want.Multiple n = is_some (many_of ks n)
-  fits_at callee reducer want.Integers n = kind_or ks (many_of ks n) == 2
-  fits_at callee reducer want.Booleans n = kind_or ks (many_of ks n) == 0
+  fits_at callee reducer want.Integers n = many_is ks n kind.Integer
+  fits_at callee reducer want.Booleans n = many_is ks n kind.Boolean
   fits_at callee reducer want.Reducible n = is_reducible reducer (kind_or ks (many_of ks n))
   fits_at callee reducer want.Function n = is_some (arguments_in (sort_form_at ks n)) && (callee == n)
-  fits_at callee reducer want.Reduction n = kind_or ks (value_of ks n) == 2
+  fits_at callee reducer want.Reduction n = value_is ks n kind.Integer
   fits_at callee reducer (want.Same port) n = is_some (value_of ks n) && (at port == n)
   fits_at callee reducer (want.Element port) n = are_same (value_of ks n) (elements_in ks (sort_form_at ks (at port)))
   fits_at callee reducer (want.ArrayOf port) n = are_same (value_of ks n >>= array_of ks) (value_of ks (at port))

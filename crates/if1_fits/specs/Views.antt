@@ -6,6 +6,8 @@ use Rattle.if1_types.specs.declared.forms.SortForm.{SortForm}
 use Rattle.if1_types.specs.declared.forms.SortForm.TheVariants as sort
 use Rattle.if1_types.specs.declared.forms.TyForm.{TyForm}
 use Rattle.if1_types.specs.declared.forms.TyForm.TheVariants as form
+use Rattle.if1_fits.specs.declared.kind.Kind.{Kind}
+use Rattle.if1_fits.specs.declared.kind.Kind.TheVariants as kind
 use Rattle.if1_types.specs.Shapes.{Key}
 use Rattle.if1_types.specs.Tables.{number_at}
 use Rattle.if1_types.specs.Forms.{sort_form_at, ty_form_at}
@@ -46,16 +48,31 @@ abbrev pub tags_in : TyForm → Option ℕ
 tags_in (form.Union l) = Some l
 tags_in _ = None
 
-abbrev pub kind_in : TyForm → ℕ
-kind_in form.Boolean = 0
-kind_in form.Character = 1
-kind_in form.Integer = 2
-kind_in form.Null = 3
-kind_in (form.Array k) = 4
-kind_in (form.Stream k) = 5
-kind_in (form.Record l) = 6
-kind_in (form.Union l) = 7
-kind_in form.Nothing = 8
+abbrev pub kind_in : TyForm → Kind
+kind_in form.Nothing = kind.Nothing
+kind_in form.Boolean = kind.Boolean
+kind_in form.Character = kind.Character
+kind_in form.Integer = kind.Integer
+kind_in form.Null = kind.Null
+kind_in (form.Array k) = kind.Array
+kind_in (form.Stream k) = kind.Stream
+kind_in (form.Record l) = kind.Record
+kind_in (form.Union l) = kind.Union
+
+-- a number for each kind, to tell them apart
+abbrev pub kind_number : Kind → ℕ
+kind_number kind.Boolean = 0
+kind_number kind.Character = 1
+kind_number kind.Integer = 2
+kind_number kind.Null = 3
+kind_number kind.Array = 4
+kind_number kind.Stream = 5
+kind_number kind.Record = 6
+kind_number kind.Union = 7
+kind_number kind.Nothing = 8
+
+abbrev pub is_kind : Kind → Kind → Bool
+is_kind a b = kind_number a == kind_number b
 
 -- ---- numbers
 
@@ -90,10 +107,17 @@ module _ (ks : List Key) where
   abbrev pub fields_at : ℕ → Option ℕ
   fields_at n = value_of n >>= fields_of
 
-  -- the kind of a type: 0 boolean, 1 character, 2 integer, 3 null, 4 array, 5 stream, 6 record, 7 union; 9 for none
-  abbrev pub kind_or : Option ℕ → ℕ
-  kind_or None = 9
+  -- the kind of a type, if there is one
+  abbrev pub kind_or : Option ℕ → Kind
+  kind_or None = kind.Nothing
   kind_or (Some k) = kind_in (ty_form_at ks k)
+
+  -- a value, or the values of a multiple, have a type of this kind
+  abbrev pub value_is : ℕ → Kind → Bool
+  value_is n k = is_kind (kind_or (value_of n)) k
+
+  abbrev pub many_is : ℕ → Kind → Bool
+  many_is n k = is_kind (kind_or (many_of n)) k
 
   -- the type at a place of a list, from 0
   abbrev pub listed : ℕ → ℕ → Option ℕ

@@ -1,6 +1,7 @@
 //! Whether the type of an edge is one that the table of nodes wants, by numbers of types.
 #![tactic(auto)]
 
+mod kind;
 mod laws;
 mod views;
 mod wants;

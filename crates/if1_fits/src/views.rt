@@ -6,6 +6,7 @@ ghost use Rattle.std.specs.List.Sorted.{IsStrictlyIncreasing};
 ghost use Rattle.if1_fits.specs.Views as spec;
 ghost use Rattle.if1_fits.specs.Views.{AreUp};
 
+use crate::kind::Kind;
 use flow_value::item_at;
 use if1_graph::Edge;
 use if1_types::{SortForm, Sorts, TyForm};
@@ -90,30 +91,29 @@ pub fn results_of(sorts: &Sorts, number: u32) -> Option<u32>
     }
 }
 
-/// The kind of a type, 8 for no type.
-fn kind_in(form: TyForm) -> u32
+fn kind_in(form: TyForm) -> Kind
     ensures { result ≡ spec.kind_in form }
 {
     match form {
-        TyForm::Boolean => 0,
-        TyForm::Character => 1,
-        TyForm::Integer => 2,
-        TyForm::Null => 3,
-        TyForm::Array(_) => 4,
-        TyForm::Stream(_) => 5,
-        TyForm::Record(_) => 6,
-        TyForm::Union(_) => 7,
-        TyForm::Nothing => 8,
+        TyForm::Nothing => Kind::Nothing,
+        TyForm::Boolean => Kind::Boolean,
+        TyForm::Character => Kind::Character,
+        TyForm::Integer => Kind::Integer,
+        TyForm::Null => Kind::Null,
+        TyForm::Array(_) => Kind::Array,
+        TyForm::Stream(_) => Kind::Stream,
+        TyForm::Record(_) => Kind::Record,
+        TyForm::Union(_) => Kind::Union,
     }
 }
 
-/// The kind of a type, 9 where there is none.
-pub fn kind_or(sorts: &Sorts, ty: Option<u32>) -> u32
+/// The kind of a type, if there is one.
+pub fn kind_or(sorts: &Sorts, ty: Option<u32>) -> Kind
     ensures { result ≡ spec.kind_or sorts.now.shapes ty }
 {
     match ty {
         Some(ty) => kind_in(sorts.ty(ty)),
-        None => 9,
+        None => Kind::Nothing,
     }
 }
 

@@ -9,6 +9,7 @@ ghost use Rattle.if1_fits.specs.Views.{carried_at as at_port, AreUp};
 ghost use Rattle.if1_fits.specs.Tests as spec;
 ghost use Rattle.if1_fits.specs.Tests.{IsAlone, IsBeside};
 
+use crate::kind::Kind;
 use crate::views::{
     are_same, arguments_of, array_of, carried_at, fields_of, kind_or, listed_at, many_of,
     results_of, sequence_of, value_of,
@@ -27,12 +28,12 @@ fn elements_of(sorts: &Sorts, number: u32) -> Option<u32>
     }
 }
 
-fn is_reducible(named: Option<Reducer>, kind: u32) -> bool
+fn is_reducible(named: Option<Reducer>, kind: Kind) -> bool
     ensures { result ≡ spec.is_reducible named kind }
 {
     match named {
-        Some(Reducer::Catenate) => kind == 4 || kind == 5,
-        Some(_) => kind == 2,
+        Some(Reducer::Catenate) => kind == Kind::Array || kind == Kind::Stream,
+        Some(_) => kind == Kind::Integer,
         None => false,
     }
 }
@@ -139,21 +140,23 @@ fn fits_alone(sorts: &Sorts, named: Option<Reducer>, want: Want, number: u32) ->
 {
     let kind = kind_or(sorts, value_of(sorts, number));
     match want {
-        Want::Integer | Want::Reduction => kind == 2,
-        Want::Boolean => kind == 0,
-        Want::Character => kind == 1,
-        Want::IntegerOrBoolean => kind == 2 || kind == 0,
-        Want::IntegerOrCharacter => kind == 2 || kind == 1,
-        Want::Discrete => kind == 2 || (kind == 0 || kind == 1),
-        Want::Scalar => kind == 2 || (kind == 0 || (kind == 1 || kind == 3)),
+        Want::Integer | Want::Reduction => kind == Kind::Integer,
+        Want::Boolean => kind == Kind::Boolean,
+        Want::Character => kind == Kind::Character,
+        Want::IntegerOrBoolean => kind == Kind::Integer || kind == Kind::Boolean,
+        Want::IntegerOrCharacter => kind == Kind::Integer || kind == Kind::Character,
+        Want::Discrete => kind == Kind::Integer
+            || (kind == Kind::Boolean || kind == Kind::Character),
+        Want::Scalar => kind == Kind::Integer
+            || (kind == Kind::Boolean || (kind == Kind::Character || kind == Kind::Null)),
         Want::Any => value_of(sorts, number).is_some(),
-        Want::Array => kind == 4,
-        Want::Stream => kind == 5,
-        Want::Sequence => kind == 4 || kind == 5,
-        Want::Record => kind == 6,
+        Want::Array => kind == Kind::Array,
+        Want::Stream => kind == Kind::Stream,
+        Want::Sequence => kind == Kind::Array || kind == Kind::Stream,
+        Want::Record => kind == Kind::Record,
         Want::Multiple => many_of(sorts, number).is_some(),
-        Want::Integers => kind_or(sorts, many_of(sorts, number)) == 2,
-        Want::Booleans => kind_or(sorts, many_of(sorts, number)) == 0,
+        Want::Integers => kind_or(sorts, many_of(sorts, number)) == Kind::Integer,
+        Want::Booleans => kind_or(sorts, many_of(sorts, number)) == Kind::Boolean,
         Want::Reducible => is_reducible(named, kind_or(sorts, many_of(sorts, number))),
         _ => false,
     }

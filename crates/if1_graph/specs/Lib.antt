@@ -1,3 +1,4 @@
+pub use Rattle.if1_line.specs.Spelling
 pub mod Tables
 pub mod Ops
 pub mod Rows

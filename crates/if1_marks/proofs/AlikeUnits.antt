@@ -23,7 +23,7 @@ use Rattle.if1_graph.specs.Ready.{IsReady, IsOrdered, AtEachEnd}
 use Rattle.if1_graph.specs.Types.{entry_at}
 use Rattle.if1_graph.specs.Typing.{AreTypesRight}
 use Rattle.if1_graph.specs.Units.{label_of, levels, most_levels, Home, Place, places, graphs_before, IsNumbered, ends}
-use Rattle.if1_line.specs.Spelling.{IsNumber, IsLabel, IsName, IsQuotable}
+use Rattle.if1_graph.specs.Spelling.{IsNumber, IsLabel, IsName, IsQuotable}
 use Rattle.if1_marks.specs.Alike.{AreAlike, IsUntakenLiteral, AreMarksSpelled, DoListsRise, AreAlikeFormed, AreAlikeReady, AreAlikeNormal, AreUnmarkedAsBefore}
 use Rattle.if1_marks.specs.Unmarked.{untaken, unmarked, unmarked_node, unmarked_unit, unmarked_home, unmarked_place}
 use Rattle.if1_marks.proofs.AlikeLists.{Matched, neither, both, matched, all-matched, all-matched-with, all-both, length-matched, found-matched, pairs-matched}

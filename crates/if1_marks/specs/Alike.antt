@@ -11,7 +11,7 @@ use Rattle.if1_graph.specs.Formed.{IsFormed}
 use Rattle.if1_graph.specs.Normal.{IsNormal}
 use Rattle.if1_graph.specs.Ready.{IsReady}
 use Rattle.if1_graph.specs.Units.{Place, places}
-use Rattle.if1_line.specs.Spelling.{IsLabel}
+use Rattle.if1_graph.specs.Spelling.{IsLabel}
 use Rattle.if1_marks.specs.Unmarked.{unmarked_unit}
 
 -- they are the same without their marks

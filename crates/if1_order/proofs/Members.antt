@@ -1,5 +1,5 @@
 -- What lists that are made of others contain.
-use Rattle.std.proofs.Common.{◌≡◌, ℕ, zero, suc, ◌+◌, ◌<◌, List, [], ◌∷◌, ◌++◌, map, length, slice_get, slice_index_or, get_or, Some, None, Option, ◌⊎◌, inl, inr, Contains, arith, refl, sym, ap, subst, ◌∙◌, Bool, true, false, cond, find}
+use Rattle.std.proofs.Common.{◌≡◌, ℕ, zero, suc, List, [], ◌∷◌, map, slice_get, Some, Option, ◌⊎◌, inl, inr, Contains, arith, refl, sym, ap, subst, ◌∙◌, Bool, true, false, cond, find}
 use Rattle.std.specs.List.{flat_map, filter}
 use Rattle.std.proofs.lemmas.List.Elements.{Contains-append_left, Contains-append_right, Contains-append_cases}
 

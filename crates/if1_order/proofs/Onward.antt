@@ -1,5 +1,5 @@
 -- Where edges lead from lower labels to higher ones, no node reaches itself.
-use Rattle.std.proofs.Common.{◌≡◌, ◌∙◌, sym, ℕ, ◌<◌, arith}
+use Rattle.std.proofs.Common.{◌∙◌, sym, ℕ, ◌<◌, arith}
 use Rattle.std.proofs.lemmas.List.Elements.{All-contains}
 use Rattle.if1_graph.specs.declared.graph.Graph.{Graph}
 use Rattle.if1_graph.specs.declared.graph.Graph.TheViews.{out-Graph}

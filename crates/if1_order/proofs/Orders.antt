@@ -1,21 +1,20 @@
 -- An order of places, told by labels.
-use Rattle.std.proofs.Common.{◌≡◌, ◌≢◌, ℕ, zero, suc, ◌+◌, ◌-◌, ◌<◌, ◌≤◌, ◌↔◌, List, [], ◌∷◌, ◌++◌, map, length, take, set, get_or, replicate, slice_index, ◌⊎◌, inl, inr, Contains, All, Result, Ok, Err, arith, refl, sym, ap, subst, ◌∙◌}
+use Rattle.std.proofs.Common.{◌≡◌, ◌≢◌, ℕ, zero, suc, ◌+◌, ◌-◌, ◌<◌, ◌≤◌, List, [], ◌∷◌, ◌++◌, map, length, take, set, get_or, replicate, slice_index, ◌⊎◌, inl, inr, Contains, Err, arith, refl, sym, ap, subst, ◌∙◌}
 use Rattle.std.specs.List.Sorted.{IsStrictlyIncreasing}
 use Rattle.std.specs.List.Sorted.{IsBinarySearchResult}
 use Rattle.std.specs.Ordering.{nat_cmp}
 use Rattle.std.proofs.lemmas.List.Sorted.{searched}
 use Rattle.std.proofs.lemmas.Bool.{cases_lt, cases_eq}
-use Rattle.std.proofs.lemmas.List.{length-set, length_push, length-append, length-map, length-replicate, length-take-le, get_or-set_same, get_or-set_other, get_or_append_left, get_or_push, get_or_default, get_or_past, get_or-replicate, get_or-map, get_or-take, take-map, take_at, take-append-le}
-use Rattle.std.proofs.lemmas.List.Elements.{All-push, All-contains, All-nil, Contains-get_or, Contains-push, Contains-push_cases, Contains-append_left, Contains-append_right}
+use Rattle.std.proofs.lemmas.List.{length-set, length-map, length-replicate, get_or-set_same, get_or-set_other, get_or_default, get_or-map, take-map}
+use Rattle.std.proofs.lemmas.List.Elements.{Contains-get_or, Contains-push, Contains-push_cases, Contains-append_left}
 use Rattle.if1_graph.specs.declared.graph.Graph.{Graph}
 use Rattle.if1_graph.specs.declared.graph.Graph.TheViews.{out-Graph}
 use Rattle.if1_graph.specs.declared.graph.Edge.{Edge}
-use Rattle.if1_graph.specs.declared.graph.Origin.{Origin}
 use Rattle.if1_graph.specs.declared.graph.Origin.TheVariants.{Port, Lit}
 use Rattle.if1_graph.specs.Formed.{IsOnce}
 use Rattle.if1_graph.specs.Cycles.{IsFrom, Feeds, Reaches}
 use Rattle.if1_graph.specs.Cycles as cycles
-use Rattle.if1_order.specs.Walks.{Lists, feeders_of, AreInside, Leads, step, onward, AreAfter, IsSorted}
+use Rattle.if1_order.specs.Walks.{Lists, feeders_of, AreInside, Leads, step, onward, IsSorted}
 use Rattle.if1_order.specs.Feeders.{IsEdge, Joins, IsPlace, IsJoined, AreFeeders}
 use Rattle.if1_order.specs.declared.arranged.NodeOrder.{NodeOrder}
 use Rattle.if1_order.specs.declared.arranged.NodeOrder.TheVariants.{Nodes, Circle}

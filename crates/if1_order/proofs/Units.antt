@@ -1,5 +1,5 @@
 -- Circles in the graphs of a unit.
-use Rattle.std.proofs.Common.{◌≡◌, ◌≢◌, ℕ, zero, suc, ◌+◌, ◌<◌, ◌≤◌, List, [], ◌∷◌, ◌++◌, map, length, get_or, Option, Some, None, Result, Ok, Err, MatchOption, IfOk, Contains, All, eqb, arith, refl, sym, ap, subst, ◌∙◌}
+use Rattle.std.proofs.Common.{◌≡◌, ◌≢◌, ℕ, zero, suc, ◌≤◌, ◌++◌, map, get_or, Option, Some, None, Result, Ok, Err, MatchOption, IfOk, Contains, All, eqb, refl, sym, subst}
 use Rattle.std.proofs.lemmas.Bool.{eqb-true, eq-eqb}
 use Rattle.std.proofs.lemmas.List.Elements.{All-contains, Contains-get_or, Contains-append_left, Contains-append_right}
 use Rattle.if1_graph.specs.declared.graph.Graph.{Graph}
@@ -8,7 +8,7 @@ use Rattle.if1_graph.specs.declared.graph.Node.{Node, out-Node}
 use Rattle.if1_graph.specs.declared.graph.Origin.{Origin}
 use Rattle.if1_graph.specs.declared.graph.Origin.TheVariants.{Port, Lit}
 use Rattle.if1_graph.specs.declared.graph.Unit1.{Unit1}
-use Rattle.if1_graph.specs.Units.{label_of, node_at, edges_into, ends, levels, most_levels, Place, places, number_of, Function}
+use Rattle.if1_graph.specs.Units.{label_of, node_at, edges_into, ends, levels, most_levels, Place, places, Function}
 use Rattle.if1_graph.specs.Cycles.{IsFrom, Feeds, Reaches}
 use Rattle.if1_graph.specs.Ports.{IsThere, IsEndFilled, ArePortsRight}
 use Rattle.if1_graph.specs.Normal.{IsNormal, IsNormalGraph}
@@ -16,7 +16,7 @@ use Rattle.if1_graph.specs.Ready.{IsAcyclic, IsOnCycle, PortsHold}
 use Rattle.if1_order.specs.Orders.{node_labels, IsLinked, HasNoCircle, IsCircle, AreLinked}
 use Rattle.if1_order.specs.Within.{IsPart, whole, deeper}
 use Rattle.if1_order.specs.Parts.{IsLinkedInside, AreLinkedInside, NodesAreLinked, IsClear, AreClear, NodesAreClear, HasCircle, HaveCircle, NodesHaveCircle}
-use Rattle.if1_order.proofs.Members.{contains_here, contains_there, contains_got, got_contained, mapped_contains, found_in, filter_contains}
+use Rattle.if1_order.proofs.Members.{contains_there, contains_got, got_contained, mapped_contains, found_in, filter_contains}
 use Rattle.if1_order.proofs.Within.{within_from_unit, unit_from_within, part_from_within, within_from_part}
 
 -- ---- one graph

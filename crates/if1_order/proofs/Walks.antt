@@ -1,15 +1,15 @@
 -- Each step of a walk keeps what the walk knows.
-use Rattle.std.proofs.Common.{◌≡◌, ◌≢◌, ℕ, zero, suc, ◌+◌, ◌-◌, ◌<◌, ◌≤◌, List, [], ◌∷◌, ◌++◌, length, take, set, get_or, replicate, ◌⊎◌, inl, inr, Contains, All, arith, refl, sym, ap, subst, ◌∙◌}
+use Rattle.std.proofs.Common.{◌≡◌, ◌≢◌, ℕ, zero, suc, ◌+◌, ◌-◌, ◌<◌, ◌≤◌, List, [], ◌∷◌, ◌++◌, length, set, get_or, replicate, inl, inr, Contains, All, arith, refl, sym, ap, subst, ◌∙◌}
 use Rattle.std.specs.List.{sum_by}
 use Rattle.std.proofs.lemmas.Bool.{cases_lt, cases_eq}
-use Rattle.std.proofs.lemmas.List.{length-set, length_push, length-append, length-replicate, get_or-set_same, get_or-set_other, get_or_append_left, get_or_push, get_or_default, get_or-replicate, take_at, take-append-le}
+use Rattle.std.proofs.lemmas.List.{length-set, length_push, length-replicate, get_or-set_same, get_or-set_other, get_or_append_left, get_or_push, get_or_default, get_or-replicate, take_at, take-append-le}
 use Rattle.std.proofs.lemmas.List.Sums.{sum_by-set}
 use Rattle.std.proofs.lemmas.List.Elements.{All-push, All-contains, All-nil, Contains-get_or, Contains-push, Contains-push_cases, Contains-append_left}
 use Rattle.if1_graph.specs.Formed.{IsOnce}
 use Rattle.if1_order.specs.declared.walk.Mark.{Mark}
 use Rattle.if1_order.specs.declared.walk.Mark.TheVariants.{Fresh, Open, Done}
 use Rattle.if1_order.specs.declared.walk.Walk.{Walk}
-use Rattle.if1_order.specs.Walks.{Lists, feeders_of, AreInside, Leads, step, onward, AreAfter, Means, mark_of, IsPath, AreSeen, IsWalk, IsWalkTo, weight, unseen, left, HasMet, GoesOn, Ends}
+use Rattle.if1_order.specs.Walks.{Lists, feeders_of, AreInside, Leads, step, onward, Means, mark_of, IsPath, IsWalk, IsWalkTo, weight, unseen, HasMet, GoesOn, Ends}
 use Rattle.if1_order.proofs.Members.{contains_here, contains_there, contains_cases, contains_none}
 
 -- ---- lists

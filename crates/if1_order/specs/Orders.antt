@@ -4,7 +4,7 @@ use Rattle.std.specs.List.Sorted.{IsStrictlyIncreasing}
 use Rattle.if1_graph.specs.declared.graph.Graph.{Graph}
 use Rattle.if1_graph.specs.declared.graph.Graph.TheViews.{out-Graph}
 use Rattle.if1_graph.specs.declared.graph.Unit1.{Unit1}
-use Rattle.if1_graph.specs.Units.{label_of, ends, Place, places, number_of}
+use Rattle.if1_graph.specs.Units.{label_of, ends, places}
 use Rattle.if1_graph.specs.Formed.{IsOnce}
 use Rattle.if1_graph.specs.Cycles.{Feeds, Reaches}
 use Rattle.if1_order.specs.declared.arranged.NodeOrder.{NodeOrder}

@@ -1,5 +1,5 @@
 -- A walk backwards along edges, by the places of nodes, and what it knows at each step.
-use Rattle.std.specs.Prelude.{◌≡◌, ℕ, zero, ◌+◌, ◌-◌, ◌<◌, ◌↔◌, ◌⊎◌, List, [], ◌∷◌, ◌++◌, length, take, slice_index, slice_index_or, All, Contains}
+use Rattle.std.specs.Prelude.{◌≡◌, ℕ, ◌+◌, ◌-◌, ◌<◌, ◌↔◌, ◌⊎◌, List, [], ◌∷◌, ◌++◌, length, take, slice_index, slice_index_or, All, Contains}
 use Rattle.std.specs.List.{sum_by}
 use Rattle.if1_graph.specs.Formed.{IsOnce}
 use Rattle.if1_order.specs.declared.walk.Mark.{Mark}

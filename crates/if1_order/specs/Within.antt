@@ -1,5 +1,5 @@
 -- The places inside a graph, one inside another, without a count of levels.
-use Rattle.std.specs.Prelude.{◌≡◌, ℕ, List, Some, Contains, slice_get}
+use Rattle.std.specs.Prelude.{◌≡◌, ℕ, Some, Contains, slice_get}
 use Rattle.if1_graph.specs.declared.graph.Graph.{Graph}
 use Rattle.if1_graph.specs.declared.graph.Graph.TheViews.{out-Graph}
 use Rattle.if1_graph.specs.declared.graph.Node.{Node, out-Node}

@@ -1,8 +1,9 @@
 -- The tests of the ports of compound nodes decide the rules, and the numbers around a node give the bounds of its graphs.
-use Rattle.std.proofs.Common.{◌≡◌, ℕ, ◌<◌, ◌≤◌, true, ◌&&◌, ◌==◌, nat_le, nat_lt, List, length, All, Option, Some, None, option_map, unwrap_or, Decides, AllPairs, refl, sym, ap, ◌∙◌, leb-true, le-leb}
+use Rattle.std.proofs.Common.{◌≡◌, ◌↔◌, ℕ, ◌<◌, ◌≤◌, Bool, true, ◌&&◌, ◌==◌, nat_le, nat_lt, List, length, All, Option, Some, None, option_map, unwrap_or, Decides, AllPairs, refl, sym, ap, ◌∙◌, leb-true, le-leb}
+use Rattle.std.specs.Prelude.{IsTrue}
 use Rattle.std.specs.List.{list_all}
 use Rattle.std.proofs.lemmas.Bool.{and_parts, and_from}
-use Rattle.std.proofs.lemmas.Bool.Decides.{Decides-at, Decides-and, Decides-eqb, Decides-ltb, Decides-by_and}
+use Rattle.std.proofs.lemmas.Bool.Decides.{same_from_decides, Decides-at, Decides-and, Decides-eqb, Decides-ltb, Decides-by_and}
 use Rattle.if1_graph.specs.declared.graph.Graph.{Graph}
 use Rattle.if1_graph.specs.declared.graph.Graph.TheViews.{out-Graph}
 use Rattle.if1_graph.specs.declared.graph.Node.{Node, out-Node}
@@ -40,6 +41,9 @@ parts_counted compound.Select n = at_least_n 2 n
 parts_counted compound.TagCase n = at_least_n 1 n
 parts_counted compound.LoopA n = Decides-eqb n 4
 parts_counted compound.LoopB n = Decides-eqb n 4
+
+pub parts_as : (b : Bool) (c : Compound) (n : ℕ) → IsTrue b ↔ HasParts c n → b ≡ counts_parts c n
+parts_as b c n is = same_from_decides b (counts_parts c n) is (parts_counted c n)
 
 arms : (parts : ℕ) (list : List ℕ) → Decides (list_all (λ arm. nat_lt arm parts) list) (All (λ arm. arm < parts) list)
 arms parts list =

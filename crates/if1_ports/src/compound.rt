@@ -8,18 +8,7 @@ ghost use Rattle.if1_ports.specs.Compound as spec;
 use crate::fed::Fed;
 use crate::outline::tags_in;
 use crate::simple::has_at_least;
-use if1_graph::Compound;
-
-fn counts_parts(compound: Compound, graphs: usize) -> bool
-    ensures { result ≡ spec.counts_parts compound graphs }
-{
-    match compound {
-        Compound::ForAll => graphs == 3,
-        Compound::Select => graphs >= 2,
-        Compound::TagCase => graphs >= 1,
-        Compound::LoopA | Compound::LoopB => graphs == 4,
-    }
-}
+use if1_graph::{Compound, has_parts};
 
 fn least_width(compound: Compound) -> usize
     ensures { result ≡ least_width compound }
@@ -75,10 +64,11 @@ fn is_associated(compound: Compound, tags: Option<u32>, graphs: usize, list: &[u
 
 /// Whether a compound node has as many graphs as it must, its ports are filled from 1 on, and its
 /// association list gives the arm of each tag (IF1 manual M-170, compound nodes).
+#[tactic(auto, using(crate::proofs::CompoundNodes::parts_as))]
 pub fn is_compound_filled(fed: Fed, compound: Compound, graphs: usize, list: &[u32]) -> bool
     ensures { result ≡ spec.is_compound_filled fed compound graphs list.now }
 {
-    counts_parts(compound, graphs)
+    has_parts(compound, graphs)
         && has_at_least(fed, least_width(compound))
         && is_associated(compound, tags_in(fed.carries), graphs, list)
 }

@@ -26,6 +26,7 @@ use flow_value::{NoMemory, Numbers, Seq};
 use if1_graph::{
     Compound, Edge, Gives, Graph, Node, Origin, Simple, compound_of, gives_of, simple_of,
 };
+use if1_order::labels_of;
 use std::alloc::Global;
 
 /// The numbers of outputs of the nodes of a graph.
@@ -57,17 +58,6 @@ fn count_in(counts: &[Option<u32>], place: usize) -> Option<Option<u32>>
         Some(count) => Some(*count),
         None => None,
     }
-}
-
-/// The labels of nodes, in order.
-pub fn labels_of(alloc: Global, nodes: &[Node]) -> Result<Numbers, NoMemory>
-    ensures { IfOk result (λ ls. ls ≡ map label_of nodes.now) }
-{
-    let mut labels = Seq::with_room(alloc, nodes.len())?;
-    for node in nodes {
-        labels.add(node.label)?;
-    }
-    Ok(labels)
 }
 
 fn given_by(fed: Fed, gives: Gives) -> Option<u32>

@@ -13,9 +13,9 @@ mod rows;
 mod simple;
 mod units;
 
-pub use around::{Around, Bounds};
-pub use ends::labels_of;
+pub use around::{Around, Bounds, results_at};
 pub use fed::{Fed, greatest_port};
+pub use if1_order::labels_of;
 pub use into::edges_into;
 pub use names::{Names, names_of};
 pub use outline::{Outline, arguments_in, fields_in, is_integer, is_stream, results_in, tags_in};

@@ -2,7 +2,7 @@
 use Rattle.std.proofs.Common.{◌≡◌, ℕ, zero, suc, ◌<◌, ◌==◌, false, List, [], ◌∷◌, length, get_or, slice_index, Some, None, option_map, refl, ap, ◌∙◌, arith, if◌then◌else◌}
 use Rattle.std.specs.List.Sorted.{IsStrictlyIncreasing}
 use Rattle.if1_types.specs.Tables.{number_at}
-use Rattle.if1_types.specs.Ways.{place_of}
+use Rattle.if1_types.specs.Finds.{place_of}
 
 rising_rest : (n : ℕ) (ns : List ℕ) → IsStrictlyIncreasing (n ∷ ns) → IsStrictlyIncreasing ns
 rising_rest n ns up k h = grind (arith, up (suc k))

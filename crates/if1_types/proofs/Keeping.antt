@@ -271,11 +271,12 @@ keys_are es held (suc i) = by (slice_get (keys_of es) i) refl
 
 -- ---- what is over something
 
-is_there : (ks : List Key) (ts : List Tree) (n : ℕ) → IsKept ks ts → n ≤ length ts → n ≢ 0 → is_node (tree_at ts n) ≡ true
-is_there ks ts zero kept h some = absurd (some refl)
-is_there ks ts (suc i) kept h some =
-    let r = row_at ks i (omega (arith, h, kept.count)) in
-    ap is_node (kept.rows i r.0 r.1).0
+is_there : (ts : List Tree) (n : ℕ) → IsOnce ts → n ≤ length ts → n ≢ 0 → is_node (tree_at ts n) ≡ true
+is_there ts n once h some = by (tree_at ts n) refl
+  where
+    by : (t : Tree) → tree_at ts n ≡ t → is_node t ≡ true
+    by leaf e = absurd (some (once n 0 h (omega arith) e))
+    by (node k a b) e = refl
 
 over_node : (k : ℕ) (t : Tree) → is_node t ≡ true → over k t ≡ node k t leaf
 over_node k leaf h = absurd (true≢false (sym h))
@@ -286,11 +287,11 @@ over_nodes k leaf u h i = absurd (true≢false (sym h))
 over_nodes k (node j a b) leaf h i = absurd (true≢false (sym i))
 over_nodes k (node j a b) (node l c d) h i = refl
 
-pub over_some : (ks : List Key) (ts : List Tree) (k n : ℕ) → IsKept ks ts → n ≤ length ts → n ≢ 0 → over k (tree_at ts n) ≡ node k (tree_at ts n) leaf
-over_some ks ts k n kept h some = over_node k (tree_at ts n) (is_there ks ts n kept h some)
+pub over_some : (ts : List Tree) (k n : ℕ) → IsOnce ts → n ≤ length ts → n ≢ 0 → over k (tree_at ts n) ≡ node k (tree_at ts n) leaf
+over_some ts k n once h some = over_node k (tree_at ts n) (is_there ts n once h some)
 
-pub over_some_both : (ks : List Key) (ts : List Tree) (k n m : ℕ) → IsKept ks ts → n ≤ length ts → m ≤ length ts → n ≢ 0 → m ≢ 0 → over_both k (tree_at ts n) (tree_at ts m) ≡ node k (tree_at ts n) (tree_at ts m)
-over_some_both ks ts k n m kept h i some other = over_nodes k (tree_at ts n) (tree_at ts m) (is_there ks ts n kept h some) (is_there ks ts m kept i other)
+pub over_some_both : (ts : List Tree) (k n m : ℕ) → IsOnce ts → n ≤ length ts → m ≤ length ts → n ≢ 0 → m ≢ 0 → over_both k (tree_at ts n) (tree_at ts m) ≡ node k (tree_at ts n) (tree_at ts m)
+over_some_both ts k n m once h i some other = over_nodes k (tree_at ts n) (tree_at ts m) (is_there ts n once h some) (is_there ts m once i other)
 
 -- ---- a list has no more members than there are trees
 

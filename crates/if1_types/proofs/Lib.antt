@@ -1,11 +1,12 @@
 pub mod Same
 pub mod Keeping
 pub mod Finding
-pub mod Nexts
-pub mod Paths
-pub mod Rows
-pub mod Listed
-pub mod Levels
+pub mod Told
+pub mod Looked
+pub mod Bounded
+pub mod Stepped
+pub mod Settled
+pub mod Walked
 pub mod Sorted
 pub mod Views
 pub mod Written

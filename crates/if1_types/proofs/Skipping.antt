@@ -1,17 +1,45 @@
 -- The ends of lists and their members.
-use Rattle.std.proofs.Common.{◌≡◌, ℕ, zero, suc, ◌+◌, ◌-◌, ◌<◌, ◌≤◌, ◌⊎◌, inl, inr, Bool, true, false, nat_eq, List, [], ◌∷◌, ◌++◌, length, Option, Some, None, if◌then◌else◌, refl, sym, ap, ◌∙◌, subst, arith, IsSome, true≢false}
+use Rattle.std.proofs.Common.{◌≡◌, ℕ, zero, suc, ◌+◌, ◌-◌, ◌<◌, ◌≤◌, ◌⊎◌, inl, inr, Bool, true, false, nat_eq, ◌==◌, List, [], ◌∷◌, ◌++◌, length, Option, Some, None, if◌then◌else◌, refl, sym, ap, ◌∙◌, subst, arith, IsSome, true≢false, eqb-true, ne_eqb}
+use Rattle.std.proofs.lemmas.Bool.{eq-eqb}
 use Rattle.type_table.proofs.Lists.{IsEarlier, IsLast, which}
-use Rattle.if1_graph.specs.Tables.{◌>>=◌}
+use Rattle.if1_graph.specs.Tables.{◌>>=◌, beside}
+use Rattle.if1_types.specs.declared.kind.Kind.{Kind}
+use Rattle.if1_types.specs.declared.kind.Kind.TheVariants as shape
 use Rattle.if1_types.specs.declared.forms.ListForm.{ListForm}
 use Rattle.if1_types.specs.declared.forms.ListForm.TheVariants as list
-use Rattle.if1_types.specs.Trees.{leaf}
-use Rattle.if1_types.specs.Shapes.{Key, tree_at, trees_in, members_in, key_at, key_tree, IsKeyOf}
-use Rattle.if1_types.specs.Forms.{list_form, list_form_at}
+use Rattle.if1_types.specs.Shapes.{Key, members_in, key_at, HasKeys, IsKeyOf}
+use Rattle.if1_types.specs.Forms.{list_form_of, list_form, list_form_at}
 use Rattle.if1_types.specs.Skips.{first_in, rest_in, member_at, members_at, members_by, behind, end_at, AreCountedBy, IsFurther, AreFurther}
 
--- each number has the key of its tree
-abbrev pub HasKeys : List Key → Type 0
-HasKeys ks = (n : ℕ) → IsKeyOf ks n (key_at ks n)
+-- whether a number is that of members, and the form of the list
+pub list_of_kind : (k first second : ℕ) → list_form k first second ≡ (if nat_eq k 9 then list.Member first second else list.End)
+list_of_kind k first second = by (nat_eq k 9) refl
+  where
+    other : (b : Bool) (kind : Kind) (o : Option Kind) → list_form_of (Some kind) first second ≡ list.End → list_form_of o first second ≡ list.End →
+        list_form_of (if b then Some kind else o) first second ≡ list.End
+    other true kind o h i = h
+    other false kind o h i = i
+
+    differs : nat_eq k 9 ≡ false → 9 ≡ k → ⊥
+    differs h e = true≢false (sym (eq-eqb k 9 (sym e)) ∙ h)
+
+    by : (b : Bool) → nat_eq k 9 ≡ b → list_form k first second ≡ (if b then list.Member first second else list.End)
+    by true h = ap (λ k. list_form k first second) (eqb-true k 9 h)
+    by false h =
+        other (0 == k) shape.Boolean _ refl
+        (other (1 == k) shape.Character _ refl
+        (other (2 == k) shape.Integer _ refl
+        (other (3 == k) shape.Null _ refl
+        (other (4 == k) shape.Array _ refl
+        (other (5 == k) shape.Stream _ refl
+        (other (6 == k) shape.Record _ refl
+        (other (7 == k) shape.Union _ refl
+        (other (8 == k) shape.End _ refl
+        (ap (λ b. list_form_of (if b then Some shape.Member else beside k after) first second) (ne_eqb 9 k (differs h))
+        ∙ other (10 == k) shape.Value _ refl (other (11 == k) shape.Multiple _ refl (other (12 == k) shape.Function _ refl refl)))))))))))
+      where
+        after : List (ℕ × Kind)
+        after = (10, shape.Value) ∷ (11, shape.Multiple) ∷ (12, shape.Function) ∷ []
 
 module _ (ks : List Key) where
   pub are_told : HasKeys ks → AreCountedBy ks
@@ -20,10 +48,10 @@ module _ (ks : List Key) where
       split : (k : Key) (b : Bool) → nat_eq k.0 9 ≡ b → (if nat_eq k.0 9 then suc (members_at ks k.2) else 0) ≡ members_by ks (list_form k.0 k.1 k.2)
       split k true h =
           ap (λ b. if b then suc (members_at ks k.2) else 0) h
-          ∙ sym (ap (λ b. members_by ks (if b then list.Member k.1 k.2 else list.End)) h)
+          ∙ sym (ap (members_by ks) (list_of_kind k.0 k.1 k.2) ∙ ap (λ b. members_by ks (if b then list.Member k.1 k.2 else list.End)) h)
       split k false h =
           ap (λ b. if b then suc (members_at ks k.2) else 0) h
-          ∙ sym (ap (λ b. members_by ks (if b then list.Member k.1 k.2 else list.End)) h)
+          ∙ sym (ap (members_by ks) (list_of_kind k.0 k.1 k.2) ∙ ap (λ b. members_by ks (if b then list.Member k.1 k.2 else list.End)) h)
 
       by : (o : Option Key) → IsKeyOf ks l o → members_at ks l ≡ members_by ks (elim o [ None ↦ list.End | Some k ↦ list_form k.0 k.1 k.2 ])
       by None h = ap members_in h

@@ -1,9 +1,12 @@
 -- What a number of the table of trees stands for: a type, a list of types, or what a label stands for.
-use Rattle.std.specs.Prelude.{◌≡◌, ℕ, List, [], ◌∷◌, map, Some, None, nat_eq, if◌then◌else◌}
+use Rattle.std.specs.Prelude.{◌≡◌, ℕ, List, [], ◌∷◌, map, Option, Some, None}
 use Rattle.flow_value.specs.declared.ty.Ty.{Ty}
 use Rattle.flow_value.specs.declared.ty.Ty.TheVariants as ty
 use Rattle.if1_graph.specs.declared.graph.TypeEntry.{TypeEntry}
 use Rattle.if1_graph.specs.Types.{Member, Sort, Plain, Many, Function, sort_at}
+use Rattle.if1_types.specs.declared.kind.Kind.{Kind}
+use Rattle.if1_types.specs.declared.kind.Kind.TheVariants as kind
+use Rattle.if1_types.specs.Trees.{kind_by}
 use Rattle.if1_types.specs.Telling.{ty_tree, types_tree, told_sort, read_value, read_types, read_sort}
 use Rattle.if1_types.specs.Shapes.{Key, trees_in, key_at, Stands}
 use Rattle.if1_types.specs.Tables.{number_at}
@@ -68,24 +71,35 @@ IsListForm ks ts (list.Member k rest) = (t : Ty) × (others : List Ty) × (ts �
 
 -- ---- forms by the kind of a tree and the numbers of its parts
 
+abbrev pub sort_form_of : Option Kind → ℕ → ℕ → SortForm
+sort_form_of (Some kind.Value) first second = sort.Value first
+sort_form_of (Some kind.Multiple) first second = sort.Multiple first
+sort_form_of (Some kind.Function) first second = sort.Function first second
+sort_form_of _ first second = sort.Nothing
+
+abbrev pub ty_form_of : Option Kind → ℕ → TyForm
+ty_form_of (Some kind.Boolean) first = form.Boolean
+ty_form_of (Some kind.Character) first = form.Character
+ty_form_of (Some kind.Integer) first = form.Integer
+ty_form_of (Some kind.Null) first = form.Null
+ty_form_of (Some kind.Array) first = form.Array first
+ty_form_of (Some kind.Stream) first = form.Stream first
+ty_form_of (Some kind.Record) first = form.Record first
+ty_form_of (Some kind.Union) first = form.Union first
+ty_form_of _ first = form.Nothing
+
+abbrev pub list_form_of : Option Kind → ℕ → ℕ → ListForm
+list_form_of (Some kind.Member) first second = list.Member first second
+list_form_of _ first second = list.End
+
 abbrev pub sort_form : ℕ → ℕ → ℕ → SortForm
-sort_form kind first second =
-    if nat_eq kind 10 then sort.Value first else if nat_eq kind 11 then sort.Multiple first else if nat_eq kind 12 then sort.Function first second else sort.Nothing
+sort_form k first second = sort_form_of (kind_by k) first second
 
 abbrev pub ty_form : ℕ → ℕ → TyForm
-ty_form kind first =
-    if nat_eq kind 0 then form.Boolean
-    else if nat_eq kind 1 then form.Character
-    else if nat_eq kind 2 then form.Integer
-    else if nat_eq kind 3 then form.Null
-    else if nat_eq kind 4 then form.Array first
-    else if nat_eq kind 5 then form.Stream first
-    else if nat_eq kind 6 then form.Record first
-    else if nat_eq kind 7 then form.Union first
-    else form.Nothing
+ty_form k first = ty_form_of (kind_by k) first
 
 abbrev pub list_form : ℕ → ℕ → ℕ → ListForm
-list_form kind first second = if nat_eq kind 9 then list.Member first second else list.End
+list_form k first second = list_form_of (kind_by k) first second
 
 -- ---- forms of numbers
 

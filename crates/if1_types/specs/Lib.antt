@@ -2,10 +2,9 @@ pub mod Trees
 pub mod Telling
 pub mod Shapes
 pub mod Tables
-pub mod Ways
-pub mod Lists
+pub mod Finds
+pub mod Steps
 pub mod Forms
 pub mod Skips
 pub mod Numbering
 pub mod Parameters
-pub mod Room

@@ -2,6 +2,7 @@
 use Rattle.std.specs.Prelude.{◌≡◌, List}
 use Rattle.if1_graph.specs.declared.graph.TypeEntry.{TypeEntry}
 use Rattle.if1_types.specs.declared.numbered.Sorts.{Sorts}
+use Rattle.if1_types.specs.Shapes.{HasKeys}
 use Rattle.if1_types.specs.Tables.{labels_in, AreSorts}
 use Rattle.if1_types.specs.Forms.{Stand, AreOnce, AreRead}
 
@@ -12,3 +13,4 @@ pub record IsNumbering (ts : List TypeEntry) (s : Sorts) : Type 0 where
   pub stand : Stand ts s.shapes s.labels s.numbers
   pub once : AreOnce s.shapes
   pub read : AreRead s.shapes
+  pub keys : HasKeys s.shapes

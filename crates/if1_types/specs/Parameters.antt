@@ -1,5 +1,5 @@
 -- The parameters of a function, by the labels and the numbers of their types.
-use Rattle.std.specs.Prelude.{◌≡◌, ℕ, zero, suc, Bool, List, [], ◌∷◌, map, length, Option, Some, None, option_map}
+use Rattle.std.specs.Prelude.{ℕ, zero, suc, Bool, List, [], ◌∷◌, map, length, Option, Some, None, option_map}
 use Rattle.if1_graph.specs.declared.graph.TypeEntry.{TypeEntry}
 use Rattle.if1_graph.specs.declared.kind.TypeKind.{TypeKind}
 use Rattle.if1_graph.specs.declared.kind.TypeKind.TheVariants as kind

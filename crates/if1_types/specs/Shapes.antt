@@ -54,6 +54,10 @@ abbrev pub IsKeyOf : List Key → ℕ → Option Key → Type 0
 IsKeyOf ks n None = tree_at (trees_in ks) n ≡ leaf
 IsKeyOf ks n (Some k) = (tree_at (trees_in ks) n ≡ key_tree (trees_in ks) k) × (k.1 ≤ length (trees_in ks)) × (k.2 ≤ length (trees_in ks))
 
+-- each number has the key of its tree
+abbrev pub HasKeys : List Key → Type 0
+HasKeys ks = (n : ℕ) → IsKeyOf ks n (key_at ks n)
+
 -- how many members a list has
 abbrev pub members_in : Tree → ℕ
 members_in leaf = 0

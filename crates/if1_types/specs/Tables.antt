@@ -1,5 +1,5 @@
 -- The types of a table by label, with a number for each.
-use Rattle.std.specs.Prelude.{◌≡◌, ℕ, ◌≤◌, ◌==◌, ◌↔◌, Bool, List, [], ◌∷◌, length, map, Option, Some, None, if◌then◌else◌}
+use Rattle.std.specs.Prelude.{◌≡◌, ℕ, ◌==◌, ◌↔◌, Bool, List, [], ◌∷◌, map, Option, Some, None, if◌then◌else◌}
 use Rattle.std.specs.List.Sorted.{IsStrictlyIncreasing}
 use Rattle.if1_graph.specs.declared.graph.TypeEntry.{TypeEntry}
 use Rattle.if1_graph.specs.declared.kind.TypeKind.{TypeKind}
@@ -8,8 +8,8 @@ use Rattle.if1_graph.specs.Kinds.{kind_at}
 use Rattle.if1_graph.specs.Types.{entry_at, is_field, is_tag, is_tuple, sort_at}
 use Rattle.if1_types.specs.declared.lines.Line.{Line}
 use Rattle.if1_types.specs.declared.lines.Line.TheVariants.{Field, Tag, Tuple}
-use Rattle.if1_types.specs.Trees.{Tree, tree_within, Parts}
-use Rattle.if1_types.specs.Shapes.{tree_at, Stands}
+use Rattle.if1_types.specs.Trees.{Tree}
+use Rattle.if1_types.specs.Shapes.{Stands}
 
 -- the number beside a label, 0 where there is none
 abbrev pub number_at : List ℕ → List ℕ → ℕ → ℕ
@@ -19,14 +19,6 @@ number_at (x ∷ xs) (n ∷ ns) l = if x == l then n else number_at xs ns l
 
 abbrev pub labels_in : List TypeEntry → List ℕ
 labels_in ts = map (λ e. e.label) ts
-
--- all numbers have trees
-abbrev pub AreWithin : List Tree → List TypeEntry → List ℕ → Type 0
-AreWithin trees ts ns = (l : ℕ) → number_at (labels_in ts) ns l ≤ length trees
-
--- the tree of the number beside a label
-abbrev pub part_by : List Tree → List TypeEntry → List ℕ → Parts
-part_by trees ts ns l = tree_at trees (number_at (labels_in ts) ns l)
 
 abbrev pub is_line : Line → (Option TypeKind → Bool)
 is_line Field = is_field
@@ -43,10 +35,6 @@ AreTold trees f [] [] = Unit {0}
 AreTold trees f [] (n ∷ ns) = ⊥
 AreTold trees f (e ∷ es) [] = ⊥
 AreTold trees f (e ∷ es) (n ∷ ns) = Stands trees n (f e) × AreTold trees f es ns
-
--- the numbers have the trees of the labels, where types are at most so deep
-abbrev pub IsLevel : List Tree → List TypeEntry → List ℕ → ℕ → Type 0
-IsLevel trees ts ns depth = (l : ℕ) → Stands trees (number_at (labels_in ts) ns l) (tree_within depth ts l)
 
 -- Numbers beside labels: two are equal exactly where the labels stand for the same, and one is 0 exactly where its label
 -- stands for nothing.

@@ -1,10 +1,11 @@
 -- What a label of a type table stands for, as a tree of kinds; `leaf` is nothing. Names are left out, as types are compared.
-use Rattle.std.specs.Prelude.{ℕ, zero, suc, List, Bool, Option, Some, None, length, if◌then◌else◌}
+use Rattle.std.specs.Prelude.{ℕ, zero, suc, List, [], ◌∷◌, Bool, Option, Some, None, length, if◌then◌else◌}
 use Rattle.if1_graph.specs.declared.graph.TypeEntry.{TypeEntry}
 use Rattle.if1_graph.specs.declared.kind.TypeKind.{TypeKind}
 use Rattle.if1_graph.specs.declared.kind.TypeKind.TheVariants as kind
 use Rattle.if1_graph.specs.declared.kind.Basic.{Basic}
 use Rattle.if1_graph.specs.declared.kind.Basic.TheVariants as basic
+use Rattle.if1_graph.specs.Tables.{beside}
 use Rattle.if1_graph.specs.Kinds.{kind_at, basic_at}
 use Rattle.if1_types.specs.declared.kind.Kind.{Kind}
 use Rattle.if1_types.specs.declared.kind.Kind.TheVariants as shape
@@ -30,6 +31,27 @@ kind_number shape.Member = 9
 kind_number shape.Value = 10
 kind_number shape.Multiple = 11
 kind_number shape.Function = 12
+
+abbrev pub kinds : List (ℕ × Kind)
+kinds =
+    (0, shape.Boolean) ∷
+    (1, shape.Character) ∷
+    (2, shape.Integer) ∷
+    (3, shape.Null) ∷
+    (4, shape.Array) ∷
+    (5, shape.Stream) ∷
+    (6, shape.Record) ∷
+    (7, shape.Union) ∷
+    (8, shape.End) ∷
+    (9, shape.Member) ∷
+    (10, shape.Value) ∷
+    (11, shape.Multiple) ∷
+    (12, shape.Function) ∷
+    []
+
+-- the kind of a number, if it is that of a kind
+abbrev pub kind_by : ℕ → Option Kind
+kind_by n = beside n kinds
 
 abbrev pub ending : Tree
 ending = node 8 leaf leaf

@@ -49,3 +49,25 @@ pub fn kind_number(kind: Kind) -> u32
         Kind::Function => 12,
     }
 }
+
+/// The kind of a number, if it is that of a kind.
+pub fn kind_by(number: u32) -> Option<Kind>
+    ensures { result ≡ spec.kind_by number }
+{
+    match number {
+        0 => Some(Kind::Boolean),
+        1 => Some(Kind::Character),
+        2 => Some(Kind::Integer),
+        3 => Some(Kind::Null),
+        4 => Some(Kind::Array),
+        5 => Some(Kind::Stream),
+        6 => Some(Kind::Record),
+        7 => Some(Kind::Union),
+        8 => Some(Kind::End),
+        9 => Some(Kind::Member),
+        10 => Some(Kind::Value),
+        11 => Some(Kind::Multiple),
+        12 => Some(Kind::Function),
+        _ => None,
+    }
+}

@@ -2,19 +2,19 @@
 #![tactic(auto)]
 
 mod forms;
+mod found;
 mod kind;
 mod laws;
-mod level;
 mod lines;
-mod lists;
 mod numbered;
 mod parameters;
 mod params;
 mod shapes;
 mod skips;
 mod sorts;
+mod step;
 mod table;
-mod ways;
+mod walk;
 
 pub use forms::{ListForm, SortForm, TyForm};
 pub use laws::a_number_stands_for_one_thing;

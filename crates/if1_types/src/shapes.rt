@@ -1,7 +1,7 @@
 //! Trees by number.
 ghost use Rattle.std.specs.Prelude.{◌≡◌, ℕ, ◌≤◌, ◌<◌, ◌^◌, [], length, suc, IfOk};
 ghost use Rattle.if1_types.specs.Trees.{Tree, node, over, over_both, kind_number};
-ghost use Rattle.if1_types.specs.Shapes.{trees_in, tree_at, members_in, key_at, IsKeyOf, IsOnce, IsLater, Stands};
+ghost use Rattle.if1_types.specs.Shapes.{trees_in, tree_at, members_in, key_at, HasKeys, IsKeyOf, IsOnce, IsLater, Stands};
 
 use crate::kind::{Kind, kind_number};
 use flow_value::NoMemory;
@@ -51,6 +51,7 @@ impl Shapes {
         ensures number { IfOk result (λ n. Stands (trees_in self.new) n (node (kind_number kind) (tree_at (trees_in self.old) first) (tree_at (trees_in self.old) second))) }
         ensures later { IsLater (trees_in self.old) (trees_in self.new) }
         ensures grows { length (trees_in self.new) ≤ suc (length (trees_in self.old)) }
+        ensures once { IfOk result (λ n. IsOnce (trees_in self.old)) }
     {
         self.number_by(kind_number(kind), first, second)
     }
@@ -63,6 +64,7 @@ impl Shapes {
         ensures number { IfOk result (λ n. Stands (trees_in self.new) n (node kind (tree_at (trees_in self.old) first) (tree_at (trees_in self.old) second))) }
         ensures later { IsLater (trees_in self.old) (trees_in self.new) }
         ensures grows { length (trees_in self.new) ≤ suc (length (trees_in self.old)) }
+        ensures once { IfOk result (λ n. IsOnce (trees_in self.old)) }
     {
         let key = (kind, first, second);
         if let Some(place) = self.keys.get_index_of(&key) {
@@ -83,7 +85,6 @@ impl Shapes {
         ensures later { IsLater (trees_in self.old) (trees_in self.new) }
         ensures grows { length (trees_in self.new) ≤ suc (length (trees_in self.old)) }
     {
-        let _ = &self.keys;
         if part == 0 {
             return Ok(0);
         }
@@ -100,7 +101,6 @@ impl Shapes {
         ensures later { IsLater (trees_in self.old) (trees_in self.new) }
         ensures grows { length (trees_in self.new) ≤ suc (length (trees_in self.old)) }
     {
-        let _ = &self.keys;
         if first == 0 {
             return Ok(0);
         }
@@ -136,9 +136,11 @@ impl Shapes {
         }
     }
 
-    /// Above every number but the greatest.
+    /// Above every number but the greatest. Each tree has one number, and its key is that of its parts.
     pub fn bound(&self) -> u32
-        ensures { result ≤ length self.now }
+        ensures bound { result ≤ length self.now }
+        ensures once { IsOnce (trees_in self.now) }
+        ensures keys { HasKeys self.now }
     {
         match u32::try_from(self.keys.len()) {
             Ok(count) => count,
@@ -151,18 +153,10 @@ impl Shapes {
         requires { suc (length (trees_in self.now)) < 2 ^ 32 }
         ensures { (a : Tree) → result ≡ members_in (node kind a (tree_at (trees_in self.now) second)) }
     {
-        if kind != 9 {
+        if kind != kind_number(Kind::Member) {
             return 0;
         }
         number_after(self.members(second) as usize)
-    }
-
-    /// Each tree has one number, and its key is that of its parts.
-    pub fn holds(&self)
-        ensures once { IsOnce (trees_in self.now) }
-        ensures keys { (n : ℕ) → IsKeyOf self.now n (key_at self.now n) }
-    {
-        let _ = &self.keys;
     }
 }
 

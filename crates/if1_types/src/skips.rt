@@ -1,23 +1,28 @@
 //! From each list to an end of it that is further on, so that a member is found in few steps.
 ghost use Rattle.std.specs.Prelude.{◌≡◌, ◌<◌, ℕ, Some, true, IfOk, slice_get};
-ghost use Rattle.if1_types.specs.Forms.{list_form, list_form_at};
+ghost use Rattle.if1_types.specs.Forms.{list_form_of, list_form_at};
+ghost use Rattle.if1_types.specs.Shapes.{trees_in, HasKeys, IsOnce};
 ghost use Rattle.if1_types.specs.Skips.{behind, members_at, AreCountedBy, IsFurther, AreFurther};
 
+use crate::kind::{Kind, kind_by};
 use crate::shapes::Shapes;
 use flow_value::{NoMemory, Numbers, Seq};
 
 /// The list behind the first member; 0 where there is none.
-fn rest_in(kind: u32, rest: u32) -> u32
-    ensures { (first : ℕ) → result ≡ behind (list_form kind first rest) }
+fn rest_in(kind: Option<Kind>, rest: u32) -> u32
+    ensures { (first : ℕ) → result ≡ behind (list_form_of kind first rest) }
 {
-    if kind == 9 { rest } else { 0 }
+    match kind {
+        Some(Kind::Member) => rest,
+        _ => 0,
+    }
 }
 
 fn rest_at(shapes: &Shapes, list: u32) -> u32
     ensures { result ≡ behind (list_form_at shapes.now list) }
 {
     match shapes.key(list) {
-        Some(key) => rest_in(key.0, key.2),
+        Some(key) => rest_in(kind_by(key.0), key.2),
         None => 0,
     }
 }
@@ -74,11 +79,13 @@ fn is_even(shapes: &Shapes, rest: u32, once: u32, twice: u32) -> bool
 
 /// Beside the number of each list that of an end of it.
 pub fn skips_of(shapes: &Shapes) -> Result<Numbers, NoMemory>
-    requires { AreCountedBy shapes.now }
-    ensures { IfOk result (AreFurther shapes.now) }
+    ensures further { IfOk result (AreFurther shapes.now) }
+    ensures once { IfOk result (λ ss. IsOnce (trees_in shapes.now)) }
+    ensures keys { IfOk result (λ ss. HasKeys shapes.now) }
 {
+    let bound = shapes.bound();
     let mut skips = Seq::new(shapes.allocator());
-    for list in 0..shapes.bound() {
+    for list in 0..bound {
         let skip = skip_of(shapes, skips.as_slice(), list);
         skips.add(skip)?;
     }

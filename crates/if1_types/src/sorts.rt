@@ -1,31 +1,29 @@
 //! What the labels of a table stand for, by number.
-ghost use Rattle.std.specs.Prelude.{◌≡◌, ◌≤◌, ◌<◌, ◌-◌, ◌+◌, ◌^◌, suc, ℕ, All, IsSome, List, Some, IfOk, map, length};
+ghost use Rattle.std.specs.Prelude.{◌≡◌, ◌≤◌, ◌<◌, ◌-◌, ◌+◌, ◌^◌, suc, ℕ, IsSome, List, Some, IfOk, map, length};
 ghost use Rattle.std.specs.List.Sorted.{IsStrictlyIncreasing};
 ghost use Rattle.if1_graph.specs.Formed.{most};
 ghost use Rattle.if1_graph.specs.Kinds.{kind_at};
 ghost use Rattle.flow_value.specs.declared.ty.Ty.{Ty};
 ghost use Rattle.if1_graph.specs.declared.graph.TypeEntry.{TypeEntry};
-ghost use Rattle.if1_graph.specs.Types.{Sort, Plain, is_tuple, sort_at};
+ghost use Rattle.if1_graph.specs.Types.{Sort, Plain, is_tuple, most_deep, sort_at};
 ghost use Rattle.if1_types.specs.Numbering.{IsNumbering};
 ghost use Rattle.if1_types.specs.Parameters.{type_at};
-ghost use Rattle.if1_types.specs.Trees.{over_both, sort_tree};
-ghost use Rattle.if1_types.specs.Room.{the_sorts};
-ghost use Rattle.if1_types.specs.Shapes.{trees_in, tree_at, members_in, IsLater, Stands};
-ghost use Rattle.if1_types.specs.Tables.{labels_in, number_at, part_by, AreWithin, AreTold, AreSorts};
-ghost use Rattle.if1_types.specs.Lists.{listed, AreListed};
+ghost use Rattle.if1_types.specs.Trees.{kind_number, list, over, over_both, sort_tree, tree_within};
+ghost use Rattle.if1_types.specs.Finds.{AreFound};
+ghost use Rattle.if1_types.specs.Shapes.{trees_in, tree_at, members_in, HasKeys, IsLater, Stands};
+ghost use Rattle.if1_types.specs.Tables.{labels_in, number_at, AreTold, AreSorts};
 ghost use Rattle.if1_types.specs.Skips.{first_in, behind, end_at, member_at, members_at, IsFurther};
-ghost use Rattle.if1_types.specs.Forms.{IsSort, IsTy, IsList, Stand, AreOnce, AreRead, sort_form_at, ty_form_at, list_form_at, IsSortForm, IsTyForm, IsListForm, sort_form, ty_form, list_form};
+ghost use Rattle.if1_types.specs.Forms.{IsSort, IsTy, IsList, Stand, AreOnce, AreRead, sort_form_at, ty_form_at, list_form_at, IsSortForm, IsTyForm, IsListForm, sort_form_of, ty_form_of, list_form_of};
 
 use crate::forms::{ListForm, SortForm, TyForm};
-use crate::kind::Kind;
-use crate::level::{part_over, type_numbers};
+use crate::found::{Found, Part, list_part, type_part};
+use crate::kind::{Kind, kind_by};
 use crate::lines::Line;
-use crate::lists::{list_number, list_numbers};
 use crate::numbered::Sorts;
 use crate::shapes::Shapes;
 use crate::skips::{skip_at, skips_of};
-use crate::table::{labels_of, number_at};
-use crate::ways::way_of;
+use crate::table::number_at;
+use crate::walk::found_in;
 use flow_value::{NoMemory, Numbers, Seq};
 use if1_graph::{TypeEntry, TypeKind, kind_of};
 use std::alloc::Global;
@@ -59,7 +57,7 @@ impl Sorts {
         ensures of { (s : Sort) → IsSort self.now.shapes number s → IsSortForm self.now.shapes s result }
     {
         match self.shapes.key(number) {
-            Some(key) => sort_form(key.0, key.1, key.2),
+            Some(key) => sort_form_of(kind_by(key.0), key.1, key.2),
             None => SortForm::Nothing,
         }
     }
@@ -70,7 +68,7 @@ impl Sorts {
         ensures of { (t : Ty) → IsTy self.now.shapes number t → IsTyForm self.now.shapes t result }
     {
         match self.shapes.key(number) {
-            Some(key) => ty_form(key.0, key.1),
+            Some(key) => ty_form_of(kind_by(key.0), key.1),
             None => TyForm::Nothing,
         }
     }
@@ -81,7 +79,7 @@ impl Sorts {
         ensures of { (ts : List Ty) → IsList self.now.shapes number ts → IsListForm self.now.shapes ts result }
     {
         match self.shapes.key(number) {
-            Some(key) => list_form(key.0, key.1, key.2),
+            Some(key) => list_form_of(kind_by(key.0), key.1, key.2),
             None => ListForm::End,
         }
     }
@@ -155,141 +153,117 @@ fn rest_of(form: ListForm) -> u32
 }
 
 /// The form of a sort, by the kind of its tree and the numbers of the parts.
-fn sort_form(kind: u32, first: u32, second: u32) -> SortForm
-    ensures { result ≡ sort_form kind first second }
+fn sort_form_of(kind: Option<Kind>, first: u32, second: u32) -> SortForm
+    ensures { result ≡ sort_form_of kind first second }
 {
     match kind {
-        10 => SortForm::Value(first),
-        11 => SortForm::Multiple(first),
-        12 => SortForm::Function(first, second),
+        Some(Kind::Value) => SortForm::Value(first),
+        Some(Kind::Multiple) => SortForm::Multiple(first),
+        Some(Kind::Function) => SortForm::Function(first, second),
         _ => SortForm::Nothing,
     }
 }
 
 /// The form of a type, by the kind of its tree and the number of the part.
-fn ty_form(kind: u32, first: u32) -> TyForm
-    ensures { result ≡ ty_form kind first }
+fn ty_form_of(kind: Option<Kind>, first: u32) -> TyForm
+    ensures { result ≡ ty_form_of kind first }
 {
     match kind {
-        0 => TyForm::Boolean,
-        1 => TyForm::Character,
-        2 => TyForm::Integer,
-        3 => TyForm::Null,
-        4 => TyForm::Array(first),
-        5 => TyForm::Stream(first),
-        6 => TyForm::Record(first),
-        7 => TyForm::Union(first),
+        Some(Kind::Boolean) => TyForm::Boolean,
+        Some(Kind::Character) => TyForm::Character,
+        Some(Kind::Integer) => TyForm::Integer,
+        Some(Kind::Null) => TyForm::Null,
+        Some(Kind::Array) => TyForm::Array(first),
+        Some(Kind::Stream) => TyForm::Stream(first),
+        Some(Kind::Record) => TyForm::Record(first),
+        Some(Kind::Union) => TyForm::Union(first),
         _ => TyForm::Nothing,
     }
 }
 
 /// The form of a list, by the kind of its tree and the numbers of the parts.
-fn list_form(kind: u32, first: u32, second: u32) -> ListForm
-    ensures { result ≡ list_form kind first second }
+fn list_form_of(kind: Option<Kind>, first: u32, second: u32) -> ListForm
+    ensures { result ≡ list_form_of kind first second }
 {
     match kind {
-        9 => ListForm::Member(first, second),
+        Some(Kind::Member) => ListForm::Member(first, second),
         _ => ListForm::End,
     }
 }
 
-fn function_number(
-    shapes: &mut Shapes,
-    labels: &[u32],
-    lists: &[u32],
-    arguments: u32,
-    results: u32,
-) -> Result<u32, NoMemory>
-    requires rising { IsStrictlyIncreasing labels.now }
-    requires within { All (λ n. n ≤ length (trees_in shapes.old)) lists.now }
+fn over_part(shapes: &mut Shapes, kind: Kind, part: Part) -> Result<u32, NoMemory>
+    requires within { part.number ≤ length (trees_in shapes.old) }
     requires room { suc (length (trees_in shapes.old)) < 2 ^ 32 }
-    ensures number { IfOk result (λ n. Stands (trees_in shapes.new) n (over_both 12 (listed (trees_in shapes.old) labels.now lists.now arguments) (listed (trees_in shapes.old) labels.now lists.now results))) }
+    ensures number { IfOk result (λ n. Stands (trees_in shapes.new) n (over (kind_number kind) (tree_at (trees_in shapes.old) part.number))) }
     ensures later { IsLater (trees_in shapes.old) (trees_in shapes.new) }
     ensures grows { length (trees_in shapes.new) ≤ suc (length (trees_in shapes.old)) }
 {
-    let first = list_number(shapes, labels, lists, arguments);
-    let second = list_number(shapes, labels, lists, results);
-    let number = shapes.over_both(Kind::Function, first, second)?;
+    let number = shapes.over(kind, part.number)?;
     Ok(number)
 }
 
-/// The number of what an entry stands for, by the numbers of types and of lists of arguments and
-/// results.
-fn sort_number(
+fn function_number(
     shapes: &mut Shapes,
     types: &[TypeEntry],
-    labels: &[u32],
-    numbers: &[u32],
-    lists: &[u32],
+    found: &Found,
     entry: &TypeEntry,
 ) -> Result<u32, NoMemory>
     requires rising { IsStrictlyIncreasing (map (λ e. e.label) types.now) }
-    requires labels { labels.now ≡ labels_in types.now }
-    requires within { AreWithin (trees_in shapes.old) types.now numbers.now }
-    requires lists { AreListed (trees_in shapes.old) (part_by (trees_in shapes.old) types.now numbers.now) is_tuple types.now lists.now }
+    requires labels { found.now.labels ≡ labels_in types.now }
+    requires found { AreFound (trees_in shapes.old) types.now found.now }
     requires room { suc (length (trees_in shapes.old)) < 2 ^ 32 }
-    ensures number { IfOk result (λ n. Stands (trees_in shapes.new) n (sort_tree (part_by (trees_in shapes.old) types.now numbers.now) types.now entry.now (kind_at entry.now.code))) }
+    ensures number { IfOk result (λ n. Stands (trees_in shapes.new) n (over_both 12 (list (tree_within most_deep types.now) is_tuple types.now (length types.now) entry.now.first) (list (tree_within most_deep types.now) is_tuple types.now (length types.now) entry.now.second))) }
+    ensures later { IsLater (trees_in shapes.old) (trees_in shapes.new) }
+    ensures grows { length (trees_in shapes.new) ≤ suc (length (trees_in shapes.old)) }
+{
+    let arguments = list_part(shapes, types, found, Line::Tuple, entry.first);
+    let results = list_part(shapes, types, found, Line::Tuple, entry.second);
+    let number = shapes.over_both(Kind::Function, arguments.number, results.number)?;
+    Ok(number)
+}
+
+/// The number of what an entry stands for, by those of types and of lists of arguments and results.
+fn sort_number(
+    shapes: &mut Shapes,
+    types: &[TypeEntry],
+    found: &Found,
+    entry: &TypeEntry,
+) -> Result<u32, NoMemory>
+    requires rising { IsStrictlyIncreasing (map (λ e. e.label) types.now) }
+    requires labels { found.now.labels ≡ labels_in types.now }
+    requires found { AreFound (trees_in shapes.old) types.now found.now }
+    requires room { suc (length (trees_in shapes.old)) < 2 ^ 32 }
+    ensures number { IfOk result (λ n. Stands (trees_in shapes.new) n (sort_tree (tree_within most_deep types.now) types.now entry.now (kind_at entry.now.code))) }
     ensures later { IsLater (trees_in shapes.old) (trees_in shapes.new) }
     ensures grows { length (trees_in shapes.new) ≤ suc (length (trees_in shapes.old)) }
 {
     match kind_of(entry.code) {
-        Some(TypeKind::Multiple) => part_over(
+        Some(TypeKind::Multiple) => over_part(
             shapes,
-            types,
-            labels,
-            numbers,
             Kind::Multiple,
-            entry.first,
+            type_part(types, found, entry.first),
         ),
-        Some(TypeKind::Function) => function_number(
-            shapes,
-            labels,
-            lists,
-            entry.first,
-            entry.second,
-        ),
-        _ => part_over(shapes, types, labels, numbers, Kind::Value, entry.label),
+        Some(TypeKind::Function) => function_number(shapes, types, found, entry),
+        _ => over_part(shapes, Kind::Value, type_part(types, found, entry.label)),
     }
-}
-
-fn sorts_by(
-    shapes: &mut Shapes,
-    types: &[TypeEntry],
-    labels: &[u32],
-    numbers: &[u32],
-    lists: &[u32],
-) -> Result<Numbers, NoMemory>
-    requires rising { IsStrictlyIncreasing (map (λ e. e.label) types.now) }
-    requires labels { labels.now ≡ labels_in types.now }
-    requires within { AreWithin (trees_in shapes.old) types.now numbers.now }
-    requires lists { AreListed (trees_in shapes.old) (part_by (trees_in shapes.old) types.now numbers.now) is_tuple types.now lists.now }
-    requires room { length (trees_in shapes.old) + length types.now < 2 ^ 32 }
-    ensures { IfOk result (AreTold (trees_in shapes.new) (λ e. sort_tree (part_by (trees_in shapes.old) types.now numbers.now) types.now e (kind_at e.code)) types.now) }
-{
-    let mut sorts = Seq::with_room(shapes.allocator(), types.len())?;
-    for entry in types {
-        let number = sort_number(shapes, types, labels, numbers, lists, entry)?;
-        sorts.add(number)?;
-    }
-    Ok(sorts)
 }
 
 fn sort_numbers(
     shapes: &mut Shapes,
     types: &[TypeEntry],
-    labels: &[u32],
-    numbers: &[u32],
+    found: &Found,
 ) -> Result<Numbers, NoMemory>
     requires rising { IsStrictlyIncreasing (map (λ e. e.label) types.now) }
-    requires labels { labels.now ≡ labels_in types.now }
-    requires within { AreWithin (trees_in shapes.old) types.now numbers.now }
-    requires few { length types.now ≤ most }
-    requires room { length (trees_in shapes.old) + the_sorts < 2 ^ 32 }
-    ensures { IfOk result (AreTold (trees_in shapes.new) (λ e. sort_tree (part_by (trees_in shapes.old) types.now numbers.now) types.now e (kind_at e.code)) types.now) }
+    requires labels { found.now.labels ≡ labels_in types.now }
+    requires found { AreFound (trees_in shapes.old) types.now found.now }
+    requires room { length (trees_in shapes.old) + length types.now < 2 ^ 32 }
+    ensures { IfOk result (AreTold (trees_in shapes.new) (λ e. sort_tree (tree_within most_deep types.now) types.now e (kind_at e.code)) types.now) }
 {
-    let way = way_of(shapes.allocator(), types, labels, Line::Tuple)?;
-    let lists = list_numbers(shapes, types, labels, numbers, Line::Tuple, &way)?;
-    let sorts = sorts_by(shapes, types, labels, numbers, lists.as_slice())?;
+    let mut sorts = Seq::with_room(shapes.allocator(), types.len())?;
+    for entry in types {
+        let number = sort_number(shapes, types, found, entry)?;
+        sorts.add(number)?;
+    }
     Ok(sorts)
 }
 
@@ -304,16 +278,15 @@ pub fn sorts_of(alloc: Global, types: &[TypeEntry]) -> Result<Sorts, NoMemory>
     ensures labels { IfOk result (λ s. s.labels ≡ labels_in types.now) }
     ensures once { IfOk result (λ s. AreOnce s.shapes) }
     ensures read { IfOk result (λ s. AreRead s.shapes) }
+    ensures keys { IfOk result (λ s. HasKeys s.shapes) }
 {
-    let labels = labels_of(alloc, types)?;
     let mut shapes = Shapes::new(alloc);
-    let numbers = type_numbers(&mut shapes, types, labels.as_slice())?;
-    let sorts = sort_numbers(&mut shapes, types, labels.as_slice(), numbers.as_slice())?;
-    shapes.holds();
+    let found = found_in(&mut shapes, types)?;
+    let numbers = sort_numbers(&mut shapes, types, &found)?;
     let skips = skips_of(&shapes)?;
     Ok(Sorts {
-        labels,
-        numbers: sorts,
+        labels: found.labels,
+        numbers,
         shapes,
         skips,
     })

@@ -1,5 +1,5 @@
 -- What is noted of the outputs of the nodes of a graph.
-use Rattle.std.specs.Prelude.{◌≡◌, ℕ, suc, ◌&&◌, nat_eq, Bool, false, List, map, Contains, Option, Some, option_map}
+use Rattle.std.specs.Prelude.{◌≡◌, ◌≢◌, ℕ, suc, ◌&&◌, ◌==◌, nat_eq, Bool, true, false, List, map, Contains, Option, Some, None, IsSome, option_map}
 use Rattle.if1_graph.specs.declared.graph.Graph.{Graph}
 use Rattle.if1_graph.specs.declared.graph.Graph.TheViews.{out-Graph}
 use Rattle.if1_graph.specs.declared.graph.Node.{Node}
@@ -10,6 +10,7 @@ use Rattle.indexmap.specs.IndexMap.{IndexMap, get_by}
 use Rattle.if1_typing.specs.declared.given.Callees.{Callees}
 use Rattle.if1_typing.specs.declared.given.Given.{Given}
 use Rattle.if1_typing.specs.Tables.{Table, number}
+use Rattle.if1_typing.specs.Agree.{Leaves}
 use Rattle.if1_typing.specs.Fed.{callee_in}
 use Rattle.if1_typing.specs.Ends.{node_gives, is_function_name, doing_of}
 
@@ -34,9 +35,34 @@ noted_at m l port = get_by (λ k. nat_eq l k.0 && nat_eq port k.1) m
 abbrev pub IsSound : {A : Type 0} → Table → Graph → IndexMap (ℕ × ℕ) (ℕ × Bool) A → Type 0
 IsSound t g m = (l port n : ℕ) (b : Bool) → noted_at m l port ≡ Some (n, b) → b ≡ port_gives t g l port n
 
+-- of each port that edges leave the type of one of them is noted
+pub record AreSeen {A : Type 0} (t : Table) (es : List Edge) (m : IndexMap (ℕ × ℕ) (ℕ × Bool) A) : Type 0 where
+  pub from : (l port n : ℕ) (b : Bool) → noted_at m (suc l) port ≡ Some (n, b) → (e : Edge) × Leaves es e l port × (number t e.ty ≡ n)
+  pub whole : (e : Edge) (l port : ℕ) → Leaves es e l port → IsSome (noted_at m (suc l) port)
+
+-- a note, where there is one, is of a number
+abbrev pub is_noted_as : Option (ℕ × Bool) → ℕ → Bool
+is_noted_as (Some x) n = x.0 == n
+is_noted_as None n = true
+
+-- what is noted of its port is of the type of an edge
+abbrev pub IsAsNoted : {A : Type 0} → Table → IndexMap (ℕ × ℕ) (ℕ × Bool) A → Edge → Type 0
+IsAsNoted t m e = (l port n : ℕ) (b : Bool) → e.from ≡ Port (suc l) port → noted_at m (suc l) port ≡ Some (n, b) → n ≡ number t e.ty
+
+-- it is of another type
+pub record IsApart {A : Type 0} (t : Table) (m : IndexMap (ℕ × ℕ) (ℕ × Bool) A) (e : Edge) : Type 0 where
+  pub l : ℕ
+  pub port : ℕ
+  pub n : ℕ
+  pub gives : Bool
+  pub from : e.from ≡ Port (suc l) port
+  pub noted : noted_at m (suc l) port ≡ Some (n, gives)
+  pub differ : n ≢ number t e.ty
+
 pub record AreNoted (t : Table) (g : Graph) (s : Given) : Type 0 where
   pub callees : AreCallees t g s.callees
   pub sound : IsSound t g s.map
+  pub seen : AreSeen t (out-Graph g).edges s.map
 
 -- an edge leads from a port that does not give its type, and is no name of a reduction
 pub record IsUngiven (t : Table) (g : Graph) (e : Edge) : Type 0 where

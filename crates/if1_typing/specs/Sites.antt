@@ -13,7 +13,8 @@ use Rattle.if1_graph.specs.Parts.{part_at}
 use Rattle.if1_graph.specs.Units.{label_of, edges_into, greatest}
 use Rattle.if1_graph.specs.Ports.{results_at}
 use Rattle.if1_types.specs.Forms.{sort_form_at}
-use Rattle.if1_fits.specs.Views.{value_of, many_of, tags_of, kind_or, listed_at, arguments_in, results_in, are_same}
+use Rattle.if1_fits.specs.declared.kind.Kind.TheVariants as kind
+use Rattle.if1_fits.specs.Views.{value_of, many_of, tags_of, value_is, listed_at, arguments_in, results_in, are_same}
 use Rattle.if1_ports.specs.Fed.{ports_of}
 use Rattle.if1_typing.specs.declared.site.Content.{Content}
 use Rattle.if1_typing.specs.declared.site.Content.TheVariants.{Any}
@@ -74,8 +75,8 @@ abbrev pub is_same_result : Table → List Graph → ℕ → ℕ → ℕ → Boo
 is_same_result t gs k port n = is_some (value_of t.keys n) && (result_number t gs k port == n)
 
 abbrev pub part_result_fits : Table → Compound → Part → List Graph → ℕ → ℕ → Bool
-part_result_fits t c part.Selector gs port n = kind_or t.keys (value_of t.keys n) == 2
-part_result_fits t c part.Test gs port n = kind_or t.keys (value_of t.keys n) == 0
+part_result_fits t c part.Selector gs port n = value_is t.keys n kind.Integer
+part_result_fits t c part.Test gs port n = value_is t.keys n kind.Boolean
 part_result_fits t c part.Generator gs port n = is_some (many_of t.keys n)
 part_result_fits t c part.Alternative gs port n = is_same_result t gs 1 port n
 part_result_fits t c part.Arm gs port n = is_same_result t gs 0 port n

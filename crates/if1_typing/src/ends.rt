@@ -492,7 +492,7 @@ pub fn wrong_end(
         return Ok(Some(0));
     }
     let given = given_of(alloc, known, graph)?;
-    if let Some(label) = disagreeing(alloc, known, graph.edges.as_slice())? {
+    if let Some(label) = disagreeing(known, graph, &given) {
         return Ok(Some(or_ungiven(known, graph, &given, label)));
     }
     if let Some(label) = wrong_node(known, graph, site, inputs, parts, &given) {

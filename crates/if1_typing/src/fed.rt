@@ -1,8 +1,7 @@
 //! What a node has by the edges that lead into it, by number.
 ghost use Rattle.std.specs.Prelude.{◌≡◌, AllPairs, Some};
 ghost use Rattle.std.specs.Option.{option_copied};
-ghost use Rattle.if1_graph.specs.Units.{edges_into, results};
-ghost use Rattle.if1_graph.specs.Ports.{results_at};
+ghost use Rattle.if1_graph.specs.Units.{edges_into};
 ghost use Rattle.if1_graph.specs.Normal.{Precedes};
 ghost use Rattle.if1_graph.specs.declared.graph.Graph.TheViews.{out-Graph};
 ghost use Rattle.if1_ports.specs.Fed as fed;
@@ -15,7 +14,7 @@ use crate::known::Known;
 use flow_value::Text;
 use if1_fits::{carried_at, edge_at, fits};
 use if1_graph::{Edge, Graph, Origin, Reducer, Want, reducer_of};
-use if1_ports::{edges_into, greatest_port};
+use if1_ports::edges_into;
 
 /// The number of what a port carries, 0 where nothing is carried. Takes the time of a search.
 pub fn carried_in(known: &Known, edges: &[Edge], port: u32) -> u32
@@ -74,25 +73,6 @@ pub fn fits_in(known: &Known, edges: &[Edge], callee: u32, want: Want, number: u
     ensures { result ≡ spec.fits_in (table_of known.now) edges.now want number }
 {
     fits(&known.sorts, edges, callee, named_in(edges), want, number)
-}
-
-/// How many results a graph has.
-fn results_of(graph: &Graph) -> u32
-    requires { AllPairs Precedes (out-Graph graph.now).edges }
-    ensures { result ≡ results graph.now }
-{
-    greatest_port(edges_of(graph, 0))
-}
-
-/// How many results the graph at a place has, 0 where there is none.
-pub fn results_at(graphs: &[Graph], place: usize) -> u32
-    requires { AreOrdered graphs.now }
-    ensures { result ≡ results_at graphs.now place }
-{
-    match graphs.get(place) {
-        Some(graph) => results_of(graph),
-        None => 0,
-    }
 }
 
 /// The number of the result of a graph at a port, 0 where there is none.

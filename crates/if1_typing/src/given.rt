@@ -1,18 +1,20 @@
 //! What leaves the nodes of a graph: the type that each port gives is looked at once, however many edges
 //! leave it.
-ghost use Rattle.std.specs.Prelude.{◌≡◌, ◌==◌, Bool, Some, None, AllPairs, map, IfOk, OnOk};
+ghost use Rattle.std.specs.Prelude.{◌≡◌, ◌==◌, Bool, List, [], ◌∷◌, ◌++◌, Some, None, AllPairs, map, IfOk, OnOk};
 ghost use Rattle.if1_graph.specs.Normal.{Precedes};
 ghost use Rattle.if1_graph.specs.Typing.{giving_part};
 ghost use Rattle.if1_graph.specs.Units.{label_of, node_at};
+ghost use Rattle.if1_graph.specs.declared.graph.Edge.{Edge};
 ghost use Rattle.if1_graph.specs.declared.graph.Graph.TheViews.{out-Graph};
 ghost use Rattle.if1_graph.specs.declared.graph.Node.{out-Node};
 ghost use Rattle.if1_fits.specs.Views.{AreUp};
 ghost use Rattle.if1_typing.specs.Tables.{table_of};
+ghost use Rattle.if1_typing.specs.Tables as table;
 ghost use Rattle.if1_typing.specs.Fed.{AreOrdered, callee_in as callee_by};
 ghost use Rattle.if1_typing.specs.Ends as ends;
 ghost use Rattle.if1_typing.specs.Ends.{IsLaid};
 ghost use Rattle.if1_typing.specs.Given as spec;
-ghost use Rattle.if1_typing.specs.Given.{AreCallees, IsSound, AreNoted};
+ghost use Rattle.if1_typing.specs.Given.{AreCallees, AreSeen, IsSound, AreNoted};
 
 use crate::fed::{callee_in, edges_of, fits_in, result_number};
 use crate::known::Known;
@@ -20,7 +22,7 @@ use flow_value::{NoMemory, Numbers, Seq};
 use if1_graph::{
     Compound, Edge, Graph, Node, Origin, Simple, Want, compound_of, node_of, output_of, simple_of,
 };
-use if1_ports::labels_of;
+use if1_order::labels_of;
 use if1_types::number_at;
 use indexmap::IndexMap;
 use std::alloc::Global;
@@ -167,7 +169,8 @@ fn note(
     requires laid { IsLaid graph.now }
     requires callees { AreCallees (table_of known.now) graph.now callees.now }
     requires sound { IsSound (table_of known.now) graph.now map.old }
-    ensures { OnOk result (IsSound (table_of known.now) graph.now map.new) }
+    ensures sound { OnOk result (IsSound (table_of known.now) graph.now map.new) }
+    ensures seen { OnOk result ((es : List Edge) (e : Edge) → e.from ≡ Origin.Port node port → table.number (table_of known.now) e.ty ≡ number → AreSeen (table_of known.now) es map.old → AreSeen (table_of known.now) (es ++ e ∷ []) map.new) }
 {
     if map.contains_key(&(node, port)) {
         return Ok(());
@@ -187,7 +190,8 @@ fn note_edge(
     requires laid { IsLaid graph.now }
     requires callees { AreCallees (table_of known.now) graph.now callees.now }
     requires sound { IsSound (table_of known.now) graph.now map.old }
-    ensures { OnOk result (IsSound (table_of known.now) graph.now map.new) }
+    ensures sound { OnOk result (IsSound (table_of known.now) graph.now map.new) }
+    ensures seen { OnOk result ((es : List Edge) → AreSeen (table_of known.now) es map.old → AreSeen (table_of known.now) (es ++ edge.now ∷ []) map.new) }
 {
     match &edge.from {
         Origin::Port(node, port) if *node != 0 => note(
@@ -211,7 +215,8 @@ fn notes_of(
 ) -> Result<IndexMap<(u32, u32), (u32, bool)>, NoMemory>
     requires laid { IsLaid graph.now }
     requires callees { AreCallees (table_of known.now) graph.now callees.now }
-    ensures { IfOk result (IsSound (table_of known.now) graph.now) }
+    ensures sound { IfOk result (IsSound (table_of known.now) graph.now) }
+    ensures seen { IfOk result (AreSeen (table_of known.now) (out-Graph graph.now).edges) }
 {
     let mut map = IndexMap::new(alloc);
     for edge in graph.edges.as_slice() {

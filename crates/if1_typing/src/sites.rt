@@ -7,12 +7,12 @@ ghost use Rattle.if1_typing.specs.Fed.{AreOrdered};
 ghost use Rattle.if1_typing.specs.Contents as contents;
 ghost use Rattle.if1_typing.specs.Sites as spec;
 
-use crate::fed::{carried_in, result_number, results_at};
+use crate::fed::{carried_in, result_number};
 use crate::known::Known;
 use crate::site::{Content, Frame, Inner, Site};
 use if1_fits::{are_same, fits, many_of, tags_of, value_of};
 use if1_graph::{Compound, Edge, Graph, Node, Part, Want, compound_of, part_at};
-use if1_ports::greatest_port;
+use if1_ports::{greatest_port, results_at};
 
 /// An input of returns after those of the node, counted from 1.
 fn returned_fits(

@@ -8,7 +8,7 @@ ghost use Rattle.if1_valid.specs.Refused.{IsRefused};
 use crate::ready::Ready;
 use flow_value::NoMemory;
 use if1_graph::{If1Fault, Unit1};
-use if1_order::{ports_link, wrong_order};
+use if1_order::wrong_order;
 use if1_ports::wrong_ports;
 use if1_types::sorts_of;
 use if1_typing::{known_of, wrong_type};
@@ -32,7 +32,6 @@ pub fn valid(alloc: Global, unit: Unit1) -> Result<Ready, If1Fault>
     if let Some((graph, node)) = wrong_type(alloc, &known, &unit)? {
         return Err(If1Fault::TypeOf { graph, node });
     }
-    ports_link();
     if let Some((graph, node)) = wrong_order(alloc, &unit)? {
         return Err(If1Fault::Cycle { graph, node });
     }

@@ -4,7 +4,7 @@ use Rattle.graph_meaning.specs.Carried.{Carried, Unfilled}
 use Rattle.graph_meaning.specs.Demand.{Source}
 use Rattle.run_code.specs.Cells.{Operand, At, Lit, picked}
 use Rattle.run_code.specs.Made.{Line}
-use Rattle.run_laws.specs.Facts.{Fact}
+use Rattle.run_made.specs.Facts.{Fact}
 use Rattle.run_made.specs.Plans.{Weighing, adds}
 use Rattle.run_store.specs.Effects.{IsOneOf, leads, reads_of}
 use Rattle.run_store.specs.Lively.{AllMayBe, CallsLively, MayBe, Follows, IsLively, Live}

@@ -12,7 +12,7 @@ use Rattle.run_code.specs.Known.{known_after}
 use Rattle.run_code.specs.Machine.{Weigh}
 use Rattle.run_code.specs.Made.{Plan, Line, OfResults, ends_at, entry_from, function_lines, functions_lines, functions_size, graph_code, line, nodes_size, placed, room_of}
 use Rattle.run_code.specs.Steps.{Add, Branch, Call, Count, Each, Fire, Keep, Move, Return, Spread, Step, Tag, Test}
-use Rattle.run_laws.specs.Facts.{AllPlaces, Preserves}
+use Rattle.run_made.specs.Facts.{AllPlaces, Preserves}
 use Rattle.run_made.proofs.Lengths.{graph-long}
 use Rattle.run_made.proofs.Lying.{eqb-sound}
 use Rattle.run_made.proofs.Making.{function-long, lines-lie, made}

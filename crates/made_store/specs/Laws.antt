@@ -13,7 +13,7 @@ use Rattle.graph_meaning.specs.Storage.{Storage, capped, copying, writing}
 use Rattle.graph_meaning.specs.StorageUnits.{UnitWrites, storage_of}
 use Rattle.ordered_meaning.specs.Orders.{AreInOrder}
 use Rattle.run_code.specs.Made.{Plan, functions_size}
-use Rattle.run_laws.specs.Weighing.{AreAlike}
+use Rattle.run_made.specs.Weighing.{AreAlike}
 use Rattle.run_made.specs.Plans.{IsRightPlan, Weighing, laid, lines_of, weigh_at}
 use Rattle.run_store.specs.Lively.{Live}
 use Rattle.run_store.specs.Stored.{Handling}

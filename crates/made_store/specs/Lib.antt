@@ -1,3 +1,7 @@
+pub use Rattle.run_store.specs.Ports
+pub use Rattle.run_store.specs.Sums
+pub use Rattle.run_store.specs.Whole
+pub use Rattle.run_store.specs.Stored
 pub mod Settings
 pub mod Shared
 pub mod Settled

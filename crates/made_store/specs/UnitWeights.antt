@@ -7,7 +7,7 @@ use Rattle.graph_meaning.specs.Networks.{network}
 use Rattle.graph_meaning.specs.Storage.{Storage, copying, is_left}
 use Rattle.graph_meaning.specs.StorageUnits.{storage_of}
 use Rattle.run_code.specs.Made.{Plan}
-use Rattle.run_laws.specs.Weighing.{AreAlike}
+use Rattle.run_made.specs.Weighing.{AreAlike}
 use Rattle.run_store.specs.Ports.{picks_of}
 use Rattle.made_store.specs.Settings.{Shares}
 use Rattle.made_store.specs.Weights.{by_modes}

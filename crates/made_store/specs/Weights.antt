@@ -7,7 +7,7 @@ use Rattle.graph_meaning.specs.Storage.{Storage, copied_by, copying, is_left}
 use Rattle.ordered_meaning.specs.Taking.{first_port}
 use Rattle.run_code.specs.Cells.{picked}
 use Rattle.run_code.specs.Made.{Plan}
-use Rattle.run_laws.specs.Weighing.{AreAlike}
+use Rattle.run_made.specs.Weighing.{AreAlike}
 use Rattle.run_made.specs.Plans.{Weighing}
 use Rattle.run_store.specs.Ports.{copies_of, picks_of}
 use Rattle.run_store.specs.Stored.{copied, put_copied}

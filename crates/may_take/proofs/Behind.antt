@@ -1,5 +1,5 @@
 -- Which edges consume, in graphs one after another and in those inside them.
-use Rattle.std.proofs.Common.{◌≡◌, ◌∙◌, ℕ, zero, suc, ◌+◌, ◌<◌, ◌≤◌, Bool, List, ◌∷◌, ◌++◌, [], map, take, length, get_or, All, sym, ap, arith, append-nil}
+use Rattle.std.proofs.Common.{◌≡◌, ◌∙◌, ℕ, suc, ◌+◌, ◌<◌, ◌≤◌, Bool, List, ◌∷◌, ◌++◌, [], map, take, length, get_or, All, sym, ap, arith, append-nil}
 use Rattle.std.specs.List.{flat_map}
 use Rattle.std.proofs.lemmas.List.{map-append, take_more}
 use Rattle.std.proofs.lemmas.Grind.{flat_map-append}
@@ -9,24 +9,17 @@ use Rattle.if1_graph.specs.declared.graph.Node.{Node}
 use Rattle.if1_graph.specs.declared.graph.Unit1.{Unit1}
 use Rattle.if1_graph.specs.Units.{greatest, levels, level_below, Home, each_from, places_of}
 use Rattle.if1_marks.specs.Given.{is_consuming}
-use Rattle.may_take.specs.Looked.{node_places, node_levels, inner_places}
+use Rattle.may_take.specs.Looked.{node_places, node_levels}
 use Rattle.may_take.specs.Inner.{consuming_at}
-use Rattle.may_take.proofs.Placing.{each-more, places-are, node-below, none-deeper}
+use Rattle.may_take.proofs.Placing.{each-more, places-are, inside-is}
 
 module _ (u : Unit1) where
-  -- those inside a graph, by those of its nodes
-  inner-are : (g : Graph) (deeper : List (List Bool)) →
-      ((more : ℕ) → All (λ n. node_levels n ≤ suc more) (out-Graph g).nodes → deeper ≡ map (consuming_at u) (flat_map (node_places more g) (out-Graph g).nodes)) →
-      (more : ℕ) → levels g ≤ more → deeper ≡ map (consuming_at u) (inner_places more g)
-  inner-are g deeper known zero h = known 0 (node-below g 0 (omega (arith, h))) ∙ ap (map (consuming_at u)) (none-deeper g h)
-  inner-are g deeper known (suc more) h = known more (node-below g more h)
-
   pub graph-seen : (g : Graph) (own : List Bool) (deeper all : List (List Bool)) → own ≡ map (is_consuming u g) (out-Graph g).edges → all ≡ own ∷ deeper →
       ((more : ℕ) → All (λ n. node_levels n ≤ suc more) (out-Graph g).nodes → deeper ≡ map (consuming_at u) (flat_map (node_places more g) (out-Graph g).nodes)) →
       (more : ℕ) (home : Home) → levels g ≤ more → all ≡ map (consuming_at u) (places_of more home g)
   graph-seen g own deeper all is e known more home h =
       e ∙ (ap (λ fs. fs ∷ deeper) is
-      ∙ (ap (λ fs. map (is_consuming u g) (out-Graph g).edges ∷ fs) (inner-are g deeper known more h)
+      ∙ (ap (λ fs. map (is_consuming u g) (out-Graph g).edges ∷ fs) (inside-is (consuming_at u) g deeper known more h)
       ∙ ap (map (consuming_at u)) (sym (places-are more home g))))
 
   -- with one more graph

@@ -3,6 +3,7 @@ use Rattle.std.proofs.Common.{◌≡◌, ◌∙◌, ℕ, zero, suc, ◌+◌, Boo
 use Rattle.std.proofs.lemmas.List.{length-map}
 use Rattle.if1_graph.specs.declared.graph.Edge.{Edge}
 use Rattle.if1_graph.specs.declared.graph.Graph.{Graph}
+use Rattle.if1_graph.specs.declared.graph.Graph.TheViews.{out-Graph}
 use Rattle.if1_graph.specs.declared.graph.Node.{Node, out-Node}
 use Rattle.if1_graph.specs.declared.graph.Origin.{Origin}
 use Rattle.if1_graph.specs.declared.graph.Origin.TheVariants.{Port, Lit}
@@ -23,6 +24,7 @@ use Rattle.if1_marks.specs.Given as given
 use Rattle.if1_marks.specs.Owned.{users, is_last_value, is_read_in_turns, is_owned}
 use Rattle.if1_marks.specs.Owned as owned
 use Rattle.if1_marks.proofs.Consumed.{used-at}
+use Rattle.if1_reach.specs.Users.{users_in}
 use Rattle.may_take.specs.declared.around.Around.{Around}
 use Rattle.may_take.specs.declared.functions.Functions.{Functions}
 use Rattle.may_take.specs.declared.uses.NodeUse.{NodeUse}
@@ -31,7 +33,7 @@ use Rattle.may_take.specs.Ports.{has}
 use Rattle.may_take.specs.Around.{is_in_turns, IsAroundOf}
 use Rattle.may_take.specs.Uses.{is_consumed_inside}
 use Rattle.may_take.specs.Looked.{callee_in, is_call_of, simple_use, stand_in, IsUseAs, IsUse}
-use Rattle.may_take.specs.Owned.{is_one, is_free, is_owned_in_body, is_owned_in_returns, is_owned_in, is_owned_as, is_input_owned, is_owned_at}
+use Rattle.may_take.specs.Owned.{Stand, AsFunction, InNode, Elsewhere, is_returns, reads_users, is_one, is_free, is_owned_in_body, is_owned_in_returns, is_owned_in, is_owned_as, is_input_owned, is_owned_at}
 use Rattle.may_take.proofs.Nodes.{inner-is}
 
 turns-read : (ts : List TypeEntry) (gs : List Graph) (port : ℕ) → is_in_turns (map (inside ts) gs) port ≡ is_read_in_turns gs port
@@ -121,3 +123,24 @@ module _ (u : Unit1) (f : Functions) (g : Graph) (n : Node) (is : List given.Ins
   part-owned (Lit text) = refl
   part-owned (Port zero port) = input-is u f g n is same h known s k port
   part-owned (Port (suc l) port) = refl
+
+-- ---- users are read in returns alone
+
+users-in-part : (a : Around) (g : Graph) (port : ℕ) (o : Option Part) →
+    is_owned_as o a g (users_in (if is_returns o then (out-Graph g).edges else []) (Port 0 port)) port ≡ is_owned_as o a g (users g (Port 0 port)) port
+users-in-part a g port None = refl
+users-in-part a g port (Some part.Alternative) = refl
+users-in-part a g port (Some part.Arm) = refl
+users-in-part a g port (Some part.Initialization) = refl
+users-in-part a g port (Some part.Body) = refl
+users-in-part a g port (Some part.Returns) = refl
+users-in-part a g port (Some part.Selector) = refl
+users-in-part a g port (Some part.Generator) = refl
+users-in-part a g port (Some part.Test) = refl
+
+pub users-read : (st : Stand) (g : Graph) (from : Origin) → is_owned_at st g (users_in (if reads_users st then (out-Graph g).edges else []) from) from ≡ is_owned_at st g (users g from) from
+users-read st g (Lit text) = refl
+users-read (AsFunction given) g (Port zero port) = refl
+users-read (InNode a k) g (Port zero port) = users-in-part a g port (part_at a.compound k)
+users-read Elsewhere g (Port zero port) = refl
+users-read st g (Port (suc l) port) = refl

@@ -6,10 +6,9 @@ use Rattle.std.proofs.lemmas.List.Elements.{Contains-get_or}
 use Rattle.if1_graph.specs.declared.graph.Graph.{Graph}
 use Rattle.if1_graph.specs.declared.graph.Graph.TheViews.{out-Graph}
 use Rattle.if1_graph.specs.declared.graph.Node.{Node, out-Node}
-use Rattle.if1_graph.specs.declared.graph.Unit1.{Unit1}
 use Rattle.if1_graph.specs.Units.{levels, level_below, Home, Inside, Place, each_from, places_of}
 use Rattle.if1_order.proofs.Within.{levels_out, parts_below, below}
-use Rattle.may_take.specs.Looked.{flags_at, node_places, inner_places, node_levels}
+use Rattle.may_take.specs.Looked.{node_places, inner_places, node_levels}
 
 -- ---- graphs one after another
 
@@ -61,8 +60,9 @@ none-deeper g h =
     flat-none (node_places 0 g) (out-Graph g).nodes
     (λ n c. none-inside (out-Node n).subs (omega (arith, h, levels_out g, parts_below (out-Graph g).nodes n c)) (λ k s. places_of 0 (Inside g n k) s))
 
-pub inside-is : (u : Unit1) (g : Graph) (flags : List (List Bool)) →
-    ((more : ℕ) → All (λ n. node_levels n ≤ suc more) (out-Graph g).nodes → flags ≡ map (flags_at u) (flat_map (node_places more g) (out-Graph g).nodes)) →
-    (more : ℕ) → levels g ≤ more → flags ≡ map (flags_at u) (inner_places more g)
-inside-is u g flags known zero h = known 0 (node-below g 0 (omega (arith, h))) ∙ ap (map (flags_at u)) (none-deeper g h)
-inside-is u g flags known (suc more) h = known more (node-below g more h)
+-- those inside a graph, by those of its nodes
+pub inside-is : (F : Place → List Bool) (g : Graph) (flags : List (List Bool)) →
+    ((more : ℕ) → All (λ n. node_levels n ≤ suc more) (out-Graph g).nodes → flags ≡ map F (flat_map (node_places more g) (out-Graph g).nodes)) →
+    (more : ℕ) → levels g ≤ more → flags ≡ map F (inner_places more g)
+inside-is F g flags known zero h = known 0 (node-below g 0 (omega (arith, h))) ∙ ap (map F) (none-deeper g h)
+inside-is F g flags known (suc more) h = known more (node-below g more h)

@@ -21,7 +21,7 @@ use Rattle.may_take.specs.declared.uses.NodeUse.{NodeUse}
 use Rattle.may_take.specs.Ports.{has, inside_by}
 use Rattle.may_take.specs.Uses.{is_consumed_inside, is_consumed, use_at, inside_of, consumed_of, consumes_inside, consumes_by}
 use Rattle.may_take.specs.Consuming.{is_given_by, is_consuming_by}
-use Rattle.may_take.specs.Looked.{IsLooked, AreNodesLooked}
+use Rattle.may_take.specs.Looked.{flags_by, IsLooked, AreNodesLooked}
 use Rattle.may_take.proofs.Labels.{optioned, at-label, found-operands}
 use Rattle.may_take.proofs.Placing.{inside-is}
 
@@ -127,5 +127,5 @@ looked-is u f g nodes known ts ls us es fs ets els eus ees efs i used given cs c
           ∙ (ap (λ us. map (is_consuming_by u.types f.inputs.items (map label_of (out-Graph g).nodes) us) es) eus
           ∙ (ap (map (is_consuming_by u.types f.inputs.items (map label_of (out-Graph g).nodes) nodes.uses.items)) ees
           ∙ consuming-are u g f.inputs.items nodes.uses.items (known.uses tells))))));
-      inside = λ tells. inside-is u g nodes.inside.items (known.inside tells);
+      inside = λ tells asks. inside-is (flags_by f.asked u) g nodes.inside.items (known.inside tells asks);
     }

@@ -1,5 +1,5 @@
 -- Steps of the look at a graph.
-use Rattle.std.proofs.Common.{◌≡◌, ◌∙◌, ℕ, zero, suc, ◌+◌, ◌<◌, ◌≤◌, Bool, false, ◌&&◌, List, [], ◌∷◌, ◌++◌, map, take, drop, length, get_or, slice_get, slice_index_or, Some, All, Contains, refl, sym, ap, subst, arith, append-nil, append_assoc}
+use Rattle.std.proofs.Common.{◌≡◌, ◌∙◌, ℕ, zero, suc, ◌+◌, ◌<◌, ◌≤◌, Bool, false, ◌&&◌, IsTrue, List, [], ◌∷◌, ◌++◌, map, take, drop, length, get_or, slice_get, slice_index_or, Some, All, Contains, refl, sym, ap, subst, arith, append-nil, append_assoc}
 use Rattle.std.specs.List.{flat_map}
 use Rattle.std.proofs.lemmas.List.{map-append, take_more, get_or-map}
 use Rattle.std.proofs.lemmas.Option.{slice_get-get_or}
@@ -11,12 +11,11 @@ use Rattle.if1_graph.specs.declared.graph.Node.{Node, out-Node}
 use Rattle.if1_graph.specs.declared.graph.Origin.{Origin}
 use Rattle.if1_graph.specs.declared.graph.Origin.TheVariants.{Port, Lit}
 use Rattle.if1_graph.specs.declared.graph.Unit1.{Unit1}
-use Rattle.if1_graph.specs.Units.{levels, most_levels, Function, Inside, each_from, places_of}
+use Rattle.if1_graph.specs.Units.{levels, most_levels, Function, Inside, Place, each_from, places_of}
 use Rattle.if1_marks.specs.Given.{inside, is_consuming, is_consumed_by, consumes_node}
 use Rattle.if1_marks.specs.Given as given
 use Rattle.if1_marks.specs.Owned.{users, is_owned}
-use Rattle.marks_made.specs.Units.{is_candidate}
-use Rattle.if1_reach.specs.Users.{users_in}
+use Rattle.may_take.specs.declared.flags.Asked.{Asked}
 use Rattle.may_take.specs.declared.functions.Functions.{Functions}
 use Rattle.may_take.specs.declared.inputs.Inputs.{Inputs}
 use Rattle.may_take.specs.declared.looking.Looked.{Looked}
@@ -26,7 +25,7 @@ use Rattle.may_take.specs.Ports.{inside_by}
 use Rattle.may_take.specs.Around.{insides}
 use Rattle.may_take.specs.Owned.{Stand, AsFunction, is_owned_at}
 use Rattle.may_take.specs.Uses.{is_consumed_inside, is_consumed, Tells}
-use Rattle.may_take.specs.Looked.{flags_at, node_places, node_levels, stand_in, IsUse, IsLooked, AreLooked, AreNodesLooked}
+use Rattle.may_take.specs.Looked.{does_ask, is_asked, flags_by, node_places, node_levels, stand_in, IsUse, IsLooked, AreLooked, AreNodesLooked}
 use Rattle.may_take.proofs.Nodes.{inner-is, outer-is}
 use Rattle.may_take.proofs.Owning.{part-owned}
 use Rattle.may_take.proofs.Placing.{each-more, places-are, part-below}
@@ -94,21 +93,17 @@ here xs ys i x same h is = subst (λ zs. Contains zs x) same (i, h, sym is)
 
 -- ---- flags
 
-pub users-are : (g : Graph) (from : Origin) → users_in (out-Graph g).edges from ≡ users g from
-users-are g (Port l port) = refl
-users-are g (Lit text) = refl
-
-pub flag-more : (g : Graph) (st : Stand) (k : Edge → Bool) (consuming : List Bool) (edges : List Edge) → edges ≡ (out-Graph g).edges → consuming ≡ map k (out-Graph g).edges →
+pub flag-more : (a : Asked) (g : Graph) (st : Stand) (k : Edge → Bool) (consuming : List Bool) (edges : List Edge) → edges ≡ (out-Graph g).edges → consuming ≡ map k (out-Graph g).edges →
     (i : ℕ) (e : Edge) → i < length edges → e ≡ get_or edges i e → (old new : List Bool) (b o : Bool) →
-    old ≡ map (λ e. k e && is_owned_at st g (users g e.from) e.from) (take i (out-Graph g).edges) →
-    o ≡ is_owned_at st g (users g e.from) e.from → b ≡ (slice_index_or consuming i false && o) → new ≡ old ++ b ∷ [] →
-    new ≡ map (λ e. k e && is_owned_at st g (users g e.from) e.from) (take (i + 1) (out-Graph g).edges)
-flag-more g st k consuming edges same flags i e h is old new b o was owned both added =
+    old ≡ map (λ e. is_asked a (k e) && is_owned_at st g (users g e.from) e.from) (take i (out-Graph g).edges) →
+    o ≡ is_owned_at st g (users g e.from) e.from → b ≡ (is_asked a (slice_index_or consuming i false) && o) → new ≡ old ++ b ∷ [] →
+    new ≡ map (λ e. is_asked a (k e) && is_owned_at st g (users g e.from) e.from) (take (i + 1) (out-Graph g).edges)
+flag-more a g st k consuming edges same flags i e h is old new b o was owned both added =
     added
     ∙ (ap (λ fs. fs ++ b ∷ []) was
-    ∙ (ap (λ x. map (λ e. k e && is_owned_at st g (users g e.from) e.from) (take i (out-Graph g).edges) ++ x ∷ []) (both ∙ (ap (λ fs. slice_index_or fs i false && o) flags ∙ (ap (λ x. x && o) (get_or-map k (out-Graph g).edges i e false lt ∙ ap k (sym at)) ∙ ap (λ x. k e && x) owned)))
-    ∙ (sym (map-append (λ e. k e && is_owned_at st g (users g e.from) e.from) (take i (out-Graph g).edges) (e ∷ []))
-    ∙ ap (map (λ e. k e && is_owned_at st g (users g e.from) e.from)) (ap (λ x. take i (out-Graph g).edges ++ x ∷ []) at ∙ sym (take_more (out-Graph g).edges i e lt)))))
+    ∙ (ap (λ x. map (λ e. is_asked a (k e) && is_owned_at st g (users g e.from) e.from) (take i (out-Graph g).edges) ++ x ∷ []) (both ∙ (ap (λ fs. is_asked a (slice_index_or fs i false) && o) flags ∙ (ap (λ x. is_asked a x && o) (get_or-map k (out-Graph g).edges i e false lt ∙ ap k (sym at)) ∙ ap (λ x. is_asked a (k e) && x) owned)))
+    ∙ (sym (map-append (λ e. is_asked a (k e) && is_owned_at st g (users g e.from) e.from) (take i (out-Graph g).edges) (e ∷ []))
+    ∙ ap (map (λ e. is_asked a (k e) && is_owned_at st g (users g e.from) e.from)) (ap (λ x. take i (out-Graph g).edges ++ x ∷ []) at ∙ sym (take_more (out-Graph g).edges i e lt)))))
   where
     lt : i < length (out-Graph g).edges
     lt = subst (λ es. i < length es) same h
@@ -118,31 +113,31 @@ flag-more g st k consuming edges same flags i e h is old new b o was owned both 
 
 -- ---- the flags of a part
 
-module _ (u : Unit1) (f : Functions) (g : Graph) (n : Node) (rs : List Looked) (looked : AreLooked u f (out-Node n).subs rs) (h : NodeUse) (known : IsUse f g n (insides rs) h) (tells : Tells u f) (more : ℕ) where
+module _ (u : Unit1) (f : Functions) (g : Graph) (n : Node) (rs : List Looked) (looked : AreLooked u f (out-Node n).subs rs) (h : NodeUse) (known : IsUse f g n (insides rs) h) (tells : Tells u f) (asks : IsTrue (does_ask f.asked)) (more : ℕ) where
   part-flags : (k : ℕ) (s : Graph) (r : Looked) → IsLooked u f s r → levels s ≤ more →
-      map (λ e. is_consuming u s e && is_owned_at (stand_in h k) s (users s e.from) e.from) (out-Graph s).edges ∷ r.inside.items ≡ map (flags_at u) (places_of more (Inside g n k) s)
+      map (λ e. is_asked f.asked (is_consuming u s e) && is_owned_at (stand_in h k) s (users s e.from) e.from) (out-Graph s).edges ∷ r.inside.items ≡ map (flags_by f.asked u) (places_of more (Inside g n k) s)
   part-flags k s r l small =
       ap (λ fs. fs ∷ r.inside.items)
-      (map-same (λ e. is_consuming u s e && is_owned_at (stand_in h k) s (users s e.from) e.from) (is_candidate u (record { graph = s; home = Inside g n k }))
-      (λ e. ap (λ b. is_consuming u s e && b) (part-owned u f g n (insides rs) (insides-are u f (out-Node n).subs rs looked) h known s k e.from)) (out-Graph s).edges)
-      ∙ (ap (λ fs. flags_at u (record { graph = s; home = Inside g n k }) ∷ fs) (l.inside tells more small)
-      ∙ ap (map (flags_at u)) (sym (places-are more (Inside g n k) s)))
+      (map-same (λ e. is_asked f.asked (is_consuming u s e) && is_owned_at (stand_in h k) s (users s e.from) e.from) (λ e. is_asked f.asked (is_consuming u s e) && is_owned u (record { graph = s; home = Inside g n k }) e.from)
+      (λ e. ap (λ b. is_asked f.asked (is_consuming u s e) && b) (part-owned u f g n (insides rs) (insides-are u f (out-Node n).subs rs looked) h known s k e.from)) (out-Graph s).edges)
+      ∙ (ap (λ fs. flags_by f.asked u (record { graph = s; home = Inside g n k }) ∷ fs) (l.inside tells asks more small)
+      ∙ ap (map (flags_by f.asked u)) (sym (places-are more (Inside g n k) s)))
 
   -- with those of one more part
   pub part-more : (k : ℕ) (s : Graph) (r : Looked) → k < length (out-Node n).subs → s ≡ get_or (out-Node n).subs k s → node_levels n ≤ suc more → IsLooked u f s r →
-      (initial old new : List (List Bool)) → old ≡ initial ++ map (flags_at u) (each_from (λ k s. places_of more (Inside g n k) s) 0 (take k (out-Node n).subs)) →
-      new ≡ old ++ (map (λ e. is_consuming u s e && is_owned_at (stand_in h k) s (users s e.from) e.from) (out-Graph s).edges ∷ r.inside.items) →
-      new ≡ initial ++ map (flags_at u) (each_from (λ k s. places_of more (Inside g n k) s) 0 (take (k + 1) (out-Node n).subs))
+      (initial old new : List (List Bool)) → old ≡ initial ++ map (flags_by f.asked u) (each_from (λ k s. places_of more (Inside g n k) s) 0 (take k (out-Node n).subs)) →
+      new ≡ old ++ (map (λ e. is_asked f.asked (is_consuming u s e) && is_owned_at (stand_in h k) s (users s e.from) e.from) (out-Graph s).edges ∷ r.inside.items) →
+      new ≡ initial ++ map (flags_by f.asked u) (each_from (λ k s. places_of more (Inside g n k) s) 0 (take (k + 1) (out-Node n).subs))
   part-more k s r lt is deep l initial old new was added =
       let there : Contains (out-Node n).subs s = (k, lt, sym is) in
       let here = places_of more (Inside g n k) s in
       let before = each_from (λ k s. places_of more (Inside g n k) s) 0 (take k (out-Node n).subs) in
       added
       ∙ (ap (λ fs. old ++ fs) (part-flags k s r l (part-below n more deep s there))
-      ∙ (ap (λ fs. fs ++ map (flags_at u) here) was
-      ∙ (append_assoc initial (map (flags_at u) before) (map (flags_at u) here)
-      ∙ (ap (λ fs. initial ++ fs) (sym (map-append (flags_at u) before here))
-      ∙ ap (λ ps. initial ++ map (flags_at u) ps)
+      ∙ (ap (λ fs. fs ++ map (flags_by f.asked u) here) was
+      ∙ (append_assoc initial (map (flags_by f.asked u) before) (map (flags_by f.asked u) here)
+      ∙ (ap (λ fs. initial ++ fs) (sym (map-append (flags_by f.asked u) before here))
+      ∙ ap (λ ps. initial ++ map (flags_by f.asked u) ps)
       (ap (λ t. before ++ places_of more (Inside g n k) t) is
       ∙ sym (each-more (λ k s. places_of more (Inside g n k) s) k (out-Node n).subs s lt))))))
 
@@ -160,7 +155,7 @@ all-first P (y ∷ ys) x h =
 
 pub node-more : (u : Unit1) (f : Functions) (g : Graph) (n : Node) (rs : List Looked) → AreLooked u f (out-Node n).subs rs → (h : NodeUse) → IsUse f g n (insides rs) h →
     (old new : LookedNodes) → new.uses.items ≡ old.uses.items ++ h ∷ [] →
-    (Tells u f → (more : ℕ) → node_levels n ≤ suc more → new.inside.items ≡ old.inside.items ++ map (flags_at u) (node_places more g n)) →
+    (Tells u f → IsTrue (does_ask f.asked) → (more : ℕ) → node_levels n ≤ suc more → new.inside.items ≡ old.inside.items ++ map (flags_by f.asked u) (node_places more g n)) →
     (ns : List Node) → AreNodesLooked u f g ns old → AreNodesLooked u f g (ns ++ n ∷ []) new
 node-more u f g n rs looked h known old new uses inside ns before =
     let same = insides-are u f (out-Node n).subs rs looked in
@@ -168,12 +163,12 @@ node-more u f g n rs looked h known old new uses inside ns before =
       inner = ap (map is_consumed_inside) uses ∙ mapped-more is_consumed_inside (is_consumed_by u) old.uses.items ns h n before.inner (inner-is u f g n (insides rs) same h known);
       uses = λ tells. ap (map (is_consumed f.inputs.items)) uses
           ∙ mapped-more (is_consumed f.inputs.items) (λ n. consumes_node u g (Some n)) old.uses.items ns h n (before.uses tells) (outer-is u f g n (insides rs) same h known tells);
-      inside = λ tells more deep.
+      inside = λ tells asks more deep.
           let d = all-first (λ n. node_levels n ≤ suc more) ns n deep in
-          inside tells more d.1
-          ∙ (ap (λ fs. fs ++ map (flags_at u) (node_places more g n)) (before.inside tells more d.0)
-          ∙ (sym (map-append (flags_at u) (flat_map (node_places more g) ns) (node_places more g n))
-          ∙ ap (map (flags_at u)) (ap (λ ps. flat_map (node_places more g) ns ++ ps) (sym (append-nil (node_places more g n))) ∙ sym (flat_map-append (node_places more g) ns (n ∷ [])))));
+          inside tells asks more d.1
+          ∙ (ap (λ fs. fs ++ map (flags_by f.asked u) (node_places more g n)) (before.inside tells asks more d.0)
+          ∙ (sym (map-append (flags_by f.asked u) (flat_map (node_places more g) ns) (node_places more g n))
+          ∙ ap (map (flags_by f.asked u)) (ap (λ ps. flat_map (node_places more g) ns ++ ps) (sym (append-nil (node_places more g n))) ∙ sym (flat_map-append (node_places more g) ns (n ∷ [])))));
     }
 
 -- ---- a function
@@ -184,29 +179,29 @@ function-owned u g i e k (Lit text) = refl
 function-owned u g i e k (Port zero port) = ap (λ (x : given.Inside). x.is_given port) e
 function-owned u g i e k (Port (suc l) port) = refl
 
-pub function-more : (u : Unit1) (f : Functions) (g : Graph) (r : Looked) → IsLooked u f g r → Tells u f → levels g ≤ most_levels → (own : List Bool) →
-    own ≡ map (λ e. is_consuming u g e && is_owned_at (AsFunction r.inputs.given) g (users g e.from) e.from) (out-Graph g).edges →
-    (old pushed new : List (List Bool)) → pushed ≡ old ++ own ∷ [] → new ≡ pushed ++ r.inside.items → (k : ℕ) → new ≡ old ++ map (flags_at u) (places_of most_levels (Function k) g)
-function-more u f g r l tells flat own is old pushed new one all k =
+pub function-more : (u : Unit1) (f : Functions) (g : Graph) (r : Looked) → IsLooked u f g r → Tells u f → IsTrue (does_ask f.asked) → levels g ≤ most_levels → (own : List Bool) →
+    own ≡ map (λ e. is_asked f.asked (is_consuming u g e) && is_owned_at (AsFunction r.inputs.given) g (users g e.from) e.from) (out-Graph g).edges →
+    (old pushed new : List (List Bool)) → pushed ≡ old ++ own ∷ [] → new ≡ pushed ++ r.inside.items → (k : ℕ) → new ≡ old ++ map (flags_by f.asked u) (places_of most_levels (Function k) g)
+function-more u f g r l tells asks flat own is old pushed new one all k =
     all
     ∙ (ap (λ fs. fs ++ r.inside.items) one
     ∙ (append_assoc old (own ∷ []) r.inside.items
     ∙ ap (λ fs. old ++ fs)
     (ap (λ x. x ∷ r.inside.items)
     (is
-    ∙ map-same (λ e. is_consuming u g e && is_owned_at (AsFunction r.inputs.given) g (users g e.from) e.from) (is_candidate u (record { graph = g; home = Function k }))
-    (λ e. ap (λ b. is_consuming u g e && b) (function-owned u g r.inputs l.inputs k e.from)) (out-Graph g).edges)
-    ∙ (ap (λ fs. flags_at u (record { graph = g; home = Function k }) ∷ fs) (l.inside tells most_levels flat)
-    ∙ ap (map (flags_at u)) (sym (places-are most_levels (Function k) g))))))
+    ∙ map-same (λ e. is_asked f.asked (is_consuming u g e) && is_owned_at (AsFunction r.inputs.given) g (users g e.from) e.from) (λ e. is_asked f.asked (is_consuming u g e) && is_owned u (record { graph = g; home = Function k }) e.from)
+    (λ e. ap (λ b. is_asked f.asked (is_consuming u g e) && b) (function-owned u g r.inputs l.inputs k e.from)) (out-Graph g).edges)
+    ∙ (ap (λ fs. flags_by f.asked u (record { graph = g; home = Function k }) ∷ fs) (l.inside tells asks most_levels flat)
+    ∙ ap (map (flags_by f.asked u)) (sym (places-are most_levels (Function k) g))))))
 
-pub functions-more : (u : Unit1) (gs : List Graph) (i : ℕ) (g : Graph) → i < length gs → g ≡ get_or gs i g → (old new : List (List Bool)) →
-    old ≡ map (flags_at u) (each_from (λ k g. places_of most_levels (Function k) g) 0 (take i gs)) → ((k : ℕ) → new ≡ old ++ map (flags_at u) (places_of most_levels (Function k) g)) →
-    new ≡ map (flags_at u) (each_from (λ k g. places_of most_levels (Function k) g) 0 (take (i + 1) gs))
-functions-more u gs i g lt is old new was added =
+pub functions-more : (F : Place → List Bool) (gs : List Graph) (i : ℕ) (g : Graph) → i < length gs → g ≡ get_or gs i g → (old new : List (List Bool)) →
+    old ≡ map F (each_from (λ k g. places_of most_levels (Function k) g) 0 (take i gs)) → ((k : ℕ) → new ≡ old ++ map F (places_of most_levels (Function k) g)) →
+    new ≡ map F (each_from (λ k g. places_of most_levels (Function k) g) 0 (take (i + 1) gs))
+functions-more F gs i g lt is old new was added =
     let before = each_from (λ k g. places_of most_levels (Function k) g) 0 (take i gs) in
     added i
-    ∙ (ap (λ fs. fs ++ map (flags_at u) (places_of most_levels (Function i) g)) was
-    ∙ (sym (map-append (flags_at u) before (places_of most_levels (Function i) g))
-    ∙ ap (map (flags_at u))
+    ∙ (ap (λ fs. fs ++ map F (places_of most_levels (Function i) g)) was
+    ∙ (sym (map-append F before (places_of most_levels (Function i) g))
+    ∙ ap (map F)
     (ap (λ x. before ++ places_of most_levels (Function i) x) is
     ∙ sym (each-more (λ k g. places_of most_levels (Function k) g) i gs g lt))))

@@ -1,5 +1,5 @@
 -- What is known of a graph once it was looked at.
-use Rattle.std.specs.Prelude.{◌≡◌, ℕ, zero, suc, ◌≤◌, Bool, List, [], map, length, find, All, Option, Some, None, slice_get, ◌==◌, if◌then◌else◌}
+use Rattle.std.specs.Prelude.{◌≡◌, ℕ, zero, suc, ◌≤◌, Bool, true, false, ◌&&◌, IsTrue, List, [], map, length, find, All, Option, Some, None, slice_get, ◌==◌, if◌then◌else◌}
 use Rattle.std.specs.List.{flat_map}
 use Rattle.std.specs.List.Sorted.{IsStrictlyIncreasing}
 use Rattle.std.specs.Prelude as prelude
@@ -19,8 +19,11 @@ use Rattle.if1_graph.specs.Units.{label_of, edges_into, levels, level_below, Ins
 use Rattle.if1_order.specs.Within.{IsPart}
 use Rattle.if1_marks.specs.Given.{inside, is_consuming, is_consumed_by, consumes_node, is_call_as}
 use Rattle.if1_marks.specs.Given as given
+use Rattle.if1_marks.specs.Owned.{is_owned}
 use Rattle.marks_made.specs.Units.{is_candidate}
 use Rattle.may_take.specs.declared.around.Around.{Around}
+use Rattle.may_take.specs.declared.flags.Asked.{Asked}
+use Rattle.may_take.specs.declared.flags.Asked.TheVariants as asked
 use Rattle.may_take.specs.declared.functions.Functions.{Functions}
 use Rattle.may_take.specs.declared.looking.Looked.{Looked}
 use Rattle.may_take.specs.declared.looking.LookedNodes.{LookedNodes}
@@ -36,6 +39,24 @@ use Rattle.may_take.specs.Uses.{is_consumed_inside, is_consumed, place_in, Tells
 -- of each edge of the graph, whether it may take
 abbrev pub flags_at : Unit1 → Place → List Bool
 flags_at u p = map (is_candidate u p) (out-Graph p.graph).edges
+
+-- of each edge of the graph, whether the port that it comes from is owned
+abbrev pub owned_at : Unit1 → Place → List Bool
+owned_at u p = map (λ e. is_owned u p e.from) (out-Graph p.graph).edges
+
+abbrev pub does_ask : Asked → Bool
+does_ask asked.Nothing = false
+does_ask _ = true
+
+-- it is asked of an edge that consumes, or does not
+abbrev pub is_asked : Asked → Bool → Bool
+is_asked asked.Nothing consumes = false
+is_asked asked.Consuming consumes = consumes
+is_asked asked.All consumes = true
+
+-- of each edge of the graph, whether it is asked for and comes from an owned port
+abbrev pub flags_by : Asked → Unit1 → Place → List Bool
+flags_by a u p = map (λ e. is_asked a (is_consuming u p.graph e) && is_owned u p e.from) (out-Graph p.graph).edges
 
 -- the places in the graphs of a node
 abbrev pub node_places : ℕ → Graph → Node → List Place
@@ -97,7 +118,7 @@ pub record IsLooked (u : Unit1) (f : Functions) (g : Graph) (r : Looked) : Type 
   pub inputs : inside_by r.inputs ≡ inside u.types g
   pub fit : length r.consuming ≡ length (out-Graph g).edges
   pub consuming : Tells u f → r.consuming ≡ map (is_consuming u g) (out-Graph g).edges
-  pub inside : Tells u f → (more : ℕ) → levels g ≤ more → r.inside.items ≡ map (flags_at u) (inner_places more g)
+  pub inside : Tells u f → IsTrue (does_ask f.asked) → (more : ℕ) → levels g ≤ more → r.inside.items ≡ map (flags_by f.asked u) (inner_places more g)
 
 pub record AreLooked (u : Unit1) (f : Functions) (gs : List Graph) (rs : List Looked) : Type 0 where
   pub fit : length rs ≡ length gs
@@ -110,4 +131,4 @@ node_levels n = level_below (map levels (out-Node n).subs)
 pub record AreNodesLooked (u : Unit1) (f : Functions) (g : Graph) (ns : List Node) (r : LookedNodes) : Type 0 where
   pub inner : map is_consumed_inside r.uses.items ≡ map (is_consumed_by u) ns
   pub uses : Tells u f → map (is_consumed f.inputs.items) r.uses.items ≡ map (λ n. consumes_node u g (Some n)) ns
-  pub inside : Tells u f → (more : ℕ) → All (λ n. node_levels n ≤ suc more) ns → r.inside.items ≡ map (flags_at u) (flat_map (node_places more g) ns)
+  pub inside : Tells u f → IsTrue (does_ask f.asked) → (more : ℕ) → All (λ n. node_levels n ≤ suc more) ns → r.inside.items ≡ map (flags_by f.asked u) (flat_map (node_places more g) ns)

@@ -71,6 +71,15 @@ is_input_owned (AsFunction given) g users port = has given port
 is_input_owned (InNode around place) g users port = is_owned_as (part_at around.compound place) around g users port
 is_input_owned Elsewhere g users port = false
 
+-- the part's users tell which of its inputs it owns
+abbrev pub is_returns : Option Part → Bool
+is_returns (Some part.Returns) = true
+is_returns _ = false
+
+abbrev pub reads_users : Stand → Bool
+reads_users (InNode around place) = is_returns (part_at around.compound place)
+reads_users _ = false
+
 abbrev pub is_owned_at : Stand → Graph → List ℕ → Origin → Bool
 is_owned_at s g users (Lit text) = false
 is_owned_at s g users (Port zero port) = is_input_owned s g users port

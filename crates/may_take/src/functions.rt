@@ -9,14 +9,18 @@ ghost use Rattle.if1_marks.specs.Given.{inside};
 ghost use Rattle.may_take.specs.Ports.{inside_by};
 ghost use Rattle.may_take.specs.Uses.{place_in, AreKnown};
 
+use crate::flags::Asked;
 use crate::inputs::Inputs;
 use flow_value::NoMemory;
 use indexmap::IndexMap;
 use std::alloc::Global;
 
-/// What the functions of a unit do with their inputs, and the first function of each name.
+/// What a look at the graphs of a unit goes by: what its functions do with their inputs, with the first
+/// one of each name, and which edges are asked for.
 #[derive(Drop)]
 pub struct Functions {
+    /// Of which edges it is asked whether they come from owned ports.
+    pub asked: Asked,
     /// The place of a function by its name.
     pub names: IndexMap<Vec<u8>, usize>,
     /// What each function does with its inputs, in order.
@@ -40,10 +44,12 @@ fn put(
 
 impl Functions {
     /// No functions.
-    pub fn none(alloc: Global) -> Functions
-        ensures { (u : Unit1) → AreKnown u [] result }
+    pub fn none(alloc: Global, asked: Asked) -> Functions
+        ensures known { (u : Unit1) → AreKnown u [] result }
+        ensures asked { result.asked ≡ asked }
     {
         Functions {
+            asked,
             names: IndexMap::new(alloc),
             inputs: Vec::new(alloc),
         }
@@ -51,7 +57,8 @@ impl Functions {
 
     /// Adds what the next function does with its inputs.
     pub fn add(&mut self, alloc: Global, name: &[u8], inputs: Inputs) -> Result<(), NoMemory>
-        ensures { OnOk
+        ensures asked { OnOk result (self.new.asked ≡ self.old.asked) }
+        ensures known { OnOk
             result
             ((u : Unit1) (gs : List Graph) (g : Graph) → (out-Graph g).name ≡ name.now → inside_by inputs ≡ inside u.types g → AreKnown u gs self.old → AreKnown u (gs ++ g ∷ []) self.new) }
     {

@@ -8,7 +8,7 @@ ghost use Rattle.if1_graph.specs.declared.graph.Graph.TheViews.{out-Graph};
 ghost use Rattle.may_take.specs.Looked.{IsLaidInside, AreLaid};
 ghost use Rattle.may_take.specs.Inner.{consuming_at, IsSeen, AreNodesSeen, ArePartsSeen};
 
-use crate::flags::Flags;
+use crate::flags::{Asked, Flags};
 use crate::functions::Functions;
 use crate::looking::{Looked, LookedNodes, add_node, looked_by, no_nodes};
 use crate::units::functions_of;
@@ -135,7 +135,7 @@ pub fn consuming_edges(alloc: Global, unit: &Unit1) -> Result<Vec<Flags>, NoMemo
     requires normal { IsNormal unit.now }
     ensures { IfOk result (λ r. r.items ≡ map (consuming_at unit.now) (places unit.now)) }
 {
-    let functions = functions_of(alloc, unit)?;
+    let functions = functions_of(alloc, unit, Asked::Nothing)?;
     let seen = see_parts(alloc, unit, &functions, unit.graphs.as_slice())?;
     let SeenParts {
         parts: _,

@@ -1,4 +1,4 @@
-//! Which edges of a unit may take: consuming edges from owned ports.
+//! Which edges of a unit consume, which come from owned ports, and which may take.
 #![tactic(auto)]
 
 mod around;
@@ -20,5 +20,5 @@ pub use functions::Functions;
 pub use inner::consuming_edges;
 pub use inputs::Inputs;
 pub use port_set::PortSet;
-pub use units::candidates;
+pub use units::{candidates, owned_edges};
 pub use uses::NodeUse;

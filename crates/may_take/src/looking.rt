@@ -1,5 +1,5 @@
-//! What graphs do with their inputs, and which edges inside them may take.
-ghost use Rattle.std.specs.Prelude.{◌≡◌, ◌∷◌, ◌++◌, [], ◌≤◌, ◌&&◌, ℕ, suc, Bool, List, length, map, IfOk, OnOk};
+//! What graphs do with their inputs, and which edges inside them come from owned ports.
+ghost use Rattle.std.specs.Prelude.{◌≡◌, ◌∷◌, ◌++◌, [], ◌≤◌, ◌&&◌, ℕ, suc, Bool, List, length, map, IsTrue, IfOk, OnOk};
 ghost use Rattle.std.specs.List.Sorted.{IsStrictlyIncreasing};
 ghost use Rattle.if1_graph.specs.declared.graph.Graph.TheViews.{out-Graph};
 ghost use Rattle.if1_graph.specs.declared.graph.Node.{Node, out-Node};
@@ -8,10 +8,10 @@ ghost use Rattle.if1_marks.specs.Owned.{users};
 ghost use Rattle.may_take.specs.Around.{insides};
 ghost use Rattle.may_take.specs.Owned.{stand_of, is_owned_at};
 ghost use Rattle.may_take.specs.Uses.{Tells};
-ghost use Rattle.may_take.specs.Looked.{flags_at, node_places, node_levels, stand_in, IsLaid, IsLaidInside, AreLaid, IsUse, IsLooked, AreLooked, AreNodesLooked};
+ghost use Rattle.may_take.specs.Looked.{does_ask, flags_by, is_asked, node_places, node_levels, stand_in, IsLaid, IsLaidInside, AreLaid, IsUse, IsLooked, AreLooked, AreNodesLooked};
 
 use crate::consuming::consuming_by;
-use crate::flags::{Flags, flags_of};
+use crate::flags::{Asked, Flags, does_ask, flags_of};
 use crate::functions::Functions;
 use crate::inputs::{Inputs, inputs_by};
 use crate::node::node_use;
@@ -29,7 +29,8 @@ pub struct Looked {
     pub inputs: Inputs,
     /// Which of its edges consume.
     pub consuming: Flags,
-    /// Which edges may take, for each graph inside its nodes.
+    /// Which of the edges that are asked for come from owned ports, for each graph inside its nodes; no
+    /// rows if none are.
     pub inside: Vec<Flags>,
 }
 
@@ -38,7 +39,8 @@ pub struct Looked {
 pub struct LookedNodes {
     /// What each of them consumes.
     pub uses: Vec<NodeUse>,
-    /// Which edges may take, for each graph inside them.
+    /// Which of the edges that are asked for come from owned ports, for each graph inside them; no rows
+    /// if none are.
     pub inside: Vec<Flags>,
 }
 
@@ -87,6 +89,7 @@ fn site_of(how: &NodeUse, place: usize) -> Site<'_>
 // the flags of a part, and of the graphs inside it
 fn add_part(
     alloc: Global,
+    asked: Asked,
     site: Site,
     graph: &Graph,
     part: Looked,
@@ -96,14 +99,14 @@ fn add_part(
     requires fit { length part.consuming ≡ length (out-Graph graph.now).edges }
     ensures { OnOk
         result
-        ((c : Edge → Bool) → part.consuming ≡ map c (out-Graph graph.now).edges → inside.new.items ≡ inside.old.items ++ (map (λ e. c e && is_owned_at (stand_of site.entry) graph.now (users graph.now e.from) e.from) (out-Graph graph.now).edges ∷ part.inside.items)) }
+        ((c : Edge → Bool) → part.consuming ≡ map c (out-Graph graph.now).edges → inside.new.items ≡ inside.old.items ++ (map (λ e. is_asked asked (c e) && is_owned_at (stand_of site.entry) graph.now (users graph.now e.from) e.from) (out-Graph graph.now).edges ∷ part.inside.items)) }
 {
     let Looked {
         inputs: _,
         consuming,
         inside: deeper,
     } = part;
-    let flags = flags_of(alloc, site, graph, consuming.as_slice())?;
+    let flags = flags_of(alloc, asked, site, graph, consuming.as_slice())?;
     let mut deeper = deeper;
     inside.push(flags)?;
     inside.append(&mut deeper)?;
@@ -126,17 +129,20 @@ fn add_parts(
     requires how { IsUse functions.now graph.now node.now (insides parts.items) how.now }
     ensures { OnOk
         result
-        (Tells unit.now functions.now → (more : ℕ) → node_levels node.now ≤ suc more → inside.new.items ≡ inside.old.items ++ map (flags_at unit.now) (node_places more graph.now node.now)) }
+        (Tells unit.now functions.now → IsTrue (does_ask functions.now.asked) → (more : ℕ) → node_levels node.now ≤ suc more → inside.new.items ≡ inside.old.items ++ map (flags_by functions.now.asked unit.now) (node_places more graph.now node.now)) }
 {
     let _ = unit;
-    let _ = functions;
     let _ = graph;
+    if !does_ask(functions.asked) {
+        return Ok(());
+    }
     let mut rest = parts.into_iter();
     for (place, part_graph) in node.subs.as_slice().iter().enumerate() {
         let Some(part) = rest.next() else {
             unreachable!()
         };
-        add_part(alloc, site_of(how, place), part_graph, part, inside)?;
+        let site = site_of(how, place);
+        add_part(alloc, functions.asked, site, part_graph, part, inside)?;
     }
     Ok(())
 }
@@ -186,8 +192,8 @@ pub fn no_nodes(alloc: Global, unit: &Unit1, functions: &Functions, graph: &Grap
     }
 }
 
-/// What a graph does with its inputs, which of its edges consume, and which edges inside it may take, by
-/// what the functions of the unit are given. Near linear in the graph. Calls itself once for each level
+/// What a graph does with its inputs, which of its edges consume, and which of the edges inside it that
+/// are asked for come from owned ports, by what the functions of the unit are given. Near linear in the graph. Calls itself once for each level
 /// of compound nodes.
 #[cycle(look)]
 pub fn look(

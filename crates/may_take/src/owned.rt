@@ -134,6 +134,12 @@ fn is_owned_in(part: Part, around: &Around, graph: &Graph, users: &[u32], port: 
     }
 }
 
+fn is_returns(part: Option<Part>) -> bool
+    ensures { result ≡ spec.is_returns part }
+{
+    matches!(part, Some(Part::Returns))
+}
+
 fn is_input_owned(site: Site, graph: &Graph, users: &[u32], port: u32) -> bool
     requires { IsLaid graph.now }
     ensures { result ≡ spec.is_input_owned (spec.stand_of site.entry) graph.now users.now port }
@@ -145,6 +151,16 @@ fn is_input_owned(site: Site, graph: &Graph, users: &[u32], port: u32) -> bool
             None => false,
         },
         Site::Nothing => false,
+    }
+}
+
+/// Whether it goes by the users of the inputs of a graph that stands here which of them are owned.
+pub fn reads_users(site: Site) -> bool
+    ensures { result ≡ spec.reads_users (spec.stand_of site.entry) }
+{
+    match site {
+        Site::Part(around, place) => is_returns(part_at(around.compound, place)),
+        _ => false,
     }
 }
 

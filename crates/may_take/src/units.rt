@@ -1,13 +1,13 @@
-//! Which edges of a unit may take.
-ghost use Rattle.std.specs.Prelude.{◌≡◌, ◌++◌, ◌≤◌, ℕ, map, IfOk, OnOk};
+//! Which edges of a unit may take, and which come from owned ports.
+ghost use Rattle.std.specs.Prelude.{◌≡◌, ◌++◌, ◌≤◌, ℕ, map, IsTrue, IfOk, OnOk};
 ghost use Rattle.std.specs.List.Sorted.{IsStrictlyIncreasing};
 ghost use Rattle.if1_graph.specs.Formed.{IsFormed};
 ghost use Rattle.if1_graph.specs.Normal.{IsNormal};
 ghost use Rattle.if1_graph.specs.Units.{Function, places, places_of, most_levels, levels};
 ghost use Rattle.may_take.specs.Uses.{Tells, AreKnown};
-ghost use Rattle.may_take.specs.Looked.{flags_at, IsLaid, AreLaid, IsLooked};
+ghost use Rattle.may_take.specs.Looked.{does_ask, flags_at, flags_by, owned_at, IsLaid, AreLaid, IsLooked};
 
-use crate::flags::{Flags, flags_of};
+use crate::flags::{Asked, Flags, flags_of};
 use crate::functions::Functions;
 use crate::looking::{Looked, look};
 use crate::owned::Site;
@@ -15,14 +15,16 @@ use flow_value::NoMemory;
 use if1_graph::{Graph, Unit1};
 use std::alloc::Global;
 
-/// What the functions of a unit do with their inputs.
-pub fn functions_of(alloc: Global, unit: &Unit1) -> Result<Functions, NoMemory>
+/// What the functions of a unit do with their inputs, to ask of these edges whether they come from owned
+/// ports.
+pub fn functions_of(alloc: Global, unit: &Unit1, asked: Asked) -> Result<Functions, NoMemory>
     requires types { IsStrictlyIncreasing (map (λ e. e.label) unit.now.types) }
     requires laid { AreLaid unit.now.graphs }
-    ensures { IfOk result (Tells unit.now) }
+    ensures known { IfOk result (Tells unit.now) }
+    ensures asked { IfOk result (λ f. f.asked ≡ asked) }
 {
-    let none = Functions::none(alloc);
-    let mut functions = Functions::none(alloc);
+    let none = Functions::none(alloc, Asked::Nothing);
+    let mut functions = Functions::none(alloc, asked);
     for graph in unit.graphs.as_slice() {
         let Looked { inputs, .. } = look(alloc, unit, &none, graph)?;
         functions.add(alloc, graph.name.as_slice(), inputs)?;
@@ -42,24 +44,40 @@ fn add_function(
     requires laid { IsLaid graph.now }
     requires looked { IsLooked unit.now functions.now graph.now looked }
     requires tells { Tells unit.now functions.now }
+    requires asks { IsTrue (does_ask functions.now.asked) }
     requires flat { levels graph.now ≤ most_levels }
     ensures { OnOk
         result
-        ((k : ℕ) → flags.new.items ≡ flags.old.items ++ map (flags_at unit.now) (places_of most_levels (Function k) graph.now)) }
+        ((k : ℕ) → flags.new.items ≡ flags.old.items ++ map (flags_by functions.now.asked unit.now) (places_of most_levels (Function k) graph.now)) }
 {
     let _ = unit;
-    let _ = functions;
     let Looked {
         inputs,
         consuming,
         inside,
     } = looked;
     let site = Site::Function(&inputs.given);
-    let own = flags_of(alloc, site, graph, consuming.as_slice())?;
+    let own = flags_of(alloc, functions.asked, site, graph, consuming.as_slice())?;
     let mut inside = inside;
     flags.push(own)?;
     flags.append(&mut inside)?;
     Ok(())
+}
+
+// of the edges that are asked for
+fn flags_in(alloc: Global, unit: &Unit1, asked: Asked) -> Result<Vec<Flags>, NoMemory>
+    requires asks { IsTrue (does_ask asked) }
+    requires formed { IsFormed unit.now }
+    requires normal { IsNormal unit.now }
+    ensures { IfOk result (λ r. r.items ≡ map (flags_by asked unit.now) (places unit.now)) }
+{
+    let functions = functions_of(alloc, unit, asked)?;
+    let mut flags = Vec::new(alloc);
+    for graph in unit.graphs.as_slice() {
+        let looked = look(alloc, unit, &functions, graph)?;
+        add_function(alloc, unit, &functions, graph, looked, &mut flags)?;
+    }
+    Ok(flags)
 }
 
 /// Of each graph of a unit, in order, and each of its edges, whether it may take: it is a consuming edge
@@ -69,11 +87,18 @@ pub fn candidates(alloc: Global, unit: &Unit1) -> Result<Vec<Flags>, NoMemory>
     requires normal { IsNormal unit.now }
     ensures { IfOk result (λ r. r.items ≡ map (flags_at unit.now) (places unit.now)) }
 {
-    let functions = functions_of(alloc, unit)?;
-    let mut flags = Vec::new(alloc);
-    for graph in unit.graphs.as_slice() {
-        let looked = look(alloc, unit, &functions, graph)?;
-        add_function(alloc, unit, &functions, graph, looked, &mut flags)?;
-    }
+    let flags = flags_in(alloc, unit, Asked::Consuming)?;
+    Ok(flags)
+}
+
+/// Of each graph of a unit, in order, and each of its edges, whether the port that it comes from is
+/// owned; all others are lent, and literals have none. Near linear in the unit. Calls itself once for
+/// each level of compound nodes.
+pub fn owned_edges(alloc: Global, unit: &Unit1) -> Result<Vec<Flags>, NoMemory>
+    requires formed { IsFormed unit.now }
+    requires normal { IsNormal unit.now }
+    ensures { IfOk result (λ r. r.items ≡ map (owned_at unit.now) (places unit.now)) }
+{
+    let flags = flags_in(alloc, unit, Asked::All)?;
     Ok(flags)
 }

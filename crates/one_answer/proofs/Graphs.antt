@@ -1,7 +1,7 @@
 -- A typed program has one unit of graphs.
 use Rattle.std.proofs.Common.{◌≡◌, ◌∙◌, ℕ, Bool, true, false, List, Option, Some, None, sym}
-use Rattle.compile_call.specs.Calls.{IsCompiled, PrintsBy}
-use Rattle.compile_call.specs.Laws.{IsOneText}
+use Rattle.sisal_top.specs.Compiled.{IsCompiled, PrintsBy}
+use Rattle.sisal_top.specs.OneText.{IsOneText}
 use Rattle.lowering.specs.TooMany.{too_many}
 use Rattle.lowered_units.specs.Laws.{IsOneUnit}
 use Rattle.typed_tree.specs.declared.program.Program.{Program}

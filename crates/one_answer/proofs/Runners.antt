@@ -14,7 +14,7 @@ use Rattle.mean_call.specs.declared.fault.Refusal.TheVariants as refusal
 use Rattle.run_call.specs.Calls.{Gives as GivesRun, IsRefused as HasNoTotals}
 use Rattle.run_call.specs.Texts.{IsUnitOf as IsIf1Of, with_marks}
 use Rattle.run_words.specs.declared.command.RunSet.{RunSet}
-use Rattle.unit_code.specs.declared.runs.Totals.{Totals}
+use Rattle.run_call.specs.Totals.{Totals}
 use Rattle.unit_entry.specs.Marks.{has_marks}
 use Rattle.sisal_top.specs.Outputs.{lines, totals_if}
 use Rattle.sisal_top.specs.Program.{Fits, most_bytes}

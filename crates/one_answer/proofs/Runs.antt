@@ -12,7 +12,7 @@ use Rattle.mean_call.specs.declared.fault.ArgumentFault.{ArgumentFault}
 use Rattle.mean_call.specs.declared.fault.ArgumentFault.TheVariants as argument
 use Rattle.mean_call.specs.declared.fault.Refusal.{Refusal}
 use Rattle.mean_call.specs.declared.fault.Refusal.TheVariants as refusal
-use Rattle.unit_code.specs.declared.runs.Totals.{Totals}
+use Rattle.run_call.specs.Totals.{Totals}
 use Rattle.run_call.specs.Calls.{IsEntry, IsCall, Gives, IsRefused, HasNoEntry, HasWrongWords, PassesLimit}
 use Rattle.run_call.specs.Laws.{IsOneRun, IsNoneBeyond}
 use Rattle.one_meaning.specs.Laws.{AreWordsOnce}

@@ -1,6 +1,6 @@
 -- What a plain run and `compile` answer to the bytes of a SISAL text is one.
 use Rattle.std.proofs.Common.{◌≡◌, ◌≢◌, ◌<◌, ◌∙◌, ℕ, List, ◌++◌, None, Result, Ok, Err, length, sym, ap, subst}
-use Rattle.compile_call.specs.Calls.{HasUnit, IsCompiled}
+use Rattle.sisal_top.specs.Compiled.{HasUnit, IsCompiled}
 use Rattle.if1_graph.specs.Lines.{if1_text}
 use Rattle.if1_graph.specs.declared.graph.Unit1.{Unit1}
 use Rattle.lowering.specs.TooMany.{too_many}
@@ -14,7 +14,7 @@ use Rattle.sisal_tree.specs.declared.unit.Unit as tree
 use Rattle.typed_tree.specs.declared.program.Program.{Program}
 use Rattle.typed_tree.specs.Units.{IsTyped}
 use Rattle.typing_unique.specs.UnitLaws.{AreSpelledOnce, NoProgramLaw}
-use Rattle.unit_code.specs.declared.runs.Totals.{Totals}
+use Rattle.run_call.specs.Totals.{Totals}
 use Rattle.sisal_top.specs.Outputs.{lines, totals_if, HasProgram, HasTypeFault, HasTooMany, HasGraphs}
 use Rattle.sisal_top.specs.Program.{most_bytes, IsUnitOf, IsRefused}
 use Rattle.sisal_top.specs.Status.{of_refusal}

@@ -1,7 +1,7 @@
 -- What the laws say.
 use Rattle.std.specs.Prelude.{◌≡◌, ◌≢◌, ◌⊎◌, ℕ, false, List, Option, Some, Result, Ok}
 use Rattle.flow_io.specs.Bytes.{AddsOn}
-use Rattle.compile_call.specs.Calls.{HasUnit, Prints}
+use Rattle.sisal_top.specs.Compiled.{HasUnit, Prints}
 use Rattle.if1_graph.specs.declared.graph.Unit1.{Unit1}
 use Rattle.lowering.specs.TooMany.{too_many}
 use Rattle.mean_call.specs.declared.fault.Refusal.{Refusal}
@@ -12,7 +12,7 @@ use Rattle.run_words.specs.declared.command.Command.TheVariants as command
 use Rattle.run_words.specs.declared.command.CompileSet.{CompileSet}
 use Rattle.run_words.specs.declared.command.RunSet.{RunSet}
 use Rattle.typed_tree.specs.declared.program.Program.{Program}
-use Rattle.unit_code.specs.declared.runs.Totals.{Totals}
+use Rattle.run_call.specs.Totals.{Totals}
 use Rattle.sisal_top.specs.Answer.{Answers, Gives}
 use Rattle.sisal_top.specs.Program.{Fits}
 use Rattle.sisal_top.specs.declared.status.Status.{Status}

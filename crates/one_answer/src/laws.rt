@@ -7,7 +7,6 @@ ghost use Rattle.one_answer.specs.Laws.{
   OneAnswerLaw,
 };
 
-use compile_call::a_program_has_one_text;
 use if1_marks::no_marks_are_sound;
 use if1_read::accepted_has_no_fault;
 use if1_unique::an_if1_text_gives_one_unit;
@@ -18,6 +17,7 @@ use one_meaning::{a_program_answers_once, typed_trees_answer_alike, words_are_re
 use run_call::{no_run_passes_the_limit, words_have_one_run};
 use run_words::words_have_one_meaning;
 use sisal_grammar::one_unit;
+use sisal_top::a_program_has_one_text;
 use typing_unique::a_unit_that_breaks_a_rule_is_no_program;
 
 /// A unit of graphs has one answer to the words of `run`.

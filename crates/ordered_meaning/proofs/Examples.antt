@@ -2,14 +2,14 @@
 -- each graph before its own.
 use Rattle.std.proofs.Common.{◌≡◌, ℕ, ◌+◌, ◌*◌, pos, List, [], ◌∷◌, Option, Some, refl, ap, rules}
 use Rattle.std.specs.Prelude.{codes, get_or}
-use Rattle.flow_value.specs.declared.operation.Scalar2.TheVariants as two
-use Rattle.flow_value.specs.declared.value.Val.{Val}
-use Rattle.flow_value.specs.declared.value.Val.TheOpen.{Val-F}
-use Rattle.flow_value.specs.declared.value.Val.TheVariants as val
-use Rattle.flow_value.specs.declared.value.Val.TheViews as values
-use Rattle.if1_graph.specs.declared.op.Grouping.TheVariants.{Free}
-use Rattle.if1_graph.specs.declared.op.Simple.{Simple}
-use Rattle.if1_graph.specs.declared.op.Simple.TheVariants as simple
+use Rattle.graph_meaning.specs.Scalar2.TheVariants as two
+use Rattle.graph_meaning.specs.Val.{Val}
+use Rattle.graph_meaning.specs.Val.TheOpen.{Val-F}
+use Rattle.graph_meaning.specs.Val.TheVariants as val
+use Rattle.graph_meaning.specs.Val.TheViews as values
+use Rattle.graph_meaning.specs.Grouping.TheVariants.{Free}
+use Rattle.graph_meaning.specs.Simple.{Simple}
+use Rattle.graph_meaning.specs.Simple.TheVariants as simple
 use Rattle.graph_meaning.specs.Carried.{Carried, Value, Name}
 use Rattle.graph_meaning.specs.NodeValues as shape
 use Rattle.graph_meaning.specs.Forms.{First, Call, Select, TagCase, LoopA, LoopB, ForAll, Chosen, Begins, first, next_of, arm_in}

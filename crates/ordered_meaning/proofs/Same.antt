@@ -1,14 +1,14 @@
 -- The ordered meaning and the definition of record give the same.
 use Rattle.std.proofs.Common.{◌≡◌, ◌≢◌, ℕ, ◌+◌, List, [], ◌∷◌, map, find, Option, Some, None, Contains, refl, sym, ap, ◌∙◌, subst, arith, ◌==◌}
 use Rattle.std.proofs.lemmas.List.Elements.{All-contains}
-use Rattle.if1_graph.specs.declared.graph.Graph.{Graph}
-use Rattle.if1_graph.specs.declared.graph.Graph.TheViews.{out-Graph}
-use Rattle.if1_graph.specs.declared.graph.Node.{Node}
-use Rattle.if1_graph.specs.declared.graph.Unit1.{Unit1}
-use Rattle.if1_graph.specs.Formed.{IsGraph, IsNode}
-use Rattle.if1_graph.specs.Ready.{IsReady}
-use Rattle.if1_graph.specs.Units.{label_of, Place, places, number_of}
-use Rattle.if1_marks.proofs.Taken.{sound-in-order}
+use Rattle.graph_meaning.specs.Graph.{Graph}
+use Rattle.graph_meaning.specs.Graph.TheViews.{out-Graph}
+use Rattle.graph_meaning.specs.Node.{Node}
+use Rattle.graph_meaning.specs.Unit1.{Unit1}
+use Rattle.graph_meaning.specs.Formed.{IsGraph, IsNode}
+use Rattle.graph_meaning.specs.Ready.{IsReady}
+use Rattle.graph_meaning.specs.Units.{label_of, Place, places, number_of}
+use Rattle.graph_meaning.proofs.Taken.{sound-in-order}
 use Rattle.graph_meaning.specs.Carried.{Carried}
 use Rattle.graph_meaning.specs.Demand.{Vertex, Network, EachNode}
 use Rattle.graph_meaning.specs.Networks.{vertex_of, net_at, network}

@@ -2,21 +2,21 @@
 use Rattle.std.proofs.Common.{◌≡◌, ◌≢◌, ℕ, zero, suc, ◌&&◌, ◌⊎◌, inl, inr, Bool, true, false, List, map, drop, Option, Some, None, option_map, Contains, All, refl, sym, ap, ◌∙◌, subst, eqb, ◌==◌}
 use Rattle.std.proofs.lemmas.Bool.{eqb-true, eqb-false}
 use Rattle.std.proofs.lemmas.List.Elements.{All-contains}
-use Rattle.if1_graph.specs.declared.graph.Edge.{Edge}
-use Rattle.if1_graph.specs.declared.graph.Graph.{Graph}
-use Rattle.if1_graph.specs.declared.graph.Graph.TheViews.{out-Graph}
-use Rattle.if1_graph.specs.declared.graph.Node.{Node}
-use Rattle.if1_graph.specs.declared.graph.Origin.{Origin}
-use Rattle.if1_graph.specs.declared.graph.Origin.TheVariants as origin
-use Rattle.if1_graph.specs.declared.graph.Unit1.{Unit1}
-use Rattle.if1_graph.specs.declared.row.Want.{Want}
-use Rattle.if1_graph.specs.Formed.{IsGraph, want_at}
-use Rattle.if1_graph.specs.Ports.{ArePortsRight}
-use Rattle.if1_graph.specs.Ready.{IsReady}
-use Rattle.if1_graph.specs.Units.{node_at, edge_into, width, results, Place, places, number_of, ends}
-use Rattle.if1_marks.specs.Sound.{IsSound}
-use Rattle.if1_marks.specs.Orders.{Precedes}
-use Rattle.if1_marks.proofs.Taken.{taker-last, taken-alone, sound-in-order}
+use Rattle.graph_meaning.specs.Edge.{Edge}
+use Rattle.graph_meaning.specs.Graph.{Graph}
+use Rattle.graph_meaning.specs.Graph.TheViews.{out-Graph}
+use Rattle.graph_meaning.specs.Node.{Node}
+use Rattle.graph_meaning.specs.Origin.{Origin}
+use Rattle.graph_meaning.specs.Origin.TheVariants as origin
+use Rattle.graph_meaning.specs.Unit1.{Unit1}
+use Rattle.graph_meaning.specs.Want.{Want}
+use Rattle.graph_meaning.specs.Formed.{IsGraph, want_at}
+use Rattle.graph_meaning.specs.Ports.{ArePortsRight}
+use Rattle.graph_meaning.specs.Ready.{IsReady}
+use Rattle.graph_meaning.specs.Units.{node_at, edge_into, width, results, Place, places, number_of, ends}
+use Rattle.graph_meaning.specs.Sound.{IsSound}
+use Rattle.graph_meaning.specs.Orders.{Precedes}
+use Rattle.graph_meaning.proofs.Taken.{taker-last, taken-alone, sound-in-order}
 use Rattle.graph_meaning.specs.Forms as form
 use Rattle.graph_meaning.specs.Demand.{Port, Kind, Plain, Whole, Vertex, WaitsFor, at_label}
 use Rattle.graph_meaning.specs.Networks.{source_from, source_by, source_at, sources, ins_of, vertex_of, net_of, network}

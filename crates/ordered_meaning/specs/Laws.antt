@@ -1,8 +1,8 @@
 -- The ordered meaning and the definition of record give the same.
 use Rattle.std.specs.Prelude.{◌≡◌, ℕ, ◌+◌, ◌↔◌, List}
-use Rattle.if1_graph.specs.declared.graph.Unit1.{Unit1}
-use Rattle.if1_graph.specs.Ready.{IsReady}
-use Rattle.if1_marks.specs.Sound.{IsSound}
+use Rattle.graph_meaning.specs.Unit1.{Unit1}
+use Rattle.graph_meaning.specs.Ready.{IsReady}
+use Rattle.graph_meaning.specs.Sound.{IsSound}
 use Rattle.graph_meaning.specs.Carried.{Carried}
 use Rattle.graph_meaning.specs.Demand.{Vertex, Network, AreOrderly}
 use Rattle.graph_meaning.specs.Networks.{network}

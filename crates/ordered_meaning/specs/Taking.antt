@@ -1,10 +1,10 @@
 -- Orders of nodes in which no port is read after it was taken.
 use Rattle.std.specs.Prelude.{◌≡◌, ℕ, suc, ◌⊎◌, Bool, true, if◌then◌else◌, List, [], ◌∷◌, Some, Contains}
-use Rattle.if1_graph.specs.declared.graph.Graph.{Graph}
-use Rattle.if1_graph.specs.declared.graph.Unit1.{Unit1}
-use Rattle.if1_graph.specs.Ready.{IsReady}
-use Rattle.if1_graph.specs.Units.{edge_into, Place, places, number_of}
-use Rattle.if1_marks.specs.Sound.{IsSound}
+use Rattle.graph_meaning.specs.Graph.{Graph}
+use Rattle.graph_meaning.specs.Unit1.{Unit1}
+use Rattle.graph_meaning.specs.Ready.{IsReady}
+use Rattle.graph_meaning.specs.Units.{edge_into, Place, places, number_of}
+use Rattle.graph_meaning.specs.Sound.{IsSound}
 use Rattle.graph_meaning.specs.Forms as form
 use Rattle.graph_meaning.specs.Demand.{Source, Port, Fixed, Kind, Whole, Vertex, Net, at_label, WaitsFor, IsOrderly}
 use Rattle.graph_meaning.specs.Networks.{network}

@@ -5,9 +5,9 @@ use Rattle.graph_meaning.specs.Forms as form
 use Rattle.graph_meaning.specs.Demand.{Kind}
 use Rattle.graph_meaning.specs.Demand as demand
 use Rattle.node_ops.specs.Operands.{shape_of}
-use Rattle.run_store.specs.Stored.{Mode, Looks, Copies, Takes, owned_in}
-use Rattle.run_cells.specs.declared.cell.Cell.TheVariants as cell
-use Rattle.run_cells.specs.Held.{held}
+use Rattle.made_store.specs.Stored.{Mode, Looks, Copies, Takes, owned_in}
+use Rattle.step_code.specs.Cell.TheVariants as cell
+use Rattle.step_code.specs.Held.{held}
 use Rattle.step_code.specs.declared.step.Collect.{Collect}
 use Rattle.step_code.specs.declared.step.Collect.TheVariants as collect
 use Rattle.plan_data.specs.declared.plan.Feed.{Feed}

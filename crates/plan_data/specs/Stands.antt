@@ -4,7 +4,7 @@ use Rattle.graph_meaning.specs.Demand.{Source, Fixed, Vertex}
 use Rattle.graph_meaning.specs.Demand as demand
 use Rattle.run_code.specs.Cells.{At}
 use Rattle.run_code.specs.Made.{Plan, put}
-use Rattle.run_store.specs.Stored.{Looks, Takes}
+use Rattle.made_store.specs.Stored.{Looks, Takes}
 use Rattle.made_store.specs.Settings.{Shares, gives, modes_at, result_modes}
 use Rattle.step_code.specs.Laid.{collect_in, puts_of}
 use Rattle.plan_data.specs.declared.plan.Feed.{Feed}

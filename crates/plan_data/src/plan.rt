@@ -2,8 +2,7 @@
 use flow_value::{Numbers, Seq, Shape};
 use gapped::Gapped;
 use if1_graph::Simple;
-use run_cells::Cell;
-use step_code::{Collect, Counted, Written};
+use step_code::{Cell, Collect, Counted, Written};
 
 /// What fills a port of a node, or of the results of a graph.
 #[derive(Clone, Copy)]

@@ -2,7 +2,8 @@
 use crate::boxed::Boxed;
 use flow_value::{Cause, Seq, Text, Val};
 
-/// A cell of a block, of 16 bytes. Scalars stand in it, and what has parts is in a box.
+/// A cell of a block, of 16 bytes. Scalars and unions of integers stand in it, and what else has parts
+/// is in a box.
 #[derive(Drop)]
 pub enum Cell {
     /// Nothing, or what was taken.
@@ -21,6 +22,8 @@ pub enum Cell {
     Owned(Boxed<Val>),
     /// The multiple of so many integers, rising from the first.
     Range(u32, i64),
+    /// A union with this tag, of an integer.
+    UnionInt(u32, i64),
     /// A multiple, as the stream of its elements.
     Many(Boxed<Val>),
     /// A multiple that is an error.

@@ -8,7 +8,7 @@ use crate::seen::Seen;
 use flow_value::{Val, leaves};
 
 /// The number of leaves, or the greatest number of 64 bits past that.
-#[tactic(auto, using(crate::proofs::Rising::leaves_of_rising))]
+#[tactic(auto, using(crate::proofs::Rising::leaves_of_rising, crate::proofs::Rising::leaves_of_union))]
 pub fn leaves_seen(seen: Seen<'_>) -> u64
     ensures { result ≡ min (leaves_of (seen_value seen.entry)) 18446744073709551615 }
 {
@@ -18,6 +18,7 @@ pub fn leaves_seen(seen: Seen<'_>) -> u64
         Seen::Bool(b) => leaves(&Val::Bool(b)),
         Seen::Char(c) => leaves(&Val::Char(c)),
         Seen::Null => leaves(&Val::Null),
+        Seen::UnionInt(_, _) => 1,
         Seen::Value(v) => leaves(v),
         Seen::Elements(items) => leaves_of_all(items),
         Seen::Rising(count, _) => u64::from(count),

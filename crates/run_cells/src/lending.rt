@@ -22,6 +22,7 @@ pub fn is_plain(seen: Seen<'_>) -> bool
         Seen::Bool(_) => true,
         Seen::Char(_) => true,
         Seen::Null => true,
+        Seen::UnionInt(_, _) => false,
         Seen::Value(v) => !has_parts(v),
         Seen::Elements(_) => false,
         Seen::Rising(_, _) => false,

@@ -12,4 +12,6 @@ pub use boxed::Boxed;
 pub use cell::{Cell, Lent, Part, Parts};
 pub use counting::leaves_seen;
 pub use lending::{is_plain, lent_at, owner_at};
-pub use seen::{Seen, cell_of, content, copied, element, elements, in_cell, owned_by, part_of};
+pub use seen::{
+    Seen, cell_of, content, copied, element, elements, in_cell, owned_by, part_of, union_of,
+};

@@ -1,5 +1,6 @@
 //! What is seen of what cells have.
 ghost use Rattle.std.specs.Prelude.{◌≡◌, IfOk, min};
+ghost use Rattle.flow_value.specs.declared.value.Val.TheVariants as val;
 ghost use Rattle.flow_value.specs.declared.value.Val.TheViews.{out-Val};
 ghost use Rattle.graph_meaning.specs.Carried.{Value, Many, Name};
 ghost use Rattle.graph_meaning.specs.Storage.{leaves_of};
@@ -11,7 +12,7 @@ ghost use Rattle.run_cells.specs.Sights.{seen_value, seen_from, part_seen};
 
 use crate::boxed::Boxed;
 use crate::cell::{Cell, Lent, Part};
-use flow_value::{Cause, NoMemory, Text, Val, copy, copy_all};
+use flow_value::{Cause, Held, NoMemory, Text, Val, copy, copy_all};
 use std::alloc::Global;
 
 /// What is carried in a cell, or a part of it: a scalar, or what has parts, which is lent.
@@ -27,6 +28,8 @@ pub enum Seen<'a> {
     Char(u8),
     /// The value `nil`.
     Null,
+    /// A union with this tag, of an integer.
+    UnionInt(u32, i64),
     /// A value.
     Value(&'a Val),
     /// The multiple of these values.
@@ -52,6 +55,7 @@ pub fn owned_by(cell: &Cell) -> Seen<'_>
         Cell::Bool(b) => Seen::Bool(*b),
         Cell::Char(c) => Seen::Char(*c),
         Cell::Null => Seen::Null,
+        Cell::UnionInt(tag, n) => Seen::UnionInt(*tag, *n),
         Cell::Owned(v) => Seen::Value(v.get()),
         Cell::Range(n, lo) => Seen::Rising(*n, *lo),
         Cell::Many(v) => multiple(v.get()),
@@ -149,6 +153,7 @@ pub fn content(seen: Seen<'_>) -> Seen<'_>
 {
     match seen {
         Seen::Value(Val::Uni(_, held)) => Seen::Value(held.get()),
+        Seen::UnionInt(_, n) => Seen::Int(n),
         _ => Seen::Unfilled,
     }
 }
@@ -199,6 +204,7 @@ pub fn copied(alloc: Global, seen: Seen<'_>) -> Result<Cell, NoMemory>
         Seen::Bool(b) => Ok(Cell::Bool(b)),
         Seen::Char(c) => Ok(Cell::Char(c)),
         Seen::Null => Ok(Cell::Null),
+        Seen::UnionInt(tag, n) => Ok(Cell::UnionInt(tag, n)),
         Seen::Value(v) => copied_value(alloc, v),
         Seen::Elements(items) => copied_items(alloc, items),
         Seen::Rising(count, lo) => Ok(Cell::Range(count, lo)),
@@ -217,8 +223,26 @@ fn copied_value(alloc: Global, v: &Val) -> Result<Cell, NoMemory>
         Val::Bool(b) => Ok(Cell::Bool(*b)),
         Val::Char(c) => Ok(Cell::Char(*c)),
         Val::Null => Ok(Cell::Null),
-        _ => Ok(Cell::Owned(Boxed::new(alloc, copy(alloc, v)?)?)),
+        Val::Uni(tag, held) => copied_union(alloc, v, *tag, held.get()),
+        _ => boxed_copy(alloc, v),
     }
+}
+
+/// The same of a union, by its content.
+fn copied_union(alloc: Global, v: &Val, tag: u32, content: &Val) -> Result<Cell, NoMemory>
+    requires { v.now ≡ val.Uni tag content.now }
+    ensures { IfOk result (λ c. held c ≡ stored.Owns (Value v.now)) }
+{
+    match content {
+        Val::Int(n) => Ok(Cell::UnionInt(tag, *n)),
+        _ => boxed_copy(alloc, v),
+    }
+}
+
+fn boxed_copy(alloc: Global, v: &Val) -> Result<Cell, NoMemory>
+    ensures { IfOk result (λ c. held c ≡ stored.Owns (Value v.now)) }
+{
+    Ok(Cell::Owned(Boxed::new(alloc, copy(alloc, v)?)?))
 }
 
 fn copied_items(alloc: Global, items: &[Val]) -> Result<Cell, NoMemory>
@@ -232,6 +256,13 @@ fn copied_name(alloc: Global, text: &[u8]) -> Result<Cell, NoMemory>
     ensures { IfOk result (λ c. held c ≡ stored.Owns (Name text.now)) }
 {
     Ok(Cell::Name(Boxed::new(alloc, Text::from_slice(alloc, text)?)?))
+}
+
+/// A union of an integer, in a box.
+pub fn union_of(alloc: Global, tag: u32, n: i64) -> Result<Val, NoMemory>
+    ensures { IfOk result (λ v. v ≡ val.Uni tag (val.Int n)) }
+{
+    Ok(Val::Uni(tag, Held::new(alloc, Val::Int(n))?))
 }
 
 /// A cell that has a value.

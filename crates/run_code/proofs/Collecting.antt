@@ -7,14 +7,14 @@ use Rattle.flow_value.specs.Scalar.{unless_error}
 use Rattle.flow_value.specs.declared.value.Val.{Val}
 use Rattle.flow_value.specs.declared.value.Val.TheOpen.{Val-F}
 use Rattle.flow_value.specs.declared.value.Val.TheViews as values
-use Rattle.value_ops.specs.Views.{on_integer}
-use Rattle.loop_folds.specs.Clauses.{Cell, first_failure, kept_values, fold_value}
-use Rattle.loop_folds.specs.Masks.{keep_of}
-use Rattle.loop_folds.specs.declared.folding.Folding.{Folding}
-use Rattle.loop_folds.specs.declared.folding.Folding.TheVariants as folding
-use Rattle.loop_folds.specs.declared.masking.Keep.{Keep}
-use Rattle.loop_folds.specs.declared.masking.Keep.TheVariants.{Kept, Dropped, Failed}
-use Rattle.loop_folds.specs.declared.masking.Masking.TheVariants as masking
+use Rattle.graph_meaning.specs.Views.{on_integer}
+use Rattle.graph_meaning.specs.Clauses.{Cell, first_failure, kept_values, fold_value}
+use Rattle.graph_meaning.specs.Masks.{keep_of}
+use Rattle.graph_meaning.specs.Folding.{Folding}
+use Rattle.graph_meaning.specs.Folding.TheVariants as folding
+use Rattle.graph_meaning.specs.Keep.{Keep}
+use Rattle.graph_meaning.specs.Keep.TheVariants.{Kept, Dropped, Failed}
+use Rattle.graph_meaning.specs.Masking.TheVariants as masking
 use Rattle.if1_graph.specs.Ops.{reducer_at}
 use Rattle.if1_graph.specs.declared.op.Reducer.{Reducer}
 use Rattle.if1_graph.specs.declared.op.Grouping.{Grouping}

@@ -1,3 +1,4 @@
+pub use Rattle.ordered_meaning.proofs.Bound
 pub mod ChoiceExample
 pub mod Collecting
 pub mod Columns

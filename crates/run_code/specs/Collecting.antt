@@ -1,12 +1,12 @@
 -- What is collected stands for the multiples: for the nodes that read them, for the copies of record, and for the Rust type of a clause.
 use Rattle.std.specs.Prelude.{◌≡◌, ℕ, ◌<◌, ℤ, true, List, [], ◌∷◌, ◌++◌, length, get_or, Option, Some, None}
 use Rattle.flow_value.specs.Leaves.{leaf_count}
-use Rattle.loop_folds.specs.Clauses.{Cell, first_failure, kept_values, fold_value}
-use Rattle.loop_folds.specs.Masks.{keep_of}
-use Rattle.loop_folds.specs.declared.folding.Folding.{Folding}
-use Rattle.loop_folds.specs.declared.masking.Keep.{Keep}
-use Rattle.loop_folds.specs.declared.masking.Keep.TheVariants.{Kept}
-use Rattle.loop_folds.specs.declared.masking.Masking.TheVariants as masking
+use Rattle.graph_meaning.specs.Clauses.{Cell, first_failure, kept_values, fold_value}
+use Rattle.graph_meaning.specs.Masks.{keep_of}
+use Rattle.graph_meaning.specs.Folding.{Folding}
+use Rattle.graph_meaning.specs.Keep.{Keep}
+use Rattle.graph_meaning.specs.Keep.TheVariants.{Kept}
+use Rattle.graph_meaning.specs.Masking.TheVariants as masking
 use Rattle.if1_graph.specs.declared.op.Grouping.{Grouping}
 use Rattle.if1_graph.specs.declared.op.Simple.TheVariants as simple
 use Rattle.graph_meaning.specs.Carried.{Carried, Value, Unfilled, val_of}

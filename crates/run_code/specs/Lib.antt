@@ -1,3 +1,4 @@
+pub use Rattle.ordered_meaning.specs.Orders
 pub mod Cells
 pub mod Collections
 pub mod Steps

@@ -7,7 +7,7 @@ use Rattle.flow_value.specs.declared.value.Val.TheOpen.{Val-F}
 use Rattle.flow_value.specs.declared.value.Val.TheViews as values
 use Rattle.graph_meaning.specs.Carried.{Carried, Value, Unfilled, val_of}
 use Rattle.graph_meaning.specs.NodeValues.{Shape, op}
-use Rattle.if1_graph.specs.declared.op.Simple.{Simple}
+use Rattle.graph_meaning.specs.Simple.{Simple}
 use Rattle.graph_meaning.specs.Entered.{IsIn}
 use Rattle.graph_meaning.specs.Forms.{Form, Next, First, Begins, Skips, next_of, enter_arm, arm_in, Enter, Iterate, Leave, Called, Chosen, Selecting, Starting, select, enter_chosen, errors, outputs_of, follow, first}
 use Rattle.graph_meaning.specs.Forms as form

@@ -4,7 +4,7 @@ use Rattle.graph_meaning.specs.Carried.{Carried}
 use Rattle.graph_meaning.specs.Demand.{Vertex, Network, AreOrderly}
 use Rattle.graph_meaning.specs.Entered.{IsIn}
 use Rattle.graph_meaning.specs.Plain.{Costs}
-use Rattle.ordered_meaning.specs.Orders.{AreInOrder}
+use Rattle.run_code.specs.Orders.{AreInOrder}
 use Rattle.run_code.specs.Cells.{Cells}
 use Rattle.run_code.specs.Coded.{AreCoded}
 use Rattle.run_code.specs.Machine.{Weigh, EndsIn}

@@ -19,7 +19,7 @@ use Rattle.mean_call.specs.Calls.{IsEntry}
 use Rattle.mean_call.specs.Words.{AreRead}
 use Rattle.run_words.specs.declared.command.RunSet.{RunSet}
 use Rattle.run_call.specs.Calls.{Gives as GivesRun}
-use Rattle.unit_code.specs.declared.runs.Totals.{Totals}
+use Rattle.run_call.specs.Totals.{Totals}
 use Rattle.word_values.proofs.Read.{words_of}
 use Rattle.entry_laws.proofs.Entries.{units-entries, headers-of-entries, unit-lacks}
 use Rattle.run_meaning.specs.Laws.{IsRunUnit, IsOfSource, AreRunsOfSources}

@@ -27,7 +27,7 @@ use Rattle.mean_call.proofs.One.{one_entry, one_reading}
 use Rattle.one_meaning.specs.Laws.{AreWordsOnce}
 use Rattle.run_words.specs.declared.command.RunSet.{RunSet}
 use Rattle.run_call.specs.Calls.{Gives as GivesRun, IsEntry, HasWrongWords, PassesLimit, IsRefused}
-use Rattle.unit_code.specs.declared.runs.Totals.{Totals}
+use Rattle.run_call.specs.Totals.{Totals}
 use Rattle.entry_laws.proofs.Entries.{programs-entries, unit-lacks}
 use Rattle.run_meaning.specs.Laws.{IsRunUnit, meant, AreSourcesRun}
 use Rattle.run_meaning.proofs.Sourced.{call, runs-of-sources}

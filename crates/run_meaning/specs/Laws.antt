@@ -12,7 +12,7 @@ use Rattle.mean_call.specs.Calls.{Gives as HasValues}
 use Rattle.mean_call.specs.declared.fault.Refusal.{Refusal}
 use Rattle.mean_call.specs.declared.fault.Refusal.TheVariants as refusal
 use Rattle.run_call.specs.Calls.{Gives as GivesRun, IsRefused}
-use Rattle.unit_code.specs.declared.runs.Totals.{Totals}
+use Rattle.run_call.specs.Totals.{Totals}
 use Rattle.entry_laws.specs.Laws.{IsUnitOfText}
 
 -- The program of a text, that fits, and its unit of graphs, which is ready with the marks that are made, with which it runs.

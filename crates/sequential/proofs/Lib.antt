@@ -14,3 +14,4 @@ pub mod Same
 pub mod Rows
 pub mod FireSteps
 pub mod TagSteps
+mod Integers

@@ -35,6 +35,32 @@ pub fn brought(
     ensures copies { OnOk result (copies.new ≡ capped (copies.old + stored.copied_as (mode_in code.now from) (stored.seen (heap_of cells.old.items) base (mode_in code.now from) (operand_in code.now from)))) }
 {
     let _in_range = *copies;
+    match looked(code, cells.as_slice(), base, from) {
+        Some(cell) => Ok(cell),
+        None => match from {
+            Operand::Takes(_) => any_brought(alloc, code, cells, base, from, copies),
+            _ => brought_apart(alloc, code, cells, base, from, copies),
+        },
+    }
+}
+
+/// The same of what is neither taken nor looked at in a cell, or no integer or boolean.
+#[inline(never)]
+fn brought_apart(
+    alloc: Global,
+    code: &Code,
+    cells: &mut Vec<Cell>,
+    base: usize,
+    from: Operand,
+    copies: &mut u64,
+) -> Result<Cell, NoMemory>
+    requires { IsInside code.now (length cells.old.items - base) from }
+    ensures value { IfOk result (λ c. IsBrought code.now cells.old.items base from c) }
+    ensures left { IsWithin (stored.left_by base (mode_in code.now from) (operand_in code.now from) (heap_of cells.old.items)) (heap_of cells.new.items) }
+    ensures size { length cells.new.items ≡ length cells.old.items }
+    ensures copies { OnOk result (copies.new ≡ capped (copies.old + stored.copied_as (mode_in code.now from) (stored.seen (heap_of cells.old.items) base (mode_in code.now from) (operand_in code.now from)))) }
+{
+    let _in_range = *copies;
     match plain(code, cells.as_slice(), base, from) {
         Some(cell) => Ok(cell),
         None => any_brought(alloc, code, cells, base, from, copies),
@@ -88,6 +114,19 @@ fn copy_brought(
         Operand::Literal(_) => copy_of(alloc, code, cells.as_slice(), base, from),
         Operand::Looks(_) => copy_of(alloc, code, cells.as_slice(), base, from),
         Operand::LooksAt(_) => copy_of(alloc, code, cells.as_slice(), base, from),
+    }
+}
+
+/// An integer or a boolean that is looked at in a cell.
+#[inline(always)]
+pub fn looked(code: &Code, cells: &[Cell], base: usize, from: Operand) -> Option<Cell>
+    requires { IsInside code.now (length cells.now - base) from }
+    ensures value { IfSome result (λ c. held c ≡ stored.Owns (stored.seen (heap_of cells.now) base (mode_in code.now from) (operand_in code.now from))) }
+    ensures none { IfSome result (λ c. (k : Carried) → stored.copied_as (mode_in code.now from) k ≡ 0) }
+{
+    match from {
+        Operand::Looks(_) => plain_in(code, cells, base, from),
+        _ => None,
     }
 }
 

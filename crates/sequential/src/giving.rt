@@ -1,9 +1,11 @@
 //! What is given up. Most of what has parts is a list of integers, of which none needs to be given up
 //! by itself.
-ghost use Rattle.std.specs.Prelude.{◌≡◌, [], take};
+ghost use Rattle.std.specs.Prelude.{◌≡◌, ◌<◌, ◌≤◌, ℕ, [], take, length};
 
+use crate::storing::is_scalar;
 use flow_value::{Items, Val};
 use run_cells::Cell;
+use std::mem;
 
 /// Gives up what a cell had.
 #[inline(never)]
@@ -85,7 +87,8 @@ fn let_go(last: Option<Cell>) {
             | Cell::Int(_)
             | Cell::Bool(_)
             | Cell::Char(_)
-            | Cell::Null,
+            | Cell::Null
+            | Cell::UnionInt(_, _),
         ) => {}
         other => let_any_go(other),
     }
@@ -102,4 +105,45 @@ pub fn emptied(cells: &mut Vec<Cell>)
     ensures { cells.new.items ≡ [] }
 {
     shrink(cells, 0);
+}
+
+/// Gives up what so many cells from one on own, if they may own anything.
+#[inline(always)]
+pub fn clear(cells: &mut Vec<Cell>, base: usize, room: u32, owns: bool)
+    ensures low { take base cells.new.items ≡ take base cells.old.items }
+    ensures size { length cells.new.items ≡ length cells.old.items }
+{
+    if owns {
+        clear_all(cells, base, room);
+    }
+}
+
+#[inline(never)]
+fn clear_all(cells: &mut Vec<Cell>, base: usize, room: u32)
+    ensures low { take base cells.new.items ≡ take base cells.old.items }
+    ensures size { length cells.new.items ≡ length cells.old.items }
+{
+    let end = cells.len().min(base.saturating_add(room as usize));
+    for place in base..end {
+        vacate(cells, place);
+    }
+}
+
+#[inline(always)]
+fn vacate(cells: &mut Vec<Cell>, place: usize)
+    requires { place < length cells.old.items }
+    ensures low { (n : ℕ) → n ≤ place → take n cells.new.items ≡ take n cells.old.items }
+    ensures size { length cells.new.items ≡ length cells.old.items }
+{
+    if !is_scalar(&cells[place]) {
+        released(mem::replace(&mut cells[place], Cell::Empty));
+    }
+}
+
+#[inline(always)]
+fn released(cell: Cell) {
+    match cell {
+        Cell::Lent(_) => {}
+        other => give_up(other),
+    }
 }

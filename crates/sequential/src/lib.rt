@@ -3,6 +3,7 @@
 
 mod bringing;
 mod calling;
+mod calls;
 mod choices;
 mod choosing;
 mod copying;
@@ -23,13 +24,14 @@ mod storing;
 mod tagging;
 
 pub use bringing::brought;
+pub use calls::{Calls, OpenCall};
 pub use choices::spoil;
 pub use copying::copies_of;
 pub use giving::give_up;
 pub use laws::steps_are_for_all;
 pub use loading::{load, operand_at, put_behind};
-pub use machine::{Machine, OpenCall, Turn};
+pub use machine::{Machine, Turn};
 pub use moving::{operands_from, unload};
 pub use scalar::operand_of;
-pub use sights::{boolean_at, cell_at, counted, direct, integer_at, sight};
-pub use storing::put;
+pub use sights::{boolean_at, cell_at, counted, direct, integer_at, number_in, sight};
+pub use storing::{put, put_number, put_scalar};

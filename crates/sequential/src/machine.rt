@@ -1,5 +1,5 @@
 //! The state of the machine.
-use flow_value::Seq;
+use crate::calls::Calls;
 use run_cells::Cell;
 
 /// Where the machine stands.
@@ -12,26 +12,13 @@ pub struct Machine {
     /// The cells of all blocks.
     pub cells: Vec<Cell>,
     /// The open calls, the newest last.
-    pub calls: Seq<OpenCall>,
+    pub calls: Calls,
     /// The firings so far.
     pub fires: u64,
     /// The leaves that were copied so far, or the greatest number.
     pub copies: u64,
     /// The results, once it has ended.
     pub results: Vec<Cell>,
-}
-
-/// A call that has not returned.
-#[derive(Clone, Copy)]
-pub struct OpenCall {
-    /// Where the caller goes on.
-    pub pc: usize,
-    /// The first cell of its block.
-    pub base: usize,
-    /// The first cell of results.
-    pub out: u32,
-    /// How many results.
-    pub width: u32,
 }
 
 /// What a step leads to.

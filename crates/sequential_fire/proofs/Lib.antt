@@ -15,3 +15,4 @@ pub mod PairSteps
 pub mod RangeRows
 pub mod SparseSteps
 pub mod SumRows
+pub mod FieldSteps

@@ -65,7 +65,7 @@ pub fn given<'a>(alloc: Global, wants: Wants, seen: Seen<'a>) -> Result<Given<'a
     ensures { IfOk result (λ g. operand_value g ≡ given_as wants (seen_value seen.entry)) }
 {
     match wants {
-        Wants::Value => Ok(operand_of(seen)),
+        Wants::Value => operand_of(alloc, seen),
         Wants::Multiple => multiple(alloc, seen),
         Wants::Name => name(alloc, seen),
     }

@@ -13,14 +13,17 @@ mod outputs;
 mod pairs;
 mod parts;
 mod ranges;
+mod records;
 mod routes;
 mod sparse;
+mod streams;
 mod summing;
 mod taking;
 mod updating;
 
+pub use elements::element;
 pub use firing::fire_lent;
 pub use loaded::fire_loaded;
 pub use routes::fire;
 pub use sparse::fire_sparse;
-pub use updating::{Update, fire_update};
+pub use updating::{Update, fire_update, replace};

@@ -22,30 +22,31 @@ use flow_value::{Cause, NoMemory, Operand as Given, Shape, Val, owned};
 use if1_graph::Simple;
 use node_ops::fire_one;
 use place_ops::{extend_taken, fire_taken};
-use run_cells::{Boxed, Cell, cell_of, owned_by};
+use run_cells::{Boxed, Cell, cell_of, owned_by, union_of};
 use sequential::give_up;
 use std::alloc::Global;
 use std::mem;
 
-/// The value of a cell, moved out, at a port that takes one.
-fn value_out(cell: Cell) -> Option<Val>
-    ensures { (k : Carried) → held cell ≡ stored.Owns k → result ≡ value_operand k }
+/// The value of a cell, moved out, at a port that takes one. A union of an integer is made in a box.
+fn value_out(alloc: Global, cell: Cell) -> Result<Option<Val>, NoMemory>
+    ensures { IfOk result (λ v. (k : Carried) → held cell ≡ stored.Owns k → v ≡ value_operand k) }
 {
     match cell {
-        Cell::Empty => None,
-        Cell::Error(cause) => Some(Val::Err(cause)),
-        Cell::Int(n) => Some(Val::Int(n)),
-        Cell::Bool(b) => Some(Val::Bool(b)),
-        Cell::Char(c) => Some(Val::Char(c)),
-        Cell::Null => Some(Val::Null),
-        Cell::Owned(v) => Some(v.into_inner()),
-        Cell::Range(_, _) => Some(Val::Err(Cause::Explicit)),
-        Cell::Many(v) => Some(no_multiple(v.into_inner())),
-        Cell::Spoiled(cause) => Some(Val::Err(cause)),
-        Cell::Name(_) => Some(Val::Err(Cause::Explicit)),
-        Cell::Unfilled => None,
-        Cell::Lent(_) => None,
-        Cell::LentPart(_) => None,
+        Cell::Empty => Ok(None),
+        Cell::Error(cause) => Ok(Some(Val::Err(cause))),
+        Cell::Int(n) => Ok(Some(Val::Int(n))),
+        Cell::Bool(b) => Ok(Some(Val::Bool(b))),
+        Cell::Char(c) => Ok(Some(Val::Char(c))),
+        Cell::Null => Ok(Some(Val::Null)),
+        Cell::UnionInt(tag, n) => Ok(Some(union_of(alloc, tag, n)?)),
+        Cell::Owned(v) => Ok(Some(v.into_inner())),
+        Cell::Range(_, _) => Ok(Some(Val::Err(Cause::Explicit))),
+        Cell::Many(v) => Ok(Some(no_multiple(v.into_inner()))),
+        Cell::Spoiled(cause) => Ok(Some(Val::Err(cause))),
+        Cell::Name(_) => Ok(Some(Val::Err(Cause::Explicit))),
+        Cell::Unfilled => Ok(None),
+        Cell::Lent(_) => Ok(None),
+        Cell::LentPart(_) => Ok(None),
     }
 }
 
@@ -64,7 +65,7 @@ fn given_out<'a>(alloc: Global, wants: Wants, cell: Cell) -> Result<Given<'a>, N
     ensures { IfOk result (λ g. (k : Carried) → held cell ≡ stored.Owns k → operand_value g ≡ given_as wants k) }
 {
     match wants {
-        Wants::Value => Ok(or_absent(value_out(cell))),
+        Wants::Value => Ok(or_absent(value_out(alloc, cell)?)),
         Wants::Multiple => multiple_out(alloc, cell),
         Wants::Name => copied_out(alloc, Wants::Name, &cell),
     }
@@ -341,7 +342,8 @@ fn on_two(
 {
     match first {
         Cell::Owned(boxed) => {
-            let mut ins = [value_out(second)];
+            let second = value_out(alloc, second)?;
+            let mut ins = [second];
             Ok(Cell::Owned(in_place(row, boxed, &mut ins)))
         }
         other => anew_two(alloc, row, shape, other, second),
@@ -361,7 +363,9 @@ fn on_three(
 {
     match first {
         Cell::Owned(boxed) => {
-            let mut ins = [value_out(second), value_out(third)];
+            let second = value_out(alloc, second)?;
+            let third = value_out(alloc, third)?;
+            let mut ins = [second, third];
             Ok(Cell::Owned(in_place(row, boxed, &mut ins)))
         }
         other => anew_three(alloc, row, shape, other, second, third),
@@ -395,7 +399,8 @@ fn longer(
     ensures { IfOk result (λ c. (k l : Carried) → stored.Owns (Value boxed) ≡ stored.Owns k → held second ≡ stored.Owns l → GivesCell c (op row (shape_of shape) (k ∷ l ∷ []))) }
 {
     let _told_by_the_first = shape;
-    let mut ins = [or_absent(value_out(second))];
+    let second = value_out(alloc, second)?;
+    let mut ins = [or_absent(second)];
     let changed = extended(alloc, row, boxed, &mut ins)?;
     Ok(Cell::Owned(changed))
 }
@@ -406,7 +411,8 @@ fn anew_one(alloc: Global, row: Simple, shape: Shape, first: Cell) -> Result<Cel
     requires { IsOfValues row }
     ensures { IfOk result (λ c. (k : Carried) → held first ≡ stored.Owns k → GivesCell c (op row (shape_of shape) (k ∷ []))) }
 {
-    let mut ins = [or_absent(value_out(first))];
+    let first = value_out(alloc, first)?;
+    let mut ins = [or_absent(first)];
     let value = fire_one(alloc, row, shape, &mut ins)?;
     let cell = cell_of(alloc, value)?;
     Ok(cell)
@@ -422,7 +428,9 @@ fn anew_two(
     requires { IsOfValues row }
     ensures { IfOk result (λ c. (k l : Carried) → held first ≡ stored.Owns k → held second ≡ stored.Owns l → GivesCell c (op row (shape_of shape) (k ∷ l ∷ []))) }
 {
-    let mut ins = [or_absent(value_out(first)), or_absent(value_out(second))];
+    let first = value_out(alloc, first)?;
+    let second = value_out(alloc, second)?;
+    let mut ins = [or_absent(first), or_absent(second)];
     let value = fire_one(alloc, row, shape, &mut ins)?;
     let cell = cell_of(alloc, value)?;
     Ok(cell)
@@ -439,11 +447,10 @@ fn anew_three(
     requires { IsOfValues row }
     ensures { IfOk result (λ c. (k l m : Carried) → held first ≡ stored.Owns k → held second ≡ stored.Owns l → held third ≡ stored.Owns m → GivesCell c (op row (shape_of shape) (k ∷ l ∷ m ∷ []))) }
 {
-    let mut ins = [
-        or_absent(value_out(first)),
-        or_absent(value_out(second)),
-        or_absent(value_out(third)),
-    ];
+    let first = value_out(alloc, first)?;
+    let second = value_out(alloc, second)?;
+    let third = value_out(alloc, third)?;
+    let mut ins = [or_absent(first), or_absent(second), or_absent(third)];
     let value = fire_one(alloc, row, shape, &mut ins)?;
     let cell = cell_of(alloc, value)?;
     Ok(cell)

@@ -14,7 +14,7 @@ ghost use Rattle.sequential.specs.Agrees.{owned_all};
 use crate::laying::lift;
 use flow_value::{Cause, NoMemory, Val, copy};
 use loop_folds::{Keep, Masking, keep};
-use run_cells::{Cell, Seen, copied, owned_by};
+use run_cells::{Cell, Seen, copied, owned_by, union_of};
 use sequential::cell_at;
 use std::alloc::Global;
 
@@ -99,44 +99,45 @@ pub fn column_value(
         return Ok(value);
     }
     if moves {
-        Ok(value_taken(row, place))
+        value_taken(alloc, row, place)
     } else {
         let value = value_copied(alloc, column(row.as_slice(), place))?;
         Ok(value)
     }
 }
 
-fn value_taken(row: &mut Vec<Cell>, place: u32) -> Val
-    ensures value { result ≡ val_of (get_or (owned_all row.old.items) place Unfilled) }
+fn value_taken(alloc: Global, row: &mut Vec<Cell>, place: u32) -> Result<Val, NoMemory>
+    ensures value { IfOk result (λ v. v ≡ val_of (get_or (owned_all row.old.items) place Unfilled)) }
     ensures others { (i : ℕ) → (i ≡ place → ⊥) → heap_of row.new.items i ≡ heap_of row.old.items i }
 {
     let at = place as usize;
     let long = row.len();
     if at < long {
-        value_moved(lift(row, at))
+        value_moved(alloc, lift(row, at))
     } else {
-        Val::Err(Cause::Explicit)
+        Ok(Val::Err(Cause::Explicit))
     }
 }
 
-fn value_moved(cell: Cell) -> Val
-    ensures { result ≡ val_of (stored.owned_in (held cell)) }
+fn value_moved(alloc: Global, cell: Cell) -> Result<Val, NoMemory>
+    ensures { IfOk result (λ v. v ≡ val_of (stored.owned_in (held cell))) }
 {
     match cell {
-        Cell::Empty => Val::Err(Cause::Explicit),
-        Cell::Error(cause) => Val::Err(cause),
-        Cell::Int(n) => Val::Int(n),
-        Cell::Bool(b) => Val::Bool(b),
-        Cell::Char(c) => Val::Char(c),
-        Cell::Null => Val::Null,
-        Cell::Owned(v) => v.into_inner(),
-        Cell::Range(_, _) => Val::Err(Cause::Explicit),
-        Cell::Many(v) => of_multiple(v.into_inner()),
-        Cell::Spoiled(cause) => Val::Err(cause),
-        Cell::Name(_) => Val::Err(Cause::Explicit),
-        Cell::Unfilled => Val::Err(Cause::Explicit),
-        Cell::Lent(_) => Val::Err(Cause::Explicit),
-        Cell::LentPart(_) => Val::Err(Cause::Explicit),
+        Cell::Empty => Ok(Val::Err(Cause::Explicit)),
+        Cell::Error(cause) => Ok(Val::Err(cause)),
+        Cell::Int(n) => Ok(Val::Int(n)),
+        Cell::Bool(b) => Ok(Val::Bool(b)),
+        Cell::Char(c) => Ok(Val::Char(c)),
+        Cell::Null => Ok(Val::Null),
+        Cell::UnionInt(tag, n) => union_of(alloc, tag, n),
+        Cell::Owned(v) => Ok(v.into_inner()),
+        Cell::Range(_, _) => Ok(Val::Err(Cause::Explicit)),
+        Cell::Many(v) => Ok(of_multiple(v.into_inner())),
+        Cell::Spoiled(cause) => Ok(Val::Err(cause)),
+        Cell::Name(_) => Ok(Val::Err(Cause::Explicit)),
+        Cell::Unfilled => Ok(Val::Err(Cause::Explicit)),
+        Cell::Lent(_) => Ok(Val::Err(Cause::Explicit)),
+        Cell::LentPart(_) => Ok(Val::Err(Cause::Explicit)),
     }
 }
 
@@ -204,6 +205,7 @@ pub fn value_copied(alloc: Global, seen: Seen<'_>) -> Result<Val, NoMemory>
         Seen::Bool(b) => Ok(Val::Bool(b)),
         Seen::Char(c) => Ok(Val::Char(c)),
         Seen::Null => Ok(Val::Null),
+        Seen::UnionInt(tag, n) => union_of(alloc, tag, n),
         Seen::Value(v) => copied_of(alloc, v),
         Seen::Elements(_) => Ok(Val::Err(Cause::Explicit)),
         Seen::Rising(_, _) => Ok(Val::Err(Cause::Explicit)),

@@ -5,7 +5,7 @@ ghost use Rattle.run_cells.specs.Held.{held, heap_of};
 ghost use Rattle.sequential_loops.specs.Laying.{IsLaid};
 
 use run_cells::Cell;
-use sequential::give_up;
+use sequential::{give_up, put_number};
 use std::mem;
 
 /// Puts what was brought into as many cells from one on.
@@ -34,6 +34,20 @@ pub fn lay(cells: &mut Vec<Cell>, place: usize, cell: Cell)
         lay_over(cells, place, cell);
     } else {
         lay_apart(cells, place, cell);
+    }
+}
+
+/// Puts a cell, an integer as a rule, at a place.
+#[inline(always)]
+pub fn lay_scalar(cells: &mut Vec<Cell>, place: usize, cell: Cell)
+    requires { place < length cells.old.items }
+    ensures here { heap_of cells.new.items place ≡ held cell }
+    ensures others { (q : ℕ) → (q ≡ place → ⊥) → heap_of cells.new.items q ≡ heap_of cells.old.items q }
+    ensures size { length cells.new.items ≡ length cells.old.items }
+{
+    match cell {
+        Cell::Int(number) => put_number(cells, place, number),
+        other => lay(cells, place, other),
     }
 }
 

@@ -19,8 +19,8 @@ mod rows;
 mod spreading;
 mod weighing;
 
-pub use adding::add;
+pub use adding::{add, push};
 pub use iterating::each;
-pub use keeping::keep_values;
+pub use keeping::{carry, keep_values};
 pub use lengths::first_places;
 pub use spreading::spread;

@@ -14,7 +14,7 @@ use crate::columns::{column, said};
 use crate::rows::collect_at;
 use flow_value::{Cause, Val, leaves};
 use loop_folds::Keep;
-use run_cells::{Cell, Seen};
+use run_cells::{Cell, Seen, leaves_seen};
 use step_code::Collect;
 
 /// The copies so far, and those of what a row puts to collections.
@@ -67,6 +67,7 @@ fn value_leaves(seen: Seen<'_>) -> u64
         Seen::Bool(b) => leaves(&Val::Bool(b)),
         Seen::Char(c) => leaves(&Val::Char(c)),
         Seen::Null => leaves(&Val::Null),
+        Seen::UnionInt(_, _) => leaves_seen(seen),
         Seen::Value(v) => leaves(v),
         Seen::Elements(_) => leaves(&Val::Err(Cause::Explicit)),
         Seen::Rising(_, _) => leaves(&Val::Err(Cause::Explicit)),

@@ -1,6 +1,7 @@
 pub mod Kinds
 pub mod Seen
 pub mod Ready
+pub mod Went
 pub mod Whole
 pub mod Runs
 pub mod Writes

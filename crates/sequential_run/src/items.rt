@@ -9,9 +9,10 @@ ghost use Rattle.sequential_run.specs.Ready.{IsReady};
 ghost use Rattle.sequential_run.specs.Whole.{CanStep};
 
 use crate::stepping::step_here;
+use crate::went::Went;
 use forall_slicer::begins_at;
 use run_gate::Gate;
-use sequential::{Machine, Turn, operands_from};
+use sequential::{Machine, operands_from};
 use sequential_loops::first_places;
 use step_code::{Code, Step};
 
@@ -77,9 +78,9 @@ pub fn reached<G: Gate>(
 
 /// Calls the gate for what ends with the step that was done.
 #[inline(always)]
-pub fn passed<G: Gate>(gate: &G, open: &mut Open, machine: &Machine, behind: Behind, turn: Turn) {
+pub fn passed<G: Gate>(gate: &G, open: &mut Open, machine: &Machine, behind: Behind, went: Went) {
     if G::CALLED {
-        pass(gate, open, machine, behind, turn);
+        pass(gate, open, machine, behind, went);
     }
 }
 
@@ -141,10 +142,10 @@ fn begins<G: Gate>(
         // the entry of the run is no call
         Step::Return { .. } if machine.calls.is_empty() => Behind::Nothing,
         Step::Return { .. } => begun(gate),
-        Step::Keep { .. } | Step::Spread { .. } | Step::Each { .. } => {
+        Step::Keep { .. } | Step::Carry { .. } | Step::Spread { .. } | Step::Each { .. } => {
             begins_loop(gate, open, machine, this)
         }
-        Step::Add { .. } | Step::Tag { .. } => Behind::Nothing,
+        Step::Add { .. } | Step::Push { .. } | Step::Tag { .. } => Behind::Nothing,
         // a simple node, or the entry of a call
         _ => counts(gate, machine, limit),
     }
@@ -154,12 +155,12 @@ fn begins<G: Gate>(
 fn begins_loop<G: Gate>(gate: &G, open: &mut Open, machine: &Machine, this: &Step) -> Behind {
     match this {
         // a loop whose body comes first counts its first turn directly behind its first values
-        Step::Keep { begins, next, .. }
+        Step::Keep { begins, next, .. } | Step::Carry { begins, next, .. }
             if *begins && *next as usize == machine.pc.saturating_add(1) => {
             *open = Open::Loop;
             Behind::Nothing
         }
-        Step::Keep { .. } => begun(gate),
+        Step::Keep { .. } | Step::Carry { .. } => begun(gate),
         Step::Spread { turns, .. } => Behind::Spread(*turns as usize),
         _ => Behind::Nothing,
     }
@@ -240,10 +241,10 @@ fn turns<G: Gate>(gate: &G, open: &mut Open, slices: Slices, places: u64) -> Beh
 }
 
 #[inline(never)]
-fn pass<G: Gate>(gate: &G, open: &mut Open, machine: &Machine, behind: Behind, turn: Turn) {
-    match (turn, *open) {
-        (Turn::Goes, _) => ends(gate, open, machine, behind),
-        (Turn::Over, Open::Slices(_)) => gate.after(WORKER),
+fn pass<G: Gate>(gate: &G, open: &mut Open, machine: &Machine, behind: Behind, went: Went) {
+    match (went, *open) {
+        (Went::Goes, _) => ends(gate, open, machine, behind),
+        (Went::Over, Open::Slices(_)) => gate.after(WORKER),
         _ => {}
     }
 }

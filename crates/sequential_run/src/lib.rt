@@ -7,9 +7,11 @@ mod laws;
 mod running;
 mod stepping;
 mod totals;
+mod went;
 mod writing;
 
 pub use laws::runs_of_stored_code_begin;
 pub use running::{RunFault, run};
 pub use stepping::step;
 pub use totals::{Totalled, run_function};
+pub use went::Went;

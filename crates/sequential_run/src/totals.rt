@@ -8,10 +8,10 @@ ghost use Rattle.sequential_run.specs.Runs.{IsDecided, LendsBelow, IsFault};
 ghost use Rattle.sequential_run.specs.Totals.{entered_at, CanEnter, HasEntered, HasTotals};
 
 use crate::running::{RunFault, run};
-use flow_value::{NoMemory, Seq};
+use flow_value::NoMemory;
 use run_cells::Cell;
 use run_gate::Gate;
-use sequential::Machine;
+use sequential::{Calls, Machine};
 use std::alloc::Global;
 use step_code::Code;
 
@@ -43,7 +43,7 @@ pub fn run_function<G: Gate>(
     requires begun { (ins : List Carried) × (map held args.items ≡ map stored.Owns ins) × IsDecided code.now limit (entered_at entry ins) × LendsBelow code.now limit (entered_at entry ins) }
     ensures { (ins : List Carried) → map held args.items ≡ map stored.Owns ins → MatchResult result (λ t. HasTotals code.now limit (entered_at entry ins) t) (λ e. IsFault code.now limit (entered_at entry ins) e) }
 {
-    let mut machine = entered(alloc, entry, room, args)?;
+    let mut machine = entered(alloc, code, entry, room, args)?;
     let writes = run(&mut machine, alloc, code, limit, gate)?;
     Ok(totals(machine, writes))
 }
@@ -69,26 +69,51 @@ fn totals(machine: Machine, writes: u64) -> Totalled
 }
 
 /// A machine at the first step of a function, with its arguments in the first cells.
-fn entered(alloc: Global, entry: u32, room: u32, args: Vec<Cell>) -> Result<Machine, RunFault>
+fn entered(
+    alloc: Global,
+    code: &Code,
+    entry: u32,
+    room: u32,
+    args: Vec<Cell>,
+) -> Result<Machine, RunFault>
+    ensures at { IfOk result (λ m. (ins : List Carried) → map held args.items ≡ map stored.Owns ins → IsAt m (entered_at entry ins)) }
+    ensures block { IfOk result (λ m. HasEntered entry room m) }
+    ensures refused { IfErr result (λ e. e ≡ RunFault.NoMemory) }
+{
+    match Calls::new(alloc, code) {
+        Ok(calls) => widened(alloc, entry, room, args, calls),
+        Err(_) => Err(RunFault::NoMemory),
+    }
+}
+
+/// The same with no open calls.
+fn widened(
+    alloc: Global,
+    entry: u32,
+    room: u32,
+    args: Vec<Cell>,
+    calls: Calls,
+) -> Result<Machine, RunFault>
+    requires { calls ≡ [] }
     ensures at { IfOk result (λ m. (ins : List Carried) → map held args.items ≡ map stored.Owns ins → IsAt m (entered_at entry ins)) }
     ensures block { IfOk result (λ m. HasEntered entry room m) }
     ensures refused { IfErr result (λ e. e ≡ RunFault.NoMemory) }
 {
     let mut cells = args;
     match widen(&mut cells, room) {
-        Ok(_) => Ok(standing(alloc, entry, cells)),
+        Ok(_) => Ok(standing(alloc, entry, cells, calls)),
         Err(_) => Err(RunFault::NoMemory),
     }
 }
 
-fn standing(alloc: Global, entry: u32, cells: Vec<Cell>) -> Machine
-    ensures { result ≡ record { pc = entry; base = 0; cells = cells; calls = []; fires = 0; copies = 0; results = result.results } }
+fn standing(alloc: Global, entry: u32, cells: Vec<Cell>, calls: Calls) -> Machine
+    ensures { result ≡ record { pc = entry; base = 0; cells = cells; calls = calls; fires = 0; copies = 0; results = result.results } }
 {
     Machine {
         pc: entry as usize,
         base: 0,
         cells,
-        calls: Seq::new(alloc),
+        calls,
         fires: 0,
         copies: 0,
         results: Vec::new(alloc),

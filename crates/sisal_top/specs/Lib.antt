@@ -1,3 +1,5 @@
+pub use Rattle.compile_call.specs.Laws as OneText
+pub use Rattle.compile_call.specs.Calls as Compiled
 pub mod Answer
 pub mod Lines
 pub mod Outputs

@@ -10,7 +10,7 @@ use Rattle.lowered_units.specs.Fitting.{IsFitting}
 use Rattle.marks_made.specs.Units.{marks_of}
 use Rattle.run_call.specs.Calls.{Gives as GivesRun, IsRefused as HasNoTotals}
 use Rattle.run_call.specs.Texts.{IsUnitOf as IsIf1Of}
-use Rattle.unit_code.specs.declared.runs.Totals.{Totals}
+use Rattle.run_call.specs.Totals.{Totals}
 use Rattle.run_words.specs.declared.command.CompileSet.{CompileSet}
 use Rattle.run_words.specs.declared.command.MeanSet.{MeanSet}
 use Rattle.run_words.specs.declared.command.RunSet.{RunSet}

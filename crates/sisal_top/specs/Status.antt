@@ -14,8 +14,8 @@ use Rattle.sisal_parse.specs.declared.fault.ParseFault.{ParseFault}
 use Rattle.sisal_parse.specs.declared.fault.ParseFault.TheVariants as parser
 use Rattle.type_rules.specs.declared.fault.TypeFault.{TypeFault}
 use Rattle.type_rules.specs.declared.fault.TypeFault.TheVariants as checker
-use Rattle.translate.specs.declared.program.TranslateFault.{TranslateFault}
-use Rattle.translate.specs.declared.program.TranslateFault.TheVariants as translator
+use Rattle.compile_call.specs.TranslateFault.{TranslateFault}
+use Rattle.compile_call.specs.TranslateFault.TheVariants as translator
 use Rattle.value_text.specs.declared.fault.ValueFault.{ValueFault}
 use Rattle.value_text.specs.declared.fault.ValueFault.TheVariants as value
 use Rattle.sisal_top.specs.declared.status.Status.{Status}

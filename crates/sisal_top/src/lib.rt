@@ -9,5 +9,6 @@ mod status;
 mod texts;
 
 pub use call::sisal;
+pub use compile_call::a_program_has_one_text;
 pub use lines::report;
 pub use status::{CallFault, Status, SyntaxFault, TextFault, UnitFault, UsageFault};

@@ -20,17 +20,17 @@ use Rattle.run_words.specs.declared.command.Command.{Command}
 use Rattle.run_words.specs.declared.command.Command.TheVariants as command
 use Rattle.run_words.specs.declared.command.RunSet.{RunSet}
 use Rattle.run_words.specs.declared.fault.WordFault.{WordFault}
-use Rattle.run_call.specs.Calls.{Gives as GivesRun, IsRefused as HasNoTotals}
+use Rattle.run_meaning.specs.Calls.{Gives as GivesRun, IsRefused as HasNoTotals}
 use Rattle.run_meaning.specs.Laws.{meant, IsRunAs}
 use Rattle.run_meaning.proofs.Within.{sources-run}
-use Rattle.sisal_top.specs.Answer.{Replies, Answers}
-use Rattle.sisal_top.specs.Outputs.{lines, totals_if, HasProgram, HasTypeFault, HasNoGraphs, HasNoRun, HasGraphs, PrintsRun}
-use Rattle.sisal_top.specs.Program.{IsUnitOf, IsRefused}
-use Rattle.sisal_top.specs.Status.{argument_fault, word_fault}
-use Rattle.sisal_top.specs.declared.status.CallFault.{CallFault}
-use Rattle.sisal_top.specs.declared.status.Status.{Status}
-use Rattle.sisal_top.specs.declared.status.Status.TheVariants as status
-use Rattle.sisal_top.specs.declared.status.SyntaxFault.{SyntaxFault}
+use Rattle.one_answer.specs.Answer.{Replies, Answers}
+use Rattle.one_answer.specs.Outputs.{lines, totals_if, HasProgram, HasTypeFault, HasNoGraphs, HasNoRun, HasGraphs, PrintsRun}
+use Rattle.one_answer.specs.Program.{IsUnitOf, IsRefused}
+use Rattle.one_answer.specs.Status.{argument_fault, word_fault}
+use Rattle.one_answer.specs.TheCallFault.{CallFault}
+use Rattle.one_answer.specs.TheStatus.{Status}
+use Rattle.one_answer.specs.TheStatus.TheVariants as status
+use Rattle.one_answer.specs.TheSyntaxFault.{SyntaxFault}
 use Rattle.one_answer.proofs.Syntaxes.{long_unit}
 use Rattle.text_answers.specs.Laws.{IsRunOf, IsWithin, IsAnswered, done, no_memory, read_fault, write_fault, AreSourcesPrinted}
 use Rattle.text_answers.proofs.Moved.{moved-within}

@@ -11,8 +11,8 @@ use Rattle.one_meaning.specs.Laws.{AreAnswersMoved}
 use Rattle.run_words.specs.declared.command.RunSet.{RunSet}
 use Rattle.run_meaning.specs.Laws.{meant, IsOfSource}
 use Rattle.run_meaning.proofs.Within.{given-once}
-use Rattle.sisal_top.specs.Outputs.{HasProgram}
-use Rattle.sisal_top.specs.Program.{IsUnitOf}
+use Rattle.one_answer.specs.Outputs.{HasProgram}
+use Rattle.one_answer.specs.Program.{IsUnitOf}
 
 as-many : (n : ℕ) → n ≤ n
 as-many n = omega arith

@@ -10,12 +10,12 @@ use Rattle.run_words.specs.Words.{IsCommand}
 use Rattle.run_words.specs.declared.command.Command.{Command}
 use Rattle.run_words.specs.declared.command.Command.TheVariants as command
 use Rattle.run_words.specs.declared.command.RunSet.{RunSet}
-use Rattle.run_call.specs.Calls.{Gives as GivesRun}
+use Rattle.run_meaning.specs.Calls.{Gives as GivesRun}
 use Rattle.run_meaning.specs.Laws.{IsRunUnit}
 use Rattle.run_meaning.proofs.Sourced.{runs-of-sources}
-use Rattle.sisal_top.specs.Answer.{Replies}
-use Rattle.sisal_top.specs.Outputs.{HasProgram, HasGraphs, RunsUnit, PrintsRun}
-use Rattle.sisal_top.specs.Program.{IsUnitOf}
+use Rattle.one_answer.specs.Answer.{Replies}
+use Rattle.one_answer.specs.Outputs.{HasProgram, HasGraphs, RunsUnit, PrintsRun}
+use Rattle.one_answer.specs.Program.{IsUnitOf}
 use Rattle.text_answers.specs.Laws.{PrintsOfSource, AreRunsOfTexts}
 use Rattle.text_answers.proofs.Moved.{moved-source}
 

@@ -8,13 +8,13 @@ use Rattle.mean_call.specs.Calls.{Gives as HasValues}
 use Rattle.run_words.specs.Words.{IsCommand}
 use Rattle.run_words.specs.declared.command.Command.TheVariants as command
 use Rattle.run_words.specs.declared.command.RunSet.{RunSet}
-use Rattle.unit_code.specs.declared.runs.Totals.{Totals}
+use Rattle.run_meaning.specs.Totals.{Totals}
 use Rattle.run_meaning.specs.Laws.{meant, IsOfSource}
-use Rattle.sisal_top.specs.Answer.{Answers, Gives}
-use Rattle.sisal_top.specs.Outputs.{lines, totals_if, HasProgram}
-use Rattle.sisal_top.specs.Program.{IsPlain}
-use Rattle.sisal_top.specs.declared.status.Status.{Status}
-use Rattle.sisal_top.specs.declared.status.Status.TheVariants as status
+use Rattle.one_answer.specs.Answer.{Answers, Gives}
+use Rattle.one_answer.specs.Outputs.{lines, totals_if, HasProgram}
+use Rattle.one_answer.specs.Program.{IsPlain}
+use Rattle.one_answer.specs.TheStatus.{Status}
+use Rattle.one_answer.specs.TheStatus.TheVariants as status
 
 -- the words are a plain `run` of a SISAL text
 pub record IsRunOf (words : List (List ℕ)) (set : RunSet) : Type 0 where

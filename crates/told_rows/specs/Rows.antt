@@ -17,7 +17,7 @@ use Rattle.plan_data.specs.declared.plan.Work.TheVariants as work
 use Rattle.plan_data.specs.Parts.{graph_nodes, mode_of}
 use Rattle.unit_plan.specs.Plans.{Tables, plan_of}
 use Rattle.unit_plan.specs.Shares.{kind_there, weighing, writing_of}
-use Rattle.code_maker.specs.Grows.{IsPair}
+use Rattle.code_weights.specs.Grows.{IsPair}
 use Rattle.code_weights.specs.Weights.{AreCopiesTold, AreWritesTold}
 
 module _ (D : PlanData) (u : Unit1) where

@@ -96,6 +96,24 @@ module _ (forms : List Form) (names : List (List ℕ)) (table : IsTable forms) w
   number_there n _ (a_record {ms = ms} e p) = (form.Record ms, e)
   number_there n _ (a_union {ms = ms} e p) = (form.Union ms, e)
 
+  is_there : (n : ℕ) (t : Ty) → IsNumber forms names n t → n < length forms
+  is_there n t p = let f = number_there n t p in slice_get_within forms n f.0 f.1
+
+  -- parts that stand for types are in the table
+  none_there : All (λ k. k < length forms) []
+  none_there k d within = absurd (omega arith)
+
+  first_there : (n : ℕ) (ns : List ℕ) → n < length forms → All (λ k. k < length forms) ns → All (λ k. k < length forms) (n ∷ ns)
+  first_there n ns h hs zero d within = h
+  first_there n ns h hs (suc k) d within = hs k d (omega arith)
+
+  one_there : (m : ℕ) (t : Ty) → IsNumber forms names m t → All (λ k. k < length forms) (m ∷ [])
+  one_there m t p = first_there m [] (is_there m t p) none_there
+
+  all_there : (ms : List NumberedMember) (fs : List Member) → AreMembers forms names ms fs → All (λ k. k < length forms) (map (λ m. m.ty) ms)
+  all_there _ _ no_member = none_there
+  all_there _ _ (a_member {n = n} {t = t} {ms = ms} {fs = fs} s p r) = first_there n (map (λ m. m.ty) ms) (is_there n t p) (all_there ms fs r)
+
   shallow : (n : ℕ) (t : Ty) → IsNumber forms names n t → IsShallow t
   shallow n t p =
       let f = number_there n t p in
@@ -105,11 +123,15 @@ module _ (forms : List Form) (names : List (List ℕ)) (table : IsTable forms) w
   -- a type is as deep as what is made
   pub as_deep : (s : Sort) (t : Ty) → StandsFor forms names s t → IsAsDeep forms s t
   as_deep (sort.There n) t p = shallow n t p
-  as_deep (sort.Made form.Boolean) t p = sym depth_basic.1 ∙ ap depth_of (sym p)
-  as_deep (sort.Made form.Character) t p = sym depth_basic.2 ∙ ap depth_of (sym p)
-  as_deep (sort.Made form.Integer) t p = sym depth_basic.0 ∙ ap depth_of (sym p)
-  as_deep (sort.Made form.Null) t p = sym depth_basic.3 ∙ ap depth_of (sym p)
-  as_deep (sort.Made (form.Array m)) t p = one_deeper m p.part (depth_is m p.part p.stands) ∙ sym (depth_array p.part) ∙ ap depth_of (sym p.is)
-  as_deep (sort.Made (form.Stream m)) t p = one_deeper m p.part (depth_is m p.part p.stands) ∙ sym (depth_stream p.part) ∙ ap depth_of (sym p.is)
-  as_deep (sort.Made (form.Record ms)) t p = one_more _ _ (deepest_is ms p.fields p.stand) ∙ sym (depth_record p.fields) ∙ ap depth_of (sym p.is)
-  as_deep (sort.Made (form.Union ms)) t p = one_more _ _ (deepest_is ms p.fields p.stand) ∙ sym (depth_union p.fields) ∙ ap depth_of (sym p.is)
+  as_deep (sort.Made form.Boolean) t p = record { over = none_there; deep = sym depth_basic.1 ∙ ap depth_of (sym p) }
+  as_deep (sort.Made form.Character) t p = record { over = none_there; deep = sym depth_basic.2 ∙ ap depth_of (sym p) }
+  as_deep (sort.Made form.Integer) t p = record { over = none_there; deep = sym depth_basic.0 ∙ ap depth_of (sym p) }
+  as_deep (sort.Made form.Null) t p = record { over = none_there; deep = sym depth_basic.3 ∙ ap depth_of (sym p) }
+  as_deep (sort.Made (form.Array m)) t p =
+      record { over = one_there m p.part p.stands; deep = one_deeper m p.part (depth_is m p.part p.stands) ∙ sym (depth_array p.part) ∙ ap depth_of (sym p.is) }
+  as_deep (sort.Made (form.Stream m)) t p =
+      record { over = one_there m p.part p.stands; deep = one_deeper m p.part (depth_is m p.part p.stands) ∙ sym (depth_stream p.part) ∙ ap depth_of (sym p.is) }
+  as_deep (sort.Made (form.Record ms)) t p =
+      record { over = all_there ms p.fields p.stand; deep = one_more _ _ (deepest_is ms p.fields p.stand) ∙ sym (depth_record p.fields) ∙ ap depth_of (sym p.is) }
+  as_deep (sort.Made (form.Union ms)) t p =
+      record { over = all_there ms p.fields p.stand; deep = one_more _ _ (deepest_is ms p.fields p.stand) ∙ sym (depth_union p.fields) ∙ ap depth_of (sym p.is) }

@@ -13,3 +13,9 @@ all_types ms n each = λ k d within.
     let m : Member = record { name = 0; ty = d } in
     let there : k < length ms = subst (λ l. k < l) (length-map ms (λ m. m.ty)) within in
     subst (λ t. t < n) (sym (get_or-map (λ m. m.ty) ms k m d there)) (each k m there)
+
+-- each of them is, where all are
+pub type_below : (ms : List Member) (n k : ℕ) (d : Member) → k < length ms → All (λ t. t < n) (map (λ m. m.ty) ms) → (get_or ms k d).ty < n
+type_below ms n k d within all =
+    let there : k < length (map (λ m. m.ty) ms) = subst (λ l. k < l) (sym (length-map ms (λ m. m.ty))) within in
+    subst (λ t. t < n) (get_or-map (λ m. m.ty) ms k d d.ty within) (all k d.ty there)

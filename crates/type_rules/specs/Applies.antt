@@ -65,11 +65,11 @@ abbrev pub Adds : List Form → Sort → List Form → Type 0
 Adds old (sort.There n) new = new ≡ old
 Adds old (sort.Made f) new = AddsAtMost old f new × IsOver (length old) f
 
--- a type that would be deeper than 64 breaks rule 4
+-- a type that would be deeper than 64, where its parts are in the table, breaks rule 4
 abbrev pub IsTooDeep : List Form → Sort → Refused → Type 0
 IsTooDeep forms s refused.NoMemory = Unit {0}
 IsTooDeep forms (sort.There n) (refused.Rule rule) = ⊥
-IsTooDeep forms (sort.Made f) (refused.Rule rule) = (rule ≡ 4) × (64 < form_depth (depths forms) f)
+IsTooDeep forms (sort.Made f) (refused.Rule rule) = (rule ≡ 4) × (IsOver (length forms) f → 64 < form_depth (depths forms) f)
 
 -- ---- forms
 

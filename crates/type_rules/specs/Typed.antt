@@ -14,7 +14,7 @@ use Rattle.type_table.specs.declared.form.Form.{Form}
 use Rattle.type_table.specs.declared.form.Form.TheVariants as form
 use Rattle.type_table.specs.declared.form.Member.{Member as NumberedMember}
 use Rattle.type_table.specs.Forms.{form_depth}
-use Rattle.type_table.specs.Tables.{depths, IsTable}
+use Rattle.type_table.specs.Tables.{depths, IsOver, IsTable}
 use Rattle.typed_tree.specs.declared.built_in.BuiltIn.{BuiltIn}
 use Rattle.typed_tree.specs.Scopes.{AreDistinct}
 use Rattle.typed_tree.specs.Types.{Member, IsMember, IsNumber, AreNumbers, scalar_type, IsConverted, prefix_type, AreOperands, binary_type, Gives, Makes, depth_of, IsShallow}
@@ -51,10 +51,15 @@ pub data AreFields (names : List (List ℕ)) : List ℕ → List Ty → List Mem
   a_field : {x : ℕ} {spelling : List ℕ} {a : Ty} {xs : List ℕ} {tys : List Ty} {ms : List Member}
       → slice_get names x ≡ Some spelling → AreFields names xs tys ms → AreFields names (x ∷ xs) (a ∷ tys) ((spelling, a) ∷ ms)
 
+-- a form over types of the table is as deep as a type
+pub record IsOfDepth (forms : List Form) (f : Form) (t : Ty) : Type 0 where
+  pub over : IsOver (length forms) f
+  pub deep : form_depth (depths forms) f ≡ depth_of t
+
 -- a type is as deep as what is made
 abbrev pub IsAsDeep : List Form → Sort → Ty → Type 0
 IsAsDeep forms (sort.There n) t = IsShallow t
-IsAsDeep forms (sort.Made f) t = form_depth (depths forms) f ≡ depth_of t
+IsAsDeep forms (sort.Made f) t = IsOfDepth forms f t
 
 module _ (forms : List Form) (names : List (List ℕ)) where
   -- with or without the name of a type

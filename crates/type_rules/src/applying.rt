@@ -1,5 +1,5 @@
 //! What a form makes of its operands.
-ghost use Rattle.std.specs.Prelude.{◌≡◌, ◌<◌, IfOk, IfErr, OnOk, OnErr, IsTrue, length, All, map};
+ghost use Rattle.std.specs.Prelude.{◌≡◌, ◌↔◌, ◌<◌, IfOk, IfErr, OnOk, OnErr, IsTrue, length, All, map};
 ghost use Rattle.type_table.specs.Tables.{HasMember, IsOver};
 ghost use Rattle.type_rules.specs.Applies.{applies, rule_of, Grows, Adds, IsSorted, IsTooDeep, IsApplied, IsRefused};
 
@@ -59,7 +59,7 @@ fn applies(
 
 /// Whether all these members are of types that are in the table.
 fn are_over(types: &Types, members: &[Member]) -> bool
-    ensures { IsTrue result → All (λ t. t < length types.now) (map (λ m. m.ty) members.now) }
+    ensures { IsTrue result ↔ All (λ t. t < length types.now) (map (λ m. m.ty) members.now) }
 {
     for member in members {
         if member.ty as usize >= types.len() {
@@ -69,22 +69,29 @@ fn are_over(types: &Types, members: &[Member]) -> bool
     true
 }
 
-/// Whether a form is made of types that are in the table, and a record has a field, a union a tag.
-fn may_stand(types: &Types, form: &Form) -> bool
-    ensures parts { IsTrue result → IsOver (length types.now) form.now }
-    ensures members { IsTrue result → HasMember form.now }
+/// Whether a form is made of types that are in the table.
+fn is_over(types: &Types, form: &Form) -> bool
+    ensures { IsTrue result ↔ IsOver (length types.now) form.now }
 {
     match form {
         Form::Array(ty) | Form::Stream(ty) => (*ty as usize) < types.len(),
-        Form::Record(members) | Form::Union(members) => {
-            !members.is_empty() && are_over(types, members.as_slice())
-        }
+        Form::Record(members) | Form::Union(members) => are_over(types, members.as_slice()),
         _ => true,
     }
 }
 
-/// The number of the type of a form. One that is made of types that are not in the table, a record
-/// without a field and a union without a tag, which no caller has, are refused.
+/// Whether a record has a field, a union a tag.
+fn has_member(form: &Form) -> bool
+    ensures { IsTrue result → HasMember form.now }
+{
+    match form {
+        Form::Record(members) | Form::Union(members) => !members.is_empty(),
+        _ => true,
+    }
+}
+
+/// The number of the type of a form: rule 4 where it is deeper than 64, or made of types that are
+/// not in the table. A record without a field, which no text makes, is refused by want of memory.
 fn number_made(types: &mut Types, form: Form) -> Result<u32, Refused>
     ensures typed { IfOk result (λ k. IsSorted types.new (Sort.Made form) k) }
     ensures refused { IfErr result (λ e. IsTooDeep types.old (Sort.Made form) e) }
@@ -92,8 +99,11 @@ fn number_made(types: &mut Types, form: Form) -> Result<u32, Refused>
     ensures adds { OnOk result (Adds types.old (Sort.Made form) types.new) }
     ensures err { OnErr result (types.new ≡ types.old) }
 {
-    if !may_stand(types, &form) {
+    if !has_member(&form) {
         return Err(Refused::NoMemory);
+    }
+    if !is_over(types, &form) {
+        return Err(Refused::Rule(TOO_DEEP));
     }
     match types.number(form)? {
         Some(number) => Ok(number),

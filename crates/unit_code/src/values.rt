@@ -8,7 +8,7 @@ ghost use Rattle.run_cells.specs.Held.{held};
 ghost use Rattle.sequential.specs.Agrees.{owned_all};
 
 use flow_value::{Cause, Items, NoMemory, Val};
-use run_cells::{Cell, cell_of};
+use run_cells::{Cell, cell_of, union_of};
 use std::alloc::Global;
 
 /// Cells that own these values.
@@ -29,24 +29,25 @@ pub fn values_of(alloc: Global, cells: Vec<Cell>) -> Result<Items, NoMemory>
 {
     let mut values = Items::with_room(alloc, cells.len())?;
     for cell in cells {
-        values.add(value_of(cell))?;
+        values.add(value_of(alloc, cell)?)?;
     }
     Ok(values)
 }
 
-fn value_of(cell: Cell) -> Val
-    ensures { result ≡ val_of (stored.owned_in (held cell)) }
+fn value_of(alloc: Global, cell: Cell) -> Result<Val, NoMemory>
+    ensures { IfOk result (λ v. v ≡ val_of (stored.owned_in (held cell))) }
 {
     match cell {
-        Cell::Error(cause) => Val::Err(cause),
-        Cell::Int(n) => Val::Int(n),
-        Cell::Bool(b) => Val::Bool(b),
-        Cell::Char(c) => Val::Char(c),
-        Cell::Null => Val::Null,
-        Cell::Owned(v) => v.into_inner(),
-        Cell::Many(v) => single(v.into_inner()),
-        Cell::Spoiled(cause) => Val::Err(cause),
-        _ => Val::Err(Cause::Explicit),
+        Cell::Error(cause) => Ok(Val::Err(cause)),
+        Cell::Int(n) => Ok(Val::Int(n)),
+        Cell::Bool(b) => Ok(Val::Bool(b)),
+        Cell::Char(c) => Ok(Val::Char(c)),
+        Cell::Null => Ok(Val::Null),
+        Cell::UnionInt(tag, n) => union_of(alloc, tag, n),
+        Cell::Owned(v) => Ok(v.into_inner()),
+        Cell::Many(v) => Ok(single(v.into_inner())),
+        Cell::Spoiled(cause) => Ok(Val::Err(cause)),
+        _ => Ok(Val::Err(Cause::Explicit)),
     }
 }
 

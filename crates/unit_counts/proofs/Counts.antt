@@ -29,7 +29,7 @@ use Rattle.plan_data.specs.declared.plan.PlanData.{PlanData}
 use Rattle.code_weights.proofs.Adding.{copies-of-plans}
 use Rattle.code_weights.specs.Weights.{CopiesSame}
 use Rattle.told_rows.proofs.Told.{copies-told}
-use Rattle.sequential_run.specs.Runs.{weigh_of}
+use Rattle.unit_runs.specs.StepRuns.{weigh_of}
 use Rattle.unit_runs.proofs.Alike.{copied-read}
 use Rattle.unit_runs.proofs.Graphs.{graphs-bare}
 use Rattle.unit_runs.proofs.Literals.{step-bare}

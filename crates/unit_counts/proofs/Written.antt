@@ -11,7 +11,7 @@ use Rattle.step_code.specs.Laid.{code_of}
 use Rattle.code_weights.proofs.Adding.{writes-of-plans}
 use Rattle.code_weights.specs.Weights.{AddsSame}
 use Rattle.told_rows.proofs.Told.{writes-told}
-use Rattle.sequential_run.specs.Writes.{writes_of}
+use Rattle.unit_runs.specs.StepWrites.{writes_of}
 use Rattle.unit_runs.specs.Alike.{AddsAlike, AreRead}
 use Rattle.unit_runs.specs.Writes.{plan_writes}
 use Rattle.unit_counts.specs.Laws.{DoesToldCodeWrite}

@@ -15,7 +15,7 @@ use Rattle.plan_data.specs.declared.plan.PlanNode.{PlanNode}
 use Rattle.plan_data.specs.Parts.{IsFormed, arms_steps, extent_in, graph_nodes, size_in, table_of}
 use Rattle.plan_data.specs.Stands.{Stands}
 use Rattle.code_maker.specs.Grows.{IsPair}
-use Rattle.told_rows.specs.Rows.{IsCountedByRow, IsWrittenByRow}
+use Rattle.plan_nodes.specs.Rows.{IsCountedByRow, IsWrittenByRow}
 
 -- how many steps and cells each graph takes by the data, and where each function begins
 abbrev pub tables_of : PlanData → Tables

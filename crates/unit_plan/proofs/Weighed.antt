@@ -17,8 +17,8 @@ use Rattle.graph_meaning.specs.StorageUnits.{storage_of}
 use Rattle.run_code.specs.Cells.{picked}
 use Rattle.run_code.specs.Made.{Plan}
 use Rattle.run_made.specs.Plans.{Weighing}
-use Rattle.run_store.specs.Ports.{mode_of, modes_of}
-use Rattle.run_store.specs.Stored.{copied}
+use Rattle.made_store.specs.Ports.{mode_of, modes_of}
+use Rattle.made_store.specs.Stored.{copied}
 use Rattle.made_store.specs.Settings.{Shares}
 use Rattle.made_store.specs.Weights.{node_weight}
 use Rattle.unit_plan.proofs.Ways.{AreWaysWeighed}

@@ -12,8 +12,8 @@ use Rattle.ordered_meaning.specs.Orders.{AreInOrder}
 use Rattle.graph_meaning.specs.Storage.{capped}
 use Rattle.graph_meaning.specs.StorageUnits.{UnitWrites}
 use Rattle.run_made.specs.Plans.{IsRightPlan, laid, lines_of, weigh_at}
-use Rattle.run_store.specs.Sums.{EndsAddingStored}
-use Rattle.run_store.specs.Whole.{EndsStored, IsOfUnit, StopsStored, entered_stored, first_cells}
+use Rattle.made_store.specs.Sums.{EndsAddingStored}
+use Rattle.made_store.specs.Whole.{EndsStored, IsOfUnit, StopsStored, entered_stored, first_cells}
 use Rattle.made_store.specs.Settled.{functions_settings, handling_of}
 use Rattle.made_store.specs.Shared.{IsShared}
 use Rattle.made_store.specs.UnitWeights.{ArePicksForParts}

@@ -17,8 +17,8 @@ use Rattle.graph_meaning.specs.StorageUnits.{storage_of}
 use Rattle.run_code.specs.Collections.{Collect, Sifts, Final}
 use Rattle.run_code.specs.Made.{Plan}
 use Rattle.run_made.specs.Plans.{Weighing}
-use Rattle.run_store.specs.Ports.{copies_of}
-use Rattle.run_store.specs.Stored.{copied}
+use Rattle.made_store.specs.Ports.{copies_of}
+use Rattle.made_store.specs.Stored.{copied}
 use Rattle.made_store.specs.Marks.{owned_inputs}
 use Rattle.made_store.specs.Settings.{Shares, result_modes}
 use Rattle.made_store.specs.UnitWeights.{marked_shares}

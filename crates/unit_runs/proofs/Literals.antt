@@ -2,7 +2,7 @@
 use Rattle.std.proofs.Common.{ℕ, zero, suc, ◌+◌, true, false, List, [], ◌∷◌, ◌++◌, map, length}
 use Rattle.run_code.specs.Cells as cells
 use Rattle.run_store.specs.Effects.{reads_of}
-use Rattle.run_store.specs.Stored.{Mode, tail}
+use Rattle.run_store.specs.Stored.{Looks, Mode, tail}
 use Rattle.step_code.specs.declared.code.Code.{Code}
 use Rattle.step_code.specs.declared.code.Operand.{Operand}
 use Rattle.step_code.specs.declared.code.Operand.TheVariants as operand
@@ -48,6 +48,13 @@ module _ (code : Code) where
   pub step-bare : (x : Step) → AreLiteralsBare (handling_in code x).modes (reads_of (step_in code x))
   step-bare (step.One o a out) = one-bare a
   step-bare (step.Two o a b out) = first-bare a (mode_in code b ∷ []) (operand_in code b ∷ []) (one-bare b)
+  step-bare (step.Int i out) = one-bare (operand.Looks i)
+  step-bare (step.Cells o i j out) = first-bare (operand.Looks i) (Looks ∷ []) (cells.At j ∷ []) (one-bare (operand.Looks j))
+  step-bare (step.Number o i l n out) = first-bare (operand.Looks i) (Looks ∷ []) (operand_in code (operand.Literal l) ∷ []) (one-bare (operand.Literal l))
+  step-bare (step.Element ins i p out kept k) = alone-bare (listed code ins 2)
+  step-bare (step.Replace ins i p e out kept k) = alone-bare (listed code ins 3)
+  step-bare (step.Carry true cs froms n out next) = all-bare (listed code froms n) []
+  step-bare (step.Carry false cs froms n out next) = behind-bare (listed code froms n) (taken_all 0) (out + length (operands_in code froms n)) (length (collects_in code cs 0))
   step-bare (step.Fire row x shape ins n out w kept k) = alone-bare (listed code ins n)
   step-bare (step.Sparse row g ins n out copies) = alone-bare (gapped code g ins n)
   step-bare step.Count = tt
@@ -61,5 +68,6 @@ module _ (code : Code) where
   step-bare (step.Spread froms n cs k to turns out w next) = alone-bare (listed code froms n)
   step-bare (step.Each ms n from count kept turn leave) = cells-bare (modes_in code ms n) from n
   step-bare (step.Add cs k froms n out next) = behind-bare (listed code froms n) (taken_all k) out (length (collects_in code cs k))
+  step-bare (step.Push cs froms i out next) = behind-bare (listed code froms 1) (taken_all 1) out (length (collects_in code cs 1))
   step-bare (step.Call entry size room args n out w) = alone-bare (listed code args n)
   step-bare (step.Return froms n) = alone-bare (listed code froms n)

@@ -76,6 +76,12 @@ no-written : (code : Code) (x : Step) (ks : List Carried) → written_in code x 
 no-written code (step.Fire row x shape ins n out w kept k) ks = no-written-at x ks
 no-written code (step.One o a out) ks = refl
 no-written code (step.Two o a b out) ks = refl
+no-written code (step.Int i out) ks = refl
+no-written code (step.Cells o i j out) ks = refl
+no-written code (step.Number o i l n out) ks = refl
+no-written code (step.Element ins i p out kept k) ks = refl
+no-written code (step.Replace ins i p e out kept k) ks = refl
+no-written code (step.Carry begins cs froms n out next) ks = refl
 no-written code (step.Sparse row g ins n out copies) ks = refl
 no-written code step.Count ks = refl
 no-written code (step.Bring a out next) ks = refl
@@ -87,6 +93,7 @@ no-written code (step.Keep begins cs k froms n out next) ks = refl
 no-written code (step.Spread froms n cs k to turns out w next) ks = refl
 no-written code (step.Each ms n from count kept turn leave) ks = refl
 no-written code (step.Add cs k froms n out next) ks = refl
+no-written code (step.Push cs froms i out next) ks = refl
 no-written code (step.Call entry size cells args n out w) ks = refl
 no-written code (step.Return froms n) ks = refl
 

@@ -1,3 +1,5 @@
+pub use Rattle.sequential_run.specs.Runs as StepRuns
+pub use Rattle.sequential_run.specs.Writes as StepWrites
 pub mod Alike
 pub mod Literals
 pub mod Runs

@@ -9,6 +9,7 @@ pub mod Standing
 pub mod Depth
 pub mod Known
 pub mod Tables
+pub mod Over
 pub mod Reached
 pub mod Steps
 pub mod Refusals
@@ -17,5 +18,6 @@ pub mod Naming
 pub mod Headers
 pub mod Declares
 pub mod Owning
+pub mod Counted
 pub mod Breaking
 pub mod Whole

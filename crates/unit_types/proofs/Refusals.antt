@@ -6,7 +6,7 @@ use Rattle.type_table.specs.declared.form.Form.{Form}
 use Rattle.type_table.specs.declared.form.Form.TheVariants as form
 use Rattle.type_table.specs.declared.form.Member.{Member as NumberedMember}
 use Rattle.type_table.specs.Forms.{form_depth, deepest as deepest_number}
-use Rattle.type_table.specs.Tables.{depths, IsWell}
+use Rattle.type_table.specs.Tables.{depths, HasMember, IsWell}
 use Rattle.sisal_lex.specs.declared.token.Kind.TheVariants as kind
 use Rattle.sisal_lex.specs.declared.token.Sign.TheVariants as sign
 use Rattle.sisal_lex.specs.declared.token.Token.{Token}
@@ -26,12 +26,13 @@ use Rattle.unit_types.specs.declared.open.Open.{Open}
 use Rattle.unit_types.specs.declared.open.Open.TheVariants as entry
 use Rattle.unit_types.specs.declared.open.Next.{Next}
 use Rattle.unit_types.specs.declared.open.Next.TheVariants as next
-use Rattle.unit_types.specs.Faults.{IsReal, IsUnknown, IsDeep, IsMemberTwice}
+use Rattle.unit_types.specs.Faults.{IsReal, IsUnknown, IsDeep, IsTooDeep, IsMemberTwice}
 use Rattle.unit_types.specs.Rests.{at_place, sequence_of, members_of, word_of, begun, with_group, sequence_form, members_form}
 use Rattle.unit_types.specs.Reached.{AtType, Gathers, Refuses}
 use Rattle.unit_types.proofs.Known.{none_known}
 use Rattle.unit_types.proofs.Depth.{depth_number, depth_members}
 use Rattle.unit_types.proofs.Tables.{basic}
+use Rattle.unit_types.proofs.Over.{sequence_over, members_over, members_some}
 use Rattle.unit_types.proofs.Reached.{breaks, sequence_deep, members_deep, members_twice, gathered, gathered_group}
 use Rattle.unit_types.proofs.Steps.{behind_tags}
 
@@ -81,20 +82,25 @@ members_depth forms sp true ms fs well p =
 members_depth forms sp false ms fs well p =
     let d : deepest_number (depths forms) (map (λ m. m.ty) ms) ≡ deepest (map (λ m. (m.0, depth_of m.1)) fs) = depth_members forms sp well p in omega (arith, d, depth_record fs)
 
+no_members : (b : Bool) (n : ℕ) → HasMember (sequence_form b n)
+no_members true n = tt
+no_members false n = tt
+
 pub refuses_sequence : (known : List (ℕ × ℕ)) (old : List Form) (s : Sequence) (os : List Open) (t : Token) (number rule line : ℕ) → t.kind ≡ kind.Sign sign.SCloseBracket
     → IsDeep old (sequence_form s.is_stream number) s.line rule line → Refuses known old (next.After number) (entry.Sequence s ∷ os) t rule line
 refuses_sequence known old s os t number rule line is h = refuses_as h.rule_is h.line_is (record {
   misnames = λ sp tys table o k n ts behind c.
       sequence_deep sp tys old os s ts c.type (at_place n t) (record { is = is }) c.is behind
-      (too_deep (form_depth (depths old) (sequence_form s.is_stream number)) (depth_of (sequence_of s.is_stream c.type)) h.deep (sequence_depth old sp s.is_stream number c.type table.well c.stands));
+      (too_deep (form_depth (depths old) (sequence_form s.is_stream number)) (depth_of (sequence_of s.is_stream c.type)) (h.deep (sequence_over old sp s.is_stream number c.type c.stands) (no_members s.is_stream number)) (sequence_depth old sp s.is_stream number c.type table.well c.stands));
 })
 
 deep : (sp : List (List ℕ)) (tys : List (ℕ × Ty)) (old : List Form) (os : List Open) (b : Bool) (line : ℕ) (numbers : List NumberedMember) (names : List ℕ) (p : Placed) (ts behind : List Placed) → IsWell old
-    → IsSign sign.SCloseBracket p → 64 < form_depth (depths old) (members_form b numbers) → Gathers sp tys old b line numbers names (AtType sp tys old os) ts
+    → IsSign sign.SCloseBracket p → IsTooDeep old (members_form b numbers) → Gathers sp tys old b line numbers names (AtType sp tys old os) ts
     → Misnames sp tys (ts ++ p ∷ behind) 4 line
 deep sp tys old os b line numbers names p ts behind well is h g =
     members_deep sp tys old os b line numbers names ts g p behind is
-    (too_deep (form_depth (depths old) (members_form b numbers)) (depth_of (members_of b g.members)) h (members_depth old sp b numbers g.members well g.numbered))
+    (too_deep (form_depth (depths old) (members_form b numbers)) (depth_of (members_of b g.members))
+    (h (members_over old sp b numbers g.members g.numbered) (members_some old sp tys b b g.inner g.names numbers g.members g.numbered g.are)) (members_depth old sp b numbers g.members well g.numbered))
 
 pub refuses_members : (known : List (ℕ × ℕ)) (old : List Form) (m : Members) (os : List Open) (t : Token) (rule line : ℕ) → t.kind ≡ kind.Sign sign.SCloseBracket
     → IsDeep old (members_form m.is_union m.members) m.line rule line → Refuses known old next.AfterSemicolon (entry.Members m ∷ os) t rule line

@@ -1,12 +1,12 @@
 -- Which rules the types and headers of a unit break.
-use Rattle.std.specs.Prelude.{◌≡◌, ◌<◌, ◌≤◌, ℕ, ◌++◌, List, None}
+use Rattle.std.specs.Prelude.{◌≡◌, ◌<◌, ◌≤◌, ℕ, ◌++◌, List, length, None}
 use Rattle.name_scope.specs.Newest.{newest}
 use Rattle.type_rules.specs.declared.fault.TypeFault.{TypeFault}
 use Rattle.type_rules.specs.declared.fault.TypeFault.TheVariants as fault
 use Rattle.type_rules.specs.Faults.{IsRule}
 use Rattle.type_table.specs.declared.form.Form.{Form}
 use Rattle.type_table.specs.Forms.{form_depth}
-use Rattle.type_table.specs.Tables.{depths}
+use Rattle.type_table.specs.Tables.{depths, HasMember, IsOver}
 use Rattle.sisal_tree.specs.declared.unit.Named.{Named}
 use Rattle.typed_tree.specs.Typing.{names_of}
 use Rattle.typed_tree.specs.Breaks.{IsTwice}
@@ -51,11 +51,15 @@ pub record IsUnknown (known : List (ℕ × ℕ)) (name line rule where_it_is : �
   pub line_is : where_it_is ≡ line
   pub no_type : newest name known ≡ None
 
+-- a form that has a member, over types of the table, is deeper than 64
+abbrev pub IsTooDeep : List Form → Form → Type 0
+IsTooDeep forms f = IsOver (length forms) f → HasMember f → 64 < form_depth (depths forms) f
+
 -- rule 4, where the word of a form stands on a line
 pub record IsDeep (forms : List Form) (f : Form) (line rule where_it_is : ℕ) : Type 0 where
   pub rule_is : rule ≡ 4
   pub line_is : where_it_is ≡ line
-  pub deep : 64 < form_depth (depths forms) f
+  pub deep : IsTooDeep forms f
 
 -- rule 5 at a name of the group that is one of the members, or stands before it in the group
 pub record IsMemberTwice (m : Members) (rule line : ℕ) : Type 0 where

@@ -1,5 +1,5 @@
 -- What the headers of a unit say beside types.
-use Rattle.std.specs.Prelude.{◌≡◌, ◌⊎◌, ℕ, ◌+◌, List, [], ◌∷◌, flat_map, Bool, true, false, Option, Some, None, slice_get, Contains}
+use Rattle.std.specs.Prelude.{◌≡◌, ◌⊎◌, ℕ, ◌+◌, ◌^◌, ◌<◌, List, [], ◌∷◌, All, map, flat_map, length, get_or, Bool, true, false, Option, Some, None, slice_get, Contains}
 use Rattle.std.specs.List.{filter}
 use Rattle.sisal_tree.specs.declared.unit.Field.{Field}
 use Rattle.sisal_tree.specs.declared.unit.FunDef.{FunDef}
@@ -86,6 +86,11 @@ AreOwnNames spellings (x ∷ xs) = IsOwnName spellings x × AreOwnNames spelling
 pub record AreOwn (spellings : List (List ℕ)) (names : List ℕ) : Type 0 where
   pub distinct : AreDistinct names
   pub own : AreOwnNames spellings names
+
+-- Functions that a `u32` counts: the number of each name is its place, and names are small.
+pub record AreCounted (functions : List Signature) (numbers : List (ℕ × ℕ)) : Type 0 where
+  pub numbered : (i d : ℕ) → i < length functions → newest (get_or (map (λ s. s.name) functions) i d) numbers ≡ Some i
+  pub small : All (λ x. x < 2 ^ 32) (map (λ s. s.name) functions)
 
 -- ---- functions by name
 

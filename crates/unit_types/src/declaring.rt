@@ -13,7 +13,7 @@ ghost use Rattle.sisal_tree.specs.declared.unit.Unit as tree;
 ghost use Rattle.typed_tree.specs.Faults.{BreaksUnit};
 ghost use Rattle.unit_types.specs.Headers.{IsOf, IsDeclaring, BreaksAt, AreItems, IsDeclared};
 ghost use Rattle.unit_types.specs.Faults.{IsUnitRule, fault_of, IsFault};
-ghost use Rattle.unit_types.specs.Headings.{heading_of, heading_in, has_body, given_functions, given_by, given_as, announced_as, numbering, IsOwnName, IsBuiltName, IsFree, IsTaken, AreOwn, HasNoBody, IsUndefined, IsKept, IsBroken, HasSame, function_at};
+ghost use Rattle.unit_types.specs.Headings.{AreCounted, heading_of, heading_in, has_body, given_functions, given_by, given_as, announced_as, numbering, IsOwnName, IsBuiltName, IsFree, IsTaken, AreOwn, HasNoBody, IsUndefined, IsKept, IsBroken, HasSame, function_at};
 
 use crate::fault::{UnitFault, numbered};
 use crate::header::{Signature, signature_of};
@@ -62,6 +62,7 @@ struct Declaring {
     bodies: Seq<bool>,
     numbers: Scope<u32>,
     announced: Seq<Announced>,
+    ghost counted: { AreCounted functions numbers },
 }
 
 /// What the type definitions and headers of a unit say (SISAL Language Reference Manual 1.2,
@@ -334,22 +335,20 @@ fn give(
     if !is_free(spellings, name, &declaring.numbers) {
         return Err(UnitFault::OtherFunction(line));
     }
-    let number = as_number(declaring.functions.len())?;
+    let number = next_number(name, declaring);
     declaring.numbers.define(name, number)?;
     declaring.functions.add(signature)?;
     declaring.bodies.add(has_body)?;
     Ok(())
 }
 
-/// A count of functions as the number of the next one. More than a `u32` counts would want more
-/// memory than there is.
-fn as_number(count: usize) -> Result<u32, NoMemory>
-    ensures { IfOk result (λ n. n ≡ count) }
+/// The number of a function whose name no other one has. Names are of 32 bits, so a `u32` counts
+/// the functions.
+fn next_number(name: u32, declaring: &Declaring) -> u32
+    requires { newest name declaring.now.numbers ≡ None }
+    ensures { result ≡ length declaring.now.functions }
 {
-    match u32::try_from(count) {
-        Ok(number) => Ok(number),
-        Err(_) => Err(NoMemory),
-    }
+    declaring.functions.len() as u32
 }
 
 /// Whether no function of these numbers has the name, nor is it a call that is built in.

@@ -64,6 +64,13 @@ module _ (D : PlanData) (P : Plan) (S : Shares) (functions : List ℕ) (stands :
   leads (step.One op a out) o ms h = absurd h.knit
   leads (step.Two op a b out) o ms h = absurd h.knit
   leads (step.Bring a out t) o ms h = absurd h.knit
+  leads (step.Int i out) o ms h = absurd h.knit
+  leads (step.Cells op i j out) o ms h = absurd h.knit
+  leads (step.Number op i l n out) o ms h = absurd h.knit
+  leads (step.Element ins i p out kept k) o ms h = absurd h.knit
+  leads (step.Replace ins i p e out kept k) o ms h = absurd h.knit
+  leads (step.Carry begins cs froms n out next) o ms h = absurd h.knit
+  leads (step.Push cs froms i out next) o ms h = absurd h.knit
   leads step.Count o ms h = behind h.stays
   leads (step.Fire row x shape ins n out w kept k) o ms h = let s = h.stays in behind s.2
   leads (step.Sparse row g ins n out copies) o ms h = let s = h.stays in behind s.2

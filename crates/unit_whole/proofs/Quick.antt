@@ -43,6 +43,12 @@ module _ (code : Code) (ys : List Step) where
   ready-as : (room : ℕ) (x : Step) → IsReady code room x → IsReady (with_steps code ys) room x
   ready-as room (step.One op a out) h = (one-inside room a h.0, h.1)
   ready-as room (step.Two op a b out) h = (one-inside room a h.0, one-inside room b h.1, h.2)
+  ready-as room (step.Int i out) h = h
+  ready-as room (step.Cells op i j out) h = h
+  ready-as room (step.Number op i l n out) h = h
+  ready-as room (step.Element ins i p out kept k) h = (listed-as room ins 2 h.0, h.1, h.2, h.3)
+  ready-as room (step.Replace ins i p e out kept k) h = (listed-as room ins 3 h.0, h.1, h.2, h.3)
+  ready-as room (step.Carry begins cs froms n out next) h = (listed-as room froms n h.0, h.1, h.2)
   ready-as room (step.Fire row x shape ins n out w kept k) h = (listed-as room ins n h.0, h.1, h.2, h.3)
   ready-as room (step.Sparse row g ins n out copies) h = (spread-as room g ins n h.0, h.1)
   ready-as room step.Count h = tt
@@ -55,6 +61,7 @@ module _ (code : Code) (ys : List Step) where
   ready-as room (step.Spread froms n cs k to turns out w next) h = (listed-as room froms n h.0, collected-as room cs k h.1, h.2, h.3)
   ready-as room (step.Each ms n from count kept turn leave) h = (listed-as room ms n h.0, h.1, h.2, h.3)
   ready-as room (step.Add cs k froms n out next) h = (listed-as room froms n h.0, collected-as room cs k h.1, h.2, h.3, h.4)
+  ready-as room (step.Push cs froms i out next) h = ((listed-as room froms 1 h.0.0, collected-as room cs 1 h.0.1, h.0.2, h.0.3, h.0.4), h.1, h.2)
   ready-as room (step.Call entry size cells args n out w) h = (listed-as room args n h.0, h.1, h.2)
   ready-as room (step.Return froms n) h = listed-as room froms n h
 
@@ -71,6 +78,12 @@ module _ (code : Code) (ys : List Step) where
     leads-as : (pc : ℕ) (x : Step) → Leads code B pc x → Leads (with_steps code ys) B pc x
     leads-as pc (step.One op a out) h = next-as pc (suc pc) h
     leads-as pc (step.Two op a b out) h = next-as pc (suc pc) h
+    leads-as pc (step.Int i out) h = next-as pc (suc pc) h
+    leads-as pc (step.Cells op i j out) h = next-as pc (suc pc) h
+    leads-as pc (step.Number op i l n out) h = next-as pc (suc pc) h
+    leads-as pc (step.Element ins i p out kept k) h = next-as pc (suc pc) h
+    leads-as pc (step.Replace ins i p e out kept k) h = next-as pc (suc pc) h
+    leads-as pc (step.Carry begins cs froms n out next) h = (h.0, next-as pc next h.1)
     leads-as pc (step.Fire row x shape ins n out w kept k) h = next-as pc (suc pc) h
     leads-as pc (step.Sparse row g ins n out copies) h = next-as pc (suc pc) h
     leads-as pc step.Count h = next-as pc (suc pc) h
@@ -83,6 +96,7 @@ module _ (code : Code) (ys : List Step) where
     leads-as pc (step.Spread froms n cs k to turns out w next) h = ((h.0.0, next-as pc turns h.0.1), (h.1.0, next-as pc next h.1.1))
     leads-as pc (step.Each ms n from count kept turn leave) h = (next-as pc turn h.0, (h.1.0, next-as pc leave h.1.1))
     leads-as pc (step.Add cs k froms n out next) h = (h.0, next-as pc next h.1)
+    leads-as pc (step.Push cs froms i out next) h = (h.0, next-as pc next h.1)
     leads-as pc (step.Call entry size cells args n out w) h =
         let there = h.there in
         record { behind = next-as pc (suc pc) h.behind; size_is = h.size_is; there = omega (arith, there, long); room = h.room; gives = h.gives; results = h.results }
@@ -103,6 +117,37 @@ module _ (code : Code) (ys : List Step) where
       let o = e.1 in
       let w = e.2 in
       (i.0, i.1.0, omega (arith, fits, o, w))
+  names-ready room (step.Fire row w shape ins n out width kept k) (step.Int i out') e h =
+      let x = subst (AreInside code room) e.0 h.0.inside in
+      let fits = h.2 in
+      let o = e.1 in
+      let w = e.2 in
+      (x.0, omega (arith, fits, o, w))
+  names-ready room (step.Fire row w shape ins n out width kept k) (step.Cells op i j out') e h =
+      let x = subst (AreInside code room) e.0 h.0.inside in
+      let fits = h.2 in
+      let o = e.1 in
+      let w = e.2 in
+      (x.0, x.1.0, omega (arith, fits, o, w))
+  names-ready room (step.Fire row w shape ins n out width kept k) (step.Number op i l m out') e h =
+      let x = subst (AreInside code room) e.0 h.0.inside in
+      let fits = h.2 in
+      let o = e.2 in
+      let w = e.3 in
+      (x.0, x.1.0, e.1, omega (arith, fits, o, w))
+  names-ready room (step.Fire row w s js m to width kq q) (step.Element ins i p out kept k) e h =
+      let r = subst (IsReady code room) e.0 h in
+      let fits = r.2 in
+      (r.0, e.1, e.2, omega (arith, fits))
+  names-ready room (step.Fire row w s js m to width kq q) (step.Replace ins i p v out kept k) e h =
+      let r = subst (IsReady code room) e.0 h in
+      let fits = r.2 in
+      (r.0, e.1, e.2, omega (arith, fits))
+  names-ready room (step.Keep b ds m ps q to t) (step.Carry begins cs froms n out next) e h =
+      let r = subst (IsReady code room) e.0 h in
+      let fits = r.4 in
+      (r.0, e.1, omega (arith, fits))
+  names-ready room (step.Add ds m ps q to t) (step.Push cs froms i out next) e h = (subst (IsReady code room) e.0 h, e.1, e.2)
   names-ready room (step.Move froms n out w next) (step.Bring a out' next') e h =
       let i = subst (AreInside code room) e.0 h.0.inside in
       let fits = h.2 in
@@ -114,6 +159,13 @@ module _ (code : Code) (ys : List Step) where
   names-leads : (B : Blocks) (pc : ℕ) (x y : Step) → Names code x y → Leads code B pc x → Leads code B pc y
   names-leads B pc (step.Fire row w shape ins n out width kept k) (step.One op a out') e h = h
   names-leads B pc (step.Fire row w shape ins n out width kept k) (step.Two op a b out') e h = h
+  names-leads B pc (step.Fire row w shape ins n out width kept k) (step.Int i out') e h = h
+  names-leads B pc (step.Fire row w shape ins n out width kept k) (step.Cells op i j out') e h = h
+  names-leads B pc (step.Fire row w shape ins n out width kept k) (step.Number op i l m out') e h = h
+  names-leads B pc (step.Fire row w s js m to width kq q) (step.Element ins i p out kept k) e h = subst (Leads code B pc) e.0 h
+  names-leads B pc (step.Fire row w s js m to width kq q) (step.Replace ins i p v out kept k) e h = subst (Leads code B pc) e.0 h
+  names-leads B pc (step.Keep b ds m ps q to t) (step.Carry begins cs froms n out next) e h = subst (Leads code B pc) e.0 h
+  names-leads B pc (step.Add ds m ps q to t) (step.Push cs froms i out next) e h = subst (Leads code B pc) e.0 h
   names-leads B pc (step.Move froms n out w next) (step.Bring a out' next') e h =
       let same = e.3 in
       let lt = h.0 in

@@ -197,6 +197,13 @@ module _ (D : PlanData) (P : Plan) (S : Shares) (functions : List ℕ) (stands :
     ready (step.One op a out) o ms h = absurd h.knit
     ready (step.Two op a b out) o ms h = absurd h.knit
     ready (step.Bring a out next) o ms h = absurd h.knit
+    ready (step.Int i out) o ms h = absurd h.knit
+    ready (step.Cells op i j out) o ms h = absurd h.knit
+    ready (step.Number op i l n out) o ms h = absurd h.knit
+    ready (step.Element ins i p out kept k) o ms h = absurd h.knit
+    ready (step.Replace ins i p e out kept k) o ms h = absurd h.knit
+    ready (step.Carry begins cs froms n out next) o ms h = absurd h.knit
+    ready (step.Push cs froms i out next) o ms h = absurd h.knit
     ready step.Count o ms h = tt
     ready (step.Fire row x shape ins n out w kept k) o ms h =
         let f = fired-so o row (shape_of shape) x k (operands_in code ins n) w ms h.steady h.told in

@@ -1,4 +1,4 @@
-use Rattle.std.proofs.Common.{◌≡◌, ℕ, ◌<◌, List, All, map, length, get_or, slice_index, arith, sym, ap, subst, ◌∙◌, refl}
+use Rattle.std.proofs.Common.{ℕ, ◌<◌, List, All, map, length, get_or, slice_index, arith, sym, ap, subst, ◌∙◌, refl}
 use Rattle.std.proofs.lemmas.List.Elements.{Contains-get_or}
 use Rattle.if1_order.specs.declared.walk.Sorted.{Sorted}
 use Rattle.if1_order.specs.Walks.{IsSorted, Sorts, Leads}

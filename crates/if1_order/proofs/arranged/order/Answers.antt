@@ -1,4 +1,4 @@
-use Rattle.std.proofs.Common.{◌≡◌, List, ℕ, map, length, sym, ap, subst, ◌∙◌}
+use Rattle.std.proofs.Common.{List, ℕ, map, length, sym, ap, subst, ◌∙◌}
 use Rattle.if1_graph.specs.declared.graph.Graph.TheViews.{out-Graph}
 use Rattle.if1_graph.specs.declared.graph.Edge.{Edge}
 use Rattle.if1_graph.specs.Units.{label_of}

@@ -1,7 +1,6 @@
-use Rattle.std.proofs.Common.{◌+◌, ◌*◌, map, take, All}
-use Rattle.if1_graph.specs.declared.graph.Node.{out-Node}
+use Rattle.std.proofs.Common.{◌+◌, ◌*◌, map, take}
 use Rattle.if1_graph.specs.Units.{greatest, levels, level_below}
-use Rattle.if1_order.specs.Parts.{IsClear, AreClear, NodesAreClear}
+use Rattle.if1_order.specs.Parts.{AreClear, NodesAreClear}
 use Rattle.if1_order.proofs.Within.{node_levels}
 use Rattle.if1_order.proofs.circles.+circles.Given as goal
 

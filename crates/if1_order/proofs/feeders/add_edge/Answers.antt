@@ -1,4 +1,4 @@
-use Rattle.std.proofs.Common.{◌≡◌, ◌≢◌, arith}
+use Rattle.std.proofs.Common.{arith}
 use Rattle.std.proofs.lemmas.Result.{on_ok_weaker}
 use Rattle.if1_order.proofs.Orders.{edge_joined, into_boundary, from_boundary, from_literal}
 use Rattle.if1_order.proofs.feeders.add_edge.Goals as goal

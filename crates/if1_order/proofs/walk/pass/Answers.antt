@@ -1,4 +1,4 @@
-use Rattle.std.proofs.Common.{◌<◌, ◌++◌, ◌∷◌, [], ℕ, length, arith, refl, sym, subst}
+use Rattle.std.proofs.Common.{◌++◌, ◌∷◌, [], arith, refl, sym, subst}
 use Rattle.if1_order.specs.declared.walk.Mark.{Mark}
 use Rattle.if1_order.specs.Walks.{Means}
 use Rattle.if1_order.proofs.Walks.{goes_down, passes, around, is_feeder}

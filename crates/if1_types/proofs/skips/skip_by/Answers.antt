@@ -1,4 +1,4 @@
-use Rattle.std.proofs.Common.{◌≡◌, ◌∙◌, sym, subst}
+use Rattle.std.proofs.Common.{◌∙◌, sym, subst}
 use Rattle.if1_types.specs.Skips.{IsFurther}
 use Rattle.if1_types.proofs.Skipping.{behind_further, further_then}
 use Rattle.if1_types.proofs.skips.skip_by.Goals as goal

@@ -22,11 +22,7 @@ pub returns-in-Some : goal.returns-in-Some
 returns-in-Some c =
     let t = table_of c.args.known.now in
     let a : Around = record { site = c.args.site; inputs = c.args.inputs.now; parts = c.args.parts.now } in
-    let es = c.as_slice.result.now in
-    wrong_either t a c.args.graph.now c.in-Some.label c.or_ungiven.result
-    (subst (λ (es : List Edge). Disagrees t es c.in-Some.label) c.as_slice.ensures
-    (subst (λ (o : Option ℕ). MatchOption o (AreAgreed t es) (Disagrees t es)) c.in-Some.is c.in_ok-label.ensures))
-    c.or_ungiven.ensures
+    wrong_either t a c.args.graph.now c.in-Some.label c.or_ungiven.result c.in-Some.ensures c.or_ungiven.ensures
 
 pub returns-in-Some-wrong_node : goal.returns-in-Some-wrong_node
 returns-in-Some-wrong_node c =
@@ -45,11 +41,9 @@ returns c =
     let t = table_of c.args.known.now in
     let a : Around = record { site = c.args.site; inputs = c.args.inputs.now; parts = c.args.parts.now } in
     let g = c.args.graph.now in
-    let es = c.as_slice.result.now in
     none_wrong t a g c.requires.laid
     (subst
     (λ (m : Option ℕ). MatchOption m (All (λ n. is_right t a g (label_of n) ≡ true) (out-Graph g).nodes) (λ l. Contains (map label_of (out-Graph g).nodes) l × (is_right t a g l ≡ false)))
     c.in_default-wrong_node.is c.wrong_node.ensures)
     (sym (boundary_right_as t a g c.requires.laid) ∙ sym c.is_right.ensures ∙ c.if-not-is_right.false)
-    (subst (λ (es : List Edge). AreAgreed t es) c.as_slice.ensures
-    (subst (λ (o : Option ℕ). MatchOption o (AreAgreed t es) (Disagrees t es)) c.in_default.is c.in_ok-label.ensures))
+    (subst (λ (o : Option ℕ). MatchOption o (AreAgreed t (out-Graph g).edges) (Disagrees t (out-Graph g).edges)) c.in_default.is c.disagreeing.ensures)

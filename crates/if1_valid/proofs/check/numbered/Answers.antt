@@ -8,7 +8,7 @@ pub of-requires-clause-numbers : goal.of-requires-clause-numbers
 of-requires-clause-numbers c =
     let s = c.in_ok-sorts.ensures in
     subst (λ (ts : List TypeEntry). IsNumbering ts c.in_ok-sorts.sorts) c.as_slice.ensures
-    (numbering c.as_slice.result.now c.in_ok-sorts.sorts s.labels s.numbers s.stand s.once s.read)
+    (numbering c.as_slice.result.now c.in_ok-sorts.sorts s.labels s.numbers s.stand s.once s.read s.keys)
 
 pub sorts_of-requires-clause-few : goal.sorts_of-requires-clause-few
 sorts_of-requires-clause-few c = omega (arith, ap length c.as_slice.ensures, c.requires.ready.formed.types.few)

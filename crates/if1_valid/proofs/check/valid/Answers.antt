@@ -4,6 +4,7 @@ use Rattle.if1_graph.specs.declared.graph.TypeEntry.{TypeEntry}
 use Rattle.if1_graph.specs.Ready.{PortsHold, BreaksPorts}
 use Rattle.if1_types.specs.declared.numbered.Sorts.{Sorts}
 use Rattle.if1_types.specs.Numbering.{IsNumbering}
+use Rattle.if1_order.proofs.Units.{ports_linked}
 use Rattle.if1_valid.specs.Refused.{IsRefused}
 use Rattle.if1_valid.proofs.Refusals.{numbering, given_up}
 use Rattle.if1_valid.proofs.check.valid.Goals as goal
@@ -15,14 +16,14 @@ pub wrong_ports-requires-clause-numbers : goal.wrong_ports-requires-clause-numbe
 wrong_ports-requires-clause-numbers c =
     let s = c.in_ok-sorts.ensures in
     subst (λ (ts : List TypeEntry). IsNumbering ts c.in_ok-sorts.sorts) c.as_slice.ensures
-    (numbering c.as_slice.result.now c.in_ok-sorts.sorts s.labels s.numbers s.stand s.once s.read)
+    (numbering c.as_slice.result.now c.in_ok-sorts.sorts s.labels s.numbers s.stand s.once s.read s.keys)
 
 pub known_of-requires-clause-numbers : goal.known_of-requires-clause-numbers
 known_of-requires-clause-numbers c =
     let s = c.in_ok-sorts.ensures in
     subst (λ (ts : List TypeEntry). IsNumbering ts c.in_ok-sorts.sorts) (sym c.as_slice-2.ensures)
     (subst (λ (ts : List TypeEntry). IsNumbering ts c.in_ok-sorts.sorts) c.as_slice.ensures
-    (numbering c.as_slice.result.now c.in_ok-sorts.sorts s.labels s.numbers s.stand s.once s.read))
+    (numbering c.as_slice.result.now c.in_ok-sorts.sorts s.labels s.numbers s.stand s.once s.read s.keys))
 
 pub returns-in_err-graph-2-clause-refused : goal.returns-in_err-graph-2-clause-refused
 returns-in_err-graph-2-clause-refused c = given_up (IsRefused c.args.unit) c.from_residual-in_err-graph-2.result c.from_residual-in_err-graph-2.ensures.1 tt
@@ -32,9 +33,9 @@ of-requires-clause-numbers c =
     let s = c.in_ok-sorts.ensures in
     subst (λ (k : Sorts). IsNumbering c.args.unit.types k) (sym c.in_ok-known.ensures.sorts)
     (subst (λ (ts : List TypeEntry). IsNumbering ts c.in_ok-sorts.sorts) c.as_slice.ensures
-    (numbering c.as_slice.result.now c.in_ok-sorts.sorts s.labels s.numbers s.stand s.once s.read))
+    (numbering c.as_slice.result.now c.in_ok-sorts.sorts s.labels s.numbers s.stand s.once s.read s.keys))
 
 pub wrong_order-requires-clause-linked : goal.wrong_order-requires-clause-linked
 wrong_order-requires-clause-linked c =
-    c.ports_link.ensures c.args.unit c.requires.normal
+    ports_linked c.args.unit c.requires.normal
     (subst (λ (o : Option (ℕ × ℕ)). MatchOption o (PortsHold c.args.unit) (λ at. BreaksPorts c.args.unit at.0 at.1)) c.in_default.is c.in_ok-graph.ensures)

@@ -15,6 +15,6 @@ see_parts-requires-clause-laid c = subst (λ (gs : List Graph). AreLaid gs) (sym
 
 pub returns : goal.returns
 returns c =
-    c.in_ok-seen.ensures.consuming c.in_ok-functions.ensures most_levels (λ k. Function k)
+    c.in_ok-seen.ensures.consuming c.in_ok-functions.ensures.known most_levels (λ k. Function k)
     (levels-below most_levels c.as_slice.result.now (subst (All (λ g. levels g ≤ most_levels)) (sym c.as_slice.ensures) c.requires.formed.nesting))
     ∙ ap (λ gs. map (consuming_at c.args.unit.now) (each_from (λ k s. places_of most_levels (Function k) s) 0 gs)) c.as_slice.ensures

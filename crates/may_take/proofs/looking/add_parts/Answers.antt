@@ -9,7 +9,7 @@ use Rattle.if1_order.specs.Within.{whole}
 use Rattle.if1_marks.specs.Given.{is_consuming}
 use Rattle.if1_marks.specs.Owned.{users}
 use Rattle.may_take.specs.Owned.{is_owned_at}
-use Rattle.may_take.specs.Looked.{flags_at, IsLooked}
+use Rattle.may_take.specs.Looked.{flags_by, is_asked, IsLooked}
 use Rattle.may_take.proofs.Steps.{here, part-at, less-left, part-more}
 use Rattle.may_take.proofs.looking.add_parts.Goals as goal
 
@@ -42,19 +42,19 @@ loop-place-preserved c =
     let seen : IsLooked u f s r = part-at u f (out-Node n).subs c.args.parts.items k s r (into_iter_items c.next.new.self) c.requires.looked d lt at in
     record {
       left = less-left c.args.parts.items k r (into_iter_items c.next.new.self) d;
-      inside = λ tells more deep.
-          part-more u f g n c.args.parts.items c.requires.looked c.args.how.now c.requires.how tells more k s r
+      inside = λ tells asks more deep.
+          part-more u f g n c.args.parts.items c.requires.looked c.args.how.now c.requires.how tells asks more k s r
           lt at deep seen
-          c.args.inside.now.items c.loop-place.inside.items c.add_part.new.inside.items (c.loop-place.invariant.inside tells more deep)
-          (subst (λ st. c.add_part.new.inside.items ≡ c.loop-place.inside.items ++ (map (λ e. is_consuming u s e && is_owned_at st s (users s e.from) e.from) (out-Graph s).edges ∷ r.inside.items)) c.site_of.ensures
+          c.args.inside.now.items c.loop-place.inside.items c.add_part.new.inside.items (c.loop-place.invariant.inside tells asks more deep)
+          (subst (λ st. c.add_part.new.inside.items ≡ c.loop-place.inside.items ++ (map (λ e. is_asked f.asked (is_consuming u s e) && is_owned_at st s (users s e.from) e.from) (out-Graph s).edges ∷ r.inside.items)) c.site_of-site.ensures
           (c.in_ok-add_part.ensures (is_consuming u s) (seen.consuming tells)));
     }
 
 pub returns : goal.returns
-returns c = λ tells more deep.
+returns c = λ tells asks more deep.
     let u = c.args.unit.now in
     let g = c.args.graph.now in
     let n = c.args.node.now in
-    c.loop-place.invariant.inside tells more deep
-    ∙ ap (λ gs. c.args.inside.now.items ++ map (flags_at u) (each_from (λ k s. places_of more (Inside g n k) s) 0 gs))
+    c.loop-place.invariant.inside tells asks more deep
+    ∙ ap (λ gs. c.args.inside.now.items ++ map (flags_by c.args.functions.now.asked u) (each_from (λ k s. places_of more (Inside g n k) s) 0 gs))
     (take_all c.loop-place.place (out-Node n).subs (subst (λ gs. length gs ≤ c.loop-place.place) c.as_slice-part_graph-items.ensures c.loop-place-test.false))

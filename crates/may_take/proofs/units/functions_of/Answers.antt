@@ -5,7 +5,7 @@ use Rattle.may_take.specs.Uses.{AreKnown}
 use Rattle.may_take.proofs.units.functions_of.Goals as goal
 
 pub loop-graph-init : goal.loop-graph-init
-loop-graph-init c = c.none-functions.ensures c.args.unit.now
+loop-graph-init c = record { known = c.none-functions.ensures.known c.args.unit.now; asked = c.none-functions.ensures.asked }
 
 pub loop-graph-preserved : goal.loop-graph-preserved
 loop-graph-preserved c =
@@ -16,5 +16,8 @@ loop-graph-preserved c =
     let lt = subst (λ gs. i < length gs) c.as_slice-graph-items.ensures c.loop-graph-test.true in
     let at = c.graph-item.is ∙ ap (λ (gs : List Graph). get_or gs i g) c.as_slice-graph-items.ensures in
     let e : take i gs ++ g ∷ [] ≡ take (i + 1) gs = ap (λ x. take i gs ++ x ∷ []) at ∙ sym (take_more gs i g lt) in
-    subst (λ gs. AreKnown u gs c.add.new.self) e
-    (c.in_ok-add.ensures u (take i gs) g (sym c.as_slice.ensures) c.in_ok-inputs.ensures.inputs c.loop-graph.invariant)
+    record {
+      known = subst (λ gs. AreKnown u gs c.add.new.self) e
+          (c.in_ok-add.ensures.known u (take i gs) g (sym c.as_slice.ensures) c.in_ok-inputs.ensures.inputs c.loop-graph.invariant.known);
+      asked = c.in_ok-add.ensures.asked ∙ c.loop-graph.invariant.asked;
+    }

@@ -11,6 +11,6 @@ fire_one-requires-clause-one c = has-one c.args.row c.requires
 pub returns : goal.returns
 returns c = λ k l m is is2 is3.
     anew-gives c.args.row c.requires c.args.shape c.in_ok-value.value c.in_ok-cell.cell (operand_value c.or_absent.result ∷ operand_value c.or_absent-2.result ∷ operand_value c.or_absent-3.result ∷ []) (k ∷ l ∷ m ∷ [])
-    (ap (λ v. v ∷ operand_value c.or_absent-2.result ∷ operand_value c.or_absent-3.result ∷ []) (c.or_absent.ensures ∙ c.value_out.ensures k is)
-    ∙ (ap (λ v. value_operand k ∷ v ∷ operand_value c.or_absent-3.result ∷ []) (c.or_absent-2.ensures ∙ c.value_out-2.ensures l is2)
-    ∙ ap (λ v. value_operand k ∷ value_operand l ∷ v ∷ []) (c.or_absent-3.ensures ∙ c.value_out-3.ensures m is3))) c.in_ok-cell.ensures c.in_ok-value.ensures
+    (ap (λ v. v ∷ operand_value c.or_absent-2.result ∷ operand_value c.or_absent-3.result ∷ []) (c.or_absent.ensures ∙ c.in_ok-first.ensures k is)
+    ∙ (ap (λ v. value_operand k ∷ v ∷ operand_value c.or_absent-3.result ∷ []) (c.or_absent-2.ensures ∙ c.in_ok-second.ensures l is2)
+    ∙ ap (λ v. value_operand k ∷ value_operand l ∷ v ∷ []) (c.or_absent-3.ensures ∙ c.in_ok-third.ensures m is3))) c.in_ok-cell.ensures c.in_ok-value.ensures

@@ -11,4 +11,4 @@ fire_one-requires-clause-one c = has-one c.args.row c.requires
 pub returns : goal.returns
 returns c = λ k l is is2.
     anew-gives c.args.row c.requires c.args.shape c.in_ok-value.value c.in_ok-cell.cell (operand_value c.or_absent.result ∷ operand_value c.or_absent-2.result ∷ []) (k ∷ l ∷ [])
-    (ap (λ v. v ∷ operand_value c.or_absent-2.result ∷ []) (c.or_absent.ensures ∙ c.value_out.ensures k is) ∙ ap (λ v. value_operand k ∷ v ∷ []) (c.or_absent-2.ensures ∙ c.value_out-2.ensures l is2)) c.in_ok-cell.ensures c.in_ok-value.ensures
+    (ap (λ v. v ∷ operand_value c.or_absent-2.result ∷ []) (c.or_absent.ensures ∙ c.in_ok-first.ensures k is) ∙ ap (λ v. value_operand k ∷ v ∷ []) (c.or_absent-2.ensures ∙ c.in_ok-second.ensures l is2)) c.in_ok-cell.ensures c.in_ok-value.ensures

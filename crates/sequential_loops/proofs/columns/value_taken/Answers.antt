@@ -1,11 +1,13 @@
-use Rattle.std.proofs.Common.{◌≤◌, length, sym, ap, ◌∙◌, arith}
+use Rattle.std.proofs.Common.{◌≡◌, ◌≤◌, length, sym, ap, ◌∙◌, subst, arith}
+use Rattle.std.specs.Result.{IfOk}
 use Rattle.graph_meaning.specs.Carried.{val_of}
 use Rattle.run_store.specs.Stored as stored
 use Rattle.sequential_loops.proofs.Lists.{owned-at, owned-past}
 use Rattle.sequential_loops.proofs.columns.value_taken.Goals as goal
 
 pub returns-then-at-long-clause-value : goal.returns-then-at-long-clause-value
-returns-then-at-long-clause-value c = c.value_moved.ensures ∙ ap val_of (ap stored.owned_in c.lift.ensures.value ∙ sym (owned-at c.args.row.now.items c.args.place))
+returns-then-at-long-clause-value c =
+    subst (λ k. IfOk c.value_moved.result (λ v. v ≡ val_of k)) (ap stored.owned_in c.lift.ensures.value ∙ sym (owned-at c.args.row.now.items c.args.place)) c.value_moved.ensures
 
 pub returns-else-at-long-clause-value : goal.returns-else-at-long-clause-value
 returns-else-at-long-clause-value c =

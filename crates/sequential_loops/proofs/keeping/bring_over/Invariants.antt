@@ -1,6 +1,7 @@
 use Rattle.std.proofs.Common.{◌≡◌, ◌≤◌, ◌-◌, drop, length}
 use Rattle.sequential.specs.Loading.{AreInside, AreApart}
-use Rattle.sequential_loops.specs.Keeping.{AreClear, OverSoFar}
+use Rattle.step_code.specs.Reading.{AreClear}
+use Rattle.sequential_loops.specs.Keeping.{OverSoFar}
 use Rattle.sequential_loops.proofs.keeping.bring_over.Given as goal
 
 abbrev pub invariant-loop-place : goal.invariant-loop-place

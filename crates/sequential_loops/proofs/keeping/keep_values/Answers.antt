@@ -1,34 +1,58 @@
-use Rattle.std.proofs.Common.{◌≡◌, ◌+◌, length, subst, refl, sym, ap, ◌∙◌, arith}
-use Rattle.step_code.specs.declared.step.Step.TheVariants as step
-use Rattle.step_code.specs.Reading.{listed}
+use Rattle.std.proofs.Common.{◌≡◌, ◌+◌, List, map, length, subst, refl, ap, arith}
+use Rattle.graph_meaning.specs.Carried.{Carried}
+use Rattle.graph_meaning.specs.Storage.{capped}
+use Rattle.run_code.specs.Collections.{put_all}
+use Rattle.run_store.specs.Stored as stored
+use Rattle.run_cells.specs.declared.cell.Cell.{Cell}
+use Rattle.run_cells.specs.Held.{heap_of}
+use Rattle.step_code.specs.declared.step.Collect.{Collect}
+use Rattle.step_code.specs.Laid.{puts_of}
+use Rattle.step_code.specs.Reading.{so_many}
 use Rattle.sequential.specs.declared.machine.Machine.{Machine}
-use Rattle.sequential.specs.declared.machine.Turn.TheVariants as turn
-use Rattle.sequential.specs.Agrees.{DoesForAll}
-use Rattle.sequential_loops.specs.Keeping.{AreClear, BringsOver}
-use Rattle.sequential_loops.proofs.OverSteps.{keep-over}
+use Rattle.sequential.specs.Agrees.{owned_all}
+use Rattle.sequential.specs.Loading.{Loads}
+use Rattle.sequential_loops.specs.Laying.{IsLaid, owning}
+use Rattle.sequential_loops.specs.Putting.{AreThere, collections_of}
+use Rattle.sequential_loops.proofs.KeepSteps.{keeps-goes}
 use Rattle.sequential_loops.proofs.keeping.keep_values.Goals as goal
 
-pub bring_over-requires-clause-clear : goal.bring_over-requires-clause-clear
-bring_over-requires-clause-clear c =
-    let e = ap length c.operands_from-operands.ensures in
-    subst (λ n. AreClear c.args.out n c.operands_from-operands.result.now) (c.requires.long ∙ sym e) (c.goes_at_once.ensures.clear c.if-goes_at_once.true)
-
-pub bring_over-requires-clause-room : goal.bring_over-requires-clause-room
-bring_over-requires-clause-room c =
-    let e = ap length c.operands_from-operands.ensures in
-    let long = c.requires.long in
+pub put_row-requires-clause-room : goal.put_row-requires-clause-room
+put_row-requires-clause-room c =
     let out = c.requires.out in
-    omega (arith, e, long, out)
+    let counted = c.requires.counted in
+    let these = ap length c.collects_from-these.ensures in
+    let size = c.in_ok-load.ensures.size in
+    omega (arith, out, counted, these, size)
 
-pub returns-then-goes_at_once-clause-does : goal.returns-then-goes_at_once-clause-does
-returns-then-goes_at_once-clause-does c =
+pub settle-requires : goal.settle-requires
+settle-requires c =
+    let out = c.requires.out in
+    let long = c.requires.long in
+    let loaded = c.in_ok-load.ensures.long in
+    let list = ap length c.operands_from.ensures in
+    let row = ap length (c.in_ok-put_row.ensures.whole refl) in
+    let size = c.in_ok-load.ensures.size in
+    let put = c.in_ok-put_row.ensures.size in
+    omega (arith, out, long, loaded, list, row, size, put)
+
+pub returns-clause-does : goal.returns-clause-does
+returns-clause-does c =
     let m = c.args.machine.now in
     let a = c.args in
     let code = a.code.now in
-    let os = listed code a.froms a.many in
-    let new : Machine = record { pc = a.next; base = m.base; cells = c.bring_over.new.cells; calls = m.calls; fires = m.fires; copies = c.bring_over.new.copies; results = m.results } in
-    subst (λ n. DoesForAll code a.limit (step.Keep a.begins a.collects n a.froms a.many a.out a.next) m turn.Goes new) (sym (c.goes_at_once.ensures.none c.if-goes_at_once.true))
-    (keep-over code a.limit m new a.collects a.froms a.many a.out a.next a.begins c.requires.long
-    (subst (λ n. BringsOver code m.base a.out n os m.cells.items c.bring_over.new.cells.items m.copies c.bring_over.new.copies) (sym c.requires.long)
-    (subst (λ xs. BringsOver code m.base a.out (length xs) xs m.cells.items c.bring_over.new.cells.items m.copies c.bring_over.new.copies) c.operands_from-operands.ensures c.in_ok-bring_over.ensures.over))
-    refl refl (record { base = refl; calls = refl }))
+    let loaded = c.load.new.loaded.items in
+    let mid = c.load.new.cells.items in
+    let later = c.put_row.new.cells.items in
+    let these = so_many a.collects a.count code.collects in
+    let new : Machine = record { pc = a.next; base = m.base; cells = c.settle.new.cells; calls = m.calls; fires = m.fires; copies = c.with_puts-machine.result; results = c.settle.new.loaded } in
+    keeps-goes code a.limit m new a.collects a.count a.froms a.many a.out a.next a.begins loaded mid later c.load.new.copies c.requires.counted c.requires.long c.requires.columns c.requires.sparing
+    (subst (λ os. Loads code m.base os m.cells.items loaded mid m.copies c.load.new.copies) c.operands_from.ensures c.in_ok-load.ensures.loads)
+    (record {
+      copies = subst (λ (xs : List Cell). c.with_puts-machine.result ≡ capped (c.load.new.copies + stored.put_copied (collections_of these) (map puts_of these) (owned_all xs))) c.as_slice.ensures.value
+          (subst (λ (zs : List Collect). c.with_puts-machine.result ≡ capped (c.load.new.copies + stored.put_copied (collections_of zs) (map puts_of zs) (owned_all c.as_slice.result.now))) c.collects_from-these.ensures c.with_puts-machine.ensures);
+      puts = subst (λ (zs : List Collect). (ms : List Carried) → AreThere a.begins zs ((m.base + a.out) + a.many) ms (heap_of mid) → IsLaid ((m.base + a.out) + a.many) (length zs) (owning (put_all (collections_of zs) (owned_all loaded) ms)) (heap_of mid) (heap_of later)) c.collects_from-these.ensures c.in_ok-put_row.ensures.puts;
+      values = subst (λ (xs : List Cell). IsLaid (m.base + a.out) (length xs) (heap_of xs) (heap_of later) (heap_of c.settle.new.cells.items)) (c.in_ok-put_row.ensures.whole refl) c.settle.ensures.laid;
+      pc = refl;
+      fires = refl;
+      same = record { base = refl; calls = refl };
+    })

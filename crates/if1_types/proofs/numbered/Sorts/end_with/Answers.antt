@@ -1,4 +1,4 @@
-use Rattle.std.proofs.Common.{◌≡◌, ◌≤◌, sym, ap, ◌∙◌, subst, arith}
+use Rattle.std.proofs.Common.{◌≡◌, arith}
 use Rattle.if1_types.specs.Skips.{members_at}
 use Rattle.if1_types.proofs.Skipping.{goes_on}
 use Rattle.if1_types.proofs.numbered.Sorts.end_with.Goals as goal

@@ -1,13 +1,12 @@
 use Rattle.std.proofs.Common.{sym, subst, arith}
 use Rattle.if1_types.specs.Trees.{kind_number}
-use Rattle.if1_types.specs.Shapes.{trees_in, IsKept, Stands}
+use Rattle.if1_types.specs.Shapes.{trees_in, Stands}
 use Rattle.if1_types.proofs.Keeping.{over_some}
 use Rattle.if1_types.proofs.shapes.Shapes.over.Goals as goal
 
 pub returns-clause-number : goal.returns-clause-number
 returns-clause-number c =
     let ts = trees_in c.args.self.now in
-    let kept : IsKept c.args.self.now ts = subst (λ ks. IsKept ks (trees_in ks)) c.self.view_is c.self.invariant.kept in
     subst (Stands (trees_in c.number.new.self) c.in_ok-number.number)
-    (sym (over_some c.args.self.now ts (kind_number c.args.kind) c.args.part kept c.requires.part (omega (arith, c.if-part-eq0.false))))
+    (sym (over_some ts (kind_number c.args.kind) c.args.part c.in_ok-number.ensures.once c.requires.part (omega (arith, c.if-part-eq0.false))))
     c.in_ok-number.ensures.number

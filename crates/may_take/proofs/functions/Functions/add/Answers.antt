@@ -8,8 +8,8 @@ use Rattle.may_take.proofs.Labels.{named-more}
 use Rattle.may_take.proofs.Seen.{mapped-more}
 use Rattle.may_take.proofs.functions.Functions.add.Goals as goal
 
-pub returns : goal.returns
-returns c = λ u gs g name is known.
+pub returns-clause-known : goal.returns-clause-known
+returns-clause-known c = λ u gs g name is known.
     let place = length c.as_slice-place.result.now in
     let count : place ≡ length gs =
     ap length c.as_slice-place.ensures.value ∙ (sym (length-map c.args.self.now.inputs.items inside_by) ∙ (ap length known.inputs ∙ length-map gs (inside u.types))) in
