@@ -9,8 +9,8 @@ use Rattle.run_code.specs.Collections.{sifts_in}
 use Rattle.run_code.specs.Made.{Origin, Plan, line}
 use Rattle.run_code.specs.Steps as made
 use Rattle.run_store.specs.Stored.{Looks}
-use Rattle.made_store.specs.Settings.{Cells_of, takes_all}
-use Rattle.made_store.specs.Settled.{setting}
+use Rattle.plan_data.specs.Settings.{Cells_of, takes_all}
+use Rattle.plan_data.specs.Settled.{setting}
 use Rattle.step_code.specs.declared.code.Code.{Code}
 use Rattle.step_code.specs.declared.step.Collect.{Collect}
 use Rattle.step_code.specs.declared.step.Counted.{Counted}

@@ -19,8 +19,8 @@ use Rattle.run_made.specs.Plans.{last_line}
 use Rattle.run_store.specs.Effects.{reads_of}
 use Rattle.run_store.specs.Ports.{copies_of}
 use Rattle.run_store.specs.Stored.{Looks, Mode, Takes}
-use Rattle.made_store.specs.Settings.{Cells_of, Shares, cells_where, either_of, gives, live_behind, live_in, modes_at, none_of, own_behind, own_in, range_of, result_modes, sifts_of, takes_all}
-use Rattle.made_store.specs.Settled.{Setting, arms_settings, function_settings, functions_settings, graph_settings, kind_settings, last_setting, nodes_settings, part_settings, parts_settings, setting}
+use Rattle.plan_data.specs.Settings.{Cells_of, Shares, cells_where, either_of, gives, live_behind, live_in, modes_at, none_of, own_behind, own_in, range_of, result_modes, sifts_of, takes_all}
+use Rattle.plan_data.specs.Settled.{Setting, arms_settings, function_settings, functions_settings, graph_settings, kind_settings, last_setting, nodes_settings, part_settings, parts_settings, setting}
 use Rattle.plan_data.specs.declared.plan.LoopParts.{LoopParts}
 use Rattle.plan_data.specs.declared.plan.Port.{Port}
 use Rattle.plan_data.specs.declared.plan.PlanData.{PlanData}

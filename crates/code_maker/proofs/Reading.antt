@@ -7,9 +7,9 @@ use Rattle.run_code.specs.Cells.{cells_at}
 use Rattle.run_code.specs.Collections as collections
 use Rattle.run_code.specs.Collections.{sifts_in}
 use Rattle.run_store.specs.Stored.{Mode, Looks, Copies, Takes, owned_in}
-use Rattle.made_store.specs.Settings.{takes_all}
-use Rattle.run_cells.specs.declared.cell.Cell.TheVariants as cell
-use Rattle.run_cells.specs.Held.{held}
+use Rattle.plan_data.specs.Settings.{takes_all}
+use Rattle.step_code.specs.Cell.TheVariants as cell
+use Rattle.step_code.specs.Held.{held}
 use Rattle.step_code.specs.declared.code.Code.{Code}
 use Rattle.step_code.specs.declared.step.Collect.{Collect}
 use Rattle.step_code.specs.declared.step.Collect.TheVariants as collect

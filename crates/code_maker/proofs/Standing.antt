@@ -9,7 +9,7 @@ use Rattle.run_code.specs.Coded.{operand}
 use Rattle.run_code.specs.Made.{Makes, Plan, arms_at, arms_size, end_at, ends_at, kind_size, placed, stand}
 use Rattle.run_store.specs.Ports.{copies_of}
 use Rattle.run_store.specs.Stored.{Copies}
-use Rattle.made_store.specs.Settings.{Shares}
+use Rattle.plan_data.specs.Settings.{Shares}
 use Rattle.step_code.specs.declared.step.Collect.{Collect}
 use Rattle.step_code.specs.declared.step.Collect.TheVariants as collect
 use Rattle.step_code.specs.Laid.{collect_in}

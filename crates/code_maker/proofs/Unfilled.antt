@@ -6,8 +6,8 @@ use Rattle.if1_graph.specs.declared.op.Simple.{Simple}
 use Rattle.node_ops.specs.Operands.{shape_of}
 use Rattle.run_code.specs.Made.{Origin, Plan, line}
 use Rattle.run_code.specs.Steps as made
-use Rattle.made_store.specs.Settings.{Cells_of}
-use Rattle.made_store.specs.Settled.{setting}
+use Rattle.plan_data.specs.Settings.{Cells_of}
+use Rattle.plan_data.specs.Settled.{setting}
 use Rattle.step_code.specs.declared.step.Counted.{Counted}
 use Rattle.step_code.specs.declared.step.Written.{Written}
 use Rattle.step_code.specs.declared.step.Written.TheVariants as written

@@ -7,7 +7,7 @@ use Rattle.run_code.specs.Cells as cells
 use Rattle.run_code.specs.Made.{Line, OfNode, Origin, Plan}
 use Rattle.run_store.specs.Effects.{reads_of}
 use Rattle.run_store.specs.Stored.{Mode, Looks, mode_at, tail}
-use Rattle.made_store.specs.Settled.{Setting}
+use Rattle.plan_data.specs.Settled.{Setting}
 use Rattle.step_code.specs.declared.code.Code.{Code}
 use Rattle.step_code.specs.declared.code.Operand.{Operand}
 use Rattle.step_code.specs.declared.code.Operand.TheVariants as operand

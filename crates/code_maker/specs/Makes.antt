@@ -12,9 +12,9 @@ use Rattle.step_code.specs.declared.code.Code.{Code}
 use Rattle.step_code.specs.declared.step.Step.TheVariants as step
 use Rattle.step_code.specs.Laid.{code_of, handling_of}
 use Rattle.run_store.specs.Stored.{Mode, Looks, Takes}
-use Rattle.made_store.specs.Settings.{Cells_of, Shares, result_modes, sifts_of, takes_all}
-use Rattle.made_store.specs.Settled as settled
-use Rattle.made_store.specs.Settled.{arms_settings, function_settings, functions_settings, graph_settings, kind_settings, nodes_settings, part_settings, parts_settings}
+use Rattle.plan_data.specs.Settings.{Cells_of, Shares, result_modes, sifts_of, takes_all}
+use Rattle.plan_data.specs.Settled as settled
+use Rattle.plan_data.specs.Settled.{arms_settings, function_settings, functions_settings, graph_settings, kind_settings, nodes_settings, part_settings, parts_settings}
 use Rattle.plan_data.specs.declared.plan.PlanData.{PlanData}
 use Rattle.plan_data.specs.declared.plan.LoopParts.{LoopParts}
 use Rattle.plan_data.specs.declared.plan.PlanNode.{PlanNode}

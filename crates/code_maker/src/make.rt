@@ -1,7 +1,7 @@
 //! The code of functions.
 ghost use Rattle.std.specs.Prelude.{◌≡◌, ℕ, suc, ◌+◌, ◌<◌, ◌≤◌, [], length, IfOk, OnOk};
 ghost use Rattle.run_code.specs.Made.{Plan};
-ghost use Rattle.made_store.specs.Settings.{Shares};
+ghost use Rattle.plan_data.specs.Settings.{Shares};
 ghost use Rattle.plan_data.specs.Parts.{IsFormed, arms_steps, size_in};
 ghost use Rattle.plan_data.specs.Stands.{Stands};
 ghost use Rattle.code_maker.specs.Makes.{FunctionMade, FunctionsMade};

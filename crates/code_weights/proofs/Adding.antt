@@ -13,9 +13,9 @@ use Rattle.step_code.specs.declared.step.Step.TheVariants as step
 use Rattle.step_code.specs.declared.step.Written.TheVariants as written
 use Rattle.step_code.specs.Laid.{copied_at, copied_in, counted_by, handling_in, row_of, step_in, written_in}
 use Rattle.step_code.specs.Reading.{gapped, mode_in, modes_in}
-use Rattle.plan_data.specs.declared.plan.PlanData.{PlanData}
-use Rattle.plan_data.specs.declared.plan.Work.TheVariants as work
-use Rattle.plan_data.specs.Parts.{mode_of}
+use Rattle.code_maker.specs.PlanData.{PlanData}
+use Rattle.code_maker.specs.Work.TheVariants as work
+use Rattle.code_maker.specs.Parts.{mode_of}
 use Rattle.code_maker.specs.Grows.{IsTold}
 use Rattle.code_weights.specs.Laws.{AreCodeCopiesOfPlans, AreCodeWritesOfPlans}
 use Rattle.code_weights.specs.Weights.{AddsSame, AreCopiesTold, AreWritesTold, CopiesSame, IsCopiedSo, IsWrittenSo}

@@ -8,7 +8,7 @@ use Rattle.made_store.specs.Settled.{functions_settings}
 use Rattle.step_code.specs.declared.code.Code.{Code}
 use Rattle.step_code.specs.declared.step.Step.TheVariants as step
 use Rattle.step_code.specs.Laid.{code_of, copied_in, handling_of, written_in}
-use Rattle.plan_data.specs.declared.plan.PlanData.{PlanData}
+use Rattle.code_maker.specs.PlanData.{PlanData}
 use Rattle.code_maker.specs.Makes.{AreTold}
 use Rattle.code_weights.specs.Weights.{AddsSame, AreCopiesTold, AreWritesTold, CopiesSame}
 

@@ -8,11 +8,11 @@ use Rattle.run_made.specs.Plans.{Weighing}
 use Rattle.run_store.specs.Stored.{Mode, copied}
 use Rattle.step_code.specs.declared.code.Code.{Code}
 use Rattle.step_code.specs.Laid.{copied_at, written_at}
-use Rattle.plan_data.specs.declared.plan.PlanData.{PlanData}
-use Rattle.plan_data.specs.declared.plan.PlanNode.{PlanNode}
-use Rattle.plan_data.specs.declared.plan.Work.{Work}
-use Rattle.plan_data.specs.declared.plan.Work.TheVariants as work
-use Rattle.plan_data.specs.Parts.{graph_nodes, mode_of}
+use Rattle.code_maker.specs.PlanData.{PlanData}
+use Rattle.code_maker.specs.PlanNode.{PlanNode}
+use Rattle.code_maker.specs.Work.{Work}
+use Rattle.code_maker.specs.Work.TheVariants as work
+use Rattle.code_maker.specs.Parts.{graph_nodes, mode_of}
 use Rattle.code_maker.specs.Grows.{IsPair}
 
 -- a step that fires a node adds as much by the one as by the other, of as many operands as it has

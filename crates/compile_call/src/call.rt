@@ -2,7 +2,7 @@
 ghost use Rattle.std.specs.Prelude.{◌≡◌, ◌++◌, IfOk, IfErr};
 ghost use Rattle.if1_graph.specs.Lines.{if1_text};
 ghost use Rattle.lowering_meaning.specs.Coverage.{AreCovered};
-ghost use Rattle.lowered_rules.specs.Laws.{rule_forms};
+ghost use Rattle.translate.specs.Laws.{rule_forms};
 ghost use Rattle.lowered_units.specs.Fitting.{IsFitting};
 ghost use Rattle.unit_drawing.specs.Notes.{note_lines};
 ghost use Rattle.compile_call.specs.Calls.{IsMarked, IsRefused, IsTextBy, Prints};

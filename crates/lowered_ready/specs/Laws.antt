@@ -4,7 +4,7 @@ use Rattle.typed_tree.specs.declared.program.Program.{Program}
 use Rattle.if1_graph.specs.declared.graph.Unit1.{Unit1}
 use Rattle.if1_graph.specs.Ready.{IsReady}
 use Rattle.lowering.specs.TooMany.{too_many}
-use Rattle.lowering_meaning.specs.Coverage.{AreCovered}
+use Rattle.lowered_rules.specs.Coverage.{AreCovered}
 use Rattle.lowered_units.specs.Fitting.{IsFitting}
 use Rattle.lowered_units.specs.Units.{IsTranslated}
 use Rattle.lowered_rules.specs.Laws.{rule_forms}

@@ -1,3 +1,4 @@
+pub use Rattle.lowering_meaning.specs.Coverage
 pub mod Ports
 pub mod Parts
 pub mod Rules

@@ -1,3 +1,4 @@
+pub use Rattle.lowered_sorts.proofs.Bare
 pub mod Known
 pub mod Parts
 pub mod Sources

@@ -16,7 +16,7 @@ use Rattle.typed_tree.specs.declared.expr.Case.{Case}
 use Rattle.typed_tree.specs.declared.expr.Choice.{Choice}
 use Rattle.typed_tree.specs.Types.{Member, IsNumber, AreMembers, AreNumbers}
 use Rattle.typed_tree.specs.Types as number
-use Rattle.meaning.specs.Meaning.{arm_place}
+use Rattle.lowering.specs.Meaning.{arm_place}
 use Rattle.fitting_trees.specs.Fitting.{IsChosen, TagsFit, Renews}
 use Rattle.lowering.specs.declared.feed.Feed.{Feed}
 use Rattle.lowering.specs.declared.feed.Feed.TheVariants.{Literal, Named, Absent, Port}

@@ -1,3 +1,4 @@
+pub use Rattle.meaning.specs.Meaning
 pub mod Feeds
 pub mod Graphs
 pub mod Operations

@@ -4,7 +4,7 @@ use Rattle.std.proofs.Common.{◌≡◌, ℕ, zero, suc, Bool, true, false, ◌&
 use Rattle.std.specs.Prelude.{nat_eq, if◌then◌else◌, Contains}
 use Rattle.std.proofs.lemmas.Bool.{eqb-true}
 use Rattle.if1_marks.proofs.Lists.{here, there}
-use Rattle.fitting_units.specs.Leaves.{AreNamesOnce}
+use Rattle.typed_values.specs.Leaves.{AreNamesOnce}
 use Rattle.flow_value.specs.declared.ty.Ty.{Ty}
 use Rattle.flow_value.specs.declared.ty.Ty.TheVariants as ty
 use Rattle.flow_value.specs.declared.operation.Scalar1.TheVariants as one

@@ -18,7 +18,7 @@ use Rattle.lowered_units.specs.Fitting.{IsFitting}
 use Rattle.lowered_units.specs.Units.{IsTranslated}
 use Rattle.sisal_tree.specs.declared.unit.Unit as tree
 use Rattle.typed_tree.specs.Units.{IsTyped}
-use Rattle.fitting_units.specs.Leaves.{AreNamesOnce}
+use Rattle.typed_values.specs.Leaves.{AreNamesOnce}
 use Rattle.lowering_meaning.specs.Coverage.{plain_forms, AreCovered}
 
 -- a function of a translated program, whose unit is ready, on one argument for each parameter, each of its type

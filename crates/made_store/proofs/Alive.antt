@@ -3,7 +3,7 @@ use Rattle.std.proofs.Common.{◌≡◌, ℕ, zero, suc, ◌+◌, ◌-◌, ◌<�
 use Rattle.std.proofs.lemmas.Bool.{eq-eqb, eqb-true, leb-true, le-leb, lt-ltb, ltb-false, ltb-true}
 use Rattle.graph_meaning.specs.Carried.{Unfilled}
 use Rattle.graph_meaning.specs.Demand.{Source, Port, Fixed, Vertex}
-use Rattle.ordered_meaning.specs.Taking.{Taken, IsTaken as WasTaken}
+use Rattle.run_code.specs.Taking.{Taken, IsTaken as WasTaken}
 use Rattle.run_code.specs.Cells.{Operand, At, Lit}
 use Rattle.run_code.specs.Coded.{Places, operand}
 use Rattle.run_code.specs.Known.{Known, Knows}

@@ -2,7 +2,7 @@
 use Rattle.std.proofs.Common.{◌≡◌, ℕ, zero, suc, ◌+◌, ◌<◌, ◌⊎◌, inl, inr, if◌then◌else◌, Bool, true, false, List, [], ◌∷◌, length, map, get_or, refl, sym, ap, ◌∙◌, subst, arith}
 use Rattle.graph_meaning.specs.Carried.{Unfilled}
 use Rattle.graph_meaning.specs.Demand.{Source, Port, Fixed, Vertex}
-use Rattle.ordered_meaning.specs.Taking.{Fills, NoneIsTaken, Taken, TakesAlone, IsTaken as WasTaken, first_port, taken_by}
+use Rattle.run_code.specs.Taking.{Fills, NoneIsTaken, Taken, TakesAlone, IsTaken as WasTaken, first_port, taken_by}
 use Rattle.run_code.specs.Cells.{Operand, At, Lit}
 use Rattle.run_code.specs.Coded.{Places, operand}
 use Rattle.run_code.specs.Known.{Known, KnowsAll}

@@ -3,7 +3,7 @@ use Rattle.std.proofs.Common.{◌≡◌, ℕ, zero, suc, ◌+◌, ◌-◌, ◌<�
 use Rattle.if1_graph.specs.declared.op.Simple.TheVariants as simple
 use Rattle.graph_meaning.specs.NodeValues as shape
 use Rattle.graph_meaning.specs.Demand.{Fixed, Port, Vertex}
-use Rattle.ordered_meaning.specs.Taking.{AreTakersLast}
+use Rattle.run_code.specs.Taking.{AreTakersLast}
 use Rattle.run_code.proofs.Collecting.{nodes-same}
 use Rattle.run_code.proofs.Layouts.{one, positive}
 use Rattle.run_code.proofs.Refolding.{sum-none}

@@ -5,7 +5,7 @@ use Rattle.std.proofs.lemmas.List.{length-append, length-map}
 use Rattle.graph_meaning.specs.Carried.{Carried}
 use Rattle.graph_meaning.specs.Entered.{IsIn}
 use Rattle.graph_meaning.specs.Demand.{Vertex, Network}
-use Rattle.ordered_meaning.specs.Taking.{first_port, taken_by}
+use Rattle.run_code.specs.Taking.{first_port, taken_by}
 use Rattle.run_code.specs.Cells.{Operand, cells_at}
 use Rattle.run_code.specs.Coded.{operand}
 use Rattle.run_code.specs.Known.{known_after}

@@ -1,3 +1,5 @@
+pub use Rattle.run_made.proofs.Orders
+pub use Rattle.run_made.proofs.Tables
 pub mod Alive
 pub mod Scenes
 pub mod Around

@@ -6,9 +6,9 @@ use Rattle.graph_meaning.proofs.Lists.{found-in}
 use Rattle.graph_meaning.specs.Demand.{Vertex}
 use Rattle.graph_meaning.specs.Networks.{net_at, network, nothing}
 use Rattle.graph_meaning.specs.StorageUnits.{storage_of, takes, test_in}
-use Rattle.ordered_meaning.proofs.UnitTaking.{unit-takers}
-use Rattle.ordered_meaning.specs.Orders.{IsInOrder}
-use Rattle.ordered_meaning.specs.Taking.{AreTakersLast, Marks, marks_of}
+use Rattle.run_code.proofs.UnitTaking.{unit-takers}
+use Rattle.run_code.specs.Orders.{IsInOrder}
+use Rattle.run_code.specs.Taking.{AreTakersLast, Marks, marks_of}
 use Rattle.made_store.specs.Marks.{AreMarkedTakersLast}
 
 -- a number of no graph has no nodes

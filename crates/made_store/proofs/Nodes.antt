@@ -6,7 +6,7 @@ use Rattle.graph_meaning.specs.Carried.{Carried}
 use Rattle.graph_meaning.specs.Entered.{IsIn}
 use Rattle.graph_meaning.specs.Forms as form
 use Rattle.graph_meaning.specs.Demand.{Kind, Plain, Whole, Vertex, Network, EachNode}
-use Rattle.ordered_meaning.specs.Taking.{AreTakersLast, Taken, first_port, taken_by}
+use Rattle.run_code.specs.Taking.{AreTakersLast, Taken, first_port, taken_by}
 use Rattle.run_code.specs.Cells.{Operand, cells_at, own_cells, picked}
 use Rattle.run_code.specs.Coded.{operand}
 use Rattle.run_code.specs.Collections.{AreWithin}

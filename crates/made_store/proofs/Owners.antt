@@ -11,8 +11,8 @@ use Rattle.graph_meaning.proofs.Lists.{found-in}
 use Rattle.graph_meaning.specs.Demand.{EachNode, Port, Vertex, at_label}
 use Rattle.graph_meaning.specs.Networks.{kind_of, net_at, net_of, network, source_at, vertex_of}
 use Rattle.graph_meaning.specs.StorageUnits.{storage_of, takes, test_in}
-use Rattle.ordered_meaning.proofs.UnitTaking.{at-ins, at-sources, edged, taken-edge}
-use Rattle.ordered_meaning.specs.Taking.{Fills, first_port, marks_of}
+use Rattle.run_code.proofs.UnitTaking.{at-ins, at-sources, edged, taken-edge}
+use Rattle.run_code.specs.Taking.{Fills, first_port, marks_of}
 use Rattle.made_store.specs.Marks.{AreTakersOwned, owned_in, owned_inputs}
 
 module _ (u : Unit1) (sound : IsSound u) (q : Place) (there : Contains (places u) q) where

@@ -4,7 +4,7 @@ use Rattle.if1_graph.specs.declared.op.Simple.{Simple}
 use Rattle.graph_meaning.specs.Carried.{Carried, Unfilled}
 use Rattle.graph_meaning.specs.NodeValues.{Shape}
 use Rattle.graph_meaning.specs.Demand.{Source, Vertex}
-use Rattle.ordered_meaning.specs.Taking.{first_port}
+use Rattle.run_code.specs.Taking.{first_port}
 use Rattle.run_code.specs.Cells.{Operand, At, Lit, cells_at}
 use Rattle.run_code.specs.Made.{Plan, OfNode, line}
 use Rattle.run_code.specs.Steps.{Call, Fire}

@@ -2,7 +2,7 @@
 use Rattle.std.proofs.Common.{◌≡◌, ◌≢◌, ℕ, zero, suc, ◌+◌, ◌<◌, ◌≤◌, ◌⊎◌, inl, inr, if◌then◌else◌, Bool, true, List, [], ◌∷◌, map, get_or, refl, sym, ap, ◌∙◌, subst, arith}
 use Rattle.graph_meaning.specs.Carried.{Unfilled}
 use Rattle.graph_meaning.specs.Demand.{Source, Port, Fixed, Vertex, EachNode, LabelsOnce}
-use Rattle.ordered_meaning.specs.Taking.{Fills, Taken, first_port, taken_by}
+use Rattle.run_code.specs.Taking.{Fills, Taken, first_port, taken_by}
 use Rattle.run_code.specs.Cells.{Operand, At, Lit}
 use Rattle.run_code.specs.Coded.{Places, Puts, operand}
 use Rattle.run_code.specs.Known.{Known}

@@ -4,7 +4,7 @@ use Rattle.std.proofs.lemmas.List.{length-append}
 use Rattle.graph_meaning.specs.Entered.{IsIn}
 use Rattle.graph_meaning.specs.Forms as form
 use Rattle.graph_meaning.specs.Demand.{Kind, Plain, Whole, Vertex, Network, EachNode}
-use Rattle.ordered_meaning.specs.Taking.{Taken, first_port, taken_by}
+use Rattle.run_code.specs.Taking.{Taken, first_port, taken_by}
 use Rattle.run_code.specs.Cells.{Operand, At, cells_at, own_cells, picked}
 use Rattle.run_code.specs.Coded.{operand}
 use Rattle.run_code.specs.Known.{Known}

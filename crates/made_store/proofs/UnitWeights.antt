@@ -13,7 +13,7 @@ use Rattle.graph_meaning.specs.Forms as form
 use Rattle.graph_meaning.specs.Networks.{ins_of, kind_of, net_at, network, source_at, sources, vertex_of}
 use Rattle.graph_meaning.specs.Storage.{Storage}
 use Rattle.graph_meaning.specs.StorageUnits.{carries_aggregate, storage_of, takes, test_in}
-use Rattle.ordered_meaning.specs.Taking.{first_port}
+use Rattle.run_code.specs.Taking.{first_port}
 use Rattle.run_code.specs.Made.{Plan}
 use Rattle.run_made.proofs.Lying.{eqb-other}
 use Rattle.made_store.proofs.Weights.{modes-weights}

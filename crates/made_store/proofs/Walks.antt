@@ -2,7 +2,7 @@
 use Rattle.std.proofs.Common.{◌≡◌, ℕ, zero, suc, ◌+◌, ◌<◌, ◌≤◌, ◌⊎◌, inl, inr, Bool, true, List, [], ◌∷◌, length, map, get_or, refl, sym, ap, ◌∙◌, subst, arith}
 use Rattle.graph_meaning.specs.Carried.{Unfilled}
 use Rattle.graph_meaning.specs.Demand.{Vertex, LabelsOnce}
-use Rattle.ordered_meaning.specs.Taking.{AreTakersLast, Fills, NoneIsTaken, Taken, TakesAlone, first_port, taken_by}
+use Rattle.run_code.specs.Taking.{AreTakersLast, Fills, NoneIsTaken, Taken, TakesAlone, first_port, taken_by}
 use Rattle.run_code.specs.Cells.{Operand, At, Lit}
 use Rattle.run_code.specs.Coded.{Places, Puts, operand}
 use Rattle.run_code.specs.Known.{IsReadable, Known, KnowsAll, known_after}

@@ -11,7 +11,7 @@ use Rattle.graph_meaning.specs.Networks.{network}
 use Rattle.graph_meaning.specs.Plain.{Costs}
 use Rattle.graph_meaning.specs.Storage.{Storage, capped, copying, writing}
 use Rattle.graph_meaning.specs.StorageUnits.{UnitWrites, storage_of}
-use Rattle.ordered_meaning.specs.Orders.{AreInOrder}
+use Rattle.run_code.specs.Orders.{AreInOrder}
 use Rattle.run_code.specs.Made.{Plan, functions_size}
 use Rattle.run_made.specs.Weighing.{AreAlike}
 use Rattle.run_made.specs.Plans.{IsRightPlan, Weighing, laid, lines_of, weigh_at}

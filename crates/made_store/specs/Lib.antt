@@ -1,3 +1,9 @@
+pub use Rattle.run_made.specs.Plans
+pub use Rattle.run_made.specs.Weighing
+pub use Rattle.run_made.specs.Tables
+pub use Rattle.run_made.specs.Orders
+pub use Rattle.run_code.specs.Cells
+pub use Rattle.run_code.specs.Made
 pub use Rattle.run_store.specs.Ports
 pub use Rattle.run_store.specs.Sums
 pub use Rattle.run_store.specs.Whole

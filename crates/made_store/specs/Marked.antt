@@ -9,7 +9,7 @@ use Rattle.graph_meaning.specs.Entered.{IsIn}
 use Rattle.graph_meaning.specs.Networks.{network}
 use Rattle.graph_meaning.specs.Plain.{Costs}
 use Rattle.graph_meaning.specs.StorageUnits.{storage_of}
-use Rattle.ordered_meaning.specs.Orders.{AreInOrder}
+use Rattle.run_code.specs.Orders.{AreInOrder}
 use Rattle.run_code.specs.Made.{Plan}
 use Rattle.run_made.specs.Plans.{IsRightPlan, Weighing, laid}
 use Rattle.run_store.specs.Whole.{EndsStored, IsOfUnit, StopsStored, entered_stored, first_cells}

@@ -8,8 +8,8 @@ use Rattle.if1_marks.specs.Sound.{IsSound}
 use Rattle.graph_meaning.specs.Demand.{EachNode, Vertex}
 use Rattle.graph_meaning.specs.Networks.{network}
 use Rattle.graph_meaning.specs.StorageUnits.{storage_of}
-use Rattle.ordered_meaning.specs.Orders.{AreInOrder}
-use Rattle.ordered_meaning.specs.Taking.{AreTakersLast, Fills, first_port}
+use Rattle.run_code.specs.Orders.{AreInOrder}
+use Rattle.run_code.specs.Taking.{AreTakersLast, Fills, first_port}
 
 -- so a plan whose nodes take by the marks meets what is asked of its takers
 abbrev pub AreMarkedTakersLast : Type 0

@@ -6,7 +6,7 @@ use Rattle.std.specs.Prelude.{◌≡◌, ℕ, zero, suc, ◌+◌, ◌-◌, ◌&&
 use Rattle.graph_meaning.specs.Carried.{Unfilled}
 use Rattle.graph_meaning.specs.Forms as form
 use Rattle.graph_meaning.specs.Demand.{Kind, Plain, Whole, Vertex}
-use Rattle.ordered_meaning.specs.Taking.{Taken, first_port, taken_by}
+use Rattle.run_code.specs.Taking.{Taken, first_port, taken_by}
 use Rattle.run_code.specs.Cells.{Operand, At, Lit, cells_at, own_cells, picked}
 use Rattle.run_code.specs.Coded.{Places, operand}
 use Rattle.run_code.specs.Collections.{sifts_in}

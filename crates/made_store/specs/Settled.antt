@@ -2,7 +2,7 @@
 use Rattle.std.specs.Prelude.{ℕ, zero, suc, ◌+◌, if◌then◌else◌, Bool, true, false, List, [], ◌∷◌, ◌++◌, drop, map, length, get_or}
 use Rattle.graph_meaning.specs.Forms as form
 use Rattle.graph_meaning.specs.Demand.{Kind, Plain, Whole, Vertex}
-use Rattle.ordered_meaning.specs.Taking.{Taken, first_port, taken_by}
+use Rattle.run_code.specs.Taking.{Taken, first_port, taken_by}
 use Rattle.run_code.specs.Cells.{Operand, At, cells_at, own_cells, picked}
 use Rattle.run_code.specs.Coded.{operand}
 use Rattle.run_code.specs.Known.{Known}

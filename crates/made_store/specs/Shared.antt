@@ -3,7 +3,7 @@ use Rattle.std.specs.Prelude.{◌≡◌, ℕ, zero, suc, ◌+◌, ◌<◌, ◌�
 use Rattle.graph_meaning.specs.Carried.{Carried}
 use Rattle.graph_meaning.specs.Forms as form
 use Rattle.graph_meaning.specs.Demand.{Source, Port, Fixed, Kind, Plain, Whole, Vertex, EachNode}
-use Rattle.ordered_meaning.specs.Taking.{AreTakersLast, Fills, first_port}
+use Rattle.run_code.specs.Taking.{AreTakersLast, Fills, first_port}
 use Rattle.run_code.specs.Collections.{Final}
 use Rattle.run_code.specs.Made.{Plan}
 use Rattle.run_made.specs.Plans.{All, Weighing}

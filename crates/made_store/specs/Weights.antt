@@ -4,7 +4,7 @@ use Rattle.graph_meaning.specs.Carried.{Carried}
 use Rattle.graph_meaning.specs.Forms as form
 use Rattle.graph_meaning.specs.Demand.{EachNode, Kind, Network, Plain, Source, Vertex, Whole}
 use Rattle.graph_meaning.specs.Storage.{Storage, copied_by, copying, is_left}
-use Rattle.ordered_meaning.specs.Taking.{first_port}
+use Rattle.run_code.specs.Taking.{first_port}
 use Rattle.run_code.specs.Cells.{picked}
 use Rattle.run_code.specs.Made.{Plan}
 use Rattle.run_made.specs.Weighing.{AreAlike}

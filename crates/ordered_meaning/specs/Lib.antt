@@ -1,3 +1,17 @@
+pub use Rattle.graph_meaning.specs.Clauses
+pub use Rattle.graph_meaning.specs.Masks
+pub use Rattle.graph_meaning.specs.Folding
+pub use Rattle.graph_meaning.specs.Keep
+pub use Rattle.graph_meaning.specs.Masking
+pub use Rattle.graph_meaning.specs.Views
+pub use Rattle.graph_meaning.specs.Simple
+pub use Rattle.graph_meaning.specs.Carried
+pub use Rattle.graph_meaning.specs.Forms
+pub use Rattle.graph_meaning.specs.NodeValues
+pub use Rattle.graph_meaning.specs.Demand
+pub use Rattle.graph_meaning.specs.Entered
+pub use Rattle.graph_meaning.specs.Plain
+pub use Rattle.graph_meaning.specs.Storage
 pub mod Ordered
 pub mod Orders
 pub mod Taking

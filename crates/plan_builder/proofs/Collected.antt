@@ -2,10 +2,10 @@
 use Rattle.std.proofs.Common.{◌≡◌, ℕ, zero, suc, false, List, [], ◌∷◌, ◌++◌, map, All, Option, Some, None, refl, sym, ap, ◌∙◌, arith}
 use Rattle.graph_meaning.specs.Demand.{Source}
 use Rattle.run_code.specs.Made.{Plan}
-use Rattle.made_store.specs.Settings.{Shares}
+use Rattle.plan_data.specs.Settings.{Shares}
 use Rattle.step_code.specs.declared.step.Collect.{Collect}
 use Rattle.step_code.specs.Laid.{collect_in, puts_of}
-use Rattle.unit_plan.specs.Returns.{collects_by, multiple, whole_of, wholes}
+use Rattle.firing_order.specs.Returns.{collects_by, multiple, whole_of, wholes}
 use Rattle.plan_data.specs.declared.plan.Port.{Port}
 use Rattle.plan_data.specs.declared.plan.PlanData.{PlanData}
 use Rattle.plan_data.specs.Stands.{AreFed}

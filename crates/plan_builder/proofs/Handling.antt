@@ -4,7 +4,7 @@ use Rattle.graph_meaning.specs.Demand.{Source, Vertex}
 use Rattle.run_code.specs.Made.{Plan}
 use Rattle.run_store.specs.Ports as ports
 use Rattle.run_store.specs.Stored.{Looks, Takes}
-use Rattle.made_store.specs.Settings.{Shares, gives}
+use Rattle.plan_data.specs.Settings.{Shares, gives}
 use Rattle.plan_data.specs.declared.plan.Port.{Port}
 use Rattle.plan_data.specs.declared.plan.Work.{Work}
 use Rattle.plan_data.specs.declared.plan.Work.TheVariants as work

@@ -11,7 +11,7 @@ use Rattle.node_ops.specs.Operands.{shape_of}
 use Rattle.ordered_meaning.specs.Taking.{first_port}
 use Rattle.run_code.specs.Made.{Plan}
 use Rattle.run_store.specs.Ports.{modes_of, picks_of}
-use Rattle.made_store.specs.Settings.{Shares}
+use Rattle.plan_data.specs.Settings.{Shares}
 use Rattle.step_code.specs.declared.step.Counted.{Counted}
 use Rattle.step_code.specs.declared.step.Written.{Written}
 use Rattle.plan_data.specs.declared.plan.Port.{Port}

@@ -4,8 +4,8 @@ use Rattle.if1_graph.specs.declared.op.Simple.{Simple}
 use Rattle.if1_graph.specs.declared.op.Simple.TheVariants as simple
 use Rattle.graph_meaning.specs.Demand.{Source}
 use Rattle.run_code.specs.Made.{Plan}
-use Rattle.made_store.specs.Settings.{Shares}
-use Rattle.unit_plan.specs.Returns.{behind_way, keeping_way, last_way, multiple, way_of}
+use Rattle.plan_data.specs.Settings.{Shares}
+use Rattle.firing_order.specs.Returns.{behind_way, keeping_way, last_way, multiple, way_of}
 use Rattle.plan_data.specs.declared.plan.Feed.{Feed}
 use Rattle.plan_data.specs.declared.plan.Feed.TheVariants as feed
 use Rattle.plan_data.specs.declared.plan.Port.{Port}

@@ -16,10 +16,10 @@ use Rattle.graph_meaning.specs.Storage.{is_left}
 use Rattle.graph_meaning.specs.StorageUnits.{storage_of}
 use Rattle.run_code.specs.Made.{Plan}
 use Rattle.firing_order.specs.Orders.{order_by, vertex_before, vertices_at, vertices_in}
-use Rattle.unit_plan.specs.Plans.{Tables, nodes_by, outputs_in, plan_of, plain_of}
-use Rattle.unit_plan.specs.Returns.{Way, node_collects, refolded_node, refolded_nodes, row_by, way_of}
-use Rattle.unit_plan.proofs.Found.{place-found}
-use Rattle.unit_plan.proofs.Ways.{WayIs, is_last, is_final, is_gather, is_reduce, is_whole, way-is}
+use Rattle.firing_order.specs.Plans.{Tables, nodes_by, outputs_in, plan_of, plain_of}
+use Rattle.firing_order.specs.Returns.{Way, node_collects, refolded_node, refolded_nodes, row_by, way_of}
+use Rattle.firing_order.proofs.Found.{place-found}
+use Rattle.firing_order.proofs.Ways.{WayIs, is_last, is_final, is_gather, is_reduce, is_whole, way-is}
 use Rattle.plan_builder.specs.declared.outlets.Outlets.{Outlets}
 use Rattle.plan_builder.specs.Laws.{AreOfGraph, AreOutletsOfUnits}
 use Rattle.plan_builder.specs.Outlets.{AreNodesAt}

@@ -8,7 +8,7 @@ use Rattle.if1_order.specs.Orders.{node_labels}
 use Rattle.graph_meaning.specs.Demand.{Source, Vertex}
 use Rattle.graph_meaning.specs.Networks.{kind_of}
 use Rattle.run_code.specs.Made.{Plan}
-use Rattle.made_store.specs.Settings.{Shares}
+use Rattle.plan_data.specs.Settings.{Shares}
 use Rattle.step_code.specs.Laid.{collect_in, puts_of}
 use Rattle.plan_data.specs.declared.plan.Port.{Port}
 use Rattle.plan_data.specs.declared.plan.PlanData.{PlanData}
@@ -16,9 +16,9 @@ use Rattle.plan_data.specs.declared.plan.PlanNode.{PlanNode}
 use Rattle.plan_data.specs.Parts.{nodes_cells}
 use Rattle.plan_data.specs.Stands.{AreFed, AreNodes}
 use Rattle.firing_order.specs.Orders.{order_by}
-use Rattle.unit_plan.specs.Plans.{Tables, outputs_in, plan_of}
+use Rattle.firing_order.specs.Plans.{Tables, outputs_in, plan_of}
 use Rattle.plan_builder.specs.declared.outlets.Outlets.{Outlets}
-use Rattle.unit_plan.specs.Returns.{collects_by}
+use Rattle.firing_order.specs.Returns.{collects_by}
 use Rattle.plan_builder.specs.declared.ways.Reading.{Reading}
 use Rattle.plan_builder.specs.Collects.{collects_of}
 use Rattle.plan_builder.specs.Outlets.{AreLaid, AreOutlets, cells_of}

@@ -3,7 +3,7 @@ use Rattle.std.specs.Prelude.{ℕ, ◌-◌, ltb, if◌then◌else◌, Bool, fals
 use Rattle.if1_graph.specs.declared.op.Simple.{Simple}
 use Rattle.if1_graph.specs.declared.op.Simple.TheVariants as simple
 use Rattle.graph_meaning.specs.Demand.{Source}
-use Rattle.unit_plan.specs.Returns.{Way, Lasts, Keeping, Wholly}
+use Rattle.firing_order.specs.Returns.{Way, Lasts, Keeping, Wholly}
 use Rattle.plan_data.specs.declared.plan.Feed.{Feed}
 use Rattle.plan_data.specs.declared.plan.Feed.TheVariants as feed
 use Rattle.plan_data.specs.declared.plan.Port.{Port}

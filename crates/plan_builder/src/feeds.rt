@@ -8,7 +8,7 @@ ghost use Rattle.run_code.specs.Made.{Plan};
 ghost use Rattle.run_cells.specs.declared.cell.Cell.{Cell};
 ghost use Rattle.run_cells.specs.Held.{held};
 ghost use Rattle.run_store.specs.Stored.{owned_in};
-ghost use Rattle.made_store.specs.Settings.{Shares};
+ghost use Rattle.plan_data.specs.Settings.{Shares};
 ghost use Rattle.plan_data.specs.declared.plan.PlanData.{PlanData};
 ghost use Rattle.plan_data.specs.Parts.{IsBelow, literal_in};
 ghost use Rattle.plan_data.specs.Stands.{IsFed};

@@ -8,7 +8,7 @@ ghost use Rattle.graph_meaning.specs.Laws.{outputs_by};
 ghost use Rattle.node_ops.specs.Operands.{shape_of};
 ghost use Rattle.run_code.specs.Made.{Plan};
 ghost use Rattle.run_store.specs.Ports.{picks_of};
-ghost use Rattle.made_store.specs.Settings.{Shares};
+ghost use Rattle.plan_data.specs.Settings.{Shares};
 ghost use Rattle.plan_data.specs.declared.plan.PlanData.{PlanData};
 ghost use Rattle.plan_data.specs.Parts.{IsWhole, kind_of};
 ghost use Rattle.plan_data.specs.Stands.{AreFed, IsNode};

@@ -2,10 +2,10 @@
 ghost use Rattle.std.specs.Prelude.{◌≡◌, ℕ, Bool, List};
 ghost use Rattle.graph_meaning.specs.Demand.{Source};
 ghost use Rattle.run_code.specs.Made.{Plan};
-ghost use Rattle.made_store.specs.Settings.{Shares};
+ghost use Rattle.plan_data.specs.Settings.{Shares};
 ghost use Rattle.plan_data.specs.declared.plan.PlanData.{PlanData};
 ghost use Rattle.plan_data.specs.Stands.{AreFed};
-ghost use Rattle.unit_plan.specs.Returns.{way_of};
+ghost use Rattle.firing_order.specs.Returns.{way_of};
 ghost use Rattle.plan_builder.specs.Ways.{behind_by, kept_by, last_by, multiple_by, multiple_port, read_by, reading_by};
 
 use if1_graph::Simple;

@@ -2,8 +2,8 @@
 use Rattle.std.specs.Prelude.{◌≡◌, ℕ, suc, ◌+◌, if◌then◌else◌, false, List, [], ◌∷◌, get_or, map}
 use Rattle.graph_meaning.specs.Demand.{Source, Fixed, Vertex}
 use Rattle.graph_meaning.specs.Demand as demand
-use Rattle.run_code.specs.Cells.{At}
-use Rattle.run_code.specs.Made.{Plan, put}
+use Rattle.made_store.specs.Cells.{At}
+use Rattle.made_store.specs.Made.{Plan, put}
 use Rattle.made_store.specs.Stored.{Looks, Takes}
 use Rattle.made_store.specs.Settings.{Shares, gives, modes_at, result_modes}
 use Rattle.step_code.specs.Laid.{collect_in, puts_of}

@@ -1,6 +1,6 @@
 -- What is seen by a way to a part.
 use Rattle.std.proofs.Common.{◌≡◌, List, [], ◌∷◌, refl, ap, ◌∙◌}
-use Rattle.graph_meaning.specs.Carried.{Carried}
+use Rattle.run_store.specs.Carried.{Carried}
 use Rattle.run_store.specs.Stored as stored
 use Rattle.run_cells.specs.declared.cell.Part.{Part}
 use Rattle.run_cells.specs.declared.cell.Part.TheVariants as part

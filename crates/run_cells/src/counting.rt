@@ -1,7 +1,7 @@
 //! How much is seen.
 ghost use Rattle.std.specs.Prelude.{◌≡◌, min};
 ghost use Rattle.flow_value.specs.Leaves.{leaf_count_of_all};
-ghost use Rattle.graph_meaning.specs.Storage.{leaves_of};
+ghost use Rattle.run_store.specs.Storage.{leaves_of};
 ghost use Rattle.run_cells.specs.Sights.{seen_value};
 
 use crate::seen::Seen;

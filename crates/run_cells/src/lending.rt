@@ -1,7 +1,7 @@
 //! What is lent.
 ghost use Rattle.std.specs.Prelude.{◌≡◌, true, IfOk};
 ghost use Rattle.flow_value.specs.declared.value.Val.TheViews.{out-Val};
-ghost use Rattle.graph_meaning.specs.Carried.{Carried};
+ghost use Rattle.run_store.specs.Carried.{Carried};
 ghost use Rattle.run_store.specs.Stored as stored;
 ghost use Rattle.run_cells.specs.Held.{held, view_from};
 ghost use Rattle.run_cells.specs.Sights.{seen_value};

@@ -2,10 +2,10 @@
 ghost use Rattle.std.specs.Prelude.{◌≡◌, IfOk, min};
 ghost use Rattle.flow_value.specs.declared.value.Val.TheVariants as val;
 ghost use Rattle.flow_value.specs.declared.value.Val.TheViews.{out-Val};
-ghost use Rattle.graph_meaning.specs.Carried.{Value, Many, Name};
-ghost use Rattle.graph_meaning.specs.Storage.{leaves_of};
+ghost use Rattle.run_store.specs.Carried.{Value, Many, Name};
+ghost use Rattle.run_store.specs.Storage.{leaves_of};
 ghost use Rattle.node_ops.specs.Operands.{multiple_in};
-ghost use Rattle.run_laws.specs.Facts.{scattered, content, element};
+ghost use Rattle.run_store.specs.Facts.{scattered, content, element};
 ghost use Rattle.run_store.specs.Stored as stored;
 ghost use Rattle.run_cells.specs.Held.{held, heap_of, read_in, rising_in, view_from};
 ghost use Rattle.run_cells.specs.Sights.{seen_value, seen_from, part_seen};

@@ -7,22 +7,22 @@ use Rattle.flow_value.specs.Scalar.{unless_error}
 use Rattle.flow_value.specs.declared.value.Val.{Val}
 use Rattle.flow_value.specs.declared.value.Val.TheOpen.{Val-F}
 use Rattle.flow_value.specs.declared.value.Val.TheViews as values
-use Rattle.graph_meaning.specs.Views.{on_integer}
-use Rattle.graph_meaning.specs.Clauses.{Cell, first_failure, kept_values, fold_value}
-use Rattle.graph_meaning.specs.Masks.{keep_of}
-use Rattle.graph_meaning.specs.Folding.{Folding}
-use Rattle.graph_meaning.specs.Folding.TheVariants as folding
-use Rattle.graph_meaning.specs.Keep.{Keep}
-use Rattle.graph_meaning.specs.Keep.TheVariants.{Kept, Dropped, Failed}
-use Rattle.graph_meaning.specs.Masking.TheVariants as masking
+use Rattle.ordered_meaning.specs.Views.{on_integer}
+use Rattle.ordered_meaning.specs.Clauses.{Cell, first_failure, kept_values, fold_value}
+use Rattle.ordered_meaning.specs.Masks.{keep_of}
+use Rattle.ordered_meaning.specs.Folding.{Folding}
+use Rattle.ordered_meaning.specs.Folding.TheVariants as folding
+use Rattle.ordered_meaning.specs.Keep.{Keep}
+use Rattle.ordered_meaning.specs.Keep.TheVariants.{Kept, Dropped, Failed}
+use Rattle.ordered_meaning.specs.Masking.TheVariants as masking
 use Rattle.if1_graph.specs.Ops.{reducer_at}
 use Rattle.if1_graph.specs.declared.op.Reducer.{Reducer}
 use Rattle.if1_graph.specs.declared.op.Grouping.{Grouping}
 use Rattle.if1_graph.specs.declared.op.Simple.TheVariants as simple
-use Rattle.graph_meaning.specs.Carried.{Carried, Value, Many, Spoiled, Name, Unfilled, val_of}
-use Rattle.graph_meaning.specs.NodeValues.{Shape, masked, cells_of, folded, fold_of, gathering, reduction, reduced, op}
-use Rattle.graph_meaning.specs.Forms.{columns}
-use Rattle.graph_meaning.specs.Storage.{Storage, leaves_where, leaves_kept, kept_of, leaves_at, is_left, where_left, copied_by}
+use Rattle.ordered_meaning.specs.Carried.{Carried, Value, Many, Spoiled, Name, Unfilled, val_of}
+use Rattle.ordered_meaning.specs.NodeValues.{Shape, masked, cells_of, folded, fold_of, gathering, reduction, reduced, op}
+use Rattle.ordered_meaning.specs.Forms.{columns}
+use Rattle.ordered_meaning.specs.Storage.{Storage, leaves_where, leaves_kept, kept_of, leaves_at, is_left, where_left, copied_by}
 use Rattle.run_code.proofs.Folding.{by-sift, column, finals-made, get-column, one-more, sifted-fold, sifts-made, where-spoiled}
 use Rattle.run_code.proofs.Refolding.{sum-none}
 use Rattle.run_code.proofs.Values.{by-form}

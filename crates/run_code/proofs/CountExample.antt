@@ -6,9 +6,9 @@
 use Rattle.std.proofs.Common.{◌+◌, List, [], ◌∷◌, get_or, inl, inr, refl, sym, subst, arith, true, false}
 use Rattle.flow_value.specs.declared.operation.Scalar2.TheVariants as two
 use Rattle.if1_graph.specs.declared.op.Simple.TheVariants as simple
-use Rattle.graph_meaning.specs.NodeValues as shape
-use Rattle.graph_meaning.specs.Forms as form
-use Rattle.graph_meaning.specs.Demand.{Port, Fixed, Plain, Whole, Vertex, Net, Network}
+use Rattle.ordered_meaning.specs.NodeValues as shape
+use Rattle.ordered_meaning.specs.Forms as form
+use Rattle.ordered_meaning.specs.Demand.{Port, Fixed, Plain, Whole, Vertex, Net, Network}
 use Rattle.run_code.proofs.Collecting.{lasts}
 use Rattle.run_code.proofs.Layouts.{one, net_at, nothing_weighs, positive, places_by, puts, function_places, function-puts, function-inputs, function-wants, no-nodes}
 use Rattle.run_code.proofs.Refolding.{sum-none}

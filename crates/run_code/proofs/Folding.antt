@@ -3,16 +3,16 @@ use Rattle.std.proofs.Common.{◌≡◌, ℕ, zero, suc, ◌<◌, ◌≤◌, Lis
 use Rattle.flow_value.specs.declared.cause.Cause.{Cause}
 use Rattle.flow_value.specs.declared.value.Val.{Val}
 use Rattle.flow_reduce.specs.Folds.{last_fold, last_of, later_of, or_empty}
-use Rattle.graph_meaning.specs.Clauses.{Cell, first_failure, kept_values, gathered, unless_failed}
-use Rattle.graph_meaning.specs.Masks.{keep_of}
-use Rattle.graph_meaning.specs.Folding.{Folding}
-use Rattle.graph_meaning.specs.Folding.TheVariants as folding
-use Rattle.graph_meaning.specs.Keep.{Keep}
-use Rattle.graph_meaning.specs.Keep.TheVariants.{Kept, Dropped, Failed}
-use Rattle.graph_meaning.specs.Masking.TheVariants as masking
-use Rattle.graph_meaning.specs.Carried.{Carried, Value, Many, Spoiled, Name, Unfilled, val_of}
-use Rattle.graph_meaning.specs.Forms.{before, add_row, columns}
-use Rattle.graph_meaning.specs.NodeValues.{masked, cells_of, folded}
+use Rattle.ordered_meaning.specs.Clauses.{Cell, first_failure, kept_values, gathered, unless_failed}
+use Rattle.ordered_meaning.specs.Masks.{keep_of}
+use Rattle.ordered_meaning.specs.Folding.{Folding}
+use Rattle.ordered_meaning.specs.Folding.TheVariants as folding
+use Rattle.ordered_meaning.specs.Keep.{Keep}
+use Rattle.ordered_meaning.specs.Keep.TheVariants.{Kept, Dropped, Failed}
+use Rattle.ordered_meaning.specs.Masking.TheVariants as masking
+use Rattle.ordered_meaning.specs.Carried.{Carried, Value, Many, Spoiled, Name, Unfilled, val_of}
+use Rattle.ordered_meaning.specs.Forms.{before, add_row, columns}
+use Rattle.ordered_meaning.specs.NodeValues.{masked, cells_of, folded}
 use Rattle.run_code.specs.Collections.{Collect, Final, IsWithin, Sifts, behind_where, collected, made, made_of, none_in, nothing_in, put_all, put_in, puts, sift, sifted, sifts_in}
 use Rattle.run_code.specs.Refolds.{AllLong}
 

@@ -3,12 +3,12 @@
 use Rattle.std.proofs.Common.{◌≡◌, ℕ, zero, suc, ◌+◌, List, [], ◌∷◌, ◌++◌, length, drop, Some, get_or, inl, inr, refl, sym, subst, arith, true}
 use Rattle.flow_value.specs.declared.operation.Scalar2.TheVariants as two
 use Rattle.if1_graph.specs.declared.op.Simple.TheVariants as simple
-use Rattle.graph_meaning.specs.Carried.{Carried}
-use Rattle.graph_meaning.specs.NodeValues as shape
-use Rattle.graph_meaning.specs.Forms.{columns}
-use Rattle.graph_meaning.specs.Forms as form
-use Rattle.graph_meaning.specs.Demand.{Source, Port, Fixed, Plain, Whole, Vertex, Network}
-use Rattle.graph_meaning.specs.Storage.{Weights, kept_of}
+use Rattle.ordered_meaning.specs.Carried.{Carried}
+use Rattle.ordered_meaning.specs.NodeValues as shape
+use Rattle.ordered_meaning.specs.Forms.{columns}
+use Rattle.ordered_meaning.specs.Forms as form
+use Rattle.ordered_meaning.specs.Demand.{Source, Port, Fixed, Plain, Whole, Vertex, Network}
+use Rattle.ordered_meaning.specs.Storage.{Weights, kept_of}
 use Rattle.run_code.proofs.Layouts.{one, truth, positive, places_by, puts, function_places, function-puts, function-inputs, function-wants}
 use Rattle.run_code.proofs.Collecting.{kept-rows, nodes-same}
 use Rattle.run_code.specs.Cells.{At, Lit}

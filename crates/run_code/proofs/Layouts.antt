@@ -2,9 +2,9 @@
 use Rattle.std.proofs.Common.{◌≡◌, ℕ, zero, suc, ◌+◌, ◌-◌, ◌<◌, ◌≤◌, if◌then◌else◌, ltb, List, [], ◌∷◌, map, get_or, pos, refl, sym, ap, subst, arith, Bool, true, false}
 use Rattle.std.proofs.lemmas.Bool.{lt-ltb, ltb-true}
 use Rattle.flow_value.specs.declared.value.Val.TheVariants as val
-use Rattle.graph_meaning.specs.Carried.{Carried, Value, Unfilled}
-use Rattle.graph_meaning.specs.Demand.{Net}
-use Rattle.graph_meaning.specs.Storage.{Weights}
+use Rattle.ordered_meaning.specs.Carried.{Carried, Value, Unfilled}
+use Rattle.ordered_meaning.specs.Demand.{Net}
+use Rattle.ordered_meaning.specs.Storage.{Weights}
 use Rattle.run_code.specs.Cells.{At, Lit, Operand}
 use Rattle.run_code.specs.Coded.{GraphIs, Layout, PartIs, Places, Puts, a_part, no_node, operand}
 use Rattle.run_code.specs.Known.{KnowsAll}

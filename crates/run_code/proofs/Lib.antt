@@ -1,3 +1,9 @@
+pub use Rattle.ordered_meaning.proofs.Growing
+pub use Rattle.ordered_meaning.proofs.Recorded
+pub use Rattle.ordered_meaning.proofs.Same
+pub use Rattle.ordered_meaning.proofs.Shuffled
+pub use Rattle.ordered_meaning.proofs.Complete
+pub use Rattle.ordered_meaning.proofs.UnitTaking
 pub use Rattle.ordered_meaning.proofs.Bound
 pub mod ChoiceExample
 pub mod Collecting

@@ -2,10 +2,10 @@
 -- gathers them where the second ones say so: neither multiple is there.
 use Rattle.std.proofs.Common.{◌≡◌, ℕ, zero, suc, ◌+◌, ◌-◌, if◌then◌else◌, ltb, List, [], ◌∷◌, get_or, Some, inl, inr, refl, sym, ap, subst, arith, true, false}
 use Rattle.if1_graph.specs.declared.op.Simple.TheVariants as simple
-use Rattle.graph_meaning.specs.Carried.{Unfilled}
-use Rattle.graph_meaning.specs.NodeValues as shape
-use Rattle.graph_meaning.specs.Forms as form
-use Rattle.graph_meaning.specs.Demand.{Source, Port, Fixed, Kind, Plain, Whole, Vertex, Net, Network}
+use Rattle.ordered_meaning.specs.Carried.{Unfilled}
+use Rattle.ordered_meaning.specs.NodeValues as shape
+use Rattle.ordered_meaning.specs.Forms as form
+use Rattle.ordered_meaning.specs.Demand.{Source, Port, Fixed, Kind, Plain, Whole, Vertex, Net, Network}
 use Rattle.run_code.proofs.Layouts.{one, truth, net_at, nothing_weighs, positive, places_by, puts, function-inputs, function-wants, no-nodes}
 use Rattle.run_code.proofs.Collecting.{lasts, nodes-same}
 use Rattle.run_code.proofs.Refolding.{sum-none}

@@ -1,6 +1,6 @@
 -- The code of each example is the one that is made.
 use Rattle.std.proofs.Common.{◌≡◌, ℕ, zero, suc, List, [], ◌∷◌, ◌++◌, get_or, refl, Bool, true, false}
-use Rattle.graph_meaning.specs.Demand.{Port, Vertex, Net}
+use Rattle.ordered_meaning.specs.Demand.{Port, Vertex, Net}
 use Rattle.run_code.specs.Collections.{Collect}
 use Rattle.run_code.specs.Made.{Plan, IsSized, function_code}
 use Rattle.run_code.proofs.ForAllExample as for_all

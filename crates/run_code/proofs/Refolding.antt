@@ -1,10 +1,10 @@
 -- The returns goes on columns where the other graph goes on what is collected, and the other way round.
 use Rattle.std.proofs.Common.{◌≡◌, ℕ, zero, suc, ◌+◌, ◌-◌, ◌<◌, inl, inr, eqb, Bool, true, false, if◌then◌else◌, List, [], ◌∷◌, ◌++◌, length, get_or, slice_get, Some, None, refl, sym, ap, ◌∙◌, subst, arith}
-use Rattle.graph_meaning.specs.Carried.{Carried, Unfilled}
-use Rattle.graph_meaning.specs.NodeValues.{op}
-use Rattle.graph_meaning.specs.Forms.{columns}
-use Rattle.graph_meaning.specs.Demand.{Source, Port, Fixed, Vertex}
-use Rattle.graph_meaning.specs.Storage.{Weights}
+use Rattle.ordered_meaning.specs.Carried.{Carried, Unfilled}
+use Rattle.ordered_meaning.specs.NodeValues.{op}
+use Rattle.ordered_meaning.specs.Forms.{columns}
+use Rattle.ordered_meaning.specs.Demand.{Source, Port, Fixed, Vertex}
+use Rattle.ordered_meaning.specs.Storage.{Weights}
 use Rattle.ordered_meaning.proofs.Bound.{bound-before, same-some}
 use Rattle.ordered_meaning.specs.Laws.{counting}
 use Rattle.ordered_meaning.specs.Ordered.{Bindings, Fired, GraphYields, Inputs, KindYields, NodeYields, NodesYield, ReadsAll, Rest, Total, and_results, bound, with_both}

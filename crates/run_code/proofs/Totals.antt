@@ -1,6 +1,6 @@
 -- Totals of two parts, part by part.
 use Rattle.std.proofs.Common.{◌≡◌, ℕ, ◌+◌, ap}
-use Rattle.graph_meaning.specs.Storage.{Weights}
+use Rattle.ordered_meaning.specs.Storage.{Weights}
 use Rattle.ordered_meaning.specs.Laws.{counting}
 use Rattle.ordered_meaning.specs.Ordered.{Total, and_results, nothing, with_both}
 

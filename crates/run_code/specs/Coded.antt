@@ -3,14 +3,14 @@
 -- Each stretch of the code writes cells from one number on and none below. What lies below are the ports whose values may still
 -- be read, so a part of a compound node reads the cells of the ports that lend it its inputs, or copies of them that are its own.
 use Rattle.std.specs.Prelude.{◌≡◌, ℕ, suc, ◌+◌, ◌-◌, ◌<◌, ◌≤◌, ◌⊎◌, Bool, true, false, List, [], ◌∷◌, ◌++◌, map, length, get_or}
-use Rattle.graph_meaning.specs.Carried.{Carried, Unfilled}
-use Rattle.graph_meaning.specs.NodeValues.{Shape}
+use Rattle.ordered_meaning.specs.Carried.{Carried, Unfilled}
+use Rattle.ordered_meaning.specs.NodeValues.{Shape}
 use Rattle.if1_graph.specs.declared.op.Simple.{Simple}
-use Rattle.graph_meaning.specs.Forms.{Form}
-use Rattle.graph_meaning.specs.Forms as form
-use Rattle.graph_meaning.specs.Entered.{IsIn}
-use Rattle.graph_meaning.specs.Demand.{Source, Port, Fixed, Kind, Plain, Whole, Vertex, Network}
-use Rattle.graph_meaning.specs.Storage.{Weights}
+use Rattle.ordered_meaning.specs.Forms.{Form}
+use Rattle.ordered_meaning.specs.Forms as form
+use Rattle.ordered_meaning.specs.Entered.{IsIn}
+use Rattle.ordered_meaning.specs.Demand.{Source, Port, Fixed, Kind, Plain, Whole, Vertex, Network}
+use Rattle.ordered_meaning.specs.Storage.{Weights}
 use Rattle.ordered_meaning.specs.Ordered.{Rest, Total, Yields, GraphYields}
 use Rattle.ordered_meaning.specs.Laws.{counting}
 use Rattle.run_code.specs.Cells.{Operand, At, Lit, cells_at, picked, own_cells}

@@ -1,18 +1,18 @@
 -- What is collected stands for the multiples: for the nodes that read them, for the copies of record, and for the Rust type of a clause.
 use Rattle.std.specs.Prelude.{◌≡◌, ℕ, ◌<◌, ℤ, true, List, [], ◌∷◌, ◌++◌, length, get_or, Option, Some, None}
 use Rattle.flow_value.specs.Leaves.{leaf_count}
-use Rattle.graph_meaning.specs.Clauses.{Cell, first_failure, kept_values, fold_value}
-use Rattle.graph_meaning.specs.Masks.{keep_of}
-use Rattle.graph_meaning.specs.Folding.{Folding}
-use Rattle.graph_meaning.specs.Keep.{Keep}
-use Rattle.graph_meaning.specs.Keep.TheVariants.{Kept}
-use Rattle.graph_meaning.specs.Masking.TheVariants as masking
+use Rattle.ordered_meaning.specs.Clauses.{Cell, first_failure, kept_values, fold_value}
+use Rattle.ordered_meaning.specs.Masks.{keep_of}
+use Rattle.ordered_meaning.specs.Folding.{Folding}
+use Rattle.ordered_meaning.specs.Keep.{Keep}
+use Rattle.ordered_meaning.specs.Keep.TheVariants.{Kept}
+use Rattle.ordered_meaning.specs.Masking.TheVariants as masking
 use Rattle.if1_graph.specs.declared.op.Grouping.{Grouping}
 use Rattle.if1_graph.specs.declared.op.Simple.TheVariants as simple
-use Rattle.graph_meaning.specs.Carried.{Carried, Value, Unfilled, val_of}
-use Rattle.graph_meaning.specs.NodeValues.{Shape, folded, op}
-use Rattle.graph_meaning.specs.Forms.{columns}
-use Rattle.graph_meaning.specs.Storage.{Storage, leaves_where, leaves_at, where_left, copied_by}
+use Rattle.ordered_meaning.specs.Carried.{Carried, Value, Unfilled, val_of}
+use Rattle.ordered_meaning.specs.NodeValues.{Shape, folded, op}
+use Rattle.ordered_meaning.specs.Forms.{columns}
+use Rattle.ordered_meaning.specs.Storage.{Storage, leaves_where, leaves_at, where_left, copied_by}
 use Rattle.run_code.specs.Collections.{Collect, Final, IsWithin, Sifts, made, made_of, put_in, sift}
 use Rattle.run_code.specs.Refolds.{AllLong, reads, rows_sum}
 

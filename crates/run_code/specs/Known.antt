@@ -1,6 +1,6 @@
 -- The ports that have cells: of each node that has fired, those from 1 to a number.
 use Rattle.std.specs.Prelude.{◌≡◌, ◌≢◌, ℕ, zero, suc, ◌<◌, ◌⊎◌, List, [], ◌∷◌}
-use Rattle.graph_meaning.specs.Demand.{Source, Port, Fixed, Vertex}
+use Rattle.ordered_meaning.specs.Demand.{Source, Port, Fixed, Vertex}
 
 -- labels, with how many ports
 abbrev pub Known : Type 0

@@ -1,3 +1,14 @@
+pub use Rattle.ordered_meaning.specs.Simple
+pub use Rattle.ordered_meaning.specs.Carried
+pub use Rattle.ordered_meaning.specs.Forms
+pub use Rattle.ordered_meaning.specs.NodeValues
+pub use Rattle.ordered_meaning.specs.Demand
+pub use Rattle.ordered_meaning.specs.Entered
+pub use Rattle.ordered_meaning.specs.Plain
+pub use Rattle.ordered_meaning.specs.Storage
+pub use Rattle.ordered_meaning.specs.Laws
+pub use Rattle.ordered_meaning.specs.Ordered
+pub use Rattle.ordered_meaning.specs.Taking
 pub use Rattle.ordered_meaning.specs.Orders
 pub mod Cells
 pub mod Collections

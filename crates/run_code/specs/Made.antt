@@ -3,9 +3,9 @@
 -- How many steps and cells each graph takes is known before its steps are laid, by two tables, so each place is known when a step that
 -- goes there is laid. Graphs inside nodes are followed down to a number of levels.
 use Rattle.std.specs.Prelude.{◌≡◌, ℕ, zero, suc, ◌+◌, ◌-◌, max, eqb, ltb, if◌then◌else◌, Bool, true, false, List, [], ◌∷◌, ◌++◌, map, drop, length, get_or}
-use Rattle.graph_meaning.specs.Carried.{Unfilled}
-use Rattle.graph_meaning.specs.Forms as form
-use Rattle.graph_meaning.specs.Demand.{Source, Kind, Plain, Whole, Vertex}
+use Rattle.ordered_meaning.specs.Carried.{Unfilled}
+use Rattle.ordered_meaning.specs.Forms as form
+use Rattle.ordered_meaning.specs.Demand.{Source, Kind, Plain, Whole, Vertex}
 use Rattle.run_code.specs.Cells.{Operand, At, Lit, cells_at, picked, own_cells}
 use Rattle.run_code.specs.Coded.{Places, operand}
 use Rattle.run_code.specs.Collections.{Collect, Sifts, Final, sifts_in}

@@ -2,11 +2,11 @@
 -- but a node that reads a multiple there reads one collection here.
 use Rattle.std.specs.Prelude.{◌≡◌, ℕ, zero, suc, ◌+◌, ◌-◌, ◌<◌, ◌⊎◌, List, [], ◌∷◌, ◌++◌, length, get_or, slice_get, Some, None}
 use Rattle.if1_graph.specs.declared.op.Simple.{Simple}
-use Rattle.graph_meaning.specs.Carried.{Carried, Unfilled}
-use Rattle.graph_meaning.specs.NodeValues.{Shape, op}
-use Rattle.graph_meaning.specs.Forms.{columns}
-use Rattle.graph_meaning.specs.Demand.{Source, Port, Fixed, Plain, Vertex}
-use Rattle.graph_meaning.specs.Storage.{Weights}
+use Rattle.ordered_meaning.specs.Carried.{Carried, Unfilled}
+use Rattle.ordered_meaning.specs.NodeValues.{Shape, op}
+use Rattle.ordered_meaning.specs.Forms.{columns}
+use Rattle.ordered_meaning.specs.Demand.{Source, Port, Fixed, Plain, Vertex}
+use Rattle.ordered_meaning.specs.Storage.{Weights}
 use Rattle.run_code.specs.Collections.{Collect, Final, Sifts, made}
 
 -- no input past so many

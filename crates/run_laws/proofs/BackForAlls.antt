@@ -2,12 +2,12 @@
 --
 -- By recursion on the iterations that are left, as many as the generator's multiples say.
 use Rattle.std.proofs.Common.{◌≡◌, ℕ, zero, suc, ◌+◌, ◌<◌, ◌≤◌, false, List, [], ◌∷◌, ◌++◌, length, map, drop, refl, sym, ◌∙◌, subst, arith}
-use Rattle.graph_meaning.specs.Carried.{Carried}
-use Rattle.graph_meaning.specs.Forms.{Form, Next, Stage, Enter, Iterate, Leave, Generating, Returning, errors, follow, gather, iterate, spread, columns, first_spoiled, places_of, items, rows_of}
-use Rattle.graph_meaning.specs.Forms as form
-use Rattle.ordered_meaning.proofs.Growing.{graph-on, rows-on, yields-on}
-use Rattle.ordered_meaning.specs.Laws.{counting}
-use Rattle.ordered_meaning.specs.Ordered.{RowsYield, Total, nothing, with_both}
+use Rattle.run_code.specs.Carried.{Carried}
+use Rattle.run_code.specs.Forms.{Form, Next, Stage, Enter, Iterate, Leave, Generating, Returning, errors, follow, gather, iterate, spread, columns, first_spoiled, places_of, items, rows_of}
+use Rattle.run_code.specs.Forms as form
+use Rattle.run_code.proofs.Growing.{graph-on, rows-on, yields-on}
+use Rattle.run_code.specs.Laws.{counting}
+use Rattle.run_code.specs.Ordered.{RowsYield, Total, nothing, with_both}
 use Rattle.run_code.proofs.Folding.{all-made, puts_all}
 use Rattle.run_code.proofs.Refolding.{from-collected}
 use Rattle.run_code.specs.Cells.{Cells, Operand, cells_at, look, own_cells}

@@ -2,10 +2,10 @@
 --
 -- By induction on the steps that are left at each test: a turn leaves fewer.
 use Rattle.std.proofs.Common.{ℕ, zero, suc, ◌+◌, ◌<◌, ◌≤◌, Bool, true, false, List, [], ◌∷◌, ◌++◌, length, refl, sym, ap, ◌∙◌, subst, arith}
-use Rattle.graph_meaning.specs.Carried.{Carried, val_of}
-use Rattle.graph_meaning.specs.Forms.{Form, Next, Enter, Leave, Starting, Testing, Turning, Returning, errors, follow, tested, turn_columns}
-use Rattle.ordered_meaning.specs.Laws.{counting}
-use Rattle.ordered_meaning.specs.Ordered.{nothing, with_both}
+use Rattle.run_code.specs.Carried.{Carried, val_of}
+use Rattle.run_code.specs.Forms.{Form, Next, Enter, Leave, Starting, Testing, Turning, Returning, errors, follow, tested, turn_columns}
+use Rattle.run_code.specs.Laws.{counting}
+use Rattle.run_code.specs.Ordered.{nothing, with_both}
 use Rattle.run_code.proofs.Refolding.{from-collected}
 use Rattle.run_code.specs.Cells.{Cells, Operand, cells_at, look, own_cells}
 use Rattle.run_code.specs.Coded.{AreCoded, GoesIn, Layout, graph_yields, loop_form, yields}

@@ -4,20 +4,20 @@
 -- there are fewer steps left for the next part.
 use Rattle.std.proofs.Common.{◌≡◌, ℕ, zero, suc, ◌+◌, ◌≤◌, Bool, false, List, [], ◌∷◌, length, map, get_or, refl, sym, ap, ◌∙◌, subst, arith}
 use Rattle.flow_value.specs.declared.value.Val.TheViews as values
-use Rattle.graph_meaning.specs.Carried.{Carried, Value, Unfilled, val_of}
-use Rattle.graph_meaning.specs.NodeValues.{op}
-use Rattle.graph_meaning.specs.Entered.{IsIn}
-use Rattle.graph_meaning.specs.Forms.{Form, Next, First, next_of, arm_in, Enter, Iterate, Leave, Called, Chosen, Selecting, Starting, Generating, select, errors, follow, first}
-use Rattle.graph_meaning.specs.Forms as form
-use Rattle.graph_meaning.specs.Demand.{Kind, Whole, Vertex}
-use Rattle.graph_meaning.specs.Plain.{Means, Costs}
-use Rattle.ordered_meaning.proofs.Growing.{kind-on, nodes-on, yields-on}
-use Rattle.ordered_meaning.proofs.Recorded.{recorded}
-use Rattle.ordered_meaning.specs.Laws.{counting}
-use Rattle.ordered_meaning.specs.Ordered.{Fired, Inputs, Bindings, and_results, nothing, with_both}
-use Rattle.ordered_meaning.proofs.Same.{itself}
-use Rattle.ordered_meaning.proofs.Shuffled.{all-listed}
-use Rattle.ordered_meaning.proofs.Complete.{yields-where-costed}
+use Rattle.run_code.specs.Carried.{Carried, Value, Unfilled, val_of}
+use Rattle.run_code.specs.NodeValues.{op}
+use Rattle.run_code.specs.Entered.{IsIn}
+use Rattle.run_code.specs.Forms.{Form, Next, First, next_of, arm_in, Enter, Iterate, Leave, Called, Chosen, Selecting, Starting, Generating, select, errors, follow, first}
+use Rattle.run_code.specs.Forms as form
+use Rattle.run_code.specs.Demand.{Kind, Whole, Vertex}
+use Rattle.run_code.specs.Plain.{Means, Costs}
+use Rattle.run_code.proofs.Growing.{kind-on, nodes-on, yields-on}
+use Rattle.run_code.proofs.Recorded.{recorded}
+use Rattle.run_code.specs.Laws.{counting}
+use Rattle.run_code.specs.Ordered.{Fired, Inputs, Bindings, and_results, nothing, with_both}
+use Rattle.run_code.proofs.Same.{itself}
+use Rattle.run_code.proofs.Shuffled.{all-listed}
+use Rattle.run_code.proofs.Complete.{yields-where-costed}
 use Rattle.run_code.specs.Cells.{At, Cells, Operand, look, own_cells, write}
 use Rattle.run_code.specs.Coded.{AreCoded, ArmsAre, Layout, NodeIs, NodesAre, Places, Starts, a_call, a_for_all, a_loop, a_node, a_select, a_tag_case, loop_form, no_node, operand, scalar, yields}
 use Rattle.run_code.specs.Known.{IsReadable, Known}

@@ -1,12 +1,12 @@
 -- What goes where the machine ends, and the parts of compound nodes.
 use Rattle.std.proofs.Common.{◌≡◌, ℕ, suc, ◌+◌, ◌<◌, ◌≤◌, Bool, false, List, [], map, refl, sym, subst, arith}
-use Rattle.graph_meaning.specs.Carried.{Carried}
-use Rattle.graph_meaning.specs.Entered.{entry_fires}
-use Rattle.graph_meaning.specs.Forms.{Form, Next, Stage, Enter, Leave, follow}
-use Rattle.graph_meaning.specs.Demand.{Source, Kind, Vertex}
-use Rattle.ordered_meaning.proofs.Growing.{graph-on, nodes-on, yields-on}
-use Rattle.ordered_meaning.specs.Laws.{counting}
-use Rattle.ordered_meaning.specs.Ordered.{Inputs, Bindings, KindYields, NodesYield, ReadsAll, Total, and_results, nothing, with_both}
+use Rattle.run_code.specs.Carried.{Carried}
+use Rattle.run_code.specs.Entered.{entry_fires}
+use Rattle.run_code.specs.Forms.{Form, Next, Stage, Enter, Leave, follow}
+use Rattle.run_code.specs.Demand.{Source, Kind, Vertex}
+use Rattle.run_code.proofs.Growing.{graph-on, nodes-on, yields-on}
+use Rattle.run_code.specs.Laws.{counting}
+use Rattle.run_code.specs.Ordered.{Inputs, Bindings, KindYields, NodesYield, ReadsAll, Total, and_results, nothing, with_both}
 use Rattle.run_code.specs.Cells.{Cells, Operand, look, own_cells}
 use Rattle.run_code.specs.Coded.{AreCoded, Layout, NodesAre, Places, Starts, graph_yields, yields}
 use Rattle.run_code.specs.Known.{AreReadable, IsReadable, Known, known_after}

@@ -5,12 +5,12 @@ use Rattle.flow_value.specs.declared.cause.Cause.{Cause}
 use Rattle.flow_value.specs.declared.value.Val.{Val}
 use Rattle.flow_value.specs.declared.value.Val.TheOpen.{Val-F}
 use Rattle.flow_value.specs.declared.value.Val.TheViews as values
-use Rattle.graph_meaning.specs.Carried.{Carried, Value, Unfilled, val_of}
-use Rattle.graph_meaning.specs.NodeValues.{op}
-use Rattle.graph_meaning.specs.Forms.{errors, first_spoiled, are_as_long, places_of, items, heads}
+use Rattle.run_code.specs.Carried.{Carried, Value, Unfilled, val_of}
+use Rattle.run_code.specs.NodeValues.{op}
+use Rattle.run_code.specs.Forms.{errors, first_spoiled, are_as_long, places_of, items, heads}
 use Rattle.run_code.proofs.Columns.{get-first}
 use Rattle.run_code.proofs.Values.{by-form}
-use Rattle.graph_meaning.specs.Simple.TheVariants as simple
+use Rattle.run_code.specs.Simple.TheVariants as simple
 use Rattle.run_code.specs.Cells.{At, Cells, Operand, cells_from, look, write}
 use Rattle.run_code.specs.Collections.{Collect, nothing_in, put_all, since}
 use Rattle.run_code.specs.Machine.{Frame, Goes, Over, State, arm_by, arm_to, at, begun, choice, chosen, counted, counter, doing, each, elements, or_tag, returned, sized, spread_to, spreads, tagged, tested_by}

@@ -3,12 +3,12 @@ use Rattle.std.proofs.Common.{◌≡◌, ℕ, zero, suc, ◌+◌, ◌<◌, ◌�
 use Rattle.std.proofs.lemmas.Bool.{lt-ltb, le-ltb}
 use Rattle.flow_value.specs.declared.cause.Cause.{Cause}
 use Rattle.flow_value.specs.declared.cause.Cause.TheVariants as cause
-use Rattle.graph_meaning.specs.Carried.{Carried}
-use Rattle.graph_meaning.specs.Forms.{Form, Next, Enter, Iterate, Leave, Generating, Returning, errors, outputs_of, follow, gather, iterate, spread, columns, first_spoiled, are_as_long, places_of, items, heads, rows_of}
-use Rattle.graph_meaning.specs.Forms as form
-use Rattle.graph_meaning.specs.Demand.{Source, Vertex}
-use Rattle.ordered_meaning.specs.Laws.{counting}
-use Rattle.ordered_meaning.specs.Ordered.{RowsYield, Total}
+use Rattle.run_code.specs.Carried.{Carried}
+use Rattle.run_code.specs.Forms.{Form, Next, Enter, Iterate, Leave, Generating, Returning, errors, outputs_of, follow, gather, iterate, spread, columns, first_spoiled, are_as_long, places_of, items, heads, rows_of}
+use Rattle.run_code.specs.Forms as form
+use Rattle.run_code.specs.Demand.{Source, Vertex}
+use Rattle.run_code.specs.Laws.{counting}
+use Rattle.run_code.specs.Ordered.{RowsYield, Total}
 use Rattle.run_code.proofs.Folding.{all-made, nothing-long, put-long, puts_all}
 use Rattle.run_code.proofs.Refolding.{to-collected}
 use Rattle.run_code.proofs.Totals.{both-fire, both-sum, nothing-fires, nothing-sum}

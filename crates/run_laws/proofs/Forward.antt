@@ -5,14 +5,14 @@ use Rattle.flow_value.specs.declared.cause.Cause.TheVariants as cause
 use Rattle.flow_value.specs.declared.value.Val.{Val}
 use Rattle.flow_value.specs.declared.value.Val.TheOpen.{Val-F}
 use Rattle.flow_value.specs.declared.value.Val.TheViews as values
-use Rattle.graph_meaning.specs.Carried.{Carried, Value, Unfilled, val_of}
-use Rattle.graph_meaning.specs.NodeValues.{Shape, op}
-use Rattle.graph_meaning.specs.Simple.{Simple}
-use Rattle.graph_meaning.specs.Entered.{IsIn}
-use Rattle.graph_meaning.specs.Forms.{Form, Next, First, Begins, Skips, next_of, enter_arm, arm_in, Enter, Iterate, Leave, Called, Chosen, Selecting, Starting, select, enter_chosen, errors, outputs_of, follow, first}
-use Rattle.graph_meaning.specs.Forms as form
-use Rattle.ordered_meaning.specs.Laws.{counting}
-use Rattle.ordered_meaning.specs.Ordered.{Fired, Inputs, Total, nothing}
+use Rattle.run_code.specs.Carried.{Carried, Value, Unfilled, val_of}
+use Rattle.run_code.specs.NodeValues.{Shape, op}
+use Rattle.run_code.specs.Simple.{Simple}
+use Rattle.run_code.specs.Entered.{IsIn}
+use Rattle.run_code.specs.Forms.{Form, Next, First, Begins, Skips, next_of, enter_arm, arm_in, Enter, Iterate, Leave, Called, Chosen, Selecting, Starting, select, enter_chosen, errors, outputs_of, follow, first}
+use Rattle.run_code.specs.Forms as form
+use Rattle.run_code.specs.Laws.{counting}
+use Rattle.run_code.specs.Ordered.{Fired, Inputs, Total, nothing}
 use Rattle.run_code.specs.Known.{known_after}
 use Rattle.run_code.proofs.Totals.{both-fire, both-sum, nothing-fires, nothing-sum, results-fire, results-sum}
 use Rattle.run_code.proofs.Values.{by-form}

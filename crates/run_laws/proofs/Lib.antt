@@ -1,3 +1,9 @@
+pub use Rattle.run_code.proofs.Bound
+pub use Rattle.run_code.proofs.Folding
+pub use Rattle.run_code.proofs.Values
+pub use Rattle.run_code.proofs.Layouts
+pub use Rattle.run_code.proofs.Collecting
+pub use Rattle.run_code.proofs.Refolding
 pub mod Cells
 pub mod Told
 pub mod Stepping

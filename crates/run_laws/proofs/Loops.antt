@@ -5,11 +5,11 @@ use Rattle.flow_value.specs.declared.cause.Cause.TheVariants as cause
 use Rattle.flow_value.specs.declared.value.Val.{Val}
 use Rattle.flow_value.specs.declared.value.Val.TheOpen.{Val-F}
 use Rattle.flow_value.specs.declared.value.Val.TheViews as values
-use Rattle.graph_meaning.specs.Carried.{Carried, Unfilled, val_of}
-use Rattle.graph_meaning.specs.Forms.{Form, Next, Begins, Stage, Enter, Leave, Starting, Testing, Turning, Returning, errors, outputs_of, first, follow, loop, tested, turn_columns}
-use Rattle.graph_meaning.specs.Demand.{Source, Vertex}
-use Rattle.ordered_meaning.specs.Laws.{counting}
-use Rattle.ordered_meaning.specs.Ordered.{Total}
+use Rattle.run_code.specs.Carried.{Carried, Unfilled, val_of}
+use Rattle.run_code.specs.Forms.{Form, Next, Begins, Stage, Enter, Leave, Starting, Testing, Turning, Returning, errors, outputs_of, first, follow, loop, tested, turn_columns}
+use Rattle.run_code.specs.Demand.{Source, Vertex}
+use Rattle.run_code.specs.Laws.{counting}
+use Rattle.run_code.specs.Ordered.{Total}
 use Rattle.run_code.proofs.Folding.{all-made, nothing-long, put-long, puts-more, puts_all, sifts-fewer}
 use Rattle.run_code.proofs.Refolding.{to-collected}
 use Rattle.run_code.proofs.Totals.{both-fire, both-sum, nothing-fires, nothing-sum}

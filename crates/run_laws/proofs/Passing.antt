@@ -1,11 +1,11 @@
 -- What it is that the machine has come through nodes, and the parts of compound nodes.
 use Rattle.std.proofs.Common.{◌≡◌, ℕ, zero, suc, ◌+◌, ◌<◌, ◌≤◌, Bool, false, List, [], ◌∷◌, length, map, get_or, inl, inr, ◌⊎◌, refl, sym, ap, ◌∙◌, subst, arith}
 use Rattle.flow_value.specs.declared.cause.Cause.{Cause}
-use Rattle.graph_meaning.specs.Carried.{Carried, Unfilled}
-use Rattle.graph_meaning.specs.Forms.{Form, Stage, Enter, Leave, errors, follow}
-use Rattle.graph_meaning.specs.Demand.{Source, Kind, Vertex}
-use Rattle.ordered_meaning.specs.Laws.{counting}
-use Rattle.ordered_meaning.specs.Ordered.{Inputs, Bindings, GraphYields, KindYields, NodesYield, Rest, Total}
+use Rattle.run_code.specs.Carried.{Carried, Unfilled}
+use Rattle.run_code.specs.Forms.{Form, Stage, Enter, Leave, errors, follow}
+use Rattle.run_code.specs.Demand.{Source, Kind, Vertex}
+use Rattle.run_code.specs.Laws.{counting}
+use Rattle.run_code.specs.Ordered.{Inputs, Bindings, GraphYields, KindYields, NodesYield, Rest, Total}
 use Rattle.run_code.specs.Known.{Known, IsReadable, AreReadable, known_after}
 use Rattle.run_code.proofs.Totals.{both-fire, both-sum, nothing-fires, nothing-sum, results-fire, results-sum}
 use Rattle.run_code.specs.Cells.{Cells, Operand, look, own_cells, picked, write}

@@ -3,8 +3,8 @@ use Rattle.std.proofs.Common.{◌≡◌, ℕ, zero, suc, ◌+◌, ◌-◌, ◌<�
 use Rattle.std.specs.List.{list_all}
 use Rattle.std.proofs.lemmas.Bool.{le-ltb, le-leb}
 use Rattle.flow_value.specs.declared.value.Val.{Val}
-use Rattle.graph_meaning.specs.Carried.{Carried, Value, Many, Spoiled, Name, Unfilled, val_of}
-use Rattle.graph_meaning.specs.Forms.{before, add_row, columns, turn_columns, items, are_as_long, places_of, heads}
+use Rattle.run_code.specs.Carried.{Carried, Value, Many, Spoiled, Name, Unfilled, val_of}
+use Rattle.run_code.specs.Forms.{before, add_row, columns, turn_columns, items, are_as_long, places_of, heads}
 use Rattle.run_code.proofs.Columns.{get-first, get-second, more-turns}
 use Rattle.run_code.specs.Cells.{Cells, cells_at, write}
 use Rattle.run_code.specs.Collections.{alone, behind, behind_all}

@@ -1,7 +1,7 @@
 -- Steps put together, and what is left of a run that ends.
 use Rattle.std.proofs.Common.{◌≡◌, ℕ, zero, suc, ◌+◌, ◌<◌, ◌≤◌, Bool, true, false, if◌then◌else◌, List, inl, inr, ◌⊎◌, refl, sym, ap, ◌∙◌, subst, arith, ltb}
 use Rattle.std.proofs.lemmas.Bool.{lt-ltb, ltb-true}
-use Rattle.graph_meaning.specs.Carried.{Carried}
+use Rattle.run_code.specs.Carried.{Carried}
 use Rattle.run_code.specs.Cells.{Cells}
 use Rattle.run_code.specs.Machine.{Ends, EndsIn, Frame, Goes, Outcome, Over, Reaches, State, Weigh, added, at, counted, doing, goes_on, stays, step}
 use Rattle.run_code.specs.Steps.{Code, Step}

@@ -6,10 +6,10 @@ use Rattle.flow_value.specs.declared.cause.Cause.TheVariants as cause
 use Rattle.flow_value.specs.declared.value.Val.{Val}
 use Rattle.flow_value.specs.declared.value.Val.TheOpen.{Val-F}
 use Rattle.flow_value.specs.declared.value.Val.TheViews as values
-use Rattle.graph_meaning.specs.Carried.{Carried, Value, val_of}
-use Rattle.graph_meaning.specs.NodeValues.{op}
-use Rattle.graph_meaning.specs.Forms.{errors, first_spoiled, are_as_long, places_of}
-use Rattle.graph_meaning.specs.Plain.{Costs}
+use Rattle.run_code.specs.Carried.{Carried, Value, val_of}
+use Rattle.run_code.specs.NodeValues.{op}
+use Rattle.run_code.specs.Forms.{errors, first_spoiled, are_as_long, places_of}
+use Rattle.run_code.specs.Plain.{Costs}
 use Rattle.run_code.specs.Cells.{Cells, look, write, cells_from}
 use Rattle.run_code.specs.Coded.{Layout}
 use Rattle.run_code.specs.Collections.{Collect, put_all, nothing_in, since}

@@ -1,9 +1,9 @@
 -- What is known is bound.
 use Rattle.std.proofs.Common.{◌≡◌, ℕ, zero, suc, ◌-◌, List, [], ◌∷◌, get_or, Some, inl, inr, refl, sym, subst}
-use Rattle.graph_meaning.specs.Carried.{Carried, Unfilled}
-use Rattle.graph_meaning.specs.Demand.{Source, Port, Fixed, Vertex}
-use Rattle.ordered_meaning.proofs.Bound.{bound-now, still-bound}
-use Rattle.ordered_meaning.specs.Ordered.{Bindings, Fired, Inputs, NodesYield, ReadsAll, Rest, Tally, Total, bound}
+use Rattle.run_code.specs.Carried.{Carried, Unfilled}
+use Rattle.run_code.specs.Demand.{Source, Port, Fixed, Vertex}
+use Rattle.run_code.proofs.Bound.{bound-now, still-bound}
+use Rattle.run_code.specs.Ordered.{Bindings, Fired, Inputs, NodesYield, ReadsAll, Rest, Tally, Total, bound}
 use Rattle.run_code.specs.Known.{Known, Knows, KnowsAll, known_after}
 
 -- the inputs and what is known are bound

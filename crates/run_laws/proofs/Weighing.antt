@@ -1,10 +1,10 @@
 -- Weights that are alike on a unit give the same totals.
 use Rattle.std.proofs.Common.{◌≡◌, ℕ, suc, ◌+◌, List, ◌∷◌, length, refl, sym, ap, subst}
-use Rattle.graph_meaning.specs.Carried.{Carried}
-use Rattle.graph_meaning.specs.Forms.{Form, Next, next_of, first, follow, gather}
-use Rattle.graph_meaning.specs.Demand.{Source, Kind, Vertex, Network, EachNode}
-use Rattle.graph_meaning.specs.Plain.{CarryAll, no_port, port}
-use Rattle.graph_meaning.specs.Storage.{Weights, NodesAdd, no_node, a_node, InnerAdds, of_simple, of_whole, LaterAdds, of_leaving, of_graph, of_deeper, of_iterations, RowsAdd, of_no_row, of_row, GraphAdds, of_nodes}
+use Rattle.run_code.specs.Carried.{Carried}
+use Rattle.run_code.specs.Forms.{Form, Next, next_of, first, follow, gather}
+use Rattle.run_code.specs.Demand.{Source, Kind, Vertex, Network, EachNode}
+use Rattle.run_code.specs.Plain.{CarryAll, no_port, port}
+use Rattle.run_code.specs.Storage.{Weights, NodesAdd, no_node, a_node, InnerAdds, of_simple, of_whole, LaterAdds, of_leaving, of_graph, of_deeper, of_iterations, RowsAdd, of_no_row, of_row, GraphAdds, of_nodes}
 use Rattle.run_laws.specs.Weighing.{AreAlike, GiveTheSameTotals}
 
 as-many : (u : Network) (n g : ℕ) (ins : List Carried) (os : List Source) (cs : List Carried) → CarryAll u n g ins os cs → length cs ≡ length os

@@ -1,3 +1,14 @@
+pub use Rattle.run_code.specs.Made
+pub use Rattle.run_code.specs.Orders
+pub use Rattle.run_code.specs.Coded
+pub use Rattle.run_code.specs.Machine
+pub use Rattle.run_code.specs.Collecting
+pub use Rattle.run_code.specs.Taking
+pub use Rattle.run_code.specs.Known
+pub use Rattle.run_code.specs.Refolds
+pub use Rattle.run_code.specs.Cells
+pub use Rattle.run_code.specs.Collections
+pub use Rattle.run_code.specs.Steps
 pub mod Inside
 pub mod Laws
 pub mod Stopping

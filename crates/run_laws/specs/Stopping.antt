@@ -1,10 +1,10 @@
 -- A machine whose code stays inside stops, and so each run is decided.
 use Rattle.std.specs.Prelude.{◌≡◌, ℕ, ◌+◌, ◌*◌, ◌-◌, ◌<◌, ◌≤◌, ◌⊎◌, List, [], ◌∷◌, length}
-use Rattle.graph_meaning.specs.Carried.{Carried}
-use Rattle.graph_meaning.specs.Demand.{AreOrderly}
-use Rattle.graph_meaning.specs.Entered.{IsIn}
-use Rattle.graph_meaning.specs.Plain.{Costs}
-use Rattle.ordered_meaning.specs.Orders.{AreInOrder}
+use Rattle.run_code.specs.Carried.{Carried}
+use Rattle.run_code.specs.Demand.{AreOrderly}
+use Rattle.run_code.specs.Entered.{IsIn}
+use Rattle.run_code.specs.Plain.{Costs}
+use Rattle.run_code.specs.Orders.{AreInOrder}
 use Rattle.run_code.specs.Cells.{Cells}
 use Rattle.run_code.specs.Coded.{Layout, AreCoded}
 use Rattle.run_code.specs.Machine.{Frame, State, Over, step, EndsIn, Reaches}

@@ -4,11 +4,11 @@ use Rattle.std.proofs.Math.Nat.{le-max_left, le-max_right}
 use Rattle.graph_meaning.specs.Carried.{Carried}
 use Rattle.graph_meaning.specs.Forms as form
 use Rattle.graph_meaning.specs.Demand.{Whole, Vertex, Network}
-use Rattle.run_code.specs.Cells.{Operand, At, picked, own_cells}
-use Rattle.run_code.specs.Coded.{ArmsAre, Hands, Layout, NodeIs, PartIs, Starts, a_select, a_tag_case, an_arm, no_arm}
-use Rattle.run_code.specs.Machine.{Weigh}
-use Rattle.run_code.specs.Made.{Plan, Line, line, OfInputs, OfNothing, OfResults, Makes, arm_code, arms_at, arms_code, end_at, ends_at, greatest_extent, placed, select_code, tag_code}
-use Rattle.run_code.specs.Steps.{Branch, Code, Count, Move}
+use Rattle.run_laws.specs.Cells.{Operand, At, picked, own_cells}
+use Rattle.run_laws.specs.Coded.{ArmsAre, Hands, Layout, NodeIs, PartIs, Starts, a_select, a_tag_case, an_arm, no_arm}
+use Rattle.run_laws.specs.Machine.{Weigh}
+use Rattle.run_laws.specs.Made.{Plan, Line, line, OfInputs, OfNothing, OfResults, Makes, arm_code, arms_at, arms_code, end_at, ends_at, greatest_extent, placed, select_code, tag_code}
+use Rattle.run_laws.specs.Steps.{Branch, Code, Count, Move}
 use Rattle.run_made.proofs.Lengths.{IsLong, arm-long}
 use Rattle.run_made.proofs.Lying.{lies-first, lies-rest, one-result}
 use Rattle.run_made.specs.Plans.{All, ArePicked, IsChoice, IsInner, IsPlanned, Lie, Weighing, laid_as}

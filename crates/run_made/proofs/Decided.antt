@@ -2,7 +2,7 @@
 use Rattle.run_laws.proofs.Stopping.{decided}
 use Rattle.run_made.proofs.Inside.{inside}
 use Rattle.run_made.proofs.Making.{lines-lie, made}
-use Rattle.run_code.specs.Made.{functions_size}
+use Rattle.run_laws.specs.Made.{functions_size}
 use Rattle.run_made.specs.Laws.{AreMadeRunsDecided}
 use Rattle.run_made.specs.Plans.{end_of, laid}
 

@@ -6,11 +6,11 @@ use Rattle.std.proofs.Math.Nat.{le-max_left, le-max_right}
 use Rattle.graph_meaning.specs.Entered.{IsIn}
 use Rattle.graph_meaning.specs.Forms as form
 use Rattle.graph_meaning.specs.Demand.{Kind, Plain, Whole, Vertex, Network, EachNode}
-use Rattle.run_code.specs.Cells.{Operand, cells_at, picked, own_cells}
-use Rattle.run_code.specs.Coded.{Layout, Places, operand}
-use Rattle.run_code.specs.Machine.{Weigh}
-use Rattle.run_code.specs.Made.{Plan, Line, line, OfInputs, OfNothing, OfResults, IsSized, Makes, ends_at, function_lines, graph_code, kind_code, kind_size, nodes_code, nodes_extent, nodes_size, parts_code, parts_extent, placed, room_of}
-use Rattle.run_code.specs.Steps.{Code, Count, Move, Return}
+use Rattle.run_laws.specs.Cells.{Operand, cells_at, picked, own_cells}
+use Rattle.run_laws.specs.Coded.{Layout, Places, operand}
+use Rattle.run_laws.specs.Machine.{Weigh}
+use Rattle.run_laws.specs.Made.{Plan, Line, line, OfInputs, OfNothing, OfResults, IsSized, Makes, ends_at, function_lines, graph_code, kind_code, kind_size, nodes_code, nodes_extent, nodes_size, parts_code, parts_extent, placed, room_of}
+use Rattle.run_laws.specs.Steps.{Code, Count, Move, Return}
 use Rattle.run_laws.specs.Inside.{AreCells, IsCell, Stays}
 use Rattle.run_made.proofs.Lengths.{IsLong, graph-long, kind-long}
 use Rattle.run_made.proofs.Lying.{picked-long}

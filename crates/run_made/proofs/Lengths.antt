@@ -3,11 +3,11 @@ use Rattle.std.proofs.Common.{◌≡◌, ℕ, zero, suc, ◌+◌, true, false, L
 use Rattle.std.proofs.lemmas.List.{length-append}
 use Rattle.graph_meaning.specs.Forms as form
 use Rattle.graph_meaning.specs.Demand.{Kind, Plain, Whole, Vertex, Network, EachNode}
-use Rattle.run_code.specs.Cells.{Operand, At, cells_at, picked, own_cells}
-use Rattle.run_code.specs.Coded.{Places, operand}
-use Rattle.run_code.specs.Collections.{sifts_in}
-use Rattle.run_code.specs.Made.{Plan, Line, line, OfResults, OfRows, OfNothing, Makes, IsSized, arm_code, arms_at, arms_code, arms_size, end_at, ends_at, for_all_code, graph_code, kind_code, kind_size, loop_code, loop_size, nodes_code, nodes_size, placed, select_code, stand}
-use Rattle.run_code.specs.Steps.{Add, Branch, Count, Each, Keep, Move, Spread, Test}
+use Rattle.run_laws.specs.Cells.{Operand, At, cells_at, picked, own_cells}
+use Rattle.run_laws.specs.Coded.{Places, operand}
+use Rattle.run_laws.specs.Collections.{sifts_in}
+use Rattle.run_laws.specs.Made.{Plan, Line, line, OfResults, OfRows, OfNothing, Makes, IsSized, arm_code, arms_at, arms_code, arms_size, end_at, ends_at, for_all_code, graph_code, kind_code, kind_size, loop_code, loop_size, nodes_code, nodes_size, placed, select_code, stand}
+use Rattle.run_laws.specs.Steps.{Add, Branch, Count, Each, Keep, Move, Spread, Test}
 use Rattle.run_made.specs.Plans.{All, CanLay, IsInner, IsKindRight, Weighing}
 
 module _ (P : Plan) where

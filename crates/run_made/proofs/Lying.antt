@@ -4,13 +4,13 @@ use Rattle.std.proofs.lemmas.Bool.{eq-eqb, lt-ltb}
 use Rattle.std.proofs.Math.Facts.{eqb_yes}
 use Rattle.graph_meaning.specs.Carried.{Unfilled}
 use Rattle.graph_meaning.specs.Demand.{Source, Vertex, IsLabel, LabelsOnce, EachNode}
-use Rattle.run_code.specs.Cells.{Operand, At, Lit, cells_at, picked, own_cells}
-use Rattle.run_code.specs.Coded.{Places, Puts, operand, AreOf, AreAt}
-use Rattle.run_code.specs.Collections.{Collect, Sifts, Final}
-use Rattle.run_code.specs.Known.{IsReadable}
-use Rattle.run_code.specs.Machine.{Weigh}
-use Rattle.run_code.specs.Made.{Plan, Line, placed, put, stand}
-use Rattle.run_code.specs.Steps.{Code}
+use Rattle.run_laws.specs.Cells.{Operand, At, Lit, cells_at, picked, own_cells}
+use Rattle.run_laws.specs.Coded.{Places, Puts, operand, AreOf, AreAt}
+use Rattle.run_laws.specs.Collections.{Collect, Sifts, Final}
+use Rattle.run_laws.specs.Known.{IsReadable}
+use Rattle.run_laws.specs.Machine.{Weigh}
+use Rattle.run_laws.specs.Made.{Plan, Line, placed, put, stand}
+use Rattle.run_laws.specs.Steps.{Code}
 use Rattle.run_made.specs.Plans.{Weighing, Lie, code_at, weigh_at}
 
 -- ---- what lies where

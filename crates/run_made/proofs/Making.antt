@@ -7,12 +7,12 @@ use Rattle.graph_meaning.specs.Carried.{Carried}
 use Rattle.graph_meaning.specs.Entered.{IsIn}
 use Rattle.graph_meaning.specs.Forms as form
 use Rattle.graph_meaning.specs.Demand.{Kind, Plain, Whole, Vertex, Network, EachNode}
-use Rattle.run_code.specs.Cells.{Operand, At, cells_at, picked, own_cells}
-use Rattle.run_code.specs.Coded.{FunctionIs, Layout, NodeIs, NodesAre, Places, a_call, a_for_all, a_loop, a_node, a_part, no_node, operand, scalar}
-use Rattle.run_code.specs.Known.{AreReadable}
-use Rattle.run_code.specs.Machine.{Weigh}
-use Rattle.run_code.specs.Made.{Plan, line, OfNothing, OfResults, Makes, IsSized, ends_at, entry_from, function_lines, functions_lines, functions_size, graph_code, kind_code, kind_size, nodes_code, nodes_extent, nodes_size, parts_code, parts_extent, placed, room_of}
-use Rattle.run_code.specs.Steps.{Code, Count, Return}
+use Rattle.run_laws.specs.Cells.{Operand, At, cells_at, picked, own_cells}
+use Rattle.run_laws.specs.Coded.{FunctionIs, Layout, NodeIs, NodesAre, Places, a_call, a_for_all, a_loop, a_node, a_part, no_node, operand, scalar}
+use Rattle.run_laws.specs.Known.{AreReadable}
+use Rattle.run_laws.specs.Machine.{Weigh}
+use Rattle.run_laws.specs.Made.{Plan, line, OfNothing, OfResults, Makes, IsSized, ends_at, entry_from, function_lines, functions_lines, functions_size, graph_code, kind_code, kind_size, nodes_code, nodes_extent, nodes_size, parts_code, parts_extent, placed, room_of}
+use Rattle.run_laws.specs.Steps.{Code, Count, Return}
 use Rattle.run_made.proofs.Arms.{X, Does, select-made, starts-made, tag-made}
 use Rattle.run_made.proofs.Lengths.{IsLong, graph-long, kind-long}
 use Rattle.run_made.proofs.Lying.{PutsAll, are-labelled, cells-get, cells-past, eqb-sound, lies-first, lies-in, lies-rest, own-long, picked-long, puts-placed}

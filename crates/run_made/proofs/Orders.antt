@@ -2,9 +2,9 @@
 use Rattle.std.proofs.Common.{◌≡◌, ◌≢◌, ℕ, zero, suc, ◌≤◌, ◌⊎◌, inl, inr, List, [], ◌∷◌, Some, refl, ap, ◌∙◌, subst, arith}
 use Rattle.graph_meaning.specs.Demand.{EachNode, Fixed, IsLabel, LabelsOnce, Net, Port, Source, Vertex, at_label, data_labels}
 use Rattle.graph_meaning.specs.Entered.{IsIn}
-use Rattle.run_code.proofs.Bound.{in-left, label-after, labels_after}
-use Rattle.run_code.specs.Orders.{IsAlong}
-use Rattle.run_code.specs.Known.{IsReadable, Known, Knows, KnowsAll, known_after}
+use Rattle.run_laws.proofs.Bound.{in-left, label-after, labels_after}
+use Rattle.run_laws.specs.Orders.{IsAlong}
+use Rattle.run_laws.specs.Known.{IsReadable, Known, Knows, KnowsAll, known_after}
 use Rattle.run_made.specs.Orders.{AreOrdersReadable, AreOutputs}
 
 -- a label with so many ports is known

@@ -5,12 +5,12 @@ use Rattle.std.proofs.lemmas.List.{length-map}
 use Rattle.std.proofs.Math.Nat.{le-max_left, le-max_right}
 use Rattle.graph_meaning.specs.Carried.{Unfilled}
 use Rattle.graph_meaning.specs.Demand.{Source, Port, Fixed, Vertex}
-use Rattle.run_code.proofs.Folding.{sifts-fewer}
-use Rattle.run_code.specs.Cells.{Operand, At, Lit, cells_at, picked, own_cells}
-use Rattle.run_code.specs.Coded.{Layout, Places, operand}
-use Rattle.run_code.specs.Collections.{AreWithin, Collect, Final, Sifts, sifts_in}
-use Rattle.run_code.specs.Made.{Plan, Line, line, OfNothing, OfResults, OfRows, IsSized, Makes, arm_code, arms_at, arms_code, arms_size, end_at, ends_at, for_all_code, greatest_extent, loop_code, loop_extent, nodes_extent, parts_extent, placed, put, select_code, stand, tag_code}
-use Rattle.run_code.specs.Steps.{Add, Branch, Each, Keep, Move, Spread, Test}
+use Rattle.run_laws.proofs.Folding.{sifts-fewer}
+use Rattle.run_laws.specs.Cells.{Operand, At, Lit, cells_at, picked, own_cells}
+use Rattle.run_laws.specs.Coded.{Layout, Places, operand}
+use Rattle.run_laws.specs.Collections.{AreWithin, Collect, Final, Sifts, sifts_in}
+use Rattle.run_laws.specs.Made.{Plan, Line, line, OfNothing, OfResults, OfRows, IsSized, Makes, arm_code, arms_at, arms_code, arms_size, end_at, ends_at, for_all_code, greatest_extent, loop_code, loop_extent, nodes_extent, parts_extent, placed, put, select_code, stand, tag_code}
+use Rattle.run_laws.specs.Steps.{Add, Branch, Each, Keep, Move, Spread, Test}
 use Rattle.run_laws.specs.Inside.{AreAhead, AreCells, IsCell, Stays}
 use Rattle.run_made.proofs.Lengths.{IsLong, arm-long}
 use Rattle.run_made.specs.Plans.{All}

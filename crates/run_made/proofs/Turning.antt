@@ -4,12 +4,12 @@ use Rattle.std.proofs.lemmas.List.{length-map}
 use Rattle.std.proofs.Math.Nat.{le-max_left, le-max_right}
 use Rattle.graph_meaning.specs.Carried.{Carried}
 use Rattle.graph_meaning.specs.Demand.{Vertex, Network}
-use Rattle.run_code.specs.Cells.{Operand, cells_at, own_cells}
-use Rattle.run_code.specs.Coded.{ForAllIs, GoesIn, Layout, LoopIs, PartIs, Starts, operand, the_for_all, the_loop}
-use Rattle.run_code.specs.Machine.{Weigh}
-use Rattle.run_code.specs.Collections.{sifts_in}
-use Rattle.run_code.specs.Made.{Plan, Line, line, OfNothing, OfResults, OfRows, Makes, arm_code, end_at, ends_at, for_all_code, greatest_extent, loop_code, loop_extent, placed, stand}
-use Rattle.run_code.specs.Steps.{Add, Code, Each, Keep, Spread, Test}
+use Rattle.run_laws.specs.Cells.{Operand, cells_at, own_cells}
+use Rattle.run_laws.specs.Coded.{ForAllIs, GoesIn, Layout, LoopIs, PartIs, Starts, operand, the_for_all, the_loop}
+use Rattle.run_laws.specs.Machine.{Weigh}
+use Rattle.run_laws.specs.Collections.{sifts_in}
+use Rattle.run_laws.specs.Made.{Plan, Line, line, OfNothing, OfResults, OfRows, Makes, arm_code, end_at, ends_at, for_all_code, greatest_extent, loop_code, loop_extent, placed, stand}
+use Rattle.run_laws.specs.Steps.{Add, Code, Each, Keep, Spread, Test}
 use Rattle.run_made.proofs.Arms.{X, Does, arm-made, as-planned}
 use Rattle.run_made.proofs.Lengths.{IsLong}
 use Rattle.run_made.proofs.Lying.{lies-first, lies-rest, one-result, own-are, stand-at}

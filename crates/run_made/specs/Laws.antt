@@ -4,12 +4,12 @@ use Rattle.graph_meaning.specs.Carried.{Carried}
 use Rattle.graph_meaning.specs.Demand.{Vertex, Network, AreOrderly}
 use Rattle.graph_meaning.specs.Entered.{IsIn}
 use Rattle.graph_meaning.specs.Plain.{Costs}
-use Rattle.run_code.specs.Orders.{AreInOrder}
-use Rattle.run_code.specs.Cells.{Cells}
-use Rattle.run_code.specs.Coded.{AreCoded}
-use Rattle.run_code.specs.Machine.{Weigh, EndsIn}
-use Rattle.run_code.specs.Made.{Plan, functions_lines, functions_size}
-use Rattle.run_code.specs.Steps.{Code}
+use Rattle.run_laws.specs.Orders.{AreInOrder}
+use Rattle.run_laws.specs.Cells.{Cells}
+use Rattle.run_laws.specs.Coded.{AreCoded}
+use Rattle.run_laws.specs.Machine.{Weigh, EndsIn}
+use Rattle.run_laws.specs.Made.{Plan, functions_lines, functions_size}
+use Rattle.run_laws.specs.Steps.{Code}
 use Rattle.run_laws.specs.Inside.{IsInside}
 use Rattle.run_laws.specs.Laws.{Hold, entered, IsRecorded}
 use Rattle.run_laws.specs.Stopping.{ComesToLimit}

@@ -5,14 +5,14 @@ use Rattle.graph_meaning.specs.Entered.{IsIn}
 use Rattle.graph_meaning.specs.Forms as form
 use Rattle.graph_meaning.specs.Demand.{Kind, Plain, Whole, Vertex, Network, LabelsOnce, EachNode}
 use Rattle.graph_meaning.specs.Storage.{Weights}
-use Rattle.run_code.specs.Cells.{picked}
-use Rattle.run_code.specs.Coded.{Layout}
-use Rattle.run_code.specs.Collections.{AreWithin}
-use Rattle.run_code.specs.Known.{AreReadable}
-use Rattle.run_code.specs.Machine.{Weigh}
-use Rattle.run_code.specs.Made.{Plan, Origin, OfNode, OfInputs, OfResults, OfRows, OfNothing, Line, line, IsSized, room_of, functions_lines, entry_from}
-use Rattle.run_code.specs.Refolds.{Refolds}
-use Rattle.run_code.specs.Steps.{Code, Return}
+use Rattle.run_laws.specs.Cells.{picked}
+use Rattle.run_laws.specs.Coded.{Layout}
+use Rattle.run_laws.specs.Collections.{AreWithin}
+use Rattle.run_laws.specs.Known.{AreReadable}
+use Rattle.run_laws.specs.Machine.{Weigh}
+use Rattle.run_laws.specs.Made.{Plan, Origin, OfNode, OfInputs, OfResults, OfRows, OfNothing, Line, line, IsSized, room_of, functions_lines, entry_from}
+use Rattle.run_laws.specs.Refolds.{Refolds}
+use Rattle.run_laws.specs.Steps.{Code, Return}
 
 -- ---- what steps add
 

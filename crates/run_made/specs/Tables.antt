@@ -2,7 +2,7 @@
 use Rattle.std.specs.Prelude.{◌≡◌, ℕ, ◌+◌, ◌<◌, ◌≤◌, List, []}
 use Rattle.graph_meaning.specs.Forms as form
 use Rattle.graph_meaning.specs.Demand.{EachNode, Kind, Network, Plain, Vertex, Whole}
-use Rattle.run_code.specs.Made.{IsSized, Plan}
+use Rattle.run_laws.specs.Made.{IsSized, Plan}
 use Rattle.run_made.specs.Plans.{All, CanLay, IsRight, Weighing}
 
 -- so it is of each graph inside a node, and of those that do returns on what is collected

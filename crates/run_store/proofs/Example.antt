@@ -3,7 +3,7 @@
 -- what is collected is moved.
 use Rattle.std.proofs.Common.{Some, ◌≡◌, ℕ, zero, suc, ◌+◌, ◌<◌, ◌≤◌, ◌⊎◌, ◌&&◌, ◌||◌, not, if◌then◌else◌, eqb, leb, ltb, List, [], ◌∷◌, None, get_or, inl, inr, refl, sym, ap, ◌∙◌, subst, arith, Bool, true, false}
 use Rattle.std.proofs.lemmas.Bool.{ltb-true, leb-true, eqb-true, eq-eqb}
-use Rattle.if1_graph.specs.declared.op.Simple.TheVariants as simple
+use Rattle.graph_meaning.specs.Simple.TheVariants as simple
 use Rattle.graph_meaning.specs.Carried.{Carried, Unfilled}
 use Rattle.graph_meaning.specs.Entered.{IsIn}
 use Rattle.graph_meaning.specs.Forms.{columns}
@@ -11,15 +11,15 @@ use Rattle.graph_meaning.specs.Forms as form
 use Rattle.graph_meaning.specs.NodeValues as shape
 use Rattle.graph_meaning.specs.Demand.{through, waits_of, straight, IsOrderly, WaitsFor, AreOrderly, waits, Port, Fixed, Plain, Whole, Vertex, Network}
 use Rattle.graph_meaning.specs.Storage.{Storage, copying, leaves_at, leaves_of}
-use Rattle.run_code.proofs.Layouts.{one, positive, places_by, puts, function_places, function-puts, function-inputs, function-wants}
-use Rattle.run_code.proofs.Collecting.{nodes-same}
-use Rattle.run_code.proofs.Refolding.{sum-none}
-use Rattle.run_code.specs.Cells.{Operand, At, Lit}
-use Rattle.run_code.specs.Coded.{AreCoded, ForAllIs, FunctionIs, GraphIs, Layout, PartIs, a_for_all, a_node, a_part, no_node, scalar, the_for_all}
-use Rattle.run_code.specs.Collections.{Collect, Sifts}
-use Rattle.run_code.specs.Known.{AreReadable}
-use Rattle.run_code.specs.Refolds.{Refolds, a_fold, none_refolded, one_refolded}
-use Rattle.run_code.specs.Steps.{Step, Fire, Count, Move, Spread, Each, Add, Return}
+use Rattle.run_laws.proofs.Layouts.{one, positive, places_by, puts, function_places, function-puts, function-inputs, function-wants}
+use Rattle.run_laws.proofs.Collecting.{nodes-same}
+use Rattle.run_laws.proofs.Refolding.{sum-none}
+use Rattle.run_laws.specs.Cells.{Operand, At, Lit}
+use Rattle.run_laws.specs.Coded.{AreCoded, ForAllIs, FunctionIs, GraphIs, Layout, PartIs, a_for_all, a_node, a_part, no_node, scalar, the_for_all}
+use Rattle.run_laws.specs.Collections.{Collect, Sifts}
+use Rattle.run_laws.specs.Known.{AreReadable}
+use Rattle.run_laws.specs.Refolds.{Refolds, a_fold, none_refolded, one_refolded}
+use Rattle.run_laws.specs.Steps.{Step, Fire, Count, Move, Spread, Each, Add, Return}
 use Rattle.run_laws.specs.Facts.{Path, Here, Scattered, Counted, Uses, Fact, Through, AsLong, Touches, Preserves}
 use Rattle.run_laws.specs.Weighing.{AreAlike}
 use Rattle.run_store.specs.Effects.{reads_of, IsOneOf}
@@ -27,7 +27,7 @@ use Rattle.run_store.specs.Lively.{Live, Follows, IsLively}
 use Rattle.run_store.specs.Refines.{IsTaken, IsHandled}
 use Rattle.run_store.specs.Stored.{Mode, Looks, Copies, Takes, LooksAt, CopiesOf, tail, Handling, copied}
 use Rattle.graph_meaning.specs.Plain.{Costs}
-use Rattle.ordered_meaning.specs.Orders.{IsInOrder, AreInOrder}
+use Rattle.run_laws.specs.Orders.{IsInOrder, AreInOrder}
 use Rattle.run_laws.specs.Inside.{Stays, IsInside}
 use Rattle.run_store.proofs.Whole.{store-decided, runs-begin}
 use Rattle.run_store.specs.Whole.{IsStoredCode, EndsStored, StopsStored, IsCopied, Begins, entered_stored, first_cells}

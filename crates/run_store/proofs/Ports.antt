@@ -3,10 +3,10 @@ use Rattle.std.proofs.Common.{◌≡◌, ℕ, zero, suc, ◌+◌, ◌<◌, ◌�
 use Rattle.graph_meaning.specs.Carried.{Carried}
 use Rattle.graph_meaning.specs.Storage.{leaves_at, leaves_of}
 use Rattle.graph_meaning.specs.Demand.{Source, Port, Fixed, Vertex, EachNode}
-use Rattle.ordered_meaning.specs.Taking.{Marks, first_port, Fills, Taken, IsTaken as WasTaken, taken_by, NoneIsTaken, AreTakersLast}
-use Rattle.run_code.specs.Cells.{Operand, At, Lit, picked}
-use Rattle.run_code.specs.Coded.{Places, operand, Puts}
-use Rattle.run_code.specs.Known.{Known, Knows, KnowsAll, IsReadable}
+use Rattle.run_laws.specs.Taking.{Marks, first_port, Fills, Taken, IsTaken as WasTaken, taken_by, NoneIsTaken, AreTakersLast}
+use Rattle.run_laws.specs.Cells.{Operand, At, Lit, picked}
+use Rattle.run_laws.specs.Coded.{Places, operand, Puts}
+use Rattle.run_laws.specs.Known.{Known, Knows, KnowsAll, IsReadable}
 use Rattle.run_store.specs.Ports.{mode_of, modes_of, picks_of, copies_of, DoModesCopy, KnowsPort, IsAlive, AllIn, StaysAlive, AreStacked, AreNodesLively, AreInputsPlaced, AreNodesLivelyInOrder}
 use Rattle.run_store.specs.Refines.{IsTaken}
 use Rattle.run_store.specs.Stored.{Looks, Copies, Takes, copied_as, copied}

@@ -4,10 +4,10 @@ use Rattle.flow_value.specs.declared.value.Val.TheViews.{out-Val}
 use Rattle.graph_meaning.specs.Carried.{Carried, Value, Unfilled, val_of}
 use Rattle.graph_meaning.specs.Forms.{errors, first_spoiled, places_of}
 use Rattle.graph_meaning.specs.NodeValues.{op}
-use Rattle.run_code.specs.Cells.{Operand, At, Lit, Cells, look, write, cells_at}
-use Rattle.run_code.specs.Collections.{Collect, nothing_in}
-use Rattle.run_code.specs.Machine.{Frame, State, at, Goes, Over, Choice, To, Again, Fails, choice, tested_by, Arm, Into, Spoils, arm_by, begun, spreads, counter, returned, doing, Weigh, added}
-use Rattle.run_code.specs.Steps.{Step, Fire, Count, Move, Tag, Branch, Test, Keep, Spread, Each, Add, Call, Return}
+use Rattle.run_laws.specs.Cells.{Operand, At, Lit, Cells, look, write, cells_at}
+use Rattle.run_laws.specs.Collections.{Collect, nothing_in}
+use Rattle.run_laws.specs.Machine.{Frame, State, at, Goes, Over, Choice, To, Again, Fails, choice, tested_by, Arm, Into, Spoils, arm_by, begun, spreads, counter, returned, doing, Weigh, added}
+use Rattle.run_laws.specs.Steps.{Step, Fire, Count, Move, Tag, Branch, Test, Keep, Spread, Each, Add, Call, Return}
 use Rattle.run_laws.specs.Facts.{Path, Fact, AllOf, IsTrue, IsRead}
 use Rattle.run_laws.proofs.Facts.{read-is}
 use Rattle.run_store.specs.Effects.{reads_of, Effect, Writes, Enters, one_of, tag_effect, choice_effect, spread_effect, each_effect, effect, counted_if, apply}

@@ -6,11 +6,11 @@ use Rattle.graph_meaning.specs.Demand.{AreOrderly}
 use Rattle.graph_meaning.specs.Networks.{network}
 use Rattle.graph_meaning.specs.Storage.{GraphAdds, writing}
 use Rattle.graph_meaning.specs.StorageUnits.{storage_of}
-use Rattle.if1_marks.proofs.Taken.{sound-in-order}
-use Rattle.ordered_meaning.specs.Orders.{AreInOrder}
-use Rattle.run_code.specs.Cells.{Cells, cells_at, look}
-use Rattle.run_code.specs.Machine.{State, Weigh, added, Reaches, stays, goes_on}
-use Rattle.run_code.specs.Steps.{Add, Branch, Call, Code, Count, Each, Fire, Keep, Move, Return, Spread, Step, Tag, Test}
+use Rattle.graph_meaning.proofs.Taken.{sound-in-order}
+use Rattle.run_laws.specs.Orders.{AreInOrder}
+use Rattle.run_laws.specs.Cells.{Cells, cells_at, look}
+use Rattle.run_laws.specs.Machine.{State, Weigh, added, Reaches, stays, goes_on}
+use Rattle.run_laws.specs.Steps.{Add, Branch, Call, Code, Count, Each, Fire, Keep, Move, Return, Spread, Step, Tag, Test}
 use Rattle.run_laws.proofs.Backward.{ends-recorded}
 use Rattle.run_laws.proofs.Weighing.{same-totals}
 use Rattle.run_laws.specs.Facts.{Fact, Preserves}

@@ -2,9 +2,9 @@
 use Rattle.std.proofs.Common.{◌≡◌, ℕ, zero, suc, ◌+◌, ◌-◌, ◌<◌, ◌≤◌, ◌⊎◌, ◌&&◌, inl, inr, Bool, true, false, if◌then◌else◌, List, [], ◌∷◌, length, get_or, refl, sym, ap, ◌∙◌, subst, arith, ltb, leb, eqb}
 use Rattle.std.proofs.lemmas.Bool.{lt-leb, leb-true, leb-false, eq-eqb, ne_eqb, ltb-true, ltb-false}
 use Rattle.graph_meaning.specs.Carried.{Carried, Unfilled}
-use Rattle.run_code.specs.Cells.{Operand, At, Lit}
-use Rattle.run_code.specs.Machine.{Frame, Weigh}
-use Rattle.run_code.specs.Steps.{Step, Call}
+use Rattle.run_laws.specs.Cells.{Operand, At, Lit}
+use Rattle.run_laws.specs.Machine.{Frame, Weigh}
+use Rattle.run_laws.specs.Steps.{Step, Call}
 use Rattle.run_laws.specs.Facts.{Path, Here, Scattered, Content, Counted, Uses}
 use Rattle.run_store.specs.Effects.{reads_of, Enters, effect}
 use Rattle.run_store.specs.Stored.{Cell, Empty, Owns, Refers, Heap, Mode, Looks, Copies, Takes, LooksAt, CopiesOf, mode_at, tail, set, Handling, is_open, seen, seen_all, Hand, Gift, Loan, is_plain, unless_plain, looked_lent, handed, taken, cleared, placed, hand_in, put_from, all_kept, copied_by_step, Stored, Onward, AtLimit, on, is_full, is_owner, can_be, are_ready, where_ready, counted_stored, returned_stored, apply_stored, doing_stored}

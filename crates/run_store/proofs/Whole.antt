@@ -5,11 +5,11 @@ use Rattle.graph_meaning.specs.Carried.{Carried, Unfilled}
 use Rattle.graph_meaning.specs.Demand.{AreOrderly}
 use Rattle.graph_meaning.specs.Plain.{Means, Costs}
 use Rattle.graph_meaning.specs.Storage.{capped, Copies, Storage, copying}
-use Rattle.ordered_meaning.specs.Orders.{AreInOrder}
-use Rattle.run_code.specs.Cells.{Cells}
-use Rattle.run_code.specs.Coded.{Layout}
-use Rattle.run_code.specs.Machine.{State, at, Outcome, Goes, Ends, Over, step, EndsIn, Weigh, added, Reaches, stays, goes_on}
-use Rattle.run_code.specs.Steps.{Code}
+use Rattle.run_laws.specs.Orders.{AreInOrder}
+use Rattle.run_laws.specs.Cells.{Cells}
+use Rattle.run_laws.specs.Coded.{Layout}
+use Rattle.run_laws.specs.Machine.{State, at, Outcome, Goes, Ends, Over, step, EndsIn, Weigh, added, Reaches, stays, goes_on}
+use Rattle.run_laws.specs.Steps.{Code}
 use Rattle.run_laws.proofs.Backward.{ends-recorded, exact}
 use Rattle.run_laws.proofs.Facts.{stays-known}
 use Rattle.run_laws.proofs.Stopping.{decided}
@@ -17,7 +17,7 @@ use Rattle.run_laws.proofs.Weighing.{same-totals}
 use Rattle.run_laws.specs.Facts.{Fact, AllOf, IsTrue, IsKnown, IsFine, Preserves}
 use Rattle.run_laws.specs.Laws.{EndsAdding, entered, IsRecorded}
 use Rattle.run_laws.specs.Stopping.{ComesToLimit}
-use Rattle.if1_marks.proofs.Taken.{sound-in-order}
+use Rattle.graph_meaning.proofs.Taken.{sound-in-order}
 use Rattle.graph_meaning.proofs.Units.{units-orderly}
 use Rattle.graph_meaning.specs.Networks.{network}
 use Rattle.graph_meaning.specs.StorageUnits.{storage_of}

@@ -1,3 +1,6 @@
+pub use Rattle.graph_meaning.specs.Carried
+pub use Rattle.graph_meaning.specs.Storage
+pub use Rattle.run_laws.specs.Facts
 pub mod Effects
 pub mod Stored
 pub mod Refines

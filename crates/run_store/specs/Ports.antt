@@ -4,10 +4,10 @@ use Rattle.std.specs.Prelude.{◌≡◌, ℕ, suc, ◌+◌, ◌<◌, ◌≤◌, 
 use Rattle.graph_meaning.specs.Carried.{Carried}
 use Rattle.graph_meaning.specs.Storage.{leaves_at}
 use Rattle.graph_meaning.specs.Demand.{Source, Vertex, EachNode}
-use Rattle.ordered_meaning.specs.Taking.{Marks, first_port, Fills, Taken, IsTaken as WasTaken, taken_by, AreTakersLast}
-use Rattle.run_code.specs.Cells.{Operand, At, Lit, picked}
-use Rattle.run_code.specs.Coded.{Places, operand, Puts}
-use Rattle.run_code.specs.Known.{Known, Knows, IsReadable}
+use Rattle.run_laws.specs.Taking.{Marks, first_port, Fills, Taken, IsTaken as WasTaken, taken_by, AreTakersLast}
+use Rattle.run_laws.specs.Cells.{Operand, At, Lit, picked}
+use Rattle.run_laws.specs.Coded.{Places, operand, Puts}
+use Rattle.run_laws.specs.Known.{Known, Knows, IsReadable}
 use Rattle.run_store.specs.Refines.{IsTaken}
 use Rattle.run_store.specs.Stored.{Mode, Looks, Copies, Takes, copied}
 

@@ -1,3 +1,7 @@
+pub use Rattle.sequential.specs.Loading
+pub use Rattle.sequential_loops.specs.Iterating
+pub use Rattle.sequential_loops.specs.Putting
+pub use Rattle.sequential_fire.specs.Outputs
 pub mod Kinds
 pub mod Seen
 pub mod Ready

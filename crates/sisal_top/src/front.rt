@@ -1,7 +1,7 @@
 //! From the bytes of a text to its typed program.
 ghost use Rattle.std.specs.Prelude.{ℕ, List, IfOk, IfErr};
 ghost use Rattle.lowering_meaning.specs.Coverage.{AreCovered};
-ghost use Rattle.lowered_rules.specs.Laws.{rule_forms};
+ghost use Rattle.text_ready.specs.LoweredRulesLaws.{rule_forms};
 ghost use Rattle.lowered_units.specs.Fitting.{IsFitting};
 ghost use Rattle.sisal_top.specs.Outputs.{HasProgram};
 ghost use Rattle.sisal_top.specs.Program.{Fits, IsUnitOf};

@@ -1,1 +1,2 @@
+pub use Rattle.code_weights.proofs.Adding
 pub mod Told

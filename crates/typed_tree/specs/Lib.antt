@@ -1,3 +1,4 @@
+pub use Rattle.sisal_tree.specs.declared.expr.Constant
 pub mod BuiltIns
 pub mod Scopes
 pub mod Types

@@ -14,10 +14,10 @@ use Rattle.plan_data.specs.Stands.{Stands}
 use Rattle.code_maker.specs.Makes.{AreKnit, AreTold, IsCodeOf}
 use Rattle.sequential_run.specs.Totals.{CanEnter}
 use Rattle.unit_data.specs.Data.{IsDataOf, planned, shared, tables_of}
-use Rattle.unit_runs.specs.Runs.{IsUnitCode}
+use Rattle.unit_counts.specs.Runs.{IsUnitCode}
 use Rattle.unit_counts.specs.Laws.{DoesToldCodeCount, DoesToldCodeWrite}
-use Rattle.unit_runs.proofs.QuickCode.{quick-unit-code}
-use Rattle.unit_runs.proofs.WritesOf.{quick-writes}
+use Rattle.unit_counts.proofs.QuickCode.{quick-unit-code}
+use Rattle.unit_counts.proofs.WritesOf.{quick-writes}
 use Rattle.quick_code.specs.Quick.{RunsSame}
 use Rattle.unit_whole.specs.Laws.{AreUnitCodesEntered, IsMadeOfData}
 use Rattle.unit_code.specs.Codes.{IsCodeOfUnit, IsMadeOf}

@@ -13,9 +13,9 @@ use Rattle.sequential_run.specs.declared.running.RunFault.TheVariants as fault
 use Rattle.sequential_run.specs.declared.totals.Totalled.{Totalled}
 use Rattle.sequential_run.specs.Runs.{IsFault}
 use Rattle.sequential_run.specs.Totals.{CanEnter, HasTotals, entered_at}
-use Rattle.unit_runs.proofs.Runs.{runs-recorded}
-use Rattle.unit_runs.proofs.WritesOf.{writes-recorded}
-use Rattle.unit_runs.specs.Runs.{IsRunOf}
+use Rattle.unit_counts.proofs.Runs.{runs-recorded}
+use Rattle.unit_counts.proofs.WritesOf.{writes-recorded}
+use Rattle.unit_counts.specs.Runs.{IsRunOf}
 use Rattle.sequential_run.specs.Writes.{EndsWriting}
 use Rattle.graph_meaning.specs.Storage.{capped}
 use Rattle.graph_meaning.specs.StorageUnits.{UnitWrites}

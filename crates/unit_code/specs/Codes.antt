@@ -8,8 +8,8 @@ use Rattle.ordered_meaning.specs.Orders.{AreInOrder}
 use Rattle.unit_plan.specs.Plans.{AreTables, Tables, functions_of}
 use Rattle.plan_data.specs.Parts.{table_of}
 use Rattle.sequential_run.specs.Totals.{CanEnter}
-use Rattle.unit_runs.specs.Runs.{CountsCopies, IsUnitCode}
-use Rattle.unit_runs.specs.Writes.{CountsWrites}
+use Rattle.unit_counts.specs.Runs.{CountsCopies, IsUnitCode}
+use Rattle.unit_counts.specs.Writes.{CountsWrites}
 use Rattle.unit_code.specs.declared.code.UnitCode.{UnitCode}
 
 -- For an order of the nodes of each graph along its edges and ordering lists, and for right tables, the code is made of the unit's plan,

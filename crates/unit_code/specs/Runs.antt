@@ -10,7 +10,7 @@ use Rattle.graph_meaning.specs.Networks.{network}
 use Rattle.graph_meaning.specs.Plain.{Costs}
 use Rattle.graph_meaning.specs.Storage.{capped}
 use Rattle.graph_meaning.specs.StorageUnits.{UnitWrites}
-use Rattle.sequential.specs.Agrees.{owned_all}
+use Rattle.unit_whole.specs.Agrees.{owned_all}
 use Rattle.sequential_run.specs.declared.running.RunFault.{RunFault}
 use Rattle.sequential_run.specs.declared.running.RunFault.TheVariants as fault
 use Rattle.sequential_run.specs.declared.totals.Totalled.{Totalled}

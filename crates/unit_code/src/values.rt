@@ -5,7 +5,7 @@ ghost use Rattle.graph_meaning.specs.Carried.{Value, val_of};
 ghost use Rattle.node_ops.specs.Operands.{multiple_in};
 ghost use Rattle.run_store.specs.Stored as stored;
 ghost use Rattle.run_cells.specs.Held.{held};
-ghost use Rattle.sequential.specs.Agrees.{owned_all};
+ghost use Rattle.unit_whole.specs.Agrees.{owned_all};
 
 use flow_value::{Cause, Items, NoMemory, Val};
 use run_cells::{Cell, cell_of, union_of};

@@ -26,8 +26,8 @@ use Rattle.step_code.specs.declared.code.Code.{Code}
 use Rattle.step_code.specs.declared.step.Step.TheVariants as step
 use Rattle.step_code.specs.Laid.{code_of, handling_of}
 use Rattle.plan_data.specs.declared.plan.PlanData.{PlanData}
-use Rattle.code_weights.proofs.Adding.{copies-of-plans}
-use Rattle.code_weights.specs.Weights.{CopiesSame}
+use Rattle.told_rows.proofs.Adding.{copies-of-plans}
+use Rattle.told_rows.specs.Weights.{CopiesSame}
 use Rattle.told_rows.proofs.Told.{copies-told}
 use Rattle.unit_runs.specs.StepRuns.{weigh_of}
 use Rattle.unit_runs.proofs.Alike.{copied-read}

@@ -20,7 +20,7 @@ use Rattle.unit_plan.proofs.Weights.{none-more}
 use Rattle.unit_plan.specs.Plans.{Tables, nodes_by, plain_of, plan_of}
 use Rattle.unit_plan.specs.Returns.{Wholly, ins_by, multiple, refolded_node, way_of, whole_in, whole_ins}
 use Rattle.unit_plan.specs.Shares.{kind_or, kind_there, shares_of, takes_more}
-use Rattle.plan_shares.proofs.Graphs.{IsAt, each-of, each-refolded, in-order, kind-at}
+use Rattle.unit_runs.proofs.PlanSharesGraphs.{IsAt, each-of, each-refolded, in-order, kind-at}
 use Rattle.row_counts.specs.Counts.{IsFiredSo}
 use Rattle.plan_data.specs.declared.plan.PlanData.{PlanData}
 use Rattle.plan_data.specs.declared.plan.PlanNode.{PlanNode}
@@ -29,7 +29,7 @@ use Rattle.plan_data.specs.declared.plan.Work.TheVariants as work
 use Rattle.plan_data.specs.Parts as parts
 use Rattle.plan_data.specs.Parts.{graph_nodes, kind_of}
 use Rattle.plan_data.specs.Stands.{AreNodes, IsHandled, IsNode, Stands}
-use Rattle.code_maker.specs.Grows.{IsPair}
+use Rattle.unit_runs.specs.Grows.{IsPair}
 use Rattle.told_rows.specs.Rows.{IsFiredByRow, IsFiredOf}
 use Rattle.unit_counts.proofs.Given.{IsGiven, IsGivenAs, nodes-given}
 

@@ -21,9 +21,9 @@ use Rattle.graph_meaning.specs.NodeValues.{Shape}
 use Rattle.graph_meaning.specs.Storage.{Storage, is_consumed_at}
 use Rattle.graph_meaning.specs.StorageUnits.{carries_aggregate, storage_of, test_in}
 use Rattle.unit_laws.proofs.TypedNodes.{port-filled, width-over}
-use Rattle.plan_shares.proofs.Graphs.{IsPlaced, network-each}
-use Rattle.plan_shares.proofs.Handed.{consumes-here}
-use Rattle.plan_shares.proofs.OwnedParts.{sources-long}
+use Rattle.unit_runs.proofs.PlanSharesGraphs.{IsPlaced, network-each}
+use Rattle.unit_runs.proofs.Handed.{consumes-here}
+use Rattle.unit_runs.proofs.OwnedParts.{sources-long}
 
 -- It is given what its row consumes, and no edge leads to a port past its operands.
 pub record IsGiven (u : Unit1) (g : ℕ) (v : Vertex) (row : Simple) : Type 0 where

@@ -8,8 +8,8 @@ use Rattle.run_code.specs.Steps.{Add, Branch, Call, Count, Each, Fire, Keep, Mov
 use Rattle.unit_plan.specs.Plans.{functions_of, levels_of, plan_of}
 use Rattle.unit_plan.specs.Shares.{shares_of, writing_of}
 use Rattle.step_code.specs.Laid.{code_of}
-use Rattle.code_weights.proofs.Adding.{writes-of-plans}
-use Rattle.code_weights.specs.Weights.{AddsSame}
+use Rattle.told_rows.proofs.Adding.{writes-of-plans}
+use Rattle.told_rows.specs.Weights.{AddsSame}
 use Rattle.told_rows.proofs.Told.{writes-told}
 use Rattle.unit_runs.specs.StepWrites.{writes_of}
 use Rattle.unit_runs.specs.Alike.{AddsAlike, AreRead}

@@ -12,8 +12,8 @@ use Rattle.plan_data.specs.declared.plan.PlanData.{PlanData}
 use Rattle.plan_data.specs.declared.plan.PlanNode.{PlanNode}
 use Rattle.plan_data.specs.Parts.{graph_nodes}
 use Rattle.plan_data.specs.Stands.{Stands}
-use Rattle.code_maker.specs.Grows.{IsPair}
-use Rattle.code_maker.specs.Makes.{AreTold}
+use Rattle.unit_runs.specs.Grows.{IsPair}
+use Rattle.unit_runs.specs.Makes.{AreTold}
 use Rattle.told_rows.specs.Rows.{IsCountedByRow, IsWrittenByRow}
 use Rattle.unit_runs.specs.Runs.{CountsCopies, IsUnitCode}
 use Rattle.unit_runs.specs.Writes.{CountsWrites}

@@ -19,7 +19,7 @@ use Rattle.run_store.specs.Stored.{owned_in}
 use Rattle.run_code.specs.Made.{Plan}
 use Rattle.made_store.specs.Settings.{Shares}
 use Rattle.step_code.specs.declared.step.Collect.{Collect}
-use Rattle.firing_order.specs.Orders.{order_by}
+use Rattle.unit_orders.specs.FiringOrderOrders.{order_by}
 use Rattle.unit_plan.proofs.Found.{net-is}
 use Rattle.unit_plan.specs.Plans.{Tables, plan_of}
 use Rattle.unit_plan.specs.Shares.{shares_of}

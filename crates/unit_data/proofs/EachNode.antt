@@ -10,7 +10,7 @@ use Rattle.graph_meaning.specs.Demand.{Vertex}
 use Rattle.graph_meaning.specs.Networks.{vertex_of}
 use Rattle.run_cells.specs.declared.cell.Cell.{Cell}
 use Rattle.step_code.specs.declared.step.Collect.{Collect}
-use Rattle.firing_order.specs.Orders.{order_by, vertices_at}
+use Rattle.unit_orders.specs.FiringOrderOrders.{order_by, vertices_at}
 use Rattle.unit_laws.proofs.TypedChoices.{got-below}
 use Rattle.unit_plan.specs.Plans.{Tables, plain_of}
 use Rattle.plan_data.specs.declared.plan.PlanData.{PlanData}

@@ -20,7 +20,7 @@ use Rattle.run_cells.specs.declared.cell.Cell.{Cell}
 use Rattle.run_code.specs.Made.{Plan}
 use Rattle.made_store.specs.Settings.{Shares}
 use Rattle.may_take.specs.Ports.{has}
-use Rattle.firing_order.specs.Orders.{order_by}
+use Rattle.unit_orders.specs.FiringOrderOrders.{order_by}
 use Rattle.unit_plan.proofs.Found.{place-found}
 use Rattle.unit_plan.specs.Plans.{Tables, outputs_in, plan_of}
 use Rattle.unit_plan.specs.Shares.{shares_of}

@@ -11,7 +11,7 @@ use Rattle.if1_marks.proofs.Tests.{same-number}
 use Rattle.graph_meaning.proofs.Lists.{found-in}
 use Rattle.graph_meaning.specs.Networks.{net_at}
 use Rattle.made_store.specs.Settings.{result_modes}
-use Rattle.firing_order.specs.Orders.{order_by, vertices_in}
+use Rattle.unit_orders.specs.FiringOrderOrders.{order_by, vertices_in}
 use Rattle.unit_orders.proofs.Numbered.{number-at}
 use Rattle.unit_laws.proofs.TypedChoices.{got-below}
 use Rattle.unit_plan.proofs.Found.{number-within, place-found}

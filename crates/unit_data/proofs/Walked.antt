@@ -9,7 +9,7 @@ use Rattle.if1_graph.specs.Ready.{IsReady}
 use Rattle.if1_graph.specs.Units.{Place, number_of, places}
 use Rattle.graph_meaning.specs.Demand.{Vertex}
 use Rattle.graph_meaning.specs.Networks.{vertex_of}
-use Rattle.firing_order.specs.Orders.{order_by, vertex_before, vertices_at, vertices_in}
+use Rattle.unit_orders.specs.FiringOrderOrders.{order_by, vertex_before, vertices_at, vertices_in}
 use Rattle.unit_plan.proofs.Found.{place-found}
 use Rattle.plan_data.specs.declared.plan.PlanNode.{PlanNode}
 use Rattle.plan_data.specs.Parts.{AreBelow}

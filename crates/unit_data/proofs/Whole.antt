@@ -21,7 +21,7 @@ use Rattle.run_code.specs.Made.{Plan}
 use Rattle.made_store.specs.Settings.{Shares}
 use Rattle.step_code.specs.declared.step.Collect.{Collect}
 use Rattle.step_code.specs.Laid.{puts_of}
-use Rattle.firing_order.specs.Orders.{order_by}
+use Rattle.unit_orders.specs.FiringOrderOrders.{order_by}
 use Rattle.unit_laws.proofs.TypedPlans.{function-place}
 use Rattle.unit_orders.proofs.Numbered.{number-at}
 use Rattle.unit_plan.proofs.Found.{place-found}

@@ -7,14 +7,14 @@ use Rattle.graph_meaning.specs.Networks.{network}
 use Rattle.ordered_meaning.specs.Orders.{AreInOrder}
 use Rattle.run_code.specs.Made.{Plan}
 use Rattle.made_store.specs.Settings.{Shares}
-use Rattle.firing_order.specs.Orders.{order_by}
+use Rattle.unit_orders.specs.FiringOrderOrders.{order_by}
 use Rattle.unit_plan.specs.Plans.{AreTables, Tables, functions_of, plan_of}
 use Rattle.unit_plan.specs.Shares.{shares_of}
 use Rattle.plan_data.specs.declared.plan.PlanData.{PlanData}
 use Rattle.plan_data.specs.declared.plan.PlanNode.{PlanNode}
 use Rattle.plan_data.specs.Parts.{IsFormed, arms_steps, extent_in, graph_nodes, size_in, table_of}
 use Rattle.plan_data.specs.Stands.{Stands}
-use Rattle.code_maker.specs.Grows.{IsPair}
+use Rattle.plan_nodes.specs.Grows.{IsPair}
 use Rattle.plan_nodes.specs.Rows.{IsCountedByRow, IsWrittenByRow}
 
 -- how many steps and cells each graph takes by the data, and where each function begins

@@ -4,7 +4,7 @@ use Rattle.if1_graph.specs.declared.graph.Unit1.{Unit1}
 use Rattle.graph_meaning.specs.Carried.{Unfilled}
 use Rattle.graph_meaning.specs.Entered.{IsIn}
 use Rattle.made_store.specs.Settings.{result_modes}
-use Rattle.firing_order.specs.Orders.{order_by}
+use Rattle.unit_orders.specs.FiringOrderOrders.{order_by}
 use Rattle.unit_plan.specs.Plans.{Tables, plan_of}
 use Rattle.unit_plan.specs.Shares.{shares_of}
 use Rattle.run_cells.specs.declared.cell.Cell.{Cell}

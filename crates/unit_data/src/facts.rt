@@ -1,7 +1,7 @@
 //! What is known of a unit and of its graphs, for the data of its nodes.
 ghost use Rattle.std.specs.Prelude.{◌≡◌, map, Contains, IfOk};
 ghost use Rattle.if1_graph.specs.Units.{Place, places};
-ghost use Rattle.firing_order.specs.Orders.{IsFiringOrder};
+ghost use Rattle.unit_orders.specs.FiringOrderOrders.{IsFiringOrder};
 ghost use Rattle.plan_builder.specs.Laws.{AreOfGraph};
 ghost use Rattle.plan_builder.specs.Outlets.{AreOutlets};
 ghost use Rattle.graph_inputs.specs.Inputs.{inputs_of};

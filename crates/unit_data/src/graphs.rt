@@ -1,7 +1,7 @@
 //! The graphs of the data of a unit.
 ghost use Rattle.std.specs.Prelude.{◌≡◌, ◌<◌, ◌≤◌, ℕ, suc, [], List, Some, map, length, slice_get, slice_index_or, Contains, IfOk, OnOk};
 ghost use Rattle.if1_graph.specs.Units.{Place, number_of, places};
-ghost use Rattle.firing_order.specs.Orders.{IsFiringOrder};
+ghost use Rattle.unit_orders.specs.FiringOrderOrders.{IsFiringOrder};
 ghost use Rattle.unit_plan.specs.Plans.{Tables, plain_of};
 ghost use Rattle.unit_orders.specs.Orders.{AreFiringOrders};
 ghost use Rattle.mark_check.specs.Graphs.{lent, unit_graphs};

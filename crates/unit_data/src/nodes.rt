@@ -5,7 +5,7 @@ ghost use Rattle.if1_graph.specs.declared.graph.Node.{Node};
 ghost use Rattle.if1_graph.specs.Units.{Place, label_of, number_of, places};
 ghost use Rattle.graph_meaning.specs.Networks.{kind_of};
 ghost use Rattle.graph_meaning.specs.StorageUnits.{storage_of};
-ghost use Rattle.firing_order.specs.Orders.{order_by};
+ghost use Rattle.unit_orders.specs.FiringOrderOrders.{order_by};
 ghost use Rattle.unit_plan.specs.Plans.{Tables, plain_of};
 ghost use Rattle.plan_data.specs.declared.plan.PlanData.{PlanData};
 ghost use Rattle.plan_data.specs.Parts.{IsBelow};

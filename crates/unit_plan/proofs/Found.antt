@@ -17,7 +17,7 @@ use Rattle.graph_meaning.proofs.Numbers.{numbers-own, one-place}
 use Rattle.graph_meaning.proofs.Units.{at-node}
 use Rattle.graph_meaning.specs.Demand.{EachNode, Vertex, at_label}
 use Rattle.graph_meaning.specs.Networks.{net_of, network, vertex_of}
-use Rattle.ordered_meaning.specs.Orders.{IsInOrder}
+use Rattle.run_code.specs.Orders.{IsInOrder}
 use Rattle.unit_laws.proofs.TypedEdges.{graph-formed}
 use Rattle.unit_laws.proofs.TypedNodes.{node-found}
 use Rattle.unit_laws.proofs.TypedPlans.{net-found, part-place}

@@ -17,12 +17,12 @@ use Rattle.graph_meaning.specs.Entered.{IsIn}
 use Rattle.graph_meaning.specs.Networks.{net_at, network, nothing}
 use Rattle.graph_meaning.specs.Storage.{copied_by, is_left, written_by}
 use Rattle.graph_meaning.specs.StorageUnits.{storage_of}
-use Rattle.ordered_meaning.specs.Orders.{AreInOrder, IsInOrder}
+use Rattle.run_code.specs.Orders.{AreInOrder, IsInOrder}
 use Rattle.run_code.specs.Known.{AreReadable, KnowsAll}
 use Rattle.run_code.specs.Made.{Plan}
-use Rattle.run_made.proofs.Orders.{orders-readable}
-use Rattle.run_made.proofs.Tables.{levels-enough}
-use Rattle.run_made.specs.Plans.{CanLay, IsPlanned, IsRight, IsRightPlan, Weighing}
+use Rattle.made_store.proofs.Orders.{orders-readable}
+use Rattle.made_store.proofs.Tables.{levels-enough}
+use Rattle.made_store.specs.Plans.{CanLay, IsPlanned, IsRight, IsRightPlan, Weighing}
 use Rattle.unit_laws.proofs.TypedPlans.{function-place}
 use Rattle.unit_plan.proofs.Found.{each-in-order, function-plain, number-within}
 use Rattle.unit_plan.proofs.RightNodes.{LaysIn, RightIn, kind-right}

@@ -34,11 +34,11 @@ use Rattle.graph_meaning.specs.Forms as form
 use Rattle.graph_meaning.specs.Networks.{callee_number, form_of, ins_of, kind_as, kind_of, network, part as part_number, number_or_zero, simple_kind, sources, vertex_of}
 use Rattle.graph_meaning.specs.Storage.{is_left}
 use Rattle.graph_meaning.specs.StorageUnits.{carries_aggregate, storage_of, test_in}
-use Rattle.ordered_meaning.specs.Orders.{AreInOrder}
+use Rattle.run_code.specs.Orders.{AreInOrder}
 use Rattle.run_code.specs.Collections.{AreWithin, Collect}
 use Rattle.run_code.specs.Made.{Plan}
 use Rattle.run_code.specs.Refolds.{AllPlain, AreRefolded, Refolds}
-use Rattle.run_made.specs.Plans.{All, ArePicked, IsChoice, IsInner, IsKindRight, IsLoopRight, IsPlanned, IsRefolded, Weighing}
+use Rattle.made_store.specs.Plans.{All, ArePicked, IsChoice, IsInner, IsKindRight, IsLoopRight, IsPlanned, IsRefolded, Weighing}
 use Rattle.unit_laws.proofs.TypeLists.{out_bool, out_int}
 use Rattle.unit_laws.proofs.TypedCalls.{called, callee-there}
 use Rattle.unit_laws.proofs.TypedChoices.{got-below}

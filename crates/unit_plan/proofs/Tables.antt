@@ -11,16 +11,16 @@ use Rattle.if1_graph.specs.declared.op.Simple.{Simple}
 use Rattle.graph_meaning.specs.Carried.{Carried}
 use Rattle.graph_meaning.specs.Storage.{copied_by}
 use Rattle.graph_meaning.specs.StorageUnits.{storage_of}
-use Rattle.run_made.specs.Plans.{Weighing}
+use Rattle.made_store.specs.Plans.{Weighing}
 use Rattle.graph_meaning.specs.Demand.{EachNode, Kind, Plain, Vertex, Whole}
 use Rattle.graph_meaning.specs.Forms as form
 use Rattle.graph_meaning.specs.Networks.{net_at, network}
-use Rattle.ordered_meaning.specs.Orders.{AreInOrder, IsInOrder}
+use Rattle.run_code.specs.Orders.{AreInOrder, IsInOrder}
 use Rattle.run_code.specs.Cells.{picked}
 use Rattle.run_code.specs.Made.{IsSized, Plan, arms_size, entry_from, greatest_extent, kind_size, nodes_extent, nodes_size, parts_extent}
-use Rattle.run_made.proofs.Tables as made
-use Rattle.run_made.specs.Plans.{All, IsInner}
-use Rattle.run_made.specs.Tables.{InnersAre}
+use Rattle.made_store.proofs.Tables as made
+use Rattle.made_store.specs.Plans.{All, IsInner}
+use Rattle.made_store.specs.Tables.{InnersAre}
 use Rattle.unit_plan.proofs.Found.{number-within}
 use Rattle.unit_plan.proofs.RightNodes.{LaysIn, RightIn}
 use Rattle.unit_plan.proofs.Right.{no-nodes, right}

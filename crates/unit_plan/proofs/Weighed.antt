@@ -16,7 +16,7 @@ use Rattle.graph_meaning.specs.Storage.{Storage, copied_by, is_left, node_writte
 use Rattle.graph_meaning.specs.StorageUnits.{storage_of}
 use Rattle.run_code.specs.Cells.{picked}
 use Rattle.run_code.specs.Made.{Plan}
-use Rattle.run_made.specs.Plans.{Weighing}
+use Rattle.made_store.specs.Plans.{Weighing}
 use Rattle.made_store.specs.Ports.{mode_of, modes_of}
 use Rattle.made_store.specs.Stored.{copied}
 use Rattle.made_store.specs.Settings.{Shares}

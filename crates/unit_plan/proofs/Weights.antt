@@ -13,7 +13,7 @@ use Rattle.graph_meaning.specs.Networks.{network}
 use Rattle.graph_meaning.specs.Storage.{Storage, copying, is_left, node_written, writing}
 use Rattle.graph_meaning.specs.StorageUnits.{storage_of}
 use Rattle.run_code.specs.Made.{Plan}
-use Rattle.run_made.specs.Weighing.{AreAlike}
+use Rattle.made_store.specs.Weighing.{AreAlike}
 use Rattle.made_store.proofs.UnitWeights.{unit-weights}
 use Rattle.made_store.proofs.Units.{made-unit-decided, made-writes}
 use Rattle.made_store.specs.Settings.{Shares}

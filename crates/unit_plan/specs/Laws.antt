@@ -8,10 +8,10 @@ use Rattle.graph_meaning.specs.Demand.{Vertex}
 use Rattle.graph_meaning.specs.Entered.{IsIn}
 use Rattle.graph_meaning.specs.Networks.{network}
 use Rattle.graph_meaning.specs.Plain.{Costs}
-use Rattle.ordered_meaning.specs.Orders.{AreInOrder}
+use Rattle.run_code.specs.Orders.{AreInOrder}
 use Rattle.graph_meaning.specs.Storage.{capped}
 use Rattle.graph_meaning.specs.StorageUnits.{UnitWrites}
-use Rattle.run_made.specs.Plans.{IsRightPlan, laid, lines_of, weigh_at}
+use Rattle.made_store.specs.Plans.{IsRightPlan, laid, lines_of, weigh_at}
 use Rattle.made_store.specs.Sums.{EndsAddingStored}
 use Rattle.made_store.specs.Whole.{EndsStored, IsOfUnit, StopsStored, entered_stored, first_cells}
 use Rattle.made_store.specs.Settled.{functions_settings, handling_of}

@@ -16,7 +16,7 @@ use Rattle.graph_meaning.specs.Storage.{is_left, node_written}
 use Rattle.graph_meaning.specs.StorageUnits.{storage_of}
 use Rattle.run_code.specs.Collections.{Collect, Sifts, Final}
 use Rattle.run_code.specs.Made.{Plan}
-use Rattle.run_made.specs.Plans.{Weighing}
+use Rattle.made_store.specs.Plans.{Weighing}
 use Rattle.made_store.specs.Ports.{copies_of}
 use Rattle.made_store.specs.Stored.{copied}
 use Rattle.made_store.specs.Marks.{owned_inputs}

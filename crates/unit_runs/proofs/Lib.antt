@@ -1,3 +1,6 @@
+pub use Rattle.plan_shares.proofs.Graphs as PlanSharesGraphs
+pub use Rattle.plan_shares.proofs.Handed
+pub use Rattle.plan_shares.proofs.OwnedParts
 pub mod Alike
 pub mod Literals
 pub mod Uncopied

@@ -40,7 +40,7 @@ use Rattle.plan_shares.proofs.Runs.{runs-decided}
 use Rattle.step_code.specs.declared.code.Code.{Code}
 use Rattle.step_code.specs.declared.step.Step.TheVariants as step
 use Rattle.step_code.specs.Laid as laid_code
-use Rattle.sequential.specs.Loading.{AreLentBelow}
+use Rattle.sequential_run.specs.Loading.{AreLentBelow}
 use Rattle.sequential_run.specs.Runs.{IsDecided, weigh_of}
 use Rattle.unit_runs.proofs.Alike.{do-alike}
 use Rattle.unit_runs.proofs.Graphs.{graphs-bare}

@@ -1,3 +1,5 @@
+pub use Rattle.code_maker.specs.Grows
+pub use Rattle.code_maker.specs.Makes
 pub use Rattle.sequential_run.specs.Runs as StepRuns
 pub use Rattle.sequential_run.specs.Writes as StepWrites
 pub mod Alike

@@ -19,8 +19,8 @@ use Rattle.code_maker.specs.Grows.{AreNamed, AreNamedApart, ArePlain, IsPlain}
 use Rattle.code_maker.specs.Seats.{looked_at}
 use Rattle.sequential.specs.Inside.{IsInside, IsUncopied}
 use Rattle.sequential.specs.Loading.{AllApart, AreApart, AreInside, IsApart, IsNotIn}
-use Rattle.sequential_loops.specs.Iterating.{AllUncopied}
-use Rattle.sequential_loops.specs.Putting.{AreSparing, IsSparing}
+use Rattle.sequential_run.specs.Iterating.{AllUncopied}
+use Rattle.sequential_run.specs.Putting.{AreSparing, IsSparing}
 use Rattle.sequential_run.specs.Ready.{AreListed, AreSpread}
 use Rattle.sequential_run.specs.Seen.{IsNamed}
 use Rattle.unit_whole.proofs.Taking.{beside}

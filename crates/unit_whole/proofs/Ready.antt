@@ -44,9 +44,9 @@ use Rattle.code_maker.specs.Seats.{looked_at}
 use Rattle.even_code.specs.Even.{IsCalledFor, IsEven, IsFiredFor, IsKindEven, IsStepEven}
 use Rattle.sequential.specs.Inside.{IsInside, IsUncopied}
 use Rattle.sequential.specs.Loading.{AreApart, AreInside}
-use Rattle.sequential_fire.specs.Outputs.{IsWide}
-use Rattle.sequential_loops.specs.Iterating.{AllUncopied}
-use Rattle.sequential_loops.specs.Putting.{AreColumns, AreSpared}
+use Rattle.sequential_run.specs.Outputs.{IsWide}
+use Rattle.sequential_run.specs.Iterating.{AllUncopied}
+use Rattle.sequential_run.specs.Putting.{AreColumns, AreSpared}
 use Rattle.sequential_run.specs.Ready.{AreCollected, AreListed, IsReady}
 use Rattle.sequential_run.specs.Seen.{IsFirstKept, IsSeen}
 use Rattle.unit_whole.proofs.Operands.{all-sparing, apart-so, fixed-named, listed-so, looked-apart, looked-are, looked-inside, looked-long, looked-uncopied, modes-long, one-inside, operands-long, so-long}

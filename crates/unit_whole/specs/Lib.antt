@@ -1,2 +1,3 @@
+pub use Rattle.sequential.specs.Agrees
 pub mod Seen
 pub mod Laws

@@ -3,7 +3,7 @@ use Rattle.std.proofs.lemmas.List.{drop_more}
 use Rattle.std.proofs.lemmas.Result.{on_ok_weaker}
 use Rattle.std.proofs.Math.Nat.{le-max_left, le-max_right}
 use Rattle.run_code.specs.Made.{arms_code, graph_code}
-use Rattle.made_store.specs.Settled.{arms_settings, graph_settings}
+use Rattle.plan_data.specs.Settled.{arms_settings, graph_settings}
 use Rattle.code_maker.specs.Grows.{ArePairs, Grows}
 use Rattle.code_maker.specs.Makes.{ArmMade, NodesMade, PartsMade}
 use Rattle.code_maker.specs.Seats.{at_seats}

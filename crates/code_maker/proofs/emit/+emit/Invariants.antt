@@ -1,7 +1,7 @@
 use Rattle.std.proofs.Common.{◌+◌, ◌-◌, ◌*◌, ◌^◌, ◌≤◌, drop}
 use Rattle.run_code.specs.Made.{Plan, arms_code, graph_code}
-use Rattle.made_store.specs.Settings.{Cells_of, Shares}
-use Rattle.made_store.specs.Settled.{arms_settings, graph_settings}
+use Rattle.plan_data.specs.Settings.{Cells_of, Shares}
+use Rattle.plan_data.specs.Settled.{arms_settings, graph_settings}
 use Rattle.plan_data.specs.Parts.{AreNodesBelow, arms_steps, extent_in, greatest_of, nodes_cells, nodes_steps}
 use Rattle.plan_data.specs.Stands.{Stands}
 use Rattle.code_maker.specs.declared.draft.Draft.{Draft}

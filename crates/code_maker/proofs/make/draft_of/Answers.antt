@@ -1,7 +1,7 @@
 use Rattle.std.proofs.Common.{◌≡◌, ◌+◌, ◌∷◌, drop, get_or, sym, ap, ◌∙◌, subst, arith}
 use Rattle.std.proofs.lemmas.List.{drop_more}
 use Rattle.run_code.specs.Made.{functions_lines}
-use Rattle.made_store.specs.Settled.{functions_settings}
+use Rattle.plan_data.specs.Settled.{functions_settings}
 use Rattle.plan_data.specs.Parts.{arms_steps, table_of}
 use Rattle.code_maker.specs.Grows.{Grows}
 use Rattle.code_maker.proofs.Emitting.{function-more}

@@ -1,7 +1,7 @@
 use Rattle.std.proofs.Common.{◌+◌, ◌-◌, ◌^◌, ◌≤◌, drop}
 use Rattle.run_code.specs.Made.{Plan, functions_lines}
-use Rattle.made_store.specs.Settings.{Shares}
-use Rattle.made_store.specs.Settled.{functions_settings}
+use Rattle.plan_data.specs.Settings.{Shares}
+use Rattle.plan_data.specs.Settled.{functions_settings}
 use Rattle.plan_data.specs.Parts.{arms_steps}
 use Rattle.plan_data.specs.Stands.{Stands}
 use Rattle.code_maker.specs.declared.draft.Draft.{Draft}

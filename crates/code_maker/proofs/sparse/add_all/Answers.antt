@@ -3,7 +3,7 @@ use Rattle.std.proofs.lemmas.Result.{on_ok_weaker}
 use Rattle.node_ops.specs.Operands.{shape_of}
 use Rattle.run_code.specs.Made.{line}
 use Rattle.run_code.specs.Steps.{Fire}
-use Rattle.made_store.specs.Settled.{setting}
+use Rattle.plan_data.specs.Settled.{setting}
 use Rattle.plan_data.specs.declared.plan.Port.{Port}
 use Rattle.plan_data.specs.Parts.{mode_of}
 use Rattle.code_maker.specs.Grows.{Grows, IsToldOf}

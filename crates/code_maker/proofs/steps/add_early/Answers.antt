@@ -2,7 +2,7 @@ use Rattle.std.proofs.Common.{if◌then◌else◌, [], ◌∷◌, sym, subst}
 use Rattle.std.proofs.lemmas.Result.{on_ok_weaker}
 use Rattle.run_code.specs.Made.{line}
 use Rattle.run_code.specs.Steps.{Count}
-use Rattle.made_store.specs.Settled.{setting}
+use Rattle.plan_data.specs.Settled.{setting}
 use Rattle.code_maker.specs.Grows.{Grows}
 use Rattle.code_maker.proofs.steps.add_early.Goals as goal
 

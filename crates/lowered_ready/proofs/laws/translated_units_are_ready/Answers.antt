@@ -1,4 +1,4 @@
-use Rattle.lowered_sorts.specs.Sorts.{bare, sort_of}
+use Rattle.lowered_types.specs.Sorts.{bare, sort_of}
 use Rattle.lowered_ready.proofs.Sorting.{sorting}
 use Rattle.lowered_ready.proofs.laws.translated_units_are_ready.Goals as goal
 

@@ -2,7 +2,7 @@ use Rattle.std.proofs.Common.{rules, SFits, ◌≡◌, pos, ◌+ℤ◌, to_z, of
 use Rattle.std.proofs.lemmas.Int.{ints, to_z-of_z}
 use Rattle.std.specs.Int.{saturate_signed}
 use Rattle.flow_value.specs.declared.value.Val.TheVariants as val
-use Rattle.graph_meaning.specs.Carried.{Value}
+use Rattle.run_store.specs.Carried.{Value}
 use Rattle.run_cells.proofs.Rising.{rising-at, rising-behind}
 use Rattle.run_cells.proofs.seen.number.Goals as goal
 

@@ -1,6 +1,6 @@
 use Rattle.std.proofs.Common.{◌≡◌, map}
 use Rattle.graph_meaning.specs.Carried.{val_of}
-use Rattle.sequential.specs.Agrees.{owned_all}
+use Rattle.unit_whole.specs.Agrees.{owned_all}
 use Rattle.unit_code.proofs.values.values_of.Given as goal
 
 abbrev pub invariant-loop-cell : goal.invariant-loop-cell

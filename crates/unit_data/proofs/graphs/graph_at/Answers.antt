@@ -1,7 +1,7 @@
 use Rattle.std.proofs.Common.{◌≡◌, ◌∙◌, ◌-◌, ◌<◌, length, Some, sym, ap, subst, arith}
 use Rattle.if1_graph.specs.declared.graph.Graph.{Graph}
 use Rattle.if1_graph.specs.Units.{number_of}
-use Rattle.firing_order.specs.Orders.{IsFiringOrder}
+use Rattle.unit_orders.specs.FiringOrderOrders.{IsFiringOrder}
 use Rattle.unit_plan.specs.Plans.{place_of}
 use Rattle.plan_data.specs.declared.plan.PlanGraph.{PlanGraph}
 use Rattle.unit_data.proofs.Places.{empty-there, graph-there-at, none-first, plain-is}

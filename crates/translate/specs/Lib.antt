@@ -1,0 +1,1 @@
+pub use Rattle.lowered_rules.specs.Laws
