@@ -38,10 +38,10 @@ compare() { # a benchmark, its size
 compare sums 2500
 compare matrix 160
 compare escape 200
-compare queens 8
+compare queens 10
 compare relax 2500
 compare count 1500000
 compare sort 1800
-compare fib 28
+compare fib 31
 compare records 800000
 compare stream 1000000
