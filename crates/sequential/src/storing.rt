@@ -76,14 +76,17 @@ pub fn put_number(cells: &mut Vec<Cell>, place: usize, number: i64)
     }
 }
 
-/// Puts a boolean into a cell.
+/// Puts a boolean into a cell. Where it has one, nothing else is written.
 #[inline(always)]
 pub fn put_boolean(cells: &mut Vec<Cell>, place: usize, value: bool)
     requires { place < length cells.old.items }
     ensures cells { cells.new.items ≡ slice_set cells.old.items place (cell.Bool value) }
     ensures size { length cells.new.items ≡ length cells.old.items }
 {
-    put(cells, place, Cell::Bool(value));
+    match &mut cells[place] {
+        Cell::Bool(was) => *was = value,
+        _ => put(cells, place, Cell::Bool(value)),
+    }
 }
 
 /// Puts a cell, an integer or a boolean as a rule, by its kind.
