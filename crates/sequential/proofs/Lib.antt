@@ -2,6 +2,7 @@ pub mod Reading
 pub mod Putting
 pub mod Scalars
 pub mod Doing
+pub mod PutSteps
 pub mod Stepping
 pub mod Deciding
 pub mod LoadSteps

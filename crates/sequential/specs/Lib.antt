@@ -7,3 +7,4 @@ pub mod Handing
 pub mod Choices
 pub mod Valued
 pub mod Agrees
+pub mod Through

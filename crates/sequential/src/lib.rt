@@ -7,6 +7,7 @@ mod calls;
 mod choices;
 mod choosing;
 mod copying;
+mod entering;
 mod firing;
 mod giving;
 mod handing;
