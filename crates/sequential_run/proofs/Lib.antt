@@ -5,5 +5,7 @@ pub mod WroteSteps
 pub mod Falling
 pub mod Firing
 pub mod Deciding
+pub mod Passed
+pub mod ChoiceSteps
 pub mod Begun
 pub mod Entering

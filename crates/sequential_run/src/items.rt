@@ -243,7 +243,7 @@ fn turns<G: Gate>(gate: &G, open: &mut Open, slices: Slices, places: u64) -> Beh
 #[inline(never)]
 fn pass<G: Gate>(gate: &G, open: &mut Open, machine: &Machine, behind: Behind, went: Went) {
     match (went, *open) {
-        (Went::Goes, _) => ends(gate, open, machine, behind),
+        (Went::Goes | Went::Writes, _) => ends(gate, open, machine, behind),
         (Went::Over, Open::Slices(_)) => gate.after(WORKER),
         _ => {}
     }

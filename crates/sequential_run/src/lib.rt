@@ -2,6 +2,7 @@
 //! limit of firings.
 #![tactic(auto)]
 
+mod choosing;
 mod items;
 mod laws;
 mod running;
