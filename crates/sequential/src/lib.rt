@@ -25,7 +25,7 @@ mod storing;
 mod tagging;
 
 pub use bringing::brought;
-pub use calls::{Calls, OpenCall};
+pub use calls::{Calls, OpenCall, is_comparison};
 pub use choices::spoil;
 pub use copying::copies_of;
 pub use giving::give_up;
