@@ -25,7 +25,7 @@ mod storing;
 mod tagging;
 
 pub use bringing::brought;
-pub use calls::{Calls, OpenCall, is_comparison};
+pub use calls::{Calls, OpenCall};
 pub use choices::spoil;
 pub use copying::copies_of;
 pub use giving::give_up;
@@ -33,6 +33,6 @@ pub use laws::steps_are_for_all;
 pub use loading::{load, operand_at, put_behind};
 pub use machine::{Machine, Turn};
 pub use moving::{operands_from, unload};
-pub use scalar::operand_of;
+pub use scalar::{operand_of, quick_cells, quick_number};
 pub use sights::{boolean_at, cell_at, counted, direct, integer_at, number_in, sight};
 pub use storing::{put, put_number, put_scalar};

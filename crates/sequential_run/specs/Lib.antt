@@ -7,6 +7,7 @@ pub mod Seen
 pub mod Ready
 pub mod Went
 pub mod Whole
+pub mod Fusing
 pub mod Passing
 pub mod Runs
 pub mod Writes
