@@ -7,5 +7,6 @@ pub mod Firing
 pub mod Deciding
 pub mod Passed
 pub mod ChoiceSteps
+pub mod Fusions
 pub mod Begun
 pub mod Entering
