@@ -1,9 +1,32 @@
 //! Copies of lists of values.
 ghost use Rattle.std.specs.Prelude.{◌≡◌, ◌∷◌, [], ◌++◌, true, IfOk, IfSome, OnOk};
 ghost use Rattle.flow_value.specs.declared.value.Val.TheVariants as val;
+ghost use Rattle.graph_meaning.specs.Carried.{Value};
+ghost use Rattle.run_store.specs.Stored as stored;
+ghost use Rattle.run_cells.specs.Held.{held};
+ghost use Rattle.run_cells.specs.Sights.{seen_value};
 
 use flow_value::{Array, Items, NoMemory, Val, copy};
+use run_cells::{Boxed, Cell, Seen, copied};
 use std::alloc::Global;
+
+/// A cell that has a copy of what is seen.
+pub fn copy_seen(alloc: Global, seen: Seen<'_>) -> Result<Cell, NoMemory>
+    ensures { IfOk result (λ c. held c ≡ stored.Owns (seen_value seen.entry)) }
+{
+    match seen {
+        Seen::Value(Val::Arr(array)) => array_copied(alloc, array),
+        _ => copied(alloc, seen),
+    }
+}
+
+fn array_copied(alloc: Global, array: &Array) -> Result<Cell, NoMemory>
+    ensures { IfOk result (λ c. held c ≡ stored.Owns (Value (val.Arr array.now))) }
+{
+    let items = copies_of(alloc, array.as_slice())?;
+    let value = Val::Arr(Array::made(array.lo(), items));
+    Ok(Cell::Owned(Boxed::new(alloc, value)?))
+}
 
 /// Equal values, in the same order.
 pub fn copies_of(alloc: Global, items: &[Val]) -> Result<Items, NoMemory>

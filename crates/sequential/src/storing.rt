@@ -14,7 +14,7 @@ pub fn put(cells: &mut Vec<Cell>, place: usize, cell: Cell)
     ensures size { length cells.new.items ≡ length cells.old.items }
 {
     // of a scalar nothing but its kind is read
-    if is_scalar(&cells[place]) {
+    if is_left(&cells[place]) {
         put_over(cells, place, cell);
     } else {
         put_apart(cells, place, cell);
@@ -36,6 +36,22 @@ pub fn is_scalar(cell: &Cell) -> bool {
     }
 }
 
+/// Whether nothing is given up with what a cell has.
+#[inline(always)]
+pub fn is_left(cell: &Cell) -> bool {
+    match cell {
+        Cell::Empty
+        | Cell::Error(_)
+        | Cell::Int(_)
+        | Cell::Bool(_)
+        | Cell::Char(_)
+        | Cell::Null
+        | Cell::UnionInt(_, _)
+        | Cell::Lent(_) => true,
+        _ => false,
+    }
+}
+
 #[inline(always)]
 fn put_over(cells: &mut Vec<Cell>, place: usize, cell: Cell)
     requires { place < length cells.old.items }
@@ -49,7 +65,8 @@ fn put_over(cells: &mut Vec<Cell>, place: usize, cell: Cell)
         | Cell::Bool(_)
         | Cell::Char(_)
         | Cell::Null
-        | Cell::UnionInt(_, _) => {}
+        | Cell::UnionInt(_, _)
+        | Cell::Lent(_) => {}
         other => give_up(other),
     }
 }
