@@ -14,10 +14,11 @@ pub fn put(cells: &mut Vec<Cell>, place: usize, cell: Cell)
     ensures size { length cells.new.items ≡ length cells.old.items }
 {
     // of a scalar nothing but its kind is read
-    if is_left(&cells[place]) {
-        put_over(cells, place, cell);
-    } else {
-        put_apart(cells, place, cell);
+    match &cells[place] {
+        Cell::Empty | Cell::Error(_) | Cell::Int(_) | Cell::Bool(_) | Cell::Char(_) | Cell::Null =>
+            put_over(cells, place, cell),
+        Cell::UnionInt(_, _) | Cell::Lent(_) => put_over(cells, place, cell),
+        _ => put_apart(cells, place, cell),
     }
 }
 
@@ -58,8 +59,7 @@ fn put_over(cells: &mut Vec<Cell>, place: usize, cell: Cell)
     ensures cells { cells.new.items ≡ slice_set cells.old.items place cell }
     ensures size { length cells.new.items ≡ length cells.old.items }
 {
-    // nothing is given up with what stood there
-    mem::forget(mem::replace(&mut cells[place], cell));
+    cells[place] = cell;
 }
 
 #[inline(always)]
