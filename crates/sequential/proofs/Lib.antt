@@ -16,3 +16,4 @@ pub mod Rows
 pub mod FireSteps
 pub mod TagSteps
 mod Integers
+mod Leaves

@@ -10,9 +10,10 @@ ghost use Rattle.step_code.specs.Reading.{operand_in, mode_in};
 ghost use Rattle.sequential.specs.Inside.{IsInside};
 ghost use Rattle.sequential.specs.Bringing.{IsBrought};
 
+use crate::copying::copy_seen;
 use crate::sights::{direct, sight};
 use flow_value::NoMemory;
-use run_cells::{Cell, Seen, copied, leaves_seen};
+use run_cells::{Cell, Seen, leaves_seen};
 use std::alloc::Global;
 use std::mem;
 use step_code::{Code, Operand};
@@ -167,7 +168,7 @@ fn copy_of(
     requires { IsInside code.now (length cells.now - base) from }
     ensures { IfOk result (λ c. held c ≡ stored.Owns (stored.seen (heap_of cells.now) base (mode_in code.now from) (operand_in code.now from))) }
 {
-    copied(alloc, sight(code, cells, base, from))
+    copy_seen(alloc, sight(code, cells, base, from))
 }
 
 fn counted(alloc: Global, seen: Seen<'_>, copies: &mut u64) -> Result<Cell, NoMemory>
@@ -175,5 +176,5 @@ fn counted(alloc: Global, seen: Seen<'_>, copies: &mut u64) -> Result<Cell, NoMe
     ensures copies { copies.new ≡ capped (copies.old + leaves_of (seen_value seen.entry)) }
 {
     *copies = copies.saturating_add(leaves_seen(seen));
-    copied(alloc, seen)
+    copy_seen(alloc, seen)
 }

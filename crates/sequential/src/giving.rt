@@ -2,7 +2,7 @@
 //! by itself.
 ghost use Rattle.std.specs.Prelude.{◌≡◌, ◌<◌, ◌≤◌, ℕ, [], take, length};
 
-use crate::storing::is_scalar;
+use crate::storing::is_left;
 use flow_value::{Items, Val};
 use run_cells::Cell;
 use std::mem;
@@ -124,6 +124,31 @@ fn clear_all(cells: &mut Vec<Cell>, base: usize, room: u32)
     ensures size { length cells.new.items ≡ length cells.old.items }
 {
     let end = cells.len().min(base.saturating_add(room as usize));
+    if base < end && own_any(&cells.as_slice()[base..end]) {
+        clear_each(cells, base, end);
+    }
+}
+
+/// Two at a time, for fewer tests of the end.
+#[inline(always)]
+fn own_any(cells: &[Cell]) -> bool {
+    for pair in 0..cells.len() / 2 {
+        if !is_left(&cells[2 * pair]) || !is_left(&cells[2 * pair + 1]) {
+            return true;
+        }
+    }
+    match cells.last() {
+        Some(cell) => !is_left(cell),
+        None => false,
+    }
+}
+
+#[inline(never)]
+fn clear_each(cells: &mut Vec<Cell>, base: usize, end: usize)
+    requires { end ≤ length cells.old.items }
+    ensures low { take base cells.new.items ≡ take base cells.old.items }
+    ensures size { length cells.new.items ≡ length cells.old.items }
+{
     for place in base..end {
         vacate(cells, place);
     }
@@ -135,15 +160,7 @@ fn vacate(cells: &mut Vec<Cell>, place: usize)
     ensures low { (n : ℕ) → n ≤ place → take n cells.new.items ≡ take n cells.old.items }
     ensures size { length cells.new.items ≡ length cells.old.items }
 {
-    if !is_scalar(&cells[place]) {
-        released(mem::replace(&mut cells[place], Cell::Empty));
-    }
-}
-
-#[inline(always)]
-fn released(cell: Cell) {
-    match cell {
-        Cell::Lent(_) => {}
-        other => give_up(other),
+    if !is_left(&cells[place]) {
+        give_up(mem::replace(&mut cells[place], Cell::Empty));
     }
 }

@@ -33,6 +33,6 @@ pub use laws::steps_are_for_all;
 pub use loading::{load, operand_at, put_behind};
 pub use machine::{Machine, Turn};
 pub use moving::{operands_from, unload};
-pub use scalar::{operand_of, quick_cells, quick_number};
+pub use scalar::{operand_of, quick_booleans, quick_cells, quick_number};
 pub use sights::{boolean_at, cell_at, counted, direct, integer_at, number_in, sight};
 pub use storing::{put, put_number, put_scalar};

@@ -15,13 +15,9 @@ pub fn put(cells: &mut Vec<Cell>, place: usize, cell: Cell)
 {
     // of a scalar nothing but its kind is read
     match &cells[place] {
-        Cell::Empty
-        | Cell::Error(_)
-        | Cell::Int(_)
-        | Cell::Bool(_)
-        | Cell::Char(_)
-        | Cell::Null => put_over(cells, place, cell),
-        Cell::UnionInt(_, _) => put_over(cells, place, cell),
+        Cell::Empty | Cell::Error(_) | Cell::Int(_) | Cell::Bool(_) | Cell::Char(_) | Cell::Null =>
+            put_over(cells, place, cell),
+        Cell::UnionInt(_, _) | Cell::Lent(_) => put_over(cells, place, cell),
         _ => put_apart(cells, place, cell),
     }
 }
@@ -37,6 +33,22 @@ pub fn is_scalar(cell: &Cell) -> bool {
         | Cell::Char(_)
         | Cell::Null
         | Cell::UnionInt(_, _) => true,
+        _ => false,
+    }
+}
+
+/// Whether nothing is given up with what a cell has.
+#[inline(always)]
+pub fn is_left(cell: &Cell) -> bool {
+    match cell {
+        Cell::Empty
+        | Cell::Error(_)
+        | Cell::Int(_)
+        | Cell::Bool(_)
+        | Cell::Char(_)
+        | Cell::Null
+        | Cell::UnionInt(_, _)
+        | Cell::Lent(_) => true,
         _ => false,
     }
 }

@@ -1,5 +1,5 @@
 use Rattle.std.proofs.Common.{◌∙◌}
-use Rattle.sequential.proofs.giving.clear_all.Goals as goal
+use Rattle.sequential.proofs.giving.clear_each.Goals as goal
 
 pub loop-place-preserved : goal.loop-place-preserved
 loop-place-preserved c =
