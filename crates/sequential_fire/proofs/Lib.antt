@@ -16,3 +16,4 @@ pub mod RangeRows
 pub mod SparseSteps
 pub mod SumRows
 pub mod FieldSteps
+pub mod SameSteps

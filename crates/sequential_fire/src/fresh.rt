@@ -49,22 +49,6 @@ fn put_again(cells: &mut Vec<Cell>, place: usize, cell: Cell)
     put(cells, place, cell);
 }
 
-/// Puts a union of an integer into a cell. Where it has one, nothing else is written.
-#[inline(always)]
-pub fn put_union(cells: &mut Vec<Cell>, place: usize, tag: u32, number: i64)
-    requires { place < length cells.old.items }
-    ensures cells { cells.new.items ≡ slice_set cells.old.items place (cell.UnionInt tag number) }
-    ensures size { length cells.new.items ≡ length cells.old.items }
-{
-    match &mut cells[place] {
-        Cell::UnionInt(of, was) => {
-            *of = tag;
-            *was = number;
-        }
-        _ => put_fresh(cells, place, Cell::UnionInt(tag, number)),
-    }
-}
-
 /// Puts an integer into a cell. Where it has one, nothing but the number is written.
 #[inline(always)]
 pub fn number_fresh(cells: &mut Vec<Cell>, place: usize, number: i64)

@@ -1,6 +1,5 @@
 use Rattle.std.proofs.Common.{◌≡◌, rules, Fits, w64, ◌+◌, [], ◌∷◌, subst, refl, sym, arith}
 use Rattle.flow_value.specs.declared.value.Val.TheVariants as val
-use Rattle.run_cells.specs.declared.cell.Cell.TheVariants as cell
 use Rattle.if1_graph.specs.declared.op.Simple.TheVariants as simple
 use Rattle.step_code.specs.declared.step.Step.TheVariants as step
 use Rattle.sequential.specs.declared.machine.Machine.{Machine}
@@ -21,10 +20,10 @@ returns-in-Some-clause-does c =
     let a = c.args in
     let m = a.machine.now in
     let u = c.in-Some.union in
-    let new : Machine = record { pc = m.pc + 1; base = m.base; cells = c.put_union.new.cells; calls = m.calls; fires = m.fires + 1; copies = m.copies; results = m.results } in
+    let new : Machine = record { pc = m.pc + 1; base = m.base; cells = c.put.new.cells; calls = m.calls; fires = m.fires + 1; copies = m.copies; results = m.results } in
     let no = c.if-machine-limit.false in
     let small : Fits w64 m.copies = search rules in
     are-for-all a.code.now a.limit (step.Fire simple.RBuild a.written a.shape a.ins a.many a.out 1 a.kept a.counted) m turn.Goes new
-    (made-goes a.code.now a.limit m new a.written a.shape a.ins a.many a.out a.kept a.counted simple.RBuild (cell.UnionInt u.tag u.number) (val.Uni u.tag (val.Int u.number)) c.as_slice.result.now c.operands_from.result.now
-    c.as_slice.ensures.value c.operands_from.ensures refl c.in-Some.ensures.union c.in-Some.ensures.uncopied c.requires.counted
-    c.requires.out (sym c.put_union.ensures.cells) (omega (arith, no)) small.fits (omega arith) (omega arith) (record { base = refl; calls = refl }) refl)
+    (made-goes a.code.now a.limit m new a.written a.shape a.ins a.many a.out a.kept a.counted simple.RBuild c.numbered_cell-cell.result (val.Uni u.tag (val.Int u.number)) c.as_slice.result.now c.operands_from.result.now
+    c.as_slice.ensures.value c.operands_from.ensures c.numbered_cell-cell.ensures c.in-Some.ensures.union c.in-Some.ensures.uncopied c.requires.counted
+    c.requires.out (sym c.put.ensures.cells) (omega (arith, no)) small.fits (omega arith) (omega arith) (record { base = refl; calls = refl }) refl)
