@@ -16,4 +16,3 @@ pub mod RangeRows
 pub mod SparseSteps
 pub mod SumRows
 pub mod FieldSteps
-pub mod SameSteps
