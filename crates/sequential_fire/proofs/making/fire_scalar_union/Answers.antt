@@ -1,4 +1,4 @@
-use Rattle.std.proofs.Common.{◌≡◌, rules, Fits, w64, ◌+◌, [], ◌∷◌, subst, refl, sym, arith}
+use Rattle.std.proofs.Common.{rules, Fits, w64, ◌+◌, refl, sym, arith}
 use Rattle.flow_value.specs.declared.value.Val.TheVariants as val
 use Rattle.if1_graph.specs.declared.op.Simple.TheVariants as simple
 use Rattle.step_code.specs.declared.step.Step.TheVariants as step

@@ -67,7 +67,7 @@ returns-in-Some-clause-does c =
     let m = a.machine.now in
     let u = a.update in
     let mid = c.box_out-boxed.new.cells.items in
-    let new : Machine = record { pc = m.pc + 1; base = m.base; cells = c.put.new.cells; calls = m.calls; fires = m.fires + 1; copies = m.copies; results = m.results } in
+    let new : Machine = record { pc = m.pc + 1; base = m.base; cells = c.put_fresh.new.cells; calls = m.calls; fires = m.fires + 1; copies = m.copies; results = m.results } in
     let no = c.if-machine-limit.false in
     let small : Fits w64 m.copies = search rules in
     let out = c.requires.out in
@@ -78,4 +78,4 @@ returns-in-Some-clause-does c =
     (update-goes a.code.now a.limit m new a.written a.shape a.ins a.many a.out a.kept a.counted u.array u.place u.element c.box_out-boxed.result (val.Int c.in-Some.point.number) c.in-Some.point.at
     c.requires.operands c.requires.counted c.requires.uncopied.0 c.requires.uncopied.1 c.box_out-boxed.ensures.value
     (subst (λ xs. IsReady a.code.now m.base u.array u.place u.element xs c.in-Some.point.at (val.Int c.in-Some.point.number)) c.as_slice.ensures.value c.in-Some.ensures)
-    mid c.box_out-boxed.ensures.cells (ap (λ w. slice_set mid (m.base + a.out) (cell.Owned w)) (sym c.updated_at-changed.ensures) ∙ sym c.put.ensures.cells) (omega (arith, lt)) (omega (arith, out, size)) (omega (arith, no)) small.fits (omega arith) (omega arith) (record { base = refl; calls = refl }) refl)
+    mid c.box_out-boxed.ensures.cells (ap (λ w. slice_set mid (m.base + a.out) (cell.Owned w)) (sym c.updated_at-changed.ensures) ∙ sym c.put_fresh.ensures.cells) (omega (arith, lt)) (omega (arith, out, size)) (omega (arith, no)) small.fits (omega arith) (omega arith) (record { base = refl; calls = refl }) refl)
