@@ -1,6 +1,5 @@
 use Rattle.std.proofs.Common.{◌≡◌, ◌+◌, ◌-◌, ◌≤◌, ◌&&◌, nat_eq, List, drop, length, sym, ap, ◌∙◌, subst, arith}
 use Rattle.std.proofs.lemmas.Bool.{eq-eqb, ne_eqb}
-use Rattle.graph_meaning.specs.Forms.{items}
 use Rattle.run_cells.specs.Held.{heap_of}
 use Rattle.step_code.specs.declared.code.Operand.{Operand}
 use Rattle.sequential.specs.Loading.{AreInside, seen_of}
