@@ -1,11 +1,11 @@
 //! Cells that are laid and lifted.
-ghost use Rattle.std.specs.Prelude.{◌≡◌, ℕ, ◌+◌, ◌<◌, ◌≤◌, get_or, length};
+ghost use Rattle.std.specs.Prelude.{◌≡◌, ℕ, ◌+◌, ◌<◌, ◌≤◌, length, slice_set};
 ghost use Rattle.run_cells.specs.declared.cell.Cell.TheVariants as cell;
 ghost use Rattle.run_cells.specs.Held.{held, heap_of};
 ghost use Rattle.sequential_loops.specs.Laying.{IsLaid};
 
 use run_cells::Cell;
-use sequential::{give_up, put_number};
+use sequential::give_up;
 use std::mem;
 
 /// Puts what was brought into as many cells from one on.
@@ -37,17 +37,55 @@ pub fn lay(cells: &mut Vec<Cell>, place: usize, cell: Cell)
     }
 }
 
-/// Puts a cell, an integer as a rule, at a place.
+/// Puts two integers at a place and behind it.
 #[inline(always)]
-pub fn lay_scalar(cells: &mut Vec<Cell>, place: usize, cell: Cell)
-    requires { place < length cells.old.items }
-    ensures here { heap_of cells.new.items place ≡ held cell }
-    ensures others { (q : ℕ) → (q ≡ place → ⊥) → heap_of cells.new.items q ≡ heap_of cells.old.items q }
-    ensures size { length cells.new.items ≡ length cells.old.items }
+pub fn lay_numbers(cells: &mut Vec<Cell>, place: usize, first: i64, second: i64)
+    requires { place + 2 ≤ length cells.old.items }
+    ensures cells { cells.new.items ≡ slice_set (slice_set cells.old.items place (cell.Int first)) (place + 1) (cell.Int second) }
 {
+    let all = cells.as_mut_slice();
+    set_number(all, place, first);
+    set_number(all, place + 1, second);
+}
+
+/// The same of three.
+#[inline(always)]
+pub fn lay_three(cells: &mut Vec<Cell>, place: usize, first: i64, second: i64, third: i64)
+    requires { place + 3 ≤ length cells.old.items }
+    ensures cells { cells.new.items ≡ slice_set (slice_set (slice_set cells.old.items place (cell.Int first)) (place + 1) (cell.Int second)) (place + 2) (cell.Int third) }
+{
+    let all = cells.as_mut_slice();
+    set_number(all, place, first);
+    set_number(all, place + 1, second);
+    set_number(all, place + 2, third);
+}
+
+/// Puts an integer at a place. Where it has one, nothing but the number is written.
+#[inline(always)]
+fn set_number(cells: &mut [Cell], place: usize, number: i64)
+    requires { place < length cells.old }
+    ensures { cells.new ≡ slice_set cells.old place (cell.Int number) }
+{
+    match &mut cells[place] {
+        Cell::Int(was) => *was = number,
+        _ => set_any(cells, place, number),
+    }
+}
+
+#[inline(never)]
+fn set_any(cells: &mut [Cell], place: usize, number: i64)
+    requires { place < length cells.old }
+    ensures { cells.new ≡ slice_set cells.old place (cell.Int number) }
+{
+    give_up(mem::replace(&mut cells[place], Cell::Int(number)));
+}
+
+/// Whether there is nothing in a cell.
+#[inline(always)]
+pub fn is_empty(cell: &Cell) -> bool {
     match cell {
-        Cell::Int(number) => put_number(cells, place, number),
-        other => lay(cells, place, other),
+        Cell::Empty => true,
+        _ => false,
     }
 }
 

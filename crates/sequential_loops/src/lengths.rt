@@ -1,5 +1,5 @@
 //! How long multiples are.
-ghost use Rattle.std.specs.Prelude.{◌≡◌, ◌-◌, ◌<◌, ◌^◌, length};
+ghost use Rattle.std.specs.Prelude.{◌≡◌, ◌-◌, ◌<◌, ◌^◌, true, length, None};
 ghost use Rattle.flow_value.specs.declared.value.Val.TheViews.{out-Val};
 ghost use Rattle.node_ops.specs.Operands.{multiple_in};
 ghost use Rattle.graph_meaning.specs.Forms.{spoiled, first_spoiled, items, places_of, are_as_long};
@@ -90,12 +90,48 @@ pub fn first_cause(code: &Code, cells: &[Cell], base: usize, operands: &[Operand
 {
     for place in 0..operands.len() {
         let operand = operand_at(operands, place);
-        match cause_in(sight(code, cells, base, operand)) {
+        match cause_of(code, cells, base, operand) {
             Some(cause) => return Some(cause),
             None => {}
         }
     }
     None
+}
+
+/// The cause of a multiple, if it is an error.
+#[inline(always)]
+fn cause_of(code: &Code, cells: &[Cell], base: usize, from: Operand) -> Option<Cause>
+    requires { IsInside code.now (length cells.now - base) from }
+    ensures { result ≡ spoiled (stored.seen (heap_of cells.now) base (mode_in code.now from) (operand_in code.now from)) }
+{
+    if is_sound(code, cells, base, from) {
+        None
+    } else {
+        cause_in(sight(code, cells, base, from))
+    }
+}
+
+/// Whether it is seen at once that a multiple is no error.
+#[inline(always)]
+fn is_sound(code: &Code, cells: &[Cell], base: usize, from: Operand) -> bool
+    requires { IsInside code.now (length cells.now - base) from }
+    ensures { result ≡ true → spoiled (stored.seen (heap_of cells.now) base (mode_in code.now from) (operand_in code.now from)) ≡ None }
+{
+    match direct(code, cells, base, from) {
+        Some(Cell::Range(_, _)) => true,
+        Some(Cell::Many(v)) => is_stream(v.get()),
+        _ => false,
+    }
+}
+
+#[inline(always)]
+fn is_stream(v: &Val) -> bool
+    ensures { result ≡ true → spoiled (multiple_in v.now (out-Val v.now)) ≡ None }
+{
+    match v {
+        Val::Stream(_) => true,
+        _ => false,
+    }
 }
 
 fn cause_in(seen: Seen<'_>) -> Option<Cause>
@@ -122,7 +158,7 @@ fn all_of(code: &Code, cells: &[Cell], base: usize, operands: &[Operand], places
 {
     for place in 0..operands.len() {
         let operand = operand_at(operands, place);
-        let found = places_in(sight(code, cells, base, operand));
+        let found = long_of(code, cells, base, operand);
         if found != places {
             return false;
         }

@@ -33,13 +33,13 @@ fn is_behind(stream: &mut Boxed<Val>, n: i64) -> bool
     is_put(stream.get_mut(), n)
 }
 
-#[inline(always)]
+#[inline(never)]
 fn is_put(multiple: &mut Val, n: i64) -> bool
     ensures put { result ≡ true → (m : Carried) → held (cell.Many multiple.old) ≡ stored.Owns m → held (cell.Many multiple.new) ≡ stored.Owns (behind m (Value (val.Int n))) }
     ensures none { result ≡ false → multiple.new ≡ multiple.old }
 {
     match multiple {
-        Val::Stream(items) => match items.add(Val::Int(n)) {
+        Val::Stream(items) => match items.push_in_room(Val::Int(n)) {
             Ok(_) => true,
             Err(_) => false,
         },

@@ -10,22 +10,19 @@ use Rattle.sequential_loops.specs.Keeping.{ArePartlyOver}
 use Rattle.sequential_loops.proofs.OverSteps.{over-begins, over-goes, over-ends}
 use Rattle.sequential_loops.proofs.keeping.bring_over.Goals as goal
 
-pub brought-requires : goal.brought-requires
-brought-requires c =
+pub bring_to-requires : goal.bring_to-requires
+bring_to-requires c =
     let l = c.loop-place in
     let split = drop-at c.args.operands.now l.place c.operand_at-operand.result c.operand_at-operand.ensures in
     let inside = subst (AreInside c.args.code.now (length c.args.cells.now.items - c.args.base)) split l.invariant.inside in
-    subst (λ n. IsInside c.args.code.now (n - c.args.base) c.operand_at-operand.result) (sym l.invariant.size) inside.0
-
-pub lay_scalar-requires : goal.lay_scalar-requires
-lay_scalar-requires c =
-    let l = c.loop-place in
     let room = c.requires.room in
     let test = c.loop-place-test.true in
     let end = l.invariant.end in
     let size = l.invariant.size in
-    let more = c.in_ok-cell.ensures.size in
-    omega (arith, room, test, end, size, more)
+    record {
+      inside = subst (λ n. IsInside c.args.code.now (n - c.args.base) c.operand_at-operand.result) (sym l.invariant.size) inside.0;
+      room = omega (arith, room, test, end, size);
+    }
 
 pub loop-place-init : goal.loop-place-init
 loop-place-init c =
@@ -57,15 +54,15 @@ loop-place-preserved c =
     let few : l.place < length os = omega (arith, test, end) in
     record {
       end = l.invariant.end;
-      size = c.lay_scalar.ensures.size ∙ (c.in_ok-cell.ensures.size ∙ l.invariant.size);
-      small = subst (λ n. n ≤ 18446744073709551615) (sym c.in_ok-cell.ensures.copies) (capped-most (l.copies + stored.copied_as (mode_in code a) (stored.seen (heap_of l.cells.items) c.args.base (mode_in code a) (operand_in code a))));
+      size = c.in_ok-bring_to.ensures.size ∙ l.invariant.size;
+      small = subst (λ n. n ≤ 18446744073709551615) (sym c.in_ok-bring_to.ensures.copies) (capped-most (l.copies + stored.copied_as (mode_in code a) (stored.seen (heap_of l.cells.items) c.args.base (mode_in code a) (operand_in code a))));
       inside = inside.1;
       apart = apart.1;
       clear = clear.1;
       over = λ h w low r.
-          over-goes code c.args.base c.args.from (length os) os rest a l.place h l.cells.items c.brought.new.cells.items c.lay_scalar.new.cells.items c.in_ok-cell.cell c.args.copies.now l.copies c.brought.new.copies
+          over-goes code c.args.base c.args.from (length os) os rest a l.place h l.cells.items c.bring_to.new.cells.items c.args.copies.now l.copies c.bring_to.new.copies
           (subst (λ xs. ArePartlyOver code c.args.base c.args.from (length os) os xs l.place h l.cells.items c.args.copies.now l.copies) split (l.invariant.over h w low r))
-          clear.0 few c.in_ok-cell.ensures.value c.in_ok-cell.ensures.left c.in_ok-cell.ensures.copies apart.0 c.lay_scalar.ensures.here c.lay_scalar.ensures.others;
+          clear.0 few c.in_ok-bring_to.ensures.brings c.in_ok-bring_to.ensures.copies apart.0;
     }
 
 pub returns-clause-over : goal.returns-clause-over

@@ -1,6 +1,5 @@
 use Rattle.std.proofs.Common.{◌≡◌, ◌+◌, ◌-◌, ◌≤◌, ◌&&◌, nat_eq, List, drop, length, sym, ap, ◌∙◌, subst, arith}
 use Rattle.std.proofs.lemmas.Bool.{eq-eqb, ne_eqb}
-use Rattle.graph_meaning.specs.Forms.{items}
 use Rattle.run_cells.specs.Held.{heap_of}
 use Rattle.step_code.specs.declared.code.Operand.{Operand}
 use Rattle.sequential.specs.Loading.{AreInside, seen_of}
@@ -8,8 +7,8 @@ use Rattle.sequential_loops.specs.Spreading.{all_long}
 use Rattle.sequential_loops.proofs.Lists.{drop-next, drop-all}
 use Rattle.sequential_loops.proofs.lengths.all_of.Goals as goal
 
-pub sight-requires : goal.sight-requires
-sight-requires c =
+pub long_of-found-requires : goal.long_of-found-requires
+long_of-found-requires c =
     let l = c.loop-place in
     (subst (AreInside c.args.code.now (length c.args.cells.now - c.args.base)) (drop-next c.args.operands.now l.place c.operand_at-operand.result c.operand_at-operand.ensures) l.invariant.inside).0
 
@@ -23,8 +22,8 @@ returns-then-found-places c =
     let n = c.args.places in
     let rest = all_long n (seen_of code c.args.base h (drop (l.place + 1) os)) in
     let same = subst (λ (zs : List Operand). all_long n (seen_of code c.args.base h zs) ≡ all_long n (seen_of code c.args.base h os)) (drop-next os l.place a c.operand_at-operand.ensures) l.invariant.same in
-    let is = c.places_in-found.ensures.places ∙ ap (λ k. length (items k)) c.sight.ensures in
-    ap (λ b. b && rest) (sym (ne_eqb c.places_in-found.result n c.if-found-places.true)) ∙ (ap (λ k. nat_eq k n && rest) is ∙ same)
+    let is = c.long_of-found.ensures.places in
+    ap (λ b. b && rest) (sym (ne_eqb c.long_of-found.result n c.if-found-places.true)) ∙ (ap (λ k. nat_eq k n && rest) is ∙ same)
 
 pub loop-place-preserved : goal.loop-place-preserved
 loop-place-preserved c =
@@ -37,11 +36,11 @@ loop-place-preserved c =
     let split = drop-next os l.place a c.operand_at-operand.ensures in
     let rest = all_long n (seen_of code c.args.base h (drop (l.place + 1) os)) in
     let same = subst (λ (zs : List Operand). all_long n (seen_of code c.args.base h zs) ≡ all_long n (seen_of code c.args.base h os)) split l.invariant.same in
-    let is = c.places_in-found.ensures.places ∙ ap (λ k. length (items k)) c.sight.ensures in
+    let is = c.long_of-found.ensures.places in
     record {
       end = l.invariant.end;
       inside = (subst (AreInside code (length c.args.cells.now - c.args.base)) split l.invariant.inside).1;
-      same = ap (λ b. b && rest) (sym (eq-eqb c.places_in-found.result n c.if-found-places.false)) ∙ (ap (λ k. nat_eq k n && rest) is ∙ same);
+      same = ap (λ b. b && rest) (sym (eq-eqb c.long_of-found.result n c.if-found-places.false)) ∙ (ap (λ k. nat_eq k n && rest) is ∙ same);
     }
 
 pub returns : goal.returns

@@ -1,14 +1,14 @@
 use Rattle.std.proofs.Common.{◌≡◌, ◌+◌, ◌-◌, ◌≤◌, List, drop, length, ap, ◌∙◌, subst, arith}
 use Rattle.flow_reduce.specs.Elements.{or_else}
-use Rattle.graph_meaning.specs.Forms.{spoiled, first_spoiled}
+use Rattle.graph_meaning.specs.Forms.{first_spoiled}
 use Rattle.run_cells.specs.Held.{heap_of}
 use Rattle.step_code.specs.declared.code.Operand.{Operand}
 use Rattle.sequential.specs.Loading.{AreInside, seen_of}
 use Rattle.sequential_loops.proofs.Lists.{drop-next, drop-all}
 use Rattle.sequential_loops.proofs.lengths.first_cause.Goals as goal
 
-pub sight-requires : goal.sight-requires
-sight-requires c =
+pub cause_of-requires : goal.cause_of-requires
+cause_of-requires c =
     let l = c.loop-place in
     (subst (AreInside c.args.code.now (length c.args.cells.now - c.args.base)) (drop-next c.args.operands.now l.place c.operand_at-operand.result c.operand_at-operand.ensures) l.invariant.inside).0
 
@@ -21,7 +21,7 @@ returns-in-Some c =
     let a = c.operand_at-operand.result in
     let rest = seen_of code c.args.base h (drop (l.place + 1) os) in
     let same = subst (λ (zs : List Operand). first_spoiled (seen_of code c.args.base h zs) ≡ first_spoiled (seen_of code c.args.base h os)) (drop-next os l.place a c.operand_at-operand.ensures) l.invariant.same in
-    ap (λ z. or_else z (first_spoiled rest)) (c.in-Some.ensures ∙ ap spoiled c.sight.ensures) ∙ same
+    ap (λ z. or_else z (first_spoiled rest)) c.in-Some.ensures ∙ same
 
 pub loop-place-preserved : goal.loop-place-preserved
 loop-place-preserved c =
@@ -36,7 +36,7 @@ loop-place-preserved c =
     record {
       end = l.invariant.end;
       inside = (subst (AreInside code (length c.args.cells.now - c.args.base)) split l.invariant.inside).1;
-      same = ap (λ z. or_else z (first_spoiled rest)) (c.in-None.ensures ∙ ap spoiled c.sight.ensures) ∙ same;
+      same = ap (λ z. or_else z (first_spoiled rest)) c.in-None.ensures ∙ same;
     }
 
 pub returns : goal.returns
