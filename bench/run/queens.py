@@ -5,10 +5,14 @@ import sys
 def is_free(taken, c):
     k = len(taken)
     for i in range(k):
-        d = taken[i] - c
-        if d == 0 or d == k - i or d == i - k:
+        d = abs(taken[i] - c)
+        if d == 0 or d == k - i:
             return False
     return True
+
+
+def behind(n, taken, c):
+    return ways(n, taken + [c])
 
 
 def ways(n, taken):
@@ -17,7 +21,7 @@ def ways(n, taken):
     total = 0
     for c in range(1, n + 1):
         if is_free(taken, c):
-            total += ways(n, taken + [c])
+            total += behind(n, taken, c)
     return total
 
 
