@@ -11,7 +11,7 @@ def is_free(taken, c):
     return True
 
 
-def behind(n, taken, c):
+def with_one(n, taken, c):
     return ways(n, taken + [c])
 
 
@@ -21,7 +21,7 @@ def ways(n, taken):
     total = 0
     for c in range(1, n + 1):
         if is_free(taken, c):
-            total += behind(n, taken, c)
+            total += with_one(n, taken, c)
     return total
 
 
