@@ -3,6 +3,7 @@ pub mod Putting
 pub mod Scalars
 pub mod Doing
 pub mod PutSteps
+pub mod JoinSteps
 pub mod Stepping
 pub mod Deciding
 pub mod LoadSteps

@@ -8,3 +8,4 @@ pub mod Choices
 pub mod Valued
 pub mod Agrees
 pub mod Through
+pub mod Joining

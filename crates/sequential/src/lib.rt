@@ -11,6 +11,7 @@ mod entering;
 mod firing;
 mod giving;
 mod handing;
+mod joining;
 mod laws;
 mod leaving;
 mod lending;

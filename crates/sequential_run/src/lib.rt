@@ -12,7 +12,7 @@ mod totals;
 mod went;
 mod writing;
 
-pub use fusing::{Choice, Fork, Fusion, fusions_of};
+pub use fusing::{Choice, Fork, Fusion, Join, fusions_of};
 pub use laws::runs_of_stored_code_begin;
 pub use running::{RunFault, run};
 pub use stepping::step;
