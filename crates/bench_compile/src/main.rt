@@ -1,6 +1,7 @@
 //! Translates the program that a SISAL text on standard input is and prints its graphs, for a script to
 //! time. It prints how many bytes their IF1 text has, and then, to standard error, the nanoseconds that
-//! it took to lex, parse and check the text, to translate it, to make the marks, and to print.
+//! it took to lex, parse and check the text, to translate it, to make the marks, to print, and to make
+//! the code.
 #![tactic(auto)]
 
 mod texts;

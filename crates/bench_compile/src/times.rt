@@ -12,8 +12,31 @@ use std::io;
 use std::time::Instant;
 use translate::translate;
 use typed_tree::Program;
+use unit_code::unit_code;
 
-/// Times the printing, behind the times that the rest took.
+/// Times the making of the code, behind the times that the rest took.
+fn coded(
+    rt: HostRuntime,
+    unit: &Sound,
+    checked: u128,
+    translated: u128,
+    marked: u128,
+    printed: u128,
+) -> io::Result<()> {
+    let begin = Instant::now(&rt)?;
+    match unit_code(rt.alloc(), unit) {
+        Ok(_) => {
+            let coded = begin.elapsed(&rt)?.as_nanos();
+            eprintln!(rt;
+                "{} {} {} {} {}",
+                checked, translated, marked, printed, coded
+            )
+        }
+        Err(_) => println!(rt; "no memory"),
+    }
+}
+
+/// Times the printing.
 fn printed(
     rt: HostRuntime,
     unit: &Sound,
@@ -26,7 +49,7 @@ fn printed(
         Ok(text) => {
             let printed = begin.elapsed(&rt)?.as_nanos();
             println!(rt; "{} bytes", text.len())?;
-            eprintln!(rt; "{} {} {} {}", checked, translated, marked, printed)
+            coded(rt, unit, checked, translated, marked, printed)
         }
         Err(_) => println!(rt; "no memory"),
     }

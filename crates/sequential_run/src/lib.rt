@@ -13,8 +13,9 @@ mod went;
 mod writing;
 
 pub use fusing::{Choice, Fork, Fusion, Join, fusions_of};
+pub use items::Open;
 pub use laws::runs_of_stored_code_begin;
-pub use running::{RunFault, run};
-pub use stepping::step;
+pub use running::{RunFault, advance, run};
+pub use stepping::{step, step_here};
 pub use totals::{Totalled, run_function};
 pub use went::Went;

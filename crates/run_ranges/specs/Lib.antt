@@ -1,0 +1,12 @@
+pub mod Ranges
+pub mod Apart
+pub mod Owned
+pub mod Eaches
+pub mod Runs
+pub mod Alone
+pub mod Taken
+pub mod Joined
+pub mod Agreeing
+pub mod Units
+pub mod Quick
+pub mod Stopping

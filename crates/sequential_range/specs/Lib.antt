@@ -1,0 +1,3 @@
+pub use Rattle.sequential_run.specs.Whole
+pub use Rattle.sequential_run.specs.Runs
+pub mod Ranges
