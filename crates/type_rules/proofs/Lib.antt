@@ -11,5 +11,6 @@ pub mod Fielded
 pub mod Forming
 pub mod Clauses
 pub mod Deep
+pub mod Filled
 pub mod Chosen
 pub mod Nameless

@@ -1,7 +1,7 @@
 //! What a form makes of its operands.
 ghost use Rattle.std.specs.Prelude.{◌≡◌, ◌↔◌, ◌<◌, IfOk, IfErr, OnOk, OnErr, IsTrue, length, All, map};
 ghost use Rattle.type_table.specs.Tables.{HasMember, IsOver};
-ghost use Rattle.type_rules.specs.Applies.{applies, rule_of, Grows, Adds, IsSorted, IsTooDeep, IsApplied, IsRefused};
+ghost use Rattle.type_rules.specs.Applies.{applies, rule_of, HasField, IsFilled, Grows, Adds, IsSorted, IsTooDeep, IsApplied, IsRefused};
 
 use crate::calls::called;
 use crate::fault::Refused;
@@ -80,28 +80,16 @@ fn is_over(types: &Types, form: &Form) -> bool
     }
 }
 
-/// Whether a record has a field, a union a tag.
-fn has_member(form: &Form) -> bool
-    ensures { IsTrue result → HasMember form.now }
-{
-    match form {
-        Form::Record(members) | Form::Union(members) => !members.is_empty(),
-        _ => true,
-    }
-}
-
 /// The number of the type of a form: rule 4 where it is deeper than 64, or made of types that are
-/// not in the table. A record without a field, which no text makes, is refused by want of memory.
+/// not in the table.
 fn number_made(types: &mut Types, form: Form) -> Result<u32, Refused>
+    requires { HasMember form }
     ensures typed { IfOk result (λ k. IsSorted types.new (Sort.Made form) k) }
     ensures refused { IfErr result (λ e. IsTooDeep types.old (Sort.Made form) e) }
     ensures table { Grows types.old types.new }
     ensures adds { OnOk result (Adds types.old (Sort.Made form) types.new) }
     ensures err { OnErr result (types.new ≡ types.old) }
 {
-    if !has_member(&form) {
-        return Err(Refused::NoMemory);
-    }
     if !is_over(types, &form) {
         return Err(Refused::Rule(TOO_DEEP));
     }
@@ -113,6 +101,7 @@ fn number_made(types: &mut Types, form: Form) -> Result<u32, Refused>
 
 /// The number of a type.
 pub fn number_of(types: &mut Types, sort: Sort) -> Result<u32, Refused>
+    requires { IsFilled sort }
     ensures typed { IfOk result (λ k. IsSorted types.new sort k) }
     ensures refused { IfErr result (λ e. IsTooDeep types.old sort e) }
     ensures table { Grows types.old types.new }
@@ -135,6 +124,7 @@ pub fn apply(
     head: Head,
     operands: &[u32],
 ) -> Result<Applied, Refused>
+    requires { HasField head }
     ensures applied { IfOk result (λ a. IsApplied types.old head operands.now a types.new) }
     ensures refused { IfErr result (λ e. IsRefused types.old head operands.now e) }
     ensures table { Grows types.old types.new }

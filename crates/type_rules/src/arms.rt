@@ -1,5 +1,5 @@
 //! Which arm each tag of a union has in a `tagcase`.
-ghost use Rattle.std.specs.Prelude.{◌≡◌, ◌++◌, ◌∷◌, [], ℕ, Bool, true, false, List, IfOk, IfErr, IfSome, Some, None, Ok, Err, if◌then◌else◌};
+ghost use Rattle.std.specs.Prelude.{◌≡◌, ◌≤◌, ◌++◌, ◌∷◌, [], ℕ, Bool, true, false, List, length, IfOk, IfErr, IfSome, Some, None, Ok, Err, if◌then◌else◌};
 ghost use Rattle.std.specs.Option.{option_map};
 ghost use Rattle.type_rules.specs.Parts.{tag_at, tags_at};
 ghost use Rattle.type_rules.specs.Arms.{is_free, has_arm, have_arms, are_all_named, choices_of, chosen, agrees, gives_arm, IsArm, IsNoArm, IsFaultOf};
@@ -42,8 +42,7 @@ impl Choices {
 
     /// The type of the content of an arm of these tags, which has this place among the arms. It
     /// breaks rule 18 at a tag that the union has not or that an arm has before, on the tag's line,
-    /// and at contents of two types, on the arm's line; the first of these is told. An arm without
-    /// tags, which no text has, is refused by want of memory.
+    /// and at contents of two types, on the arm's line; the first of these is told.
     pub fn arm(
         &mut self,
         types: &Types,
@@ -51,6 +50,7 @@ impl Choices {
         arm: u32,
         line: u32,
     ) -> Result<u32, TypeFault>
+        requires { 1 ≤ length tags.now }
         ensures content { IfOk result (λ ty. IsArm types.now self.old arm line tags.now ty self.new.arms.entries) }
         ensures refused { IfErr result (λ e. IsNoArm types.now self.old arm line tags.now e) }
         ensures union { self.new.union ≡ self.old.union }
@@ -163,6 +163,7 @@ fn content_of(
     arm: u32,
     line: u32,
 ) -> Result<u32, TypeFault>
+    requires { 1 ≤ length tags.now }
     ensures content { IfOk result (λ ty. gives_arm types.now union arm line None arms.old.entries tags.now ≡ Ok (Some ty, arms.new.entries)) }
     ensures refused { IfErr result (λ e. IsFaultOf e (gives_arm types.now union arm line None arms.old.entries tags.now)) }
 {
@@ -184,6 +185,6 @@ fn content_of(
     }
     match content {
         Some(ty) => Ok(ty),
-        None => Err(TypeFault::NoMemory),
+        None => unreachable!(),
     }
 }

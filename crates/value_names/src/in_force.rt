@@ -1,5 +1,5 @@
 //! The names that are in force.
-ghost use Rattle.std.specs.Prelude.{◌≡◌, ◌+◌, map, OnOk, OnErr, IfOk};
+ghost use Rattle.std.specs.Prelude.{◌≡◌, ◌≤◌, ◌+◌, length, map, min, OnOk, OnErr, IfOk};
 ghost use Rattle.name_scope.specs.Newest.{newest};
 ghost use Rattle.value_names.specs.Scopes.{define, define_all, hidden, left, loop_value, mark_of, no_names, not_yet, old_name, place_in_loop, seen, twice_in, under_old};
 
@@ -73,8 +73,9 @@ impl InForce {
         self.olds.find(name)
     }
 
-    /// A name comes into force at the next level. On want of memory, and where there are no more
-    /// levels, all is as it was.
+    /// A name comes into force at the next level. The names in force are a list whose places are
+    /// numbers of 32 bits: to ask for one more place than these is a request for memory that is
+    /// refused. On want of memory all is as it was.
     pub fn define(&mut self, name: u32, ty: u32) -> Result<(), NoMemory>
         ensures ok { OnOk result (self.new ≡ define name ty self.old) }
         ensures err { OnErr result (self.new ≡ self.old) }
@@ -129,6 +130,7 @@ impl InForce {
         first: u32,
         targets: &[Named],
     ) -> Result<(), NoMemory>
+        requires { first + min (length loop_names.now) (length types.now) ≤ self.old.height }
         ensures { OnOk result (self.new ≡ not_yet first targets.now (under_old first loop_names.now types.now self.old)) }
     {
         self.bring_under_old(loop_names, types, first)?;
@@ -142,13 +144,16 @@ impl InForce {
         types: &[u32],
         first: u32,
     ) -> Result<(), NoMemory>
+        requires { first + min (length names.now) (length types.now) ≤ self.old.height }
         ensures { OnOk result (self.new ≡ under_old first names.now types.now self.old) }
     {
+        // All levels are below the height, a number of 32 bits.
+        let _height = self.height;
         let mut level = first;
         let mut place = 0;
         while place < names.len() && place < types.len() {
             self.define_old(names[place].name, level, types[place])?;
-            level = next_level(level)?;
+            level += 1;
             place += 1;
         }
         Ok(())
@@ -228,16 +233,6 @@ impl InForce {
         ensures line { IfOk result (λ o. o ≡ twice_in names.now) }
     {
         first_twice(names, &mut self.listed)
-    }
-}
-
-/// The level after this one.
-fn next_level(level: u32) -> Result<u32, NoMemory>
-    ensures { IfOk result (λ next. next ≡ level + 1) }
-{
-    match level.checked_add(1) {
-        Some(next) => Ok(next),
-        None => Err(NoMemory),
     }
 }
 

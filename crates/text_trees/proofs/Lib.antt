@@ -1,0 +1,6 @@
+pub mod Every
+pub mod Pieces
+pub mod Forms
+pub mod Spelled
+pub mod Views
+pub mod Parts
