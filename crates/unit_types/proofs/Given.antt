@@ -1,6 +1,7 @@
 -- The functions that are given by the first items and those of the others.
-use Rattle.std.proofs.Common.{◌≡◌, ℕ, ◌+◌, Bool, true, false, not, List, [], ◌∷◌, ◌++◌, drop, map, cond, refl, sym, ap, ◌∙◌, append_assoc}
-use Rattle.std.proofs.lemmas.List.{map-append}
+use Rattle.std.proofs.Common.{◌≡◌, ℕ, ◌+◌, Bool, true, false, not, List, [], ◌∷◌, ◌++◌, drop, length, ◌≤◌, map, cond, refl, sym, ap, subst, ◌∙◌, append_assoc}
+use Rattle.std.proofs.lemmas.List.{map-append, append-nil}
+use Rattle.std.proofs.lemmas.List.Elements.{All-push}
 use Rattle.std.specs.List.{filter}
 use Rattle.sisal_tree.specs.declared.expr.Expr.{Expr}
 use Rattle.sisal_tree.specs.declared.unit.Header.{Header}
@@ -13,7 +14,7 @@ use Rattle.typed_tree.specs.Typing.{names_of}
 use Rattle.typed_tree.specs.Units.{is_given}
 use Rattle.typed_tree.specs.Faults.{functions, given_names}
 use Rattle.unit_types.specs.declared.header.Signature.{Signature}
-use Rattle.unit_types.specs.Headings.{heading_of, heading_in, has_body, given_as, given_functions, given_by}
+use Rattle.unit_types.specs.Headings.{heading_of, heading_in, has_body, given_as, given_functions, given_by, HaveResults}
 use Rattle.unit_types.specs.Headers.{AreGiven}
 use Rattle.unit_types.proofs.Places.{map_twice}
 
@@ -35,6 +36,12 @@ more_given f old new whole x here rest e n w =
     ∙ w
 
 -- ---- kinds of functions
+
+-- one function more that has a result
+pub results_more : (k : FunKind) (s : Signature) (functions : List Signature) → 1 ≤ length s.results → HaveResults functions → HaveResults (functions ++ given_as k s)
+results_more fun.Forward s functions h all = subst HaveResults (sym (append-nil functions)) all
+results_more fun.Global s functions h all = All-push (λ s. 1 ≤ length s.results) functions s all h
+results_more (fun.Defined es) s functions h all = All-push (λ s. 1 ≤ length s.results) functions s all h
 
 pub given_kind : {A : Type 0} (f : FunDef) (a : A) → given_as f.kind a ≡ a ∷ [] → is_given f ≡ true
 given_kind {A} f a e = by f.line f.header f.kind e

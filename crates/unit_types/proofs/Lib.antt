@@ -11,6 +11,7 @@ pub mod Known
 pub mod Tables
 pub mod Over
 pub mod Reached
+pub mod Accepting
 pub mod Steps
 pub mod Refusals
 pub mod Reading

@@ -1,5 +1,5 @@
 -- What stands for a type is made of types of the table, and what has members has one.
-use Rattle.std.proofs.Common.{◌≡◌, ◌≤◌, ◌<◌, ℕ, Bool, true, false, List, [], ◌∷◌, ◌++◌, All, map, length, Some, slice_get, get_or, refl, sym, subst, arith}
+use Rattle.std.proofs.Common.{◌≡◌, ◌≤◌, ◌<◌, ℕ, Bool, true, false, List, [], ◌∷◌, All, map, length, get_or, refl, sym, subst, arith}
 use Rattle.std.proofs.lemmas.List.{length-append, length-map, get_or-map}
 use Rattle.std.proofs.lemmas.Option.{slice_get_within}
 use Rattle.flow_value.specs.declared.ty.Ty.{Ty}
@@ -16,7 +16,7 @@ use Rattle.unit_types.specs.Rests.{sequence_form, members_form}
 use Rattle.unit_types.proofs.Lists.{all_first}
 
 module _ (forms : List Form) (names : List (List ℕ)) where
-  number_there : (n : ℕ) (t : Ty) → IsNumber forms names n t → n < length forms
+  pub number_there : (n : ℕ) (t : Ty) → IsNumber forms names n t → n < length forms
   number_there n _ (boolean e) = slice_get_within forms n form.Boolean e
   number_there n _ (character e) = slice_get_within forms n form.Character e
   number_there n _ (integer e) = slice_get_within forms n form.Integer e

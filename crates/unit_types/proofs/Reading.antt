@@ -1,5 +1,5 @@
 -- All tokens of a written type.
-use Rattle.std.proofs.Common.{◌≡◌, ◌<◌, ℕ, zero, suc, ◌+◌, ◌-◌, List, [], ◌∷◌, ◌++◌, length, drop, take, refl, sym, ap, subst, ◌∙◌, arith, append_assoc}
+use Rattle.std.proofs.Common.{◌≡◌, ◌<◌, ℕ, zero, suc, ◌+◌, ◌-◌, List, [], ◌∷◌, ◌++◌, length, drop, take, Some, IsSome, refl, sym, ap, subst, ◌∙◌, arith, append_assoc}
 use Rattle.std.specs.Prelude.{slice_range}
 use Rattle.std.proofs.lemmas.List.{append-nil}
 use Rattle.std.proofs.Math.Seq.{drop-nil}
@@ -7,6 +7,7 @@ use Rattle.flow_value.specs.declared.ty.Ty.{Ty}
 use Rattle.type_table.specs.declared.form.Form.{Form}
 use Rattle.type_table.specs.Tables.{IsTable}
 use Rattle.sisal_lex.specs.declared.token.Token.{Token}
+use Rattle.sisal_tree.specs.declared.unit.Written.{Written}
 use Rattle.sisal_grammar.specs.declared.value.Placed.{Placed}
 use Rattle.sisal_grammar.specs.Placed.{placed}
 use Rattle.typed_tree.specs.Types.{IsNumber}
@@ -15,11 +16,16 @@ use Rattle.unit_types.specs.declared.open.Open.{Open}
 use Rattle.unit_types.specs.declared.open.Next.{Next}
 use Rattle.unit_types.specs.declared.open.Next.TheVariants as next
 use Rattle.unit_types.specs.Rests.{at_place, IsLater, IsGrown, AreKnown, IsKindSpelled, AreTokensSpelled, AreStanding, IsUsed, HasNames}
+use Rattle.text_trees.specs.Spelled.{IsType}
+use Rattle.unit_types.specs.Accepting.{Accepts, IsThere, a_type, behind, class, goes, kinds_of, place_of, shapes_of}
 use Rattle.unit_types.specs.Reached.{BehindNumber, Stands, Leads, Refuses, Reads, ReadsFault, IsReading}
+use Rattle.unit_types.proofs.Accepting.{accepts_some, kinds, type_goes}
 use Rattle.unit_types.proofs.Standing.{one_type, number_later}
 
 pub begin_reading : (known : List (ℕ × ℕ)) (old : List Form) (tokens : List Token) → IsReading known old old tokens 0 next.Type []
 begin_reading known old tokens = record {
+  accepted = λ h. h;
+  there = λ table. tt;
   grown = record { more = []; is = sym (append-nil old) };
   spelled = λ sp h. tt;
   standing = λ sp h s. s;
@@ -50,6 +56,10 @@ known_grown old new sp ns ts g h = subst (λ f. AreKnown f sp ns ts) (sym g.is) 
 pub go_on_reading : (known : List (ℕ × ℕ)) (old now new : List Form) (tokens : List Token) (i : ℕ) (here later : Next) (os rest : List Open) (t : Token) → drop i tokens ≡ t ∷ drop (i + 1) tokens
     → IsReading known old now tokens i here os → Leads known now new here os t later rest → IsReading known old new tokens (i + 1) later rest
 go_on_reading known old now new tokens i here later os rest t e r l = record {
+  accepted = λ h.
+      subst (λ o. Accepts o (kinds_of (drop (i + 1) tokens))) l.goes_on
+      (subst (λ ts. Accepts (Some (place_of here, shapes_of os)) (kinds_of ts)) e (r.accepted h));
+  there = l.there;
   grown = record { more = r.grown.more ++ l.grown.more; is = l.grown.is ∙ ap (λ x. x ++ l.grown.more) r.grown.is ∙ append_assoc old r.grown.more l.grown.more };
   spelled = λ sp h. l.spelled sp (kind_at sp tokens i t (drop (i + 1) tokens) h e) (r.spelled sp h);
   standing = λ sp h s. l.standing sp (r.spelled sp h) (r.standing sp h s);
@@ -75,6 +85,21 @@ end_reading known old now tokens i k later os r e is none there = record {
       let f : BehindNumber sp tys forms [] k b.0 = subst (λ o. Stands sp tys forms (next.After k) o b.0) none (subst (λ x. Stands sp tys forms x os b.0) is b.2) in
       subst (λ l. Denotes sp tys l a) (sym whole) (subst (Denotes sp tys b.0) (one_type forms sp stands f.type f.stands) f.is);
 }
+
+-- the next token may stand here
+pub next_accepted : (known : List (ℕ × ℕ)) (old now : List Form) (tokens : List Token) (i : ℕ) (here : Next) (os : List Open) (t : Token) → drop i tokens ≡ t ∷ drop (i + 1) tokens
+    → IsReading known old now tokens i here os → Accepts (Some (a_type, [])) (kinds_of tokens) → IsSome (goes (place_of here) (shapes_of os) (class t.kind))
+next_accepted known old now tokens i here os t e r h =
+    accepts_some (goes (place_of here) (shapes_of os) (class t.kind)) (kinds_of (drop (i + 1) tokens)) (subst (λ ts. Accepts (Some (place_of here, shapes_of os)) (kinds_of ts)) e (r.accepted h))
+
+-- behind the last one there is a type, and nothing is open
+pub end_accepted : (known : List (ℕ × ℕ)) (old now : List Form) (tokens : List Token) (i : ℕ) (here : Next) (os : List Open) → IsReading known old now tokens i here os → drop i tokens ≡ []
+    → Accepts (Some (a_type, [])) (kinds_of tokens) → (place_of here ≡ behind) × (shapes_of os ≡ [])
+end_accepted known old now tokens i here os r e h = subst (λ ts. Accepts (Some (place_of here, shapes_of os)) (kinds_of ts)) e (r.accepted h)
+
+-- its number is in the table
+pub end_there : (known : List (ℕ × ℕ)) (old now : List Form) (tokens : List Token) (i k : ℕ) (here : Next) (os : List Open) → IsReading known old now tokens i here os → IsTable now → here ≡ next.After k → k < length now
+end_there known old now tokens i k here os r table e = subst (IsThere now) e (r.there table)
 
 -- a token at which the reader stops
 pub stop_reading : (known : List (ℕ × ℕ)) (old now : List Form) (tokens : List Token) (i : ℕ) (here : Next) (os : List Open) (t : Token) (rule line : ℕ) → drop i tokens ≡ t ∷ drop (i + 1) tokens → IsTable now
@@ -161,3 +186,16 @@ denoted_here known old new tokens from to k used there table denotes sp tys h s 
     let t : (a : Ty) × IsNumber new sp k a = (used.standing sp h s).stands k there in
     let l : IsLater new new = record { more = []; grown = sym (append-nil new); table = table } in
     (t.0, denotes sp tys new l h (known_grown old new sp known tys used.grown kn) t.0 t.1, t.1)
+
+-- ---- the tokens of a type
+
+placed_kinds : (n : ℕ) (ts : List Token) → kinds (placed n ts) ≡ kinds_of ts
+placed_kinds n [] = refl
+placed_kinds n (t ∷ ts) = ap (λ ks. t.kind ∷ ks) (placed_kinds (n + 1) ts)
+
+pub type_accepted : (tokens : List Token) (w : Written) → IsType tokens w → Accepts (Some (a_type, [])) (kinds_of (slice_range tokens w.from w.to))
+type_accepted tokens w h =
+    subst (λ ks. Accepts (Some (a_type, [])) ks) (placed_kinds w.from (slice_range tokens w.from w.to))
+    (subst (λ ts. Accepts (Some (a_type, [])) (kinds ts)) (placed_range w.from w.to tokens)
+    (subst (λ ts. Accepts (Some (a_type, [])) (kinds ts)) (append-nil (slice_range (placed 0 tokens) w.from w.to))
+    (type_goes (slice_range (placed 0 tokens) w.from w.to) w h.spelled [] [] (refl, refl))))

@@ -1,5 +1,5 @@
 -- What the reader of written types refuses at a token breaks a rule, whatever comes behind.
-use Rattle.std.proofs.Common.{◌≡◌, ◌≤◌, ◌<◌, ℕ, Bool, true, false, List, ◌∷◌, ◌++◌, map, None, refl, sym, ap, subst, ◌∙◌, arith}
+use Rattle.std.proofs.Common.{◌≡◌, ◌≤◌, ◌<◌, ℕ, Bool, true, false, List, ◌∷◌, ◌++◌, map, length, Option, Some, None, refl, sym, ap, subst, ◌∙◌, arith}
 use Rattle.name_scope.specs.Newest.{newest}
 use Rattle.flow_value.specs.declared.ty.Ty.{Ty}
 use Rattle.type_table.specs.declared.form.Form.{Form}
@@ -27,12 +27,12 @@ use Rattle.unit_types.specs.declared.open.Open.TheVariants as entry
 use Rattle.unit_types.specs.declared.open.Next.{Next}
 use Rattle.unit_types.specs.declared.open.Next.TheVariants as next
 use Rattle.unit_types.specs.Faults.{IsReal, IsUnknown, IsDeep, IsTooDeep, IsMemberTwice}
-use Rattle.unit_types.specs.Rests.{at_place, sequence_of, members_of, word_of, begun, with_group, sequence_form, members_form}
+use Rattle.unit_types.specs.Rests.{at_place, sequence_of, members_of, word_of, begun, with_group, sequence_form, members_form, AreKnown}
 use Rattle.unit_types.specs.Reached.{AtType, Gathers, Refuses}
-use Rattle.unit_types.proofs.Known.{none_known}
+use Rattle.unit_types.proofs.Known.{known_newest, none_known}
 use Rattle.unit_types.proofs.Depth.{depth_number, depth_members}
 use Rattle.unit_types.proofs.Tables.{basic}
-use Rattle.unit_types.proofs.Over.{sequence_over, members_over, members_some}
+use Rattle.unit_types.proofs.Over.{number_there, sequence_over, members_over, members_some}
 use Rattle.unit_types.proofs.Reached.{breaks, sequence_deep, members_deep, members_twice, gathered, gathered_group}
 use Rattle.unit_types.proofs.Steps.{behind_tags}
 
@@ -60,11 +60,22 @@ module _ (known : List (ℕ × ℕ)) (forms : List Form) (os : List Open) (t : T
   pub refuses_real : (f : First) (line rule l : ℕ) → t.kind ≡ kind.Word (word_of f) → t.line ≡ line → IsReal f line rule l → Refuses known forms next.Type os t rule l
   refuses_real f line rule l w at h = refuses_as h.rule_is (h.line_is ∙ sym at) (real_word f w (ap (begun f) at ∙ h.no_type))
 
-  pub refuses_name : (x line rule l : ℕ) → t.kind ≡ kind.Id x → t.line ≡ line → IsUnknown known x line rule l → Refuses known forms next.Type os t rule l
+  -- a name that is known has a number in the table
+  unnamed : (sp : List (List ℕ)) (tys : List (ℕ × Ty)) (x : ℕ) → AreKnown forms sp known tys → ((n : ℕ) → newest x known ≡ Some n → length forms ≤ n) → newest x tys ≡ None
+  unnamed sp tys x k h = by (newest x known) refl
+    where
+      by : (o : Option ℕ) → newest x known ≡ o → newest x tys ≡ None
+      by None e = none_known forms sp x known tys k e
+      by (Some n) e =
+          let a : (a : Ty) × (newest x tys ≡ Some a) × IsNumber forms sp n a = known_newest forms sp x n known tys k e in
+          let out : length forms ≤ n = h n e in
+          absurd (omega (arith, out, number_there forms sp n a.0 a.2))
+
+  pub refuses_name : (x line rule l : ℕ) → t.kind ≡ kind.Id x → t.line ≡ line → IsUnknown forms known x line rule l → Refuses known forms next.Type os t rule l
   refuses_name x line rule l w at h = refuses_as h.rule_is (h.line_is ∙ sym at) (record {
     misnames = λ sp tys table o k n ts behind c.
         breaks sp tys forms os ts (at_place n t ∷ behind) 2 t.line c
-        (written.unknown {t = at_place n t} behind (record { number = x; is = w }) (ap (λ q. newest (name_of q) tys) w ∙ none_known forms sp x known tys k h.no_type));
+        (written.unknown {t = at_place n t} behind (record { number = x; is = w }) (ap (λ q. newest (name_of q) tys) w ∙ unnamed sp tys x k h.no_type));
   })
 
 -- ---- types that are too deep

@@ -1,13 +1,14 @@
 -- Each step of the reader of written types: where it stands behind its token.
-use Rattle.std.proofs.Common.{◌≡◌, ℕ, Bool, true, false, List, [], ◌∷◌, ◌++◌, map, length, Some, slice_get, refl, sym, ap, subst, ◌∙◌, append_assoc}
+use Rattle.std.proofs.Common.{◌≡◌, ◌<◌, ℕ, Bool, true, false, List, [], ◌∷◌, ◌++◌, map, length, Some, slice_get, refl, sym, ap, subst, ◌∙◌, append_assoc}
 use Rattle.std.proofs.lemmas.List.{map-append, append-nil}
+use Rattle.std.proofs.lemmas.Option.{slice_get_within}
 use Rattle.name_scope.specs.Newest.{newest}
 use Rattle.flow_value.specs.declared.ty.Ty.{Ty}
 use Rattle.flow_value.specs.declared.ty.Ty.TheVariants as ty
 use Rattle.type_table.specs.declared.form.Form.{Form}
 use Rattle.type_table.specs.declared.form.Form.TheVariants as form
 use Rattle.type_table.specs.declared.form.Member.{Member as NumberedMember}
-use Rattle.type_table.specs.Tables.{IsOver, AddsAtMost}
+use Rattle.type_table.specs.Tables.{IsTable, IsOver, AddsAtMost}
 use Rattle.sisal_lex.specs.declared.token.Kind.TheVariants as kind
 use Rattle.sisal_lex.specs.declared.token.Sign.TheVariants as sign
 use Rattle.sisal_lex.specs.declared.token.Token.{Token}
@@ -31,21 +32,24 @@ use Rattle.unit_types.specs.declared.open.Open.TheVariants as entry
 use Rattle.unit_types.specs.declared.open.Next.{Next}
 use Rattle.unit_types.specs.declared.open.Next.TheVariants as next
 use Rattle.unit_types.specs.Rests.{at_place, sequence_of, members_of, IsLater, AreKnown, IsSpelled, AreSpelled, IsKindSpelled, AreOpenSpelled, no_members, word_of, begun, opened_by, inside_of, with_name, members_with, with_group, sequence_form, members_form}
+use Rattle.unit_types.specs.Accepting.{Shape, sequence, members, Place, a_type, bracket, a_name, behind_name, behind, behind_semicolon, Class, begins as begins_at, called, comma as a_comma, semicolon, colon as a_colon, opens as opening, closes as closing, other, class, goes, opened_in, shapes_of, place_of, IsThere}
 use Rattle.unit_types.specs.Reached.{AreNames, MayGoOn, GoesOn, AreAnnounced, Opens, BehindWord, Gathers, AtType, HasGroup, AreSoFar, Stands, Leads}
 use Rattle.unit_types.proofs.Known.{known_newest}
 use Rattle.unit_types.proofs.Depth.{shallow_number}
-use Rattle.unit_types.proofs.Tables.{stays, grown_by, basic, later_there, sequence_number, members_number, sequence_stands, members_stand}
+use Rattle.unit_types.proofs.Tables.{stays, grown_by, basic, basic_there, later_there, sequence_number, members_number, sequence_stands, members_stand}
 use Rattle.unit_types.proofs.Reached.{members_on, typed, sequence_closed, members_closed, gathered, gathered_group, semicolon_behind}
 
 -- ---- the first token of a type
 
 module _ (known : List (ℕ × ℕ)) (forms : List Form) (os : List Open) (t : Token) where
   -- the table and what is open stay
-  first_leads : (later : Next)
+  first_leads : (later : Next) → goes a_type (shapes_of os) (class t.kind) ≡ Some (place_of later, shapes_of os) → (IsTable forms → IsThere forms later)
       → ((sp : List (List ℕ)) (tys : List (ℕ × Ty)) (table : List Form) → IsLater forms table → AreKnown table sp known tys → (n : ℕ) (ts : List Placed)
       → AtType sp tys table os ts → Stands sp tys table later os (ts ++ at_place n t ∷ []))
       → Leads known forms forms next.Type os t later os
-  first_leads later f = record {
+  first_leads later g there f = record {
+    goes_on = g;
+    there = there;
     grown = stays forms;
     spelled = λ sp s h. h;
     standing = λ sp s h. h;
@@ -53,32 +57,33 @@ module _ (known : List (ℕ × ℕ)) (forms : List Form) (os : List Open) (t : T
   }
 
   -- one token is a type
-  one_leads : (later : Next) (number : ℕ) (a : Ty) → next.After number ≡ later
+  one_leads : (later : Next) (number : ℕ) (a : Ty) → next.After number ≡ later → goes a_type (shapes_of os) (class t.kind) ≡ Some (behind, shapes_of os) → (IsTable forms → number < length forms)
       → ((sp : List (List ℕ)) (tys : List (ℕ × Ty)) (table : List Form) (n : ℕ) → Denotes sp tys (at_place n t ∷ []) a)
       → ((sp : List (List ℕ)) (table : List Form) → IsLater forms table → IsNumber table sp number a) → Leads known forms forms next.Type os t later os
-  one_leads later number a q d stands = first_leads later (λ sp tys table l k n ts c.
+  one_leads later number a q g there d stands = first_leads later (subst (λ x. goes a_type (shapes_of os) (class t.kind) ≡ Some (place_of x, shapes_of os)) q g) (λ table. subst (IsThere forms) q (there table)) (λ sp tys table l k n ts c.
       subst (λ x. Stands sp tys table x os (ts ++ at_place n t ∷ [])) q
       (record { type = a; stands = stands sp table l; is = typed sp tys table os ts (at_place n t ∷ []) a c (d sp tys table n) }))
 
-  word_leads : (later : Next) (o : Opener) → next.Bracket o t.line ≡ later → ((n : ℕ) → Opens o (at_place n t)) → Leads known forms forms next.Type os t later os
-  word_leads later o q opens = first_leads later (λ sp tys table l k n ts c.
+  word_leads : (later : Next) (o : Opener) → next.Bracket o t.line ≡ later → goes a_type (shapes_of os) (class t.kind) ≡ Some (bracket (opened_in o), shapes_of os) → ((n : ℕ) → Opens o (at_place n t))
+      → Leads known forms forms next.Type os t later os
+  word_leads later o q g opens = first_leads later (subst (λ x. goes a_type (shapes_of os) (class t.kind) ≡ Some (place_of x, shapes_of os)) q g) (λ table. subst (IsThere forms) q tt) (λ sp tys table l k n ts c.
       subst (λ x. Stands sp tys table x os (ts ++ at_place n t ∷ [])) q
       (record { outer = ts; word = at_place n t; whole = refl; leads = c; opens = opens n; on_line = refl }))
 
   pub begins : (f : First) (later : Next) → t.kind ≡ kind.Word (word_of f) → begun f t.line ≡ Some later → Leads known forms forms next.Type os t later os
-  begins first.Boolean later w e = one_leads later 0 ty.Bool (cc) (λ sp tys table n. written.boolean (record { is = w })) (λ sp table l. boolean (basic table 0 form.Boolean l.table (λ r. refl)))
-  begins first.Character later w e = one_leads later 1 ty.Char (cc) (λ sp tys table n. written.character (record { is = w })) (λ sp table l. character (basic table 1 form.Character l.table (λ r. refl)))
-  begins first.Integer later w e = one_leads later 2 ty.Int (cc) (λ sp tys table n. written.integer (record { is = w })) (λ sp table l. integer (basic table 2 form.Integer l.table (λ r. refl)))
-  begins first.Null later w e = one_leads later 3 ty.Null (cc) (λ sp tys table n. written.null (record { is = w })) (λ sp table l. null (basic table 3 form.Null l.table (λ r. refl)))
+  begins first.Boolean later w e = one_leads later 0 ty.Bool (cc) (ap (λ k. goes a_type (shapes_of os) (class k)) w) (λ table. basic_there forms 0 form.Boolean table (λ r. refl)) (λ sp tys table n. written.boolean (record { is = w })) (λ sp table l. boolean (basic table 0 form.Boolean l.table (λ r. refl)))
+  begins first.Character later w e = one_leads later 1 ty.Char (cc) (ap (λ k. goes a_type (shapes_of os) (class k)) w) (λ table. basic_there forms 1 form.Character table (λ r. refl)) (λ sp tys table n. written.character (record { is = w })) (λ sp table l. character (basic table 1 form.Character l.table (λ r. refl)))
+  begins first.Integer later w e = one_leads later 2 ty.Int (cc) (ap (λ k. goes a_type (shapes_of os) (class k)) w) (λ table. basic_there forms 2 form.Integer table (λ r. refl)) (λ sp tys table n. written.integer (record { is = w })) (λ sp table l. integer (basic table 2 form.Integer l.table (λ r. refl)))
+  begins first.Null later w e = one_leads later 3 ty.Null (cc) (ap (λ k. goes a_type (shapes_of os) (class k)) w) (λ table. basic_there forms 3 form.Null table (λ r. refl)) (λ sp tys table n. written.null (record { is = w })) (λ sp table l. null (basic table 3 form.Null l.table (λ r. refl)))
   begins first.Real later w e = cc
   begins first.DoubleReal later w e = cc
-  begins (first.Opens opener.Array) later w e = word_leads later opener.Array (cc) (λ n. written.array (record { is = w }))
-  begins (first.Opens opener.Stream) later w e = word_leads later opener.Stream (cc) (λ n. written.stream (record { is = w }))
-  begins (first.Opens opener.Record) later w e = word_leads later opener.Record (cc) (λ n. written.a_record (record { is = w }))
-  begins (first.Opens opener.Union) later w e = word_leads later opener.Union (cc) (λ n. written.a_union (record { is = w }))
+  begins (first.Opens opener.Array) later w e = word_leads later opener.Array (cc) (ap (λ k. goes a_type (shapes_of os) (class k)) w) (λ n. written.array (record { is = w }))
+  begins (first.Opens opener.Stream) later w e = word_leads later opener.Stream (cc) (ap (λ k. goes a_type (shapes_of os) (class k)) w) (λ n. written.stream (record { is = w }))
+  begins (first.Opens opener.Record) later w e = word_leads later opener.Record (cc) (ap (λ k. goes a_type (shapes_of os) (class k)) w) (λ n. written.a_record (record { is = w }))
+  begins (first.Opens opener.Union) later w e = word_leads later opener.Union (cc) (ap (λ k. goes a_type (shapes_of os) (class k)) w) (λ n. written.a_union (record { is = w }))
 
-  pub begins_name : (x m : ℕ) → t.kind ≡ kind.Id x → newest x known ≡ Some m → Leads known forms forms next.Type os t (next.After m) os
-  begins_name x m w e = first_leads (next.After m) (λ sp tys table l k n ts c.
+  pub begins_name : (x m : ℕ) → t.kind ≡ kind.Id x → newest x known ≡ Some m → m < length forms → Leads known forms forms next.Type os t (next.After m) os
+  begins_name x m w e there = first_leads (next.After m) (ap (λ k. goes a_type (shapes_of os) (class k)) w) (λ table. there) (λ sp tys table l k n ts c.
       let found : (b : Ty) × (newest x tys ≡ Some b) × IsNumber table sp m b = known_newest table sp x m known tys k e in
       record {
         type = found.0;
@@ -135,24 +140,32 @@ module _ (known : List (ℕ × ℕ)) (forms : List Form) (os : List Open) (t : T
 
   pub enters : (o : Opener) → Leads known forms forms (next.Bracket o line) os t (inside_of o) (opened_by o line ∷ os)
   enters opener.Array = record {
+    goes_on = ap (λ k. goes (bracket sequence) (shapes_of os) (class k)) is;
+    there = λ table. tt;
     grown = stays forms;
     spelled = λ sp s h. h;
     standing = λ sp s h. h;
     reaches = λ sp tys table l s k n ts c. enters_sequence sp tys table opener.Array false n ts c c.opens;
   }
   enters opener.Stream = record {
+    goes_on = ap (λ k. goes (bracket sequence) (shapes_of os) (class k)) is;
+    there = λ table. tt;
     grown = stays forms;
     spelled = λ sp s h. h;
     standing = λ sp s h. h;
     reaches = λ sp tys table l s k n ts c. enters_sequence sp tys table opener.Stream true n ts c c.opens;
   }
   enters opener.Record = record {
+    goes_on = ap (λ k. goes (bracket (members false)) (shapes_of os) (class k)) is;
+    there = λ table. tt;
     grown = stays forms;
     spelled = λ sp s h. (tt, tt, refl, h);
     standing = λ sp s h. h;
     reaches = λ sp tys table l s k n ts c. enters_members sp tys table opener.Record false n ts c c.opens;
   }
   enters opener.Union = record {
+    goes_on = ap (λ k. goes (bracket (members true)) (shapes_of os) (class k)) is;
+    there = λ table. tt;
     grown = stays forms;
     spelled = λ sp s h. (tt, tt, refl, h);
     standing = λ sp s h. h;
@@ -179,6 +192,8 @@ module _ (known : List (ℕ × ℕ)) (forms : List Form) (os : List Open) (t : T
 
   pub names_one : Leads known forms forms next.Name (entry.Members m ∷ os) t next.AfterName (entry.Members (with_name m one_name) ∷ os)
   names_one = record {
+    goes_on = ap (λ k. goes a_name (members m.is_union ∷ shapes_of os) (class k)) is;
+    there = λ table. tt;
     grown = stays forms;
     spelled = spelled_name;
     standing = λ sp s h. h;
@@ -189,6 +204,8 @@ module _ (known : List (ℕ × ℕ)) (forms : List Form) (os : List Open) (t : T
 
   pub names_behind : Leads known forms forms next.AfterSemicolon (entry.Members m ∷ os) t next.AfterName (entry.Members (with_name m one_name) ∷ os)
   names_behind = record {
+    goes_on = ap (λ k. goes behind_semicolon (members m.is_union ∷ shapes_of os) (class k)) is;
+    there = λ table. tt;
     grown = stays forms;
     spelled = spelled_name;
     standing = λ sp s h. h;
@@ -224,6 +241,8 @@ module _ (known : List (ℕ × ℕ)) (forms : List Form) (t : Token) where
 
   pub comma : (os : List Open) → t.kind ≡ kind.Sign sign.SComma → Leads known forms forms next.AfterName os t next.Name os
   comma os is = record {
+    goes_on = ap (λ k. goes behind_name (shapes_of os) (class k)) is;
+    there = λ table. tt;
     grown = stays forms;
     spelled = λ sp s h. h;
     standing = λ sp s h. h;
@@ -240,6 +259,8 @@ module _ (known : List (ℕ × ℕ)) (forms : List Form) (t : Token) where
 
   pub colon : (os : List Open) → t.kind ≡ kind.Sign sign.SColon → Leads known forms forms next.AfterName os t next.Type os
   colon os is = record {
+    goes_on = ap (λ k. goes behind_name (shapes_of os) (class k)) is;
+    there = λ table. tt;
     grown = stays forms;
     spelled = λ sp s h. h;
     standing = λ sp s h. h;
@@ -280,9 +301,22 @@ behind_tags sp tys table m os ts w null_stands c = record {
   };
 }
 
+ends_too : (b : Bool) (os : List Shape) (c : Class) (r : Place × List Shape) → b ≡ true → goes behind (members b ∷ os) c ≡ Some r → goes behind_name (members b ∷ os) c ≡ Some r
+ends_too false os c r w e = cc
+ends_too true os (begins_at p) r w e = cc
+ends_too true os called r w e = cc
+ends_too true os a_comma r w e = cc
+ends_too true os semicolon r w e = e
+ends_too true os a_colon r w e = cc
+ends_too true os opening r w e = cc
+ends_too true os closing r w e = e
+ends_too true os other r w e = cc
+
 pub without_type : (known : List (ℕ × ℕ)) (old new : List Form) (m : Members) (os : List Open) (t : Token) (later : Next) (rest : List Open) → m.is_union ≡ true
     → Leads known old new (next.After 3) (entry.Members m ∷ os) t later rest → Leads known old new next.AfterName (entry.Members m ∷ os) t later rest
 without_type known old new m os t later rest w l = record {
+  goes_on = ends_too m.is_union (shapes_of os) (class t.kind) (place_of later, shapes_of rest) w l.goes_on;
+  there = l.there;
   grown = l.grown;
   spelled = l.spelled;
   standing = l.standing;
@@ -307,6 +341,8 @@ spelled_group sp m os ty h = (
 pub semicolon_leads : (known : List (ℕ × ℕ)) (forms : List Form) (m : Members) (os : List Open) (t : Token) (number : ℕ) → t.kind ≡ kind.Sign sign.SSemicolon
     → Leads known forms forms (next.After number) (entry.Members m ∷ os) t next.AfterSemicolon (entry.Members (with_group m number) ∷ os)
 semicolon_leads known forms m os t number is = record {
+  goes_on = ap (λ k. goes behind (members m.is_union ∷ shapes_of os) (class k)) is;
+  there = λ table. tt;
   grown = stays forms;
   spelled = λ sp s h. spelled_group sp m os number h;
   standing = λ sp s h. h;
@@ -319,6 +355,8 @@ pub closes_sequence : (known : List (ℕ × ℕ)) (old new : List Form) (s : Seq
     → slice_get new n ≡ Some (sequence_form s.is_stream number) → AddsAtMost old (sequence_form s.is_stream number) new → IsOver (length old) (sequence_form s.is_stream number)
     → Leads known old new (next.After number) (entry.Sequence s ∷ os) t (next.After n) os
 closes_sequence known old new s os t number n is there adds over = record {
+  goes_on = ap (λ k. goes behind (sequence ∷ shapes_of os) (class k)) is;
+  there = λ table. slice_get_within new n (sequence_form s.is_stream number) there;
   grown = grown_by old new (sequence_form s.is_stream number) adds;
   spelled = λ sp k h. h;
   standing = λ sp k h. sequence_stands sp s.is_stream number old new over adds h;
@@ -349,6 +387,8 @@ pub closes_members : (known : List (ℕ × ℕ)) (old new : List Form) (m : Memb
     → slice_get new n ≡ Some (members_form m.is_union m.members) → AddsAtMost old (members_form m.is_union m.members) new → IsOver (length old) (members_form m.is_union m.members)
     → Leads known old new next.AfterSemicolon (entry.Members m ∷ os) t (next.After n) os
 closes_members known old new m os t n is distinct there adds over = record {
+  goes_on = ap (λ k. goes behind_semicolon (members m.is_union ∷ shapes_of os) (class k)) is;
+  there = λ table. slice_get_within new n (members_form m.is_union m.members) there;
   grown = grown_by old new (members_form m.is_union m.members) adds;
   spelled = λ sp k h. h.3;
   standing = λ sp k h. members_stand sp m.is_union m.members m.names old new k.2 k.0 distinct over adds h;
@@ -360,6 +400,8 @@ pub closes_group : (known : List (ℕ × ℕ)) (old new : List Form) (m : Member
     → IsOver (length old) (members_form m.is_union (with_group m number).members)
     → Leads known old new (next.After number) (entry.Members m ∷ os) t (next.After n) os
 closes_group known old new m os t number n is distinct there adds over = record {
+  goes_on = ap (λ k. goes behind (members m.is_union ∷ shapes_of os) (class k)) is;
+  there = λ table. slice_get_within new n (members_form m.is_union (with_group m number).members) there;
   grown = grown_by old new (members_form m.is_union (with_group m number).members) adds;
   spelled = λ sp k h. h.3;
   standing = λ sp k h.

@@ -3,6 +3,7 @@ use Rattle.std.proofs.Common.{◌≡◌, ◌<◌, ◌≤◌, ℕ, suc, Bool, tru
 use Rattle.std.specs.List.{list_any}
 use Rattle.std.proofs.lemmas.List.{append-nil, length-append}
 use Rattle.std.proofs.lemmas.List.Elements.{All-push}
+use Rattle.std.proofs.lemmas.Option.{slice_get_within}
 use Rattle.std.proofs.lemmas.Bool.Decides.{leb_tells}
 use Rattle.std.proofs.Math.Dec.{leb}
 use Rattle.flow_value.specs.declared.ty.Ty.{Ty}
@@ -29,6 +30,9 @@ grown_by old new f (inr added) = record { more = f ∷ []; is = added }
 -- a type of the table that was there first
 pub basic : (forms : List Form) (n : ℕ) (f : Form) → IsTable forms → ((rest : List Form) → slice_get (form.Boolean ∷ form.Character ∷ form.Integer ∷ form.Null ∷ form.Array 1 ∷ rest) n ≡ Some f) → slice_get forms n ≡ Some f
 basic forms n f table h = ap (λ l. slice_get l n) table.basics ∙ h table.rest
+
+pub basic_there : (forms : List Form) (n : ℕ) (f : Form) → IsTable forms → ((rest : List Form) → slice_get (form.Boolean ∷ form.Character ∷ form.Integer ∷ form.Null ∷ form.Array 1 ∷ rest) n ≡ Some f) → n < length forms
+basic_there forms n f table h = slice_get_within forms n f (basic forms n f table h)
 
 pub later_there : (new table : List Form) (n : ℕ) (f : Form) → IsLater new table → slice_get new n ≡ Some f → slice_get table n ≡ Some f
 later_there new table n f l h = ap (λ l. slice_get l n) l.grown ∙ left new l.more n f h

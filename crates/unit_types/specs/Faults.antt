@@ -1,5 +1,5 @@
 -- Which rules the types and headers of a unit break.
-use Rattle.std.specs.Prelude.{◌≡◌, ◌<◌, ◌≤◌, ℕ, ◌++◌, List, length, None}
+use Rattle.std.specs.Prelude.{◌≡◌, ◌<◌, ◌≤◌, ℕ, ◌++◌, List, length, None, Some}
 use Rattle.name_scope.specs.Newest.{newest}
 use Rattle.type_rules.specs.declared.fault.TypeFault.{TypeFault}
 use Rattle.type_rules.specs.declared.fault.TypeFault.TheVariants as fault
@@ -45,11 +45,11 @@ pub record IsReal (f : First) (line rule where_it_is : ℕ) : Type 0 where
   pub line_is : where_it_is ≡ line
   pub no_type : begun f line ≡ None
 
--- rule 2 at a name on a line
-pub record IsUnknown (known : List (ℕ × ℕ)) (name line rule where_it_is : ℕ) : Type 0 where
+-- rule 2 at a name on a line, which has no number that is in the table
+pub record IsUnknown (forms : List Form) (known : List (ℕ × ℕ)) (name line rule where_it_is : ℕ) : Type 0 where
   pub rule_is : rule ≡ 2
   pub line_is : where_it_is ≡ line
-  pub no_type : newest name known ≡ None
+  pub no_type : (n : ℕ) → newest name known ≡ Some n → length forms ≤ n
 
 -- a form that has a member, over types of the table, is deeper than 64
 abbrev pub IsTooDeep : List Form → Form → Type 0

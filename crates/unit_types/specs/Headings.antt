@@ -1,5 +1,5 @@
 -- What the headers of a unit say beside types.
-use Rattle.std.specs.Prelude.{◌≡◌, ◌⊎◌, ℕ, ◌+◌, ◌^◌, ◌<◌, List, [], ◌∷◌, All, map, flat_map, length, get_or, Bool, true, false, Option, Some, None, slice_get, Contains}
+use Rattle.std.specs.Prelude.{◌≡◌, ◌⊎◌, ℕ, ◌+◌, ◌^◌, ◌<◌, ◌≤◌, List, [], ◌∷◌, All, map, flat_map, length, get_or, Bool, true, false, Option, Some, None, slice_get, Contains}
 use Rattle.std.specs.List.{filter}
 use Rattle.sisal_tree.specs.declared.unit.Field.{Field}
 use Rattle.sisal_tree.specs.declared.unit.FunDef.{FunDef}
@@ -58,6 +58,10 @@ abbrev pub given_as : {A : Type 0} → FunKind → A → List A
 given_as fun.Forward a = []
 given_as fun.Global a = a ∷ []
 given_as (fun.Defined es) a = a ∷ []
+
+-- each function has a result
+abbrev pub HaveResults : List Signature → Type 0
+HaveResults functions = All (λ s. 1 ≤ length s.results) functions
 
 -- ---- names of functions
 

@@ -1,6 +1,6 @@
 -- What was read where the reader of a written type stands: the tokens so far, as parts of the types that are open. Types that were
 -- read have their numbers in a table.
-use Rattle.std.specs.Prelude.{◌≡◌, ◌<◌, ℕ, ◌+◌, length, drop, List, [], ◌∷◌, ◌++◌, Bool, true, false}
+use Rattle.std.specs.Prelude.{◌≡◌, ◌<◌, ℕ, ◌+◌, length, drop, List, [], ◌∷◌, ◌++◌, Bool, true, false, Some}
 use Rattle.flow_value.specs.declared.ty.Ty.{Ty}
 use Rattle.type_table.specs.declared.form.Form.{Form}
 use Rattle.type_table.specs.declared.form.Member.{Member as NumberedMember}
@@ -23,6 +23,7 @@ use Rattle.unit_types.specs.declared.open.Open.{Open}
 use Rattle.unit_types.specs.declared.open.Open.TheVariants as entry
 use Rattle.unit_types.specs.declared.open.Next.{Next}
 use Rattle.unit_types.specs.declared.open.Next.TheVariants as next
+use Rattle.unit_types.specs.Accepting.{Accepts, IsThere, a_type, class, goes, kinds_of, place_of, shapes_of}
 use Rattle.unit_types.specs.Rests.{at_place, sequence_of, members_of, IsLater, IsGrown, AreKnown, IsKindSpelled, AreTokensSpelled, AreOpenSpelled, AreStanding}
 
 -- ---- names of members
@@ -172,6 +173,8 @@ module _ (spellings : List (List ℕ)) (types : List (ℕ × Ty)) (forms : List 
 
 -- a token leads from a place of the reader to another, with these names of types
 pub record Leads (known : List (ℕ × ℕ)) (old new : List Form) (now : Next) (os : List Open) (t : Token) (later : Next) (rest : List Open) : Type 0 where
+  pub goes_on : goes (place_of now) (shapes_of os) (class t.kind) ≡ Some (place_of later, shapes_of rest)
+  pub there : IsTable new → IsThere new later
   pub grown : IsGrown old new
   pub spelled : (spellings : List (List ℕ)) → IsKindSpelled spellings t.kind → AreOpenSpelled spellings os → AreOpenSpelled spellings rest
   pub standing : (spellings : List (List ℕ)) → AreOpenSpelled spellings os → AreStanding spellings old → AreStanding spellings new
@@ -187,6 +190,8 @@ pub record Refuses (known : List (ℕ × ℕ)) (forms : List Form) (now : Next) 
 
 -- the tokens up to a place are read
 pub record IsReading (known : List (ℕ × ℕ)) (old now : List Form) (tokens : List Token) (i : ℕ) (later : Next) (os : List Open) : Type 0 where
+  pub accepted : Accepts (Some (a_type, [])) (kinds_of tokens) → Accepts (Some (place_of later, shapes_of os)) (kinds_of (drop i tokens))
+  pub there : IsTable now → IsThere now later
   pub grown : IsGrown old now
   pub spelled : (spellings : List (List ℕ)) → AreTokensSpelled spellings tokens → AreOpenSpelled spellings os
   pub standing : (spellings : List (List ℕ)) → AreTokensSpelled spellings tokens → AreStanding spellings old → AreStanding spellings now

@@ -1,9 +1,10 @@
 //! Type definitions and headers of a unit.
-ghost use Rattle.std.specs.Prelude.{◌≡◌, ◌≢◌, ◌+◌, ℕ, List, drop, ◌++◌, [], ◌∷◌, map, length, All, Some, true, false, None, slice_get, IfErr, IfOk, IfSome, OnOk};
+ghost use Rattle.std.specs.Prelude.{◌≡◌, ◌≢◌, ◌+◌, ◌≤◌, ℕ, List, drop, ◌++◌, [], ◌∷◌, map, length, All, Some, true, false, None, slice_get, IfErr, IfOk, IfSome, OnOk};
 ghost use Rattle.std.specs.Option.{option_copied};
 ghost use Rattle.name_scope.specs.Newest.{newest};
 ghost use Rattle.flow_value.specs.declared.ty.Ty.{Ty};
 ghost use Rattle.type_rules.specs.declared.fault.TypeFault.TheVariants as fault;
+ghost use Rattle.text_trees.specs.Spelled.{IsHeader, IsItem, IsType};
 ghost use Rattle.type_rules.specs.Faults.{IsRule};
 ghost use Rattle.type_rules.specs.Typed.{AreSpelledOnce};
 ghost use Rattle.type_table.specs.Tables.{basic_forms, IsTable};
@@ -13,7 +14,7 @@ ghost use Rattle.sisal_tree.specs.declared.unit.Unit as tree;
 ghost use Rattle.typed_tree.specs.Faults.{BreaksUnit};
 ghost use Rattle.unit_types.specs.Headers.{IsOf, IsDeclaring, BreaksAt, AreItems, IsDeclared};
 ghost use Rattle.unit_types.specs.Faults.{IsUnitRule, fault_of, IsFault};
-ghost use Rattle.unit_types.specs.Headings.{AreCounted, heading_of, heading_in, has_body, given_functions, given_by, given_as, announced_as, numbering, IsOwnName, IsBuiltName, IsFree, IsTaken, AreOwn, HasNoBody, IsUndefined, IsKept, IsBroken, HasSame, function_at};
+ghost use Rattle.unit_types.specs.Headings.{AreCounted, HaveResults, heading_of, heading_in, has_body, given_functions, given_by, given_as, announced_as, numbering, IsOwnName, IsBuiltName, IsFree, IsTaken, AreOwn, HasNoBody, IsUndefined, IsKept, IsBroken, HasSame, function_at};
 
 use crate::fault::{UnitFault, numbered};
 use crate::header::{Signature, signature_of};
@@ -71,6 +72,7 @@ struct Declaring {
 /// another one has; then 7 on the names after `define`, and 6 and 7 on the headers behind
 /// `forward`.
 pub fn declare(alloc: Global, unit: &Unit) -> Result<Declared, TypeFault>
+    requires { All (IsItem unit.now.tokens.list (length unit.now.tokens.names)) unit.now.items }
     // The functions are those that are given, in the order of the text.
     ensures functions { IfOk result (λ d. map heading_in d.functions ≡ map heading_of (given_functions unit.now.items)) }
     ensures numbers { IfOk result (λ d. d.numbers ≡ numbering 0 [] (map (λ s. s.name) d.functions)) }
@@ -85,6 +87,8 @@ pub fn declare(alloc: Global, unit: &Unit) -> Result<Declared, TypeFault>
     ensures declares { IfOk result (λ d. AreTokensSpelled unit.now.tokens.names unit.now.tokens.list → IsDeclared unit.now d.types d.named d.functions d.defines) }
     // No two functions have one name, and none has that of a call that is built in.
     ensures own { IfOk result (λ d. AreOwn unit.now.tokens.names (map (λ s. s.name) d.functions)) }
+    // Each function has a result.
+    ensures results { IfOk result (λ d. All (λ s. 1 ≤ length s.results) d.functions) }
     // A rule that is named is broken on the line, where each name is spelled in its own way.
     ensures breaks { IfErr result (IsRule (λ rule line. AreTokensSpelled unit.now.tokens.names unit.now.tokens.list → AreSpelledOnce unit.now.tokens.names → BreaksUnit unit.now rule line)) }
 {
@@ -96,6 +100,7 @@ pub fn declare(alloc: Global, unit: &Unit) -> Result<Declared, TypeFault>
 
 /// The same, by the kind of the fault.
 fn declare_unit(alloc: Global, unit: &Unit) -> Result<Declared, UnitFault>
+    requires { All (IsItem unit.now.tokens.list (length unit.now.tokens.names)) unit.now.items }
     // The functions are those that are given, in the order of the text.
     ensures functions { IfOk result (λ d. map heading_in d.functions ≡ map heading_of (given_functions unit.now.items)) }
     ensures numbers { IfOk result (λ d. d.numbers ≡ numbering 0 [] (map (λ s. s.name) d.functions)) }
@@ -109,6 +114,7 @@ fn declare_unit(alloc: Global, unit: &Unit) -> Result<Declared, UnitFault>
     ensures declares { IfOk result (λ d. AreTokensSpelled unit.now.tokens.names unit.now.tokens.list → IsDeclared unit.now d.types d.named d.functions d.defines) }
     // No two functions have one name, and none has that of a call that is built in.
     ensures own { IfOk result (λ d. AreOwn unit.now.tokens.names (map (λ s. s.name) d.functions)) }
+    ensures results { IfOk result (λ d. HaveResults d.functions) }
     // A rule that is named is broken on the line, where each name is spelled in its own way.
     ensures breaks { IfErr result (IsFault (λ rule line. AreTokensSpelled unit.now.tokens.names unit.now.tokens.list → AreSpelledOnce unit.now.tokens.names → BreaksUnit unit.now rule line)) }
 {
@@ -127,12 +133,14 @@ fn declare_all(
     spellings: &[Name],
     items: &[Item],
 ) -> Result<Declaring, UnitFault>
+    requires { All (IsItem tokens.now (length spellings.now)) items.now }
     ensures functions { IfOk result (λ d. map heading_in d.functions ≡ map heading_of (given_functions items.now)) }
     ensures bodies { IfOk result (λ d. d.bodies ≡ map (λ f. has_body f.kind) (given_functions items.now)) }
     ensures numbers { IfOk result (λ d. d.numbers ≡ numbering 0 [] (map (λ s. s.name) d.functions)) }
     ensures names { IfOk result (λ d. (texts : List (List ℕ)) → AreTokensSpelled texts tokens.now → (types : List (ℕ × Ty)) × Names texts tokens.now [] items.now types × HasNames texts d.types d.named types) }
     ensures declares { IfOk result (λ d. (u : tree.Unit) → u.tokens.list ≡ tokens.now → AreTokensSpelled u.tokens.names tokens.now → AreItems u items.now d.types d.named d.functions d.announced) }
     ensures own { IfOk result (λ d. AreOwn spellings.now (map (λ s. s.name) d.functions)) }
+    ensures results { IfOk result (λ d. HaveResults d.functions) }
     ensures table { IfOk result (λ d. IsTable d.types) }
     ensures breaks { IfErr result (IsFault (λ rule line. (u : tree.Unit) → IsOf tokens.now spellings.now u → u.items ≡ items.now → BreaksUnit u rule line)) }
 {
@@ -193,7 +201,9 @@ fn declare_item(
     item: &Item,
     declaring: &mut Declaring,
 ) -> Result<(), UnitFault>
+    requires { IsItem tokens.now (length spellings.now) item.now }
     ensures functions { OnOk result (map heading_in declaring.new.functions ≡ map heading_in declaring.old.functions ++ map heading_of (given_by item.now)) }
+    ensures results { HaveResults declaring.old.functions → OnOk result (HaveResults declaring.new.functions) }
     ensures bodies { OnOk result (declaring.new.bodies ≡ declaring.old.bodies ++ map (λ f. has_body f.kind) (given_by item.now)) }
     ensures numbers { declaring.old.numbers ≡ numbering 0 [] (map (λ s. s.name) declaring.old.functions) → OnOk result (declaring.new.numbers ≡ numbering 0 [] (map (λ s. s.name) declaring.new.functions)) }
     ensures names { OnOk result ((texts : List (List ℕ)) (types : List (ℕ × Ty)) → AreTokensSpelled texts tokens.now → HasNames texts declaring.old.types declaring.old.named types
@@ -219,6 +229,7 @@ fn declare_type(
     definition: &TypeDef,
     declaring: &mut Declaring,
 ) -> Result<(), UnitFault>
+    requires { IsType tokens.now definition.now.ty }
     ensures functions { declaring.new.functions ≡ declaring.old.functions }
     ensures bodies { declaring.new.bodies ≡ declaring.old.bodies }
     ensures numbers { declaring.new.numbers ≡ declaring.old.numbers }
@@ -251,7 +262,9 @@ fn declare_function(
     function: &FunDef,
     declaring: &mut Declaring,
 ) -> Result<(), UnitFault>
+    requires { IsHeader tokens.now (length spellings.now) function.now.header }
     ensures functions { OnOk result (map heading_in declaring.new.functions ≡ map heading_in declaring.old.functions ++ map heading_of (given_by (Item.Function function.now))) }
+    ensures results { HaveResults declaring.old.functions → OnOk result (HaveResults declaring.new.functions) }
     ensures bodies { OnOk result (declaring.new.bodies ≡ declaring.old.bodies ++ map (λ f. has_body f.kind) (given_by (Item.Function function.now))) }
     ensures numbers { declaring.old.numbers ≡ numbering 0 [] (map (λ s. s.name) declaring.old.functions) → OnOk result (declaring.new.numbers ≡ numbering 0 [] (map (λ s. s.name) declaring.new.functions)) }
     ensures names { OnOk result ((texts : List (List ℕ)) (types : List (ℕ × Ty)) → AreTokensSpelled texts tokens.now → HasNames texts declaring.old.types declaring.old.named types

@@ -1,5 +1,5 @@
 //! Headers of functions.
-ghost use Rattle.std.specs.Prelude.{◌≡◌, ◌-◌, ◌++◌, ℕ, List, [], map, flat_map, drop, length, Contains, IfErr, IfOk, OnOk};
+ghost use Rattle.std.specs.Prelude.{◌≡◌, ◌-◌, ◌≤◌, ◌++◌, ℕ, List, [], All, map, flat_map, drop, length, Contains, IfErr, IfOk, OnOk};
 ghost use Rattle.typed_tree.specs.Breaks.{IsTwice};
 ghost use Rattle.typed_tree.specs.Faults.{misnames, BreaksHeader};
 ghost use Rattle.typed_tree.specs.Typing.{names_of};
@@ -8,6 +8,7 @@ ghost use Rattle.sisal_tree.specs.declared.unit.Field.{Field};
 ghost use Rattle.sisal_tree.specs.declared.unit.Unit as tree;
 ghost use Rattle.sisal_tree.specs.declared.unit.Written.{Written};
 ghost use Rattle.typed_tree.specs.Scopes.{AreDistinct};
+ghost use Rattle.text_trees.specs.Spelled.{IsType};
 ghost use Rattle.unit_types.specs.Faults.{IsFault};
 ghost use Rattle.unit_types.specs.Headers.{AreParams, AreResults, Says};
 ghost use Rattle.unit_types.specs.Rests.{AreTokensSpelled, HasNames, IsUsed};
@@ -50,8 +51,11 @@ pub fn signature_of(
     named: &TypeNames,
     types: &mut Types,
 ) -> Result<Signature, UnitFault>
+    requires params { All (λ f. IsType tokens.now f.ty) header.now.params }
+    requires results { All (IsType tokens.now) header.now.results }
     ensures heading { IfOk result (λ s. heading_in s ≡ record { line = line; name = header.now.name.name; parameters = parameters_of header.now.params }) }
     ensures known { IfOk result (λ s. s.known ≡ length named.now) }
+    ensures many { IfOk result (λ s. length header.now.results ≤ length s.results) }
     ensures used { OnOk result (IsUsed tokens.now types.old types.new) }
     ensures says { IfOk result (λ s. (u : tree.Unit) (known_types : List (ℕ × Ty)) → u.tokens.list ≡ tokens.now → AreTokensSpelled u.tokens.names tokens.now
         → HasNames u.tokens.names types.old named.now known_types → Says u known_types types.new header.now s) }
@@ -119,6 +123,7 @@ fn params_in(
     known: usize,
     types: &mut Types,
 ) -> Result<Numbers, UnitFault>
+    requires { All (λ f. IsType tokens.now f.ty) fields.now }
     ensures used { OnOk result (IsUsed tokens.now types.old types.new) }
     ensures params { IfOk result (λ ns. (u : tree.Unit) (known_types : List (ℕ × Ty)) → u.tokens.list ≡ tokens.now → AreTokensSpelled u.tokens.names tokens.now
         → HasNames u.tokens.names types.old (drop (length named.now - known) named.now) known_types → AreParams u known_types types.new fields.now ns) }
@@ -151,6 +156,8 @@ fn results_in(
     known: usize,
     types: &mut Types,
 ) -> Result<Numbers, UnitFault>
+    requires { All (IsType tokens.now) written.now }
+    ensures many { IfOk result (λ ns. length written.now ≤ length ns) }
     ensures used { OnOk result (IsUsed tokens.now types.old types.new) }
     ensures results { IfOk result (λ ns. (u : tree.Unit) (known_types : List (ℕ × Ty)) → u.tokens.list ≡ tokens.now → AreTokensSpelled u.tokens.names tokens.now
         → HasNames u.tokens.names types.old (drop (length named.now - known) named.now) known_types → AreResults u known_types types.new written.now ns) }

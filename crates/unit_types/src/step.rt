@@ -1,11 +1,12 @@
 //! A token of a written type.
-ghost use Rattle.std.specs.Prelude.{◌≡◌, ◌-◌, ◌++◌, ℕ, List, [], ◌∷◌, length, drop, Some, IfSome, IfOk, IfErr, OnOk};
+ghost use Rattle.std.specs.Prelude.{◌≡◌, ◌-◌, ◌++◌, ℕ, List, [], ◌∷◌, length, drop, IsSome, IfOk, IfErr, OnOk};
 ghost use Rattle.type_table.specs.declared.form.Form.{Form};
 ghost use Rattle.sisal_lex.specs.declared.token.Token.{Token};
 ghost use Rattle.typed_tree.specs.Scopes.{AreDistinct};
 ghost use Rattle.unit_types.specs.declared.open.Open.{Open};
 ghost use Rattle.unit_types.specs.declared.open.Members.{Members};
 ghost use Rattle.unit_types.specs.Faults.{IsFault, IsReal, IsUnknown, IsDeep, IsMemberTwice};
+ghost use Rattle.unit_types.specs.Accepting.{AreMembers, IsUnion, class, goes, a_name, a_type, behind, behind_name, behind_semicolon, members as within, place_of, shape_of, shapes_of};
 ghost use Rattle.unit_types.specs.Reached.{Leads, Refuses};
 ghost use Rattle.unit_types.specs.Rests.{IsMade, word_of, begun, opened_by, inside_of, no_members, with_name, with_group, members_with, sequence_form, members_form};
 
@@ -21,7 +22,7 @@ use sisal_tree::Named;
 use std::alloc::Global;
 use type_table::{BOOLEAN, CHARACTER, Form, INTEGER, Member, NULL, Types};
 
-/// Reads a token. One that is no part of a type, which no text has, is refused as want of memory.
+/// Reads a token that may stand here.
 pub fn step(
     alloc: Global,
     token: &Token,
@@ -31,12 +32,13 @@ pub fn step(
     known: usize,
     types: &mut Types,
 ) -> Result<Next, UnitFault>
+    requires { IsSome (goes (place_of next) (shapes_of stack.old) (class token.now.kind)) }
     ensures leads { IfOk result (λ later. Leads (drop (length named.now - known) named.now) types.old types.new next stack.old token.now later stack.new) }
     ensures refuses { IfErr result (IsFault (Refuses (drop (length named.now - known) named.now) types.old next stack.old token.now)) }
 {
     match next {
-        Next::Type => begin(token, named, known),
-        Next::Bracket(opener, line) => enter(alloc, token, opener, line, stack),
+        Next::Type => begin(token, named, known, types),
+        Next::Bracket(opener, line) => enter(alloc, opener, line, stack),
         Next::Name => add_name(token, stack),
         Next::AfterName => after_name(token, stack, types),
         Next::After(ty) => after_type(token, ty, stack, types),
@@ -45,43 +47,43 @@ pub fn step(
 }
 
 /// The first token of a type.
-fn begin(token: &Token, named: &TypeNames, known: usize) -> Result<Next, UnitFault>
-    ensures leads { IfOk result (λ later. (forms : List Form) (os : List Open) → Leads (drop (length named.now - known) named.now) forms forms Next.Type os token.now later os) }
-    ensures refuses { IfErr result (IsFault (λ rule line. (forms : List Form) (os : List Open) → Refuses (drop (length named.now - known) named.now) forms Next.Type os token.now rule line)) }
+fn begin(token: &Token, named: &TypeNames, known: usize, types: &Types) -> Result<Next, UnitFault>
+    requires { IsSome (goes a_type [] (class token.now.kind)) }
+    ensures leads { IfOk result (λ later. (os : List Open) → Leads (drop (length named.now - known) named.now) types.now types.now Next.Type os token.now later os) }
+    ensures refuses { IfErr result (IsFault (λ rule line. (os : List Open) → Refuses (drop (length named.now - known) named.now) types.now Next.Type os token.now rule line)) }
 {
     match &token.kind {
         Kind::Word(word) => begin_by_word(*word, token.line),
-        Kind::Id(name) => begin_by_name(*name, token.line, named, known),
-        _ => Err(UnitFault::NoMemory),
+        Kind::Id(name) => begin_by_name(*name, token.line, named, known, types),
+        _ => unreachable!(),
     }
 }
 
 fn begin_by_word(word: Word, line: u32) -> Result<Next, UnitFault>
+    requires { IsSome (goes a_type [] (class (Kind.Word word))) }
     ensures leads { IfOk result (λ later. (known : List (ℕ × ℕ)) (forms : List Form) (os : List Open) (t : Token) → t.kind ≡ Kind.Word word → t.line ≡ line → Leads known forms forms Next.Type os t later os) }
     ensures refuses { IfErr result (IsFault (λ rule l. (known : List (ℕ × ℕ)) (forms : List Form) (os : List Open) (t : Token) → t.kind ≡ Kind.Word word → t.line ≡ line → Refuses known forms Next.Type os t rule l)) }
 {
-    match first_of(word) {
-        Some(first) => begin_by(first, line),
-        None => Err(UnitFault::NoMemory),
-    }
+    begin_by(first_of(word), line)
 }
 
-/// What a word begins, where it begins a type.
-fn first_of(word: Word) -> Option<First>
-    ensures { IfSome result (λ f. word ≡ word_of f) }
+/// What a word begins.
+fn first_of(word: Word) -> First
+    requires { IsSome (goes a_type [] (class (Kind.Word word))) }
+    ensures { word ≡ word_of result }
 {
     match word {
-        Word::WBoolean => Some(First::Boolean),
-        Word::WCharacter => Some(First::Character),
-        Word::WInteger => Some(First::Integer),
-        Word::WNull => Some(First::Null),
-        Word::WReal => Some(First::Real),
-        Word::WDoubleReal => Some(First::DoubleReal),
-        Word::WArray => Some(First::Opens(Opener::Array)),
-        Word::WStream => Some(First::Opens(Opener::Stream)),
-        Word::WRecord => Some(First::Opens(Opener::Record)),
-        Word::WUnion => Some(First::Opens(Opener::Union)),
-        _ => None,
+        Word::WBoolean => First::Boolean,
+        Word::WCharacter => First::Character,
+        Word::WInteger => First::Integer,
+        Word::WNull => First::Null,
+        Word::WReal => First::Real,
+        Word::WDoubleReal => First::DoubleReal,
+        Word::WArray => First::Opens(Opener::Array),
+        Word::WStream => First::Opens(Opener::Stream),
+        Word::WRecord => First::Opens(Opener::Record),
+        Word::WUnion => First::Opens(Opener::Union),
+        _ => unreachable!(),
     }
 }
 
@@ -100,12 +102,25 @@ fn begin_by(first: First, line: u32) -> Result<Next, UnitFault>
     }
 }
 
-fn begin_by_name(name: u32, line: u32, named: &TypeNames, known: usize) -> Result<Next, UnitFault>
-    ensures leads { IfOk result (λ later. (forms : List Form) (os : List Open) (t : Token) → t.kind ≡ Kind.Id name → Leads (drop (length named.now - known) named.now) forms forms Next.Type os t later os) }
-    ensures unknown { IfErr result (IsFault (IsUnknown (drop (length named.now - known) named.now) name line)) }
+/// A name whose number is not in the table is not known either; no text has one.
+fn begin_by_name(
+    name: u32,
+    line: u32,
+    named: &TypeNames,
+    known: usize,
+    types: &Types,
+) -> Result<Next, UnitFault>
+    ensures leads { IfOk result (λ later. (os : List Open) (t : Token) → t.kind ≡ Kind.Id name → Leads (drop (length named.now - known) named.now) types.now types.now Next.Type os t later os) }
+    ensures unknown { IfErr result (IsFault (IsUnknown types.now (drop (length named.now - known) named.now) name line)) }
 {
     match named.find(name, known) {
-        Some(ty) => Ok(Next::After(ty)),
+        Some(ty) => {
+            if (ty as usize) < types.len() {
+                Ok(Next::After(ty))
+            } else {
+                Err(UnitFault::UnknownType(line))
+            }
+        }
         None => Err(UnitFault::UnknownType(line)),
     }
 }
@@ -113,21 +128,15 @@ fn begin_by_name(name: u32, line: u32, named: &TypeNames, known: usize) -> Resul
 /// The opening bracket.
 fn enter(
     alloc: Global,
-    token: &Token,
     opener: Opener,
     line: u32,
     stack: &mut Back<Open>,
 ) -> Result<Next, UnitFault>
-    ensures leads { IfOk result (λ later. (known : List (ℕ × ℕ)) (forms : List Form) → Leads known forms forms (Next.Bracket opener line) stack.old token.now later stack.new) }
+    ensures leads { IfOk result (λ later. (known : List (ℕ × ℕ)) (forms : List Form) (t : Token) → t.kind ≡ Kind.Sign Sign.SOpenBracket → Leads known forms forms (Next.Bracket opener line) stack.old t later stack.new) }
     ensures memory { IfErr result (λ e. e ≡ UnitFault.NoMemory) }
 {
-    match sign_of(token) {
-        Some(Sign::SOpenBracket) => {
-            stack.push(opened(alloc, opener, line))?;
-            Ok(inside(opener))
-        }
-        _ => Err(UnitFault::NoMemory),
-    }
+    stack.push(opened(alloc, opener, line))?;
+    Ok(inside(opener))
 }
 
 fn opened(alloc: Global, opener: Opener, line: u32) -> Open
@@ -170,6 +179,7 @@ fn inside(opener: Opener) -> Next
 
 /// A name of a member.
 fn add_name(token: &Token, stack: &mut Back<Open>) -> Result<Next, UnitFault>
+    requires { IsSome (goes a_name (shapes_of stack.old) (class token.now.kind)) }
     ensures name { IfOk result (λ later. (known : List (ℕ × ℕ)) (forms : List Form) → Leads known forms forms Next.Name stack.old token.now later stack.new) }
     ensures behind { IfOk result (λ later. (known : List (ℕ × ℕ)) (forms : List Form) → Leads known forms forms Next.AfterSemicolon stack.old token.now later stack.new) }
     ensures memory { IfErr result (λ e. e ≡ UnitFault.NoMemory) }
@@ -183,11 +193,12 @@ fn add_name(token: &Token, stack: &mut Back<Open>) -> Result<Next, UnitFault>
             add_to_group(named, stack)?;
             Ok(Next::AfterName)
         }
-        _ => Err(UnitFault::NoMemory),
+        _ => unreachable!(),
     }
 }
 
 fn add_to_group(named: Named, stack: &mut Back<Open>) -> Result<(), NoMemory>
+    requires { AreMembers (shapes_of stack.old) }
     ensures { OnOk result ((m : Members) × (os : List Open) × (stack.old ≡ Open.Members m ∷ os) × (stack.new ≡ Open.Members (with_name m named) ∷ os)) }
 {
     let Members {
@@ -196,7 +207,7 @@ fn add_to_group(named: Named, stack: &mut Back<Open>) -> Result<(), NoMemory>
         members,
         names,
         mut group,
-    } = innermost(stack)?;
+    } = innermost(stack);
     group.add(named)?;
     stack.push(Open::Members(Members {
         line,
@@ -207,40 +218,50 @@ fn add_to_group(named: Named, stack: &mut Back<Open>) -> Result<(), NoMemory>
     }))
 }
 
-/// Takes the innermost of what is open, where it is a record or a union, as in each text.
-fn innermost(stack: &mut Back<Open>) -> Result<Members, NoMemory>
-    ensures { IfOk result (λ m. stack.old ≡ Open.Members m ∷ stack.new) }
+/// Takes the innermost of what is open, a record or a union.
+fn innermost(stack: &mut Back<Open>) -> Members
+    requires { AreMembers (shapes_of stack.old) }
+    ensures { stack.old ≡ Open.Members result ∷ stack.new }
 {
     match stack.pop() {
-        Some(Open::Members(members)) => Ok(members),
-        _ => Err(NoMemory),
+        Some(Open::Members(members)) => members,
+        _ => unreachable!(),
     }
 }
 
 /// What stands behind a name of a member.
 fn after_name(token: &Token, stack: &mut Back<Open>, types: &mut Types) -> Result<Next, UnitFault>
+    requires { IsSome (goes behind_name (shapes_of stack.old) (class token.now.kind)) }
     ensures leads { IfOk result (λ later. (known : List (ℕ × ℕ)) → Leads known types.old types.new Next.AfterName stack.old token.now later stack.new) }
     ensures refuses { IfErr result (IsFault (λ rule line. (known : List (ℕ × ℕ)) → Refuses known types.old Next.AfterName stack.old token.now rule line)) }
 {
-    match sign_of(token) {
-        Some(Sign::SComma) => Ok(Next::Name),
-        Some(Sign::SColon) => Ok(Next::Type),
-        Some(sign) => without_type(sign, stack, types),
-        None => Err(UnitFault::NoMemory),
+    match &token.kind {
+        Kind::Sign(sign) => end_name(*sign, stack, types),
+        _ => unreachable!(),
+    }
+}
+
+fn end_name(sign: Sign, stack: &mut Back<Open>, types: &mut Types) -> Result<Next, UnitFault>
+    requires { IsSome (goes behind_name (shapes_of stack.old) (class (Kind.Sign sign))) }
+    ensures leads { IfOk result (λ later. (known : List (ℕ × ℕ)) (t : Token) → t.kind ≡ Kind.Sign sign → Leads known types.old types.new Next.AfterName stack.old t later stack.new) }
+    ensures refuses { IfErr result (IsFault (λ rule line. (known : List (ℕ × ℕ)) (t : Token) → t.kind ≡ Kind.Sign sign → Refuses known types.old Next.AfterName stack.old t rule line)) }
+{
+    match sign {
+        Sign::SComma => Ok(Next::Name),
+        Sign::SColon => Ok(Next::Type),
+        _ => without_type(sign, stack, types),
     }
 }
 
 /// Tags without a type have the type `null`.
 fn without_type(sign: Sign, stack: &mut Back<Open>, types: &mut Types) -> Result<Next, UnitFault>
+    requires union { IsUnion (shapes_of stack.old) }
+    requires goes { IsSome (goes behind (shapes_of stack.old) (class (Kind.Sign sign))) }
     ensures leads { IfOk result (λ later. (known : List (ℕ × ℕ)) (t : Token) → t.kind ≡ Kind.Sign sign → Leads known types.old types.new Next.AfterName stack.old t later stack.new) }
     ensures refuses { IfErr result (IsFault (λ rule line. (known : List (ℕ × ℕ)) (t : Token) → t.kind ≡ Kind.Sign sign → Refuses known types.old Next.AfterName stack.old t rule line)) }
 {
-    let members = innermost(stack)?;
-    if members.is_union {
-        end_group(sign, NULL, members, stack, types)
-    } else {
-        Err(UnitFault::NoMemory)
-    }
+    let members = innermost(stack);
+    end_group(sign, NULL, members, stack, types)
 }
 
 /// What stands behind a type.
@@ -250,12 +271,13 @@ fn after_type(
     stack: &mut Back<Open>,
     types: &mut Types,
 ) -> Result<Next, UnitFault>
+    requires { IsSome (goes behind (shapes_of stack.old) (class token.now.kind)) }
     ensures leads { IfOk result (λ later. (known : List (ℕ × ℕ)) → Leads known types.old types.new (Next.After ty) stack.old token.now later stack.new) }
     ensures refuses { IfErr result (IsFault (λ rule line. (known : List (ℕ × ℕ)) → Refuses known types.old (Next.After ty) stack.old token.now rule line)) }
 {
-    match sign_of(token) {
-        Some(sign) => end_type(sign, ty, stack, types),
-        None => Err(UnitFault::NoMemory),
+    match &token.kind {
+        Kind::Sign(sign) => end_type(*sign, ty, stack, types),
+        _ => unreachable!(),
     }
 }
 
@@ -265,12 +287,13 @@ fn end_type(
     stack: &mut Back<Open>,
     types: &mut Types,
 ) -> Result<Next, UnitFault>
+    requires { IsSome (goes behind (shapes_of stack.old) (class (Kind.Sign sign))) }
     ensures leads { IfOk result (λ later. (known : List (ℕ × ℕ)) (t : Token) → t.kind ≡ Kind.Sign sign → Leads known types.old types.new (Next.After ty) stack.old t later stack.new) }
     ensures refuses { IfErr result (IsFault (λ rule line. (known : List (ℕ × ℕ)) (t : Token) → t.kind ≡ Kind.Sign sign → Refuses known types.old (Next.After ty) stack.old t rule line)) }
 {
     match stack.pop() {
         Some(innermost) => end_type_in(sign, ty, innermost, stack, types),
-        None => Err(UnitFault::NoMemory),
+        None => unreachable!(),
     }
 }
 
@@ -282,28 +305,21 @@ fn end_type_in(
     stack: &mut Back<Open>,
     types: &mut Types,
 ) -> Result<Next, UnitFault>
+    requires { IsSome (goes behind (shape_of innermost ∷ shapes_of stack.old) (class (Kind.Sign sign))) }
     ensures leads { IfOk result (λ later. (known : List (ℕ × ℕ)) (t : Token) → t.kind ≡ Kind.Sign sign → Leads known types.old types.new (Next.After ty) (innermost ∷ stack.old) t later stack.new) }
     ensures refuses { IfErr result (IsFault (λ rule line. (known : List (ℕ × ℕ)) (t : Token) → t.kind ≡ Kind.Sign sign → Refuses known types.old (Next.After ty) (innermost ∷ stack.old) t rule line)) }
 {
     match innermost {
-        Open::Sequence(sequence) => close_sequence(sign, ty, sequence, types),
+        Open::Sequence(sequence) => close_sequence(ty, sequence, types),
         Open::Members(members) => end_group(sign, ty, members, stack, types),
     }
 }
 
-fn close_sequence(
-    sign: Sign,
-    ty: u32,
-    sequence: Sequence,
-    types: &mut Types,
-) -> Result<Next, UnitFault>
-    ensures leads { IfOk result (λ later. (known : List (ℕ × ℕ)) (os : List Open) (t : Token) → t.kind ≡ Kind.Sign sign → Leads known types.old types.new (Next.After ty) (Open.Sequence sequence ∷ os) t later os) }
-    ensures refuses { IfErr result (IsFault (λ rule line. (known : List (ℕ × ℕ)) (os : List Open) (t : Token) → t.kind ≡ Kind.Sign sign → Refuses known types.old (Next.After ty) (Open.Sequence sequence ∷ os) t rule line)) }
+fn close_sequence(ty: u32, sequence: Sequence, types: &mut Types) -> Result<Next, UnitFault>
+    ensures leads { IfOk result (λ later. (known : List (ℕ × ℕ)) (os : List Open) (t : Token) → t.kind ≡ Kind.Sign Sign.SCloseBracket → Leads known types.old types.new (Next.After ty) (Open.Sequence sequence ∷ os) t later os) }
+    ensures refuses { IfErr result (IsFault (λ rule line. (known : List (ℕ × ℕ)) (os : List Open) (t : Token) → t.kind ≡ Kind.Sign Sign.SCloseBracket → Refuses known types.old (Next.After ty) (Open.Sequence sequence ∷ os) t rule line)) }
 {
-    match sign {
-        Sign::SCloseBracket => made(sequence_form(sequence.is_stream, ty), sequence.line, types),
-        _ => Err(UnitFault::NoMemory),
-    }
+    made(sequence_form(sequence.is_stream, ty), sequence.line, types)
 }
 
 fn sequence_form(is_stream: bool, ty: u32) -> Form
@@ -324,6 +340,7 @@ fn end_group(
     stack: &mut Back<Open>,
     types: &mut Types,
 ) -> Result<Next, UnitFault>
+    requires { IsSome (goes behind (within members.is_union ∷ shapes_of stack.old) (class (Kind.Sign sign))) }
     ensures leads { IfOk result (λ later. (known : List (ℕ × ℕ)) (t : Token) → t.kind ≡ Kind.Sign sign → Leads known types.old types.new (Next.After ty) (Open.Members members ∷ stack.old) t later stack.new) }
     ensures refuses { IfErr result (IsFault (λ rule line. (known : List (ℕ × ℕ)) (t : Token) → t.kind ≡ Kind.Sign sign → Refuses known types.old (Next.After ty) (Open.Members members ∷ stack.old) t rule line)) }
 {
@@ -331,7 +348,7 @@ fn end_group(
     match sign {
         Sign::SSemicolon => keep_open(grouped, stack),
         Sign::SCloseBracket => close_members(grouped, types),
-        _ => Err(UnitFault::NoMemory),
+        _ => unreachable!(),
     }
 }
 
@@ -387,12 +404,13 @@ fn after_semicolon(
     stack: &mut Back<Open>,
     types: &mut Types,
 ) -> Result<Next, UnitFault>
+    requires { IsSome (goes behind_semicolon (shapes_of stack.old) (class token.now.kind)) }
     ensures leads { IfOk result (λ later. (known : List (ℕ × ℕ)) → Leads known types.old types.new Next.AfterSemicolon stack.old token.now later stack.new) }
     ensures refuses { IfErr result (IsFault (λ rule line. (known : List (ℕ × ℕ)) → Refuses known types.old Next.AfterSemicolon stack.old token.now rule line)) }
 {
-    match sign_of(token) {
-        Some(Sign::SCloseBracket) => {
-            let members = innermost(stack)?;
+    match &token.kind {
+        Kind::Sign(_) => {
+            let members = innermost(stack);
             close_members(members, types)
         }
         _ => add_name(token, stack),
@@ -434,14 +452,5 @@ fn made(form: Form, line: u32, types: &mut Types) -> Result<Next, UnitFault>
     match number(types, form)? {
         Some(ty) => Ok(Next::After(ty)),
         None => Err(UnitFault::DeepType(line)),
-    }
-}
-
-fn sign_of(token: &Token) -> Option<Sign>
-    ensures { IfSome result (λ s. token.now.kind ≡ Kind.Sign s) }
-{
-    match &token.kind {
-        Kind::Sign(sign) => Some(*sign),
-        _ => None,
     }
 }

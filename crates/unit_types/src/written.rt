@@ -1,18 +1,20 @@
 //! Written types.
-ghost use Rattle.std.specs.Prelude.{◌≡◌, ◌-◌, ◌<◌, ◌≤◌, ℕ, List, [], length, drop, slice_range, IfErr, IfOk, OnOk, true};
+ghost use Rattle.std.specs.Prelude.{◌≡◌, ◌-◌, ◌<◌, ◌≤◌, ℕ, List, [], length, drop, slice_range, Some, IfErr, IfOk, OnOk};
 ghost use Rattle.flow_value.specs.declared.ty.Ty.{Ty};
 ghost use Rattle.type_table.specs.Tables.{IsTable};
 ghost use Rattle.sisal_grammar.specs.Placed.{placed};
 ghost use Rattle.typed_tree.specs.Types.{IsNumber};
 ghost use Rattle.type_table.specs.declared.form.Form.{Form};
 ghost use Rattle.typed_tree.specs.Written.{Denotes, Misnames};
+ghost use Rattle.text_trees.specs.Spelled.{IsType};
 ghost use Rattle.type_rules.specs.Faults.{IsRule};
 ghost use Rattle.unit_types.specs.Faults.{IsUnitRule, IsFault};
+ghost use Rattle.unit_types.specs.Accepting.{Accepts, a_type, behind, kinds_of, place_of};
 ghost use Rattle.unit_types.specs.Reached.{Reads, ReadsFault};
 ghost use Rattle.unit_types.specs.Rests.{AreKnown, AreTokensSpelled, IsLater, IsUsed};
 
 use crate::fault::{UnitFault, numbered};
-use crate::open::{Next, Open};
+use crate::open::Next;
 use crate::step::step;
 use crate::type_names::TypeNames;
 use sisal_grammar::Back;
@@ -24,8 +26,7 @@ use type_table::Types;
 
 /// The type that a written type denotes, by number, where the first `known` type definitions are
 /// known (SISAL Language Reference Manual 1.2, types): rule 2 where a name is not known, 3 at a
-/// real type, 4 at one deeper than 64, 5 where a member stands twice. Tokens that are no type, which
-/// no text has, are refused as want of memory.
+/// real type, 4 at one deeper than 64, 5 where a member stands twice.
 pub fn denoted(
     alloc: Global,
     tokens: &[Token],
@@ -34,6 +35,7 @@ pub fn denoted(
     known: usize,
     types: &mut Types,
 ) -> Result<u32, TypeFault>
+    requires { IsType tokens.now written }
     // The table grows, and each of its numbers stands for a type if it did before.
     ensures used { OnOk result (IsUsed tokens.now types.old types.new) }
     ensures there { IfOk result (λ k. k < length types.new) }
@@ -63,6 +65,7 @@ pub fn type_of(
     known: usize,
     types: &mut Types,
 ) -> Result<u32, UnitFault>
+    requires { IsType tokens.now written }
     // The table grows, and each of its numbers stands for a type if it did before.
     ensures used { OnOk result (IsUsed tokens.now types.old types.new) }
     ensures there { IfOk result (λ k. k < length types.new) }
@@ -78,9 +81,6 @@ pub fn type_of(
 {
     let from = written.from as usize;
     let to = written.to as usize;
-    if from > to || to > tokens.len() {
-        return Err(UnitFault::NoMemory);
-    }
     read(alloc, &tokens[from..to], named, known, types)
 }
 
@@ -92,6 +92,7 @@ fn read(
     known: usize,
     types: &mut Types,
 ) -> Result<u32, UnitFault>
+    requires { Accepts (Some (a_type, [])) (kinds_of tokens.now) }
     ensures reads { IfOk result (λ k. Reads (drop (length named.now - known) named.now) types.old types.new tokens.now k) }
     ensures table { OnOk result (IsTable types.new) }
     ensures fault { IfErr result (IsFault (ReadsFault (drop (length named.now - known) named.now) types.old tokens.now)) }
@@ -103,30 +104,16 @@ fn read(
         next = step(alloc, token, next, &mut stack, named, known, types)?;
     }
     types.holds();
-    whole(next, stack, types)
+    Ok(number_of(next))
 }
 
-/// The type that was read, where nothing is open.
-fn whole(next: Next, stack: Back<Open>, types: &Types) -> Result<u32, UnitFault>
-    ensures next { IfOk result (λ k. next ≡ Next.After k) }
-    ensures closed { OnOk result (stack ≡ []) }
-    ensures there { IfOk result (λ k. k < length types.now) }
-    ensures memory { IfErr result (λ e. e ≡ UnitFault.NoMemory) }
+/// The type that was read.
+fn number_of(next: Next) -> u32
+    requires { place_of next ≡ behind }
+    ensures { next ≡ Next.After result }
 {
     match next {
-        Next::After(ty) if (ty as usize) < types.len() => {
-            if is_empty(stack) {
-                Ok(ty)
-            } else {
-                Err(UnitFault::NoMemory)
-            }
-        }
-        _ => Err(UnitFault::NoMemory),
+        Next::After(ty) => ty,
+        _ => unreachable!(),
     }
-}
-
-fn is_empty(mut stack: Back<Open>) -> bool
-    ensures { result ≡ true → stack ≡ [] }
-{
-    stack.pop().is_none()
 }

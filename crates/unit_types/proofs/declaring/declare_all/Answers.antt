@@ -1,5 +1,6 @@
-use Rattle.std.proofs.Common.{◌≡◌, ◌++◌, ◌∙◌, ◌+◌, ◌∷◌, [], map, sym, ap, subst, drop, arith}
-use Rattle.unit_types.specs.Headings.{heading_of, heading_in, has_body, given_functions, numbering, AreOwn}
+use Rattle.std.proofs.Common.{◌≡◌, ◌++◌, ◌∙◌, ◌+◌, ◌∷◌, [], map, length, sym, ap, subst, drop, arith}
+use Rattle.unit_types.specs.Headings.{heading_of, heading_in, has_body, given_functions, numbering, AreOwn, HaveResults}
+use Rattle.text_trees.specs.Spelled.{IsItem}
 use Rattle.unit_types.proofs.Lists.{cut_at, drop_all}
 use Rattle.unit_types.proofs.Given.{more_given, given_none, given_after}
 use Rattle.unit_types.proofs.Declares.{declares_first, declares_all}
@@ -18,10 +19,14 @@ loop-item-init c =
       numbers = e.numbers ∙ ap (λ l. numbering 0 [] (map (λ s. s.name) l)) (sym e.functions);
       declares = λ u is h. declares_first u items c.args.tokens.now is h c.in_ok-declaring.declaring.types c.in_ok-declaring.declaring.named c.in_ok-declaring.declaring.functions c.in_ok-declaring.declaring.announced
           e.types e.named e.functions e.announced;
+      results = subst HaveResults (sym e.functions) (λ k d within. absurd (omega (arith, within)));
       given = given_none items c.in_ok-declaring.declaring.functions e.functions;
       own = subst (λ l. AreOwn c.args.spellings.now (map (λ s. s.name) l)) (sym e.functions) (record { distinct = tt; own = tt });
       names = λ sp h. named_first c.args.tokens.now items c.in_ok-declaring.declaring.types c.in_ok-declaring.declaring.named e.types e.named sp;
     }
+
+pub declare_item-requires : goal.declare_item-requires
+declare_item-requires c = subst (IsItem c.args.tokens.now (length c.args.spellings.now)) (sym c.item-item.is) (c.requires c.loop-item.item-index c.item-item.result c.loop-item-test.true)
 
 pub loop-item-preserved : goal.loop-item-preserved
 loop-item-preserved c =
@@ -36,6 +41,7 @@ loop-item-preserved c =
           here c.in_ok-declare_item.ensures.bodies c.loop-item.invariant.bodies;
       numbers = c.in_ok-declare_item.ensures.numbers c.loop-item.invariant.numbers;
       declares = λ u is h. c.in_ok-declare_item.ensures.declares u items i is h here (c.loop-item.invariant.declares u is h);
+      results = c.in_ok-declare_item.ensures.results c.loop-item.invariant.results;
       given = given_after items i x c.loop-item.declaring.functions c.declare_item.new.declaring.functions here c.in_ok-declare_item.ensures.functions c.loop-item.invariant.given;
       own = c.in_ok-declare_item.ensures.own c.loop-item.invariant.numbers c.loop-item.invariant.own;
       names = named_more c.args.tokens.now items i x c.loop-item.declaring.types c.declare_item.new.declaring.types c.loop-item.declaring.named c.declare_item.new.declaring.named

@@ -1,4 +1,7 @@
-use Rattle.std.proofs.Common.{refl, ap}
+use Rattle.std.proofs.Common.{refl, ap, sym, subst, arith}
+use Rattle.std.proofs.lemmas.Result.{on_ok_weaker}
+use Rattle.unit_types.specs.Headings.{HaveResults}
+use Rattle.unit_types.proofs.Given.{results_more}
 use Rattle.unit_types.proofs.Lists.{on_ok_from, both_ok}
 use Rattle.unit_types.proofs.Naming.{names_function, named_as}
 use Rattle.unit_types.proofs.Declares.{declares_function, declaring_as}
@@ -18,6 +21,13 @@ returns-clause-declares c = both_ok c.declare_signature.result
     c.args.declaring.now.functions c.declare_signature.new.declaring.functions c.args.declaring.now.announced c.declare_signature.new.declaring.announced c.in_ok-signature.signature e c.in_ok-signature.ensures.used
     (λ types names. c.in_ok-signature.ensures.says u types is h names) (ap (λ x. x.line) c.in_ok-signature.ensures.heading) c.in_ok-signature.ensures.known adds announces r))
     c.declare_signature.ensures.functions c.declare_signature.ensures.announced
+
+pub returns-clause-results : goal.returns-clause-results
+returns-clause-results c = λ h.
+    let some = c.requires.some in
+    let many = c.in_ok-signature.ensures.many in
+    on_ok_weaker c.declare_signature.result
+    (λ e. subst HaveResults (sym e) (results_more c.args.function.now.kind c.in_ok-signature.signature c.args.declaring.now.functions (omega (arith, some, many)) h)) c.declare_signature.ensures.functions
 
 pub returns-in_err-signature-clause-breaks : goal.returns-in_err-signature-clause-breaks
 returns-in_err-signature-clause-breaks c = λ count.

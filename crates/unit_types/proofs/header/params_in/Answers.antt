@@ -1,4 +1,5 @@
 use Rattle.std.proofs.Common.{◌-◌, ◌+◌, ◌++◌, ◌∙◌, ap, map, sym, subst, drop, length, arith}
+use Rattle.text_trees.specs.Spelled.{IsType}
 use Rattle.unit_types.specs.Headers.{AreParamsTo}
 use Rattle.unit_types.proofs.Lists.{cut_at, drop_all}
 use Rattle.unit_types.proofs.Reading.{unused, used_again, denoted_here}
@@ -13,6 +14,9 @@ loop-field-init c = record {
   are = λ u types is h n. subst (AreParamsTo u types c.args.types.now c.args.fields.now 0) (sym c.new-params.ensures)
       (params_first u types c.args.tokens.now is h (drop (length c.args.named.now - c.args.known) c.args.named.now) c.args.fields.now c.args.types.now);
 }
+
+pub type_of-requires : goal.type_of-requires
+type_of-requires c = subst (λ f. IsType c.args.tokens.now f.ty) (sym c.field-item.is) (c.requires c.loop-field.field-index c.field-item.result c.loop-field-test.true)
 
 pub loop-field-preserved : goal.loop-field-preserved
 loop-field-preserved c =

@@ -1,4 +1,5 @@
-use Rattle.std.proofs.Common.{◌-◌, ◌+◌, sym, subst, drop, length, get_or, arith}
+use Rattle.std.proofs.Common.{◌-◌, ◌+◌, ◌∙◌, ◌∷◌, [], ap, sym, subst, drop, length, get_or, arith}
+use Rattle.std.proofs.lemmas.List.{length-append}
 use Rattle.std.proofs.lemmas.List.Elements.{Contains-get_or}
 use Rattle.unit_types.specs.Headers.{AreResultsTo}
 use Rattle.unit_types.proofs.Lists.{cut, drop_all}
@@ -10,10 +11,17 @@ use Rattle.unit_types.proofs.header.results_in.Goals as goal
 
 pub loop-ty-init : goal.loop-ty-init
 loop-ty-init c = record {
+  many = omega arith;
   used = unused c.args.tokens.now c.args.types.now;
   are = λ u types is h n. subst (AreResultsTo u types c.args.types.now c.args.written.now 0) (sym c.new-results.ensures)
       (results_first u types c.args.tokens.now is h (drop (length c.args.named.now - c.args.known) c.args.named.now) c.args.written.now c.args.types.now);
 }
+
+pub type_of-requires : goal.type_of-requires
+type_of-requires c = c.requires c.loop-ty.ty-index (record { from = 0; to = 0 }) c.loop-ty-test.true
+
+pub returns-clause-many : goal.returns-clause-many
+returns-clause-many c = let many = c.loop-ty.invariant.many in omega (arith, many)
 
 pub loop-ty-preserved : goal.loop-ty-preserved
 loop-ty-preserved c =
@@ -21,7 +29,10 @@ loop-ty-preserved c =
     let written = c.args.written.now in
     let denotes = denoted_here (drop (length c.args.named.now - c.args.known) c.args.named.now) c.loop-ty.types c.type_of.new.types c.args.tokens.now (get_or written i (record { from = 0; to = 0 })).from (get_or written i (record { from = 0; to = 0 })).to c.in_ok-number.number
     c.in_ok-number.ensures.used c.in_ok-number.ensures.there c.in_ok-number.ensures.table c.in_ok-number.ensures.denotes in
+    let more = ap length c.in_ok-add.ensures.ok ∙ length-append c.loop-ty.results (c.in_ok-number.number ∷ []) in
+    let many = c.loop-ty.invariant.many in
     record {
+      many = omega (arith, more, many);
       used = used_again c.args.tokens.now c.args.types.now c.loop-ty.types c.type_of.new.types c.loop-ty.invariant.used c.in_ok-number.ensures.used;
       are = λ u types is h n.
           subst (AreResultsTo u types c.type_of.new.types written (i + 1)) (sym c.in_ok-add.ensures.ok)

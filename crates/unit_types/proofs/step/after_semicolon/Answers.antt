@@ -1,23 +1,24 @@
-use Rattle.std.proofs.Common.{ap, refl, ◌∙◌}
-use Rattle.sisal_lex.specs.declared.token.Kind.TheVariants as kind
+use Rattle.std.proofs.Common.{refl}
+use Rattle.unit_types.specs.Accepting.{shapes_of}
 use Rattle.unit_types.proofs.Lists.{if_ok_weaker}
 use Rattle.unit_types.proofs.Faults.{faults_weaker, no_faults}
+use Rattle.unit_types.proofs.Accepting.{bracket_closes}
 use Rattle.unit_types.proofs.Steps.{closes_members, leads_as}
 use Rattle.unit_types.proofs.Refusals.{refuses_members, refuses_at}
 use Rattle.unit_types.proofs.step.after_semicolon.Goals as goal
 
-pub returns-in_ok-members-in-Some-SCloseBracket-clause-leads : goal.returns-in_ok-members-in-Some-SCloseBracket-clause-leads
-returns-in_ok-members-in-Some-SCloseBracket-clause-leads c = if_ok_weaker c.close_members.result
-    (λ later m known. leads_as m.is refl c.in_ok-members-in-Some-SCloseBracket.ensures
-    (closes_members known c.args.types.now c.close_members.new.types c.in_ok-members-in-Some-SCloseBracket.members c.innermost.new.stack c.args.token.now m.number
-    (c.in-Some-SCloseBracket.ensures ∙ ap kind.Sign c.in-Some-SCloseBracket.field-0-is) c.close_members.ensures.distinct m.there m.adds m.over))
+pub returns-in-Sign-clause-leads : goal.returns-in-Sign-clause-leads
+returns-in-Sign-clause-leads c = if_ok_weaker c.close_members.result
+    (λ later m known. leads_as m.is refl c.innermost-members.ensures
+    (closes_members known c.args.types.now c.close_members.new.types c.innermost-members.result c.innermost-members.new.stack c.args.token.now m.number
+    (bracket_closes (shapes_of c.args.stack.now) c.args.token.now.kind c.in-Sign.field-0 c.in-Sign.is c.requires) c.close_members.ensures.distinct m.there m.adds m.over))
     c.close_members.ensures.made
 
-pub returns-in_ok-members-in-Some-SCloseBracket-clause-refuses : goal.returns-in_ok-members-in-Some-SCloseBracket-clause-refuses
-returns-in_ok-members-in-Some-SCloseBracket-clause-refuses c = faults_weaker c.close_members.result
-    (λ rule line d known. refuses_at refl c.in_ok-members-in-Some-SCloseBracket.ensures
-    (refuses_members known c.args.types.now c.in_ok-members-in-Some-SCloseBracket.members c.innermost.new.stack c.args.token.now rule line
-    (c.in-Some-SCloseBracket.ensures ∙ ap kind.Sign c.in-Some-SCloseBracket.field-0-is) d))
+pub returns-in-Sign-clause-refuses : goal.returns-in-Sign-clause-refuses
+returns-in-Sign-clause-refuses c = faults_weaker c.close_members.result
+    (λ rule line d known. refuses_at refl c.innermost-members.ensures
+    (refuses_members known c.args.types.now c.innermost-members.result c.innermost-members.new.stack c.args.token.now rule line
+    (bracket_closes (shapes_of c.args.stack.now) c.args.token.now.kind c.in-Sign.field-0 c.in-Sign.is c.requires) d))
     c.close_members.ensures.deep
 
 pub returns-in_default-clause-leads : goal.returns-in_default-clause-leads

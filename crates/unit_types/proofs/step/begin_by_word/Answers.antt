@@ -7,12 +7,12 @@ use Rattle.unit_types.proofs.Steps.{begins}
 use Rattle.unit_types.proofs.Refusals.{refuses_real}
 use Rattle.unit_types.proofs.step.begin_by_word.Goals as goal
 
-pub returns-in-Some-clause-leads : goal.returns-in-Some-clause-leads
-returns-in-Some-clause-leads c = if_ok_weaker c.begin_by.result
-    (λ later e known forms os t w q. begins known forms os t c.in-Some.first later (w ∙ ap kind.Word c.in-Some.ensures) (ap (begun c.in-Some.first) q ∙ e))
+pub returns-clause-leads : goal.returns-clause-leads
+returns-clause-leads c = if_ok_weaker c.begin_by.result
+    (λ later e known forms os t w q. begins known forms os t c.first_of.result later (w ∙ ap kind.Word c.first_of.ensures) (ap (begun c.first_of.result) q ∙ e))
     c.begin_by.ensures.begun
 
-pub returns-in-Some-clause-refuses : goal.returns-in-Some-clause-refuses
-returns-in-Some-clause-refuses c = faults_weaker c.begin_by.result
-    (λ rule l r known forms os t w q. refuses_real known forms os t c.in-Some.first c.args.line rule l (w ∙ ap kind.Word c.in-Some.ensures) q r)
+pub returns-clause-refuses : goal.returns-clause-refuses
+returns-clause-refuses c = faults_weaker c.begin_by.result
+    (λ rule l r known forms os t w q. refuses_real known forms os t c.first_of.result c.args.line rule l (w ∙ ap kind.Word c.first_of.ensures) q r)
     c.begin_by.ensures.real

@@ -1,5 +1,4 @@
-use Rattle.std.proofs.Common.{ap, refl, ◌∙◌, subst}
-use Rattle.sisal_lex.specs.declared.token.Kind.TheVariants as kind
+use Rattle.std.proofs.Common.{refl, subst}
 use Rattle.unit_types.specs.Faults.{IsDeep}
 use Rattle.unit_types.specs.Rests.{IsMade, sequence_form}
 use Rattle.unit_types.proofs.Lists.{if_ok_weaker}
@@ -8,18 +7,18 @@ use Rattle.unit_types.proofs.Steps.{closes_sequence, leads_as}
 use Rattle.unit_types.proofs.Refusals.{refuses_sequence}
 use Rattle.unit_types.proofs.step.close_sequence.Goals as goal
 
-pub returns-in-SCloseBracket-clause-leads : goal.returns-in-SCloseBracket-clause-leads
-returns-in-SCloseBracket-clause-leads c = if_ok_weaker c.made.result
+pub returns-clause-leads : goal.returns-clause-leads
+returns-clause-leads c = if_ok_weaker c.made.result
     (λ later made known os t w.
     let m : IsMade c.args.types.now c.made.new.types (sequence_form c.args.sequence.is_stream c.args.ty) later
     = subst (λ f. IsMade c.args.types.now c.made.new.types f later) c.sequence_form.ensures made in
-    leads_as m.is refl refl (closes_sequence known c.args.types.now c.made.new.types c.args.sequence os t c.args.ty m.number (w ∙ ap kind.Sign c.in-SCloseBracket.is) m.there m.adds m.over))
+    leads_as m.is refl refl (closes_sequence known c.args.types.now c.made.new.types c.args.sequence os t c.args.ty m.number (w) m.there m.adds m.over))
     c.made.ensures.made
 
-pub returns-in-SCloseBracket-clause-refuses : goal.returns-in-SCloseBracket-clause-refuses
-returns-in-SCloseBracket-clause-refuses c = faults_weaker c.made.result
+pub returns-clause-refuses : goal.returns-clause-refuses
+returns-clause-refuses c = faults_weaker c.made.result
     (λ rule line d known os t w.
     let deep : IsDeep c.args.types.now (sequence_form c.args.sequence.is_stream c.args.ty) c.args.sequence.line rule line
     = subst (λ f. IsDeep c.args.types.now f c.args.sequence.line rule line) c.sequence_form.ensures d in
-    refuses_sequence known c.args.types.now c.args.sequence os t c.args.ty rule line (w ∙ ap kind.Sign c.in-SCloseBracket.is) deep)
+    refuses_sequence known c.args.types.now c.args.sequence os t c.args.ty rule line (w) deep)
     c.made.ensures.deep

@@ -5,8 +5,8 @@ use Rattle.unit_types.proofs.Steps.{leads_as}
 use Rattle.unit_types.proofs.Refusals.{refuses_at}
 use Rattle.unit_types.proofs.step.end_type.Goals as goal
 
-pub returns-in-Some-clause-leads : goal.returns-in-Some-clause-leads
-returns-in-Some-clause-leads c = if_ok_weaker c.end_type_in.result (λ later f known t w. leads_as refl refl c.in-Some.ensures (f known t w)) c.end_type_in.ensures.leads
+pub returns-clause-leads : goal.returns-clause-leads
+returns-clause-leads c = if_ok_weaker c.end_type_in.result (λ later f known t w. leads_as refl refl c.in-Some.ensures (f known t w)) c.end_type_in.ensures.leads
 
-pub returns-in-Some-clause-refuses : goal.returns-in-Some-clause-refuses
-returns-in-Some-clause-refuses c = faults_weaker c.end_type_in.result (λ rule line f known t w. refuses_at refl c.in-Some.ensures (f known t w)) c.end_type_in.ensures.refuses
+pub returns-clause-refuses : goal.returns-clause-refuses
+returns-clause-refuses c = faults_weaker c.end_type_in.result (λ rule line f known t w. refuses_at refl c.in-Some.ensures (f known t w)) c.end_type_in.ensures.refuses

@@ -1,19 +1,22 @@
 use Rattle.std.proofs.Common.{refl, drop, length, ◌-◌}
 use Rattle.unit_types.proofs.Lists.{if_ok_weaker}
 use Rattle.unit_types.proofs.Faults.{faults_weaker, no_faults}
+use Rattle.unit_types.specs.Accepting.{shapes_of}
+use Rattle.unit_types.proofs.Accepting.{bracket_opens}
 use Rattle.unit_types.proofs.Steps.{leads_from}
 use Rattle.unit_types.proofs.Refusals.{refuses_at}
 use Rattle.unit_types.proofs.step.step.Goals as goal
 
 pub returns-in-Type-clause-leads : goal.returns-in-Type-clause-leads
-returns-in-Type-clause-leads c = if_ok_weaker c.begin.result (λ later f. leads_from c.in-Type.is (f c.args.types.now c.args.stack.now)) c.begin.ensures.leads
+returns-in-Type-clause-leads c = if_ok_weaker c.begin.result (λ later f. leads_from c.in-Type.is (f c.args.stack.now)) c.begin.ensures.leads
 
 pub returns-in-Type-clause-refuses : goal.returns-in-Type-clause-refuses
-returns-in-Type-clause-refuses c = faults_weaker c.begin.result (λ rule line f. refuses_at c.in-Type.is refl (f c.args.types.now c.args.stack.now)) c.begin.ensures.refuses
+returns-in-Type-clause-refuses c = faults_weaker c.begin.result (λ rule line f. refuses_at c.in-Type.is refl (f c.args.stack.now)) c.begin.ensures.refuses
 
 pub returns-in-Bracket-clause-leads : goal.returns-in-Bracket-clause-leads
 returns-in-Bracket-clause-leads c = if_ok_weaker c.enter.result
-    (λ later f. leads_from c.in-Bracket.is (f (drop (length c.args.named.now - c.args.known) c.args.named.now) c.args.types.now)) c.enter.ensures.leads
+    (λ later f. leads_from c.in-Bracket.is (f (drop (length c.args.named.now - c.args.known) c.args.named.now) c.args.types.now c.args.token.now
+    (bracket_opens c.args.next c.in-Bracket.opener c.in-Bracket.line (shapes_of c.args.stack.now) c.args.token.now.kind c.in-Bracket.is c.requires))) c.enter.ensures.leads
 
 pub returns-in-Bracket-clause-refuses : goal.returns-in-Bracket-clause-refuses
 returns-in-Bracket-clause-refuses c = no_faults _ c.enter.result c.enter.ensures.memory
