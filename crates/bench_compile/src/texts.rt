@@ -3,12 +3,13 @@ ghost use Rattle.std.specs.Prelude.{◌≡◌, ◌≤◌, ◌<◌, ℕ, List, Ok
 ghost use Rattle.lowering_meaning.specs.Coverage.{AreCovered};
 ghost use Rattle.lowered_rules.specs.Laws.{rule_forms};
 ghost use Rattle.lowered_units.specs.Fitting.{IsFitting};
+ghost use Rattle.sisal_check.specs.Texts.{IsText};
 ghost use Rattle.sisal_lex.specs.Tokens.{tokens_of};
 ghost use Rattle.sisal_top.specs.Program.{IsUnitOf};
 
 use crate::MOST_BYTES;
 use fitting_texts::programs_of_texts_fit;
-use sisal_check::check;
+use sisal_check::{check, units_of_texts_are_texts};
 use sisal_lex::{Tokens, lex};
 use sisal_parse::parse;
 use sisal_tree::Unit;
@@ -40,6 +41,7 @@ fn unit_of(alloc: Global, text: &[u8]) -> Option<Unit>
 
 /// The program of a unit, if it breaks no typing rule.
 fn program_of(alloc: Global, unit: Unit) -> Option<Program>
+    requires { IsText unit }
     ensures fits { IfSome result (λ program. (bytes : List ℕ) → IsUnitOf bytes unit → IsFitting program) }
     ensures covered { IfSome result (λ program. (bytes : List ℕ) → IsUnitOf bytes unit → AreCovered rule_forms program.functions) }
 {
@@ -59,6 +61,7 @@ pub fn typed(alloc: Global, text: &[u8]) -> Option<Program>
     if text.len() > MOST_BYTES {
         return None;
     }
+    units_of_texts_are_texts();
     match unit_of(alloc, text) {
         Some(unit) => program_of(alloc, unit),
         None => None,

@@ -1,9 +1,10 @@
 //! What a text is as SISAL and as IF1.
-ghost use Rattle.std.specs.Prelude.{◌<◌, ◌^◌, length};
+ghost use Rattle.sisal_check.specs.Texts.{IsText};
+ghost use Rattle.std.specs.Prelude.{◌<◌, ◌^◌, IfSome, length};
 
 use crate::MOST_BYTES;
 use if1_call::canonical_text;
-use sisal_check::check;
+use sisal_check::{check, units_of_texts_are_texts};
 use sisal_lex::lex;
 use sisal_parse::parse;
 use sisal_tree::Unit;
@@ -11,10 +12,13 @@ use std::alloc::Global;
 use type_rules::TypeFault;
 
 /// The unit that a text is, if it is one.
-fn unit_of(alloc: Global, text: &[u8]) -> Option<Unit> {
+fn unit_of(alloc: Global, text: &[u8]) -> Option<Unit>
+    ensures { IfSome result IsText }
+{
     if text.len() > MOST_BYTES {
         return None;
     }
+    units_of_texts_are_texts();
     let tokens = lex(alloc, text).ok()?;
     parse(alloc, tokens).ok()
 }

@@ -21,7 +21,7 @@ use Rattle.sisal_top.specs.Status.{of_refusal}
 use Rattle.sisal_top.specs.declared.status.Status.{Status}
 use Rattle.sisal_top.specs.declared.status.Status.TheVariants as status
 use Rattle.sisal_top.specs.declared.status.SyntaxFault.{SyntaxFault}
-use Rattle.sisal_top.proofs.Lexed.{tokens_once}
+use Rattle.sisal_check.proofs.Lexed.{tokens_once}
 use Rattle.one_answer.specs.Alike.{same, rules, AreOne}
 use Rattle.one_answer.specs.Laws.{AreGraphsOnce, IsRunOnce}
 use Rattle.one_answer.proofs.Graphs.{within_either}

@@ -1,11 +1,10 @@
 -- Faults that name a rule; the forms of expressions, from what the walk reads of them.
-use Rattle.std.proofs.Common.{◌≡◌, ℕ, ◌≤◌, ◌<◌, Bool, true, false, not, Bor, List, [], ◌∷◌, drop, length, Option, Some, None, Result, Ok, Err, IfErr, IsErrAnd, is_some, slice_get, refl, sym, ap, subst, ◌∙◌}
+use Rattle.std.proofs.Common.{◌≡◌, ℕ, ◌≤◌, Bool, true, false, not, List, [], ◌∷◌, drop, length, Option, Some, None, Result, Ok, Err, IfErr, IsErrAnd, is_some, slice_get, refl, sym, ap, subst, ◌∙◌}
 use Rattle.std.specs.Prelude.{IfNone}
-use Rattle.std.specs.Option.{option_copied}
 use Rattle.std.specs.Str.{bytes_eq}
 use Rattle.std.proofs.lemmas.Slice.Eq.{bytes_eq-Decides}
 use Rattle.std.proofs.lemmas.List.{append-nil, drop_all}
-use Rattle.std.proofs.lemmas.Option.{same_Some, slice_get_within}
+use Rattle.std.proofs.lemmas.Option.{same_Some}
 use Rattle.sisal_lex.specs.Words.{beside}
 use Rattle.type_table.specs.declared.form.Form.{Form}
 use Rattle.type_table.specs.Tables.{IsTable}
@@ -71,10 +70,6 @@ differ xs ys e same = true_not (bytes_eq xs ys) ((bytes_eq-Decides xs ys).1 same
 
 pub alike : (xs ys : List ℕ) → false ≡ not (bytes_eq xs ys) → xs ≡ ys
 alike xs ys e = (bytes_eq-Decides xs ys).0 (false_not (bytes_eq xs ys) e)
-
-pub is_within : {X : Type 0} (xs : List X) (k : ℕ) (r : Option (Bor X)) → option_copied r ≡ slice_get xs k → is_some r ≡ true → k < length xs
-is_within xs k None e there = absurd cc
-is_within xs k (Some x) e there = slice_get_within xs k x.now (sym e)
 
 no_params : (xs : List ℕ) (s : Names) → define_params xs [] s ≡ s
 no_params [] s = refl

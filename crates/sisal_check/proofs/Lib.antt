@@ -1,4 +1,5 @@
 mod Depths
+mod Items
 mod Whole
 pub mod Forms
 pub mod Functions
@@ -8,3 +9,4 @@ pub mod Parts
 pub mod Looped
 mod Tops
 pub mod Members
+pub mod Lexed

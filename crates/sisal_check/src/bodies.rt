@@ -2,16 +2,17 @@
 ghost use Rattle.breaking_laws.specs.FormLaws.{BrokenBody};
 ghost use Rattle.breaking_laws.specs.Refusals.{Never};
 ghost use Rattle.sisal_check.specs.Headed.{HaveFirst, is_defined};
-ghost use Rattle.sisal_check.specs.Walked.{AreBodies, IsBody, IsBrokenAmong, IsBrokenAt, given_behind, given_of, header_of};
+ghost use Rattle.sisal_check.specs.Walked.{AreBodies, IsBody as HasBody, IsBrokenAmong, IsBrokenAt, given_behind, given_of, header_of};
 ghost use Rattle.sisal_tree.specs.declared.unit.FunDef.{FunDef};
 ghost use Rattle.sisal_tree.specs.declared.unit.FunKind.{FunKind as Kind};
-ghost use Rattle.std.specs.Prelude.{IfErr, IfOk, List, OnOk, Some, [], is_some, length, map, slice_get, ◌+◌, ◌++◌, ◌∷◌, ◌≡◌, ◌≤◌};
+ghost use Rattle.std.specs.Prelude.{All, IfErr, IfOk, List, OnOk, Some, [], is_some, length, map, slice_get, ◌++◌, ◌+◌, ◌∷◌, ◌≡◌, ◌≤◌};
 ghost use Rattle.type_rules.specs.Faults.{IsRule};
 ghost use Rattle.typed_tree.specs.declared.program.Function.{Function as TypedFunction};
 ghost use Rattle.typing_laws.specs.Bodies.{define_params};
 ghost use Rattle.typing_laws.specs.Judged.{IsUsedIn};
 ghost use Rattle.unit_types.specs.Headings.{given_as, given_by, given_functions, has_body};
 ghost use Rattle.value_names.specs.Scopes.{no_names};
+ghost use Rattle.text_trees.specs.Spelled.{IsBody, IsItem, IsSpelled};
 
 use crate::lists::all;
 use crate::state::{Given, Parts, Walk, header_at};
@@ -28,7 +29,8 @@ pub(crate) fn functions(
     given: &Given<'_>,
     walk: &mut Walk,
 ) -> Result<Seq<Function>, TypeFault>
-    requires { length (given_functions items.now) ≡ length given.now.functions.now }
+    requires spelled { All (IsItem given.now.tokens.now (length given.now.spellings.now)) items.now }
+    requires room { length (given_functions items.now) ≡ length given.now.functions.now }
     ensures heads { IfOk result (λ fs. HaveFirst given.now.functions.now fs) }
     ensures bodies { IfOk result (λ fs. map is_defined fs ≡ map (λ f. has_body f.kind) (given_functions items.now)) }
     ensures used { OnOk result (IsUsedIn (given_of given.now) walk.old.types walk.new.types) }
@@ -50,7 +52,8 @@ fn add_item(
     given: &Given<'_>,
     walk: &mut Walk,
 ) -> Result<(), TypeFault>
-    requires { length all.old + length (given_by item.now) ≤ length given.now.functions.now }
+    requires spelled { IsItem given.now.tokens.now (length given.now.spellings.now) item.now }
+    requires room { length all.old + length (given_by item.now) ≤ length given.now.functions.now }
     ensures heads { HaveFirst given.now.functions.now all.old → OnOk result (HaveFirst given.now.functions.now all.new) }
     ensures bodies { OnOk result (map is_defined all.new ≡ map is_defined all.old ++ map (λ f. has_body f.kind) (given_by item.now)) }
     ensures used { OnOk result (IsUsedIn (given_of given.now) walk.old.types walk.new.types) }
@@ -71,7 +74,8 @@ fn add_function(
     given: &Given<'_>,
     walk: &mut Walk,
 ) -> Result<(), TypeFault>
-    requires { length all.old + length (given_as kind.now kind.now) ≤ length given.now.functions.now }
+    requires spelled { IsBody given.now.tokens.now (length given.now.spellings.now) kind.now }
+    requires room { length all.old + length (given_as kind.now kind.now) ≤ length given.now.functions.now }
     ensures heads { HaveFirst given.now.functions.now all.old → OnOk result (HaveFirst given.now.functions.now all.new) }
     ensures bodies { OnOk result (map is_defined all.new ≡ map is_defined all.old ++ given_as kind.now (has_body kind.now)) }
     ensures used { OnOk result (IsUsedIn (given_of given.now) walk.old.types walk.new.types) }
@@ -124,9 +128,10 @@ fn body(
     given: &Given<'_>,
     walk: &mut Walk,
 ) -> Result<Seq<TypedExpr>, TypeFault>
+    requires spelled { All (IsSpelled given.now.tokens.now (length given.now.spellings.now)) es.now }
     ensures used { OnOk result (IsUsedIn (given_behind header.now.known given.now) walk.old.types walk.new.types) }
     ensures names { OnOk result (walk.new.names ≡ walk.old.names) }
-    ensures typed { walk.old.names ≡ no_names → IfOk result (λ ts. IsBody (given_behind header.now.known given.now) walk.new.types (header_of header.now) es.now ts) }
+    ensures typed { walk.old.names ≡ no_names → IfOk result (λ ts. HasBody (given_behind header.now.known given.now) walk.new.types (header_of header.now) es.now ts) }
     ensures breaks { walk.old.names ≡ no_names → IfErr result (IsRule (λ rule at_line. BrokenBody (given_behind header.now.known given.now) walk.old.types (header_of header.now) header.now.line es.now rule at_line)) }
 {
     let outer = walk.names.mark();

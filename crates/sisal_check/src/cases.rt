@@ -3,13 +3,14 @@ ghost use Rattle.breaking_laws.specs.Broken.{Broken, BrokenIn};
 ghost use Rattle.breaking_laws.specs.Parts.{AddsResults, BrokenArms, Differs, IsNoArm, IsNoUnion};
 ghost use Rattle.breaking_laws.specs.Refusals.{Never};
 ghost use Rattle.sisal_check.specs.Walked.{DiffersIn, arms_of, given_of, parts_of};
-ghost use Rattle.std.specs.Prelude.{IfErr, IfOk, OnOk, [], false, length, true, ◌∷◌, ◌≡◌};
+ghost use Rattle.std.specs.Prelude.{All, IfErr, IfOk, IfSome, IsSomeAnd, OnOk, [], false, length, true, ◌∷◌, ◌≡◌, ◌≤◌};
 ghost use Rattle.type_rules.specs.Arms.{are_all_named};
 ghost use Rattle.type_rules.specs.Faults.{IsRule};
 ghost use Rattle.typed_tree.specs.Typing.{at};
 ghost use Rattle.typing_laws.specs.Casing.{AddsArms, AddsLast, Begins, EntersArm, IsCase, Keeps, Suits, named_by};
 ghost use Rattle.typing_laws.specs.Judged.{IsUsedIn, Typed};
 ghost use Rattle.sisal_tree.specs.declared.expr.ExprKind.TheVariants as tree;
+ghost use Rattle.text_trees.specs.Spelled.{IsArm, IsSpelled, IsTagCase};
 
 use crate::lists::{all, only};
 use crate::state::{Given, Parts, Walk, number_of};
@@ -45,11 +46,13 @@ pub(crate) fn tag_case(
     given: &Given<'_>,
     walk: &mut Walk,
 ) -> Result<TypedExpr, TypeFault>
+    requires spelled { IsTagCase given.now.tokens.now (length given.now.spellings.now) cases.now }
     ensures used { OnOk result (IsUsedIn (given_of given.now) walk.old.types walk.new.types) }
     ensures names { OnOk result (walk.new.names ≡ walk.old.names) }
     ensures typed { IfOk result (λ t. Typed (given_of given.now) walk.new.types walk.old.names (at line (tree.TagCase cases.now)) t) }
     ensures line { IfOk result (λ t. t.line ≡ line) }
     ensures breaks { IfErr result (IsRule (λ rule at_line. Broken (given_of given.now) walk.old.types walk.old.names (at line (tree.TagCase cases.now)) rule at_line)) }
+    ensures some { IfOk result (λ t. 1 ≤ length t.types) }
 {
     let TagCase {
         name,
@@ -103,11 +106,13 @@ fn each_arm(
     given: &Given<'_>,
     walk: &mut Walk,
 ) -> Result<(), TypeFault>
+    requires spelled { All (IsArm given.now.tokens.now (length given.now.spellings.now)) arms.now }
     ensures used { OnOk result (IsUsedIn (given_of given.now) walk.old.types walk.new.types) }
     ensures names { OnOk result (walk.new.names ≡ walk.old.names) }
     ensures adds { OnOk result (AddsArms (given_of given.now) walk.old.types walk.new.types walk.old.names arms.now (arms_of done.old) (arms_of done.new)) }
     ensures breaks { IfErr result (IsRule (λ rule at_line. BrokenArms (given_of given.now) walk.old.types walk.old.names arms.now (arms_of done.old) rule at_line)) }
     ensures results { OnOk result (AddsResults (given_of given.now) walk.old.types walk.new.types walk.old.names arms.now (arms_of done.old) (arms_of done.new)) }
+    ensures some { OnOk result (IfSome done.old.types (λ ns. 1 ≤ length ns) → 1 ≤ length arms.now → IsSomeAnd done.new.types (λ ns. 1 ≤ length ns)) }
 {
     for arm in arms {
         one_arm(arm, done, given, walk)?;
@@ -118,11 +123,13 @@ fn each_arm(
 /// The results of an arm, in which the content is in force where it has a name.
 #[cycle(walk)]
 fn one_arm(arm: &Arm, done: &mut Arms, given: &Given<'_>, walk: &mut Walk) -> Result<(), TypeFault>
+    requires spelled { IsArm given.now.tokens.now (length given.now.spellings.now) arm.now }
     ensures used { OnOk result (IsUsedIn (given_of given.now) walk.old.types walk.new.types) }
     ensures names { OnOk result (walk.new.names ≡ walk.old.names) }
     ensures adds { OnOk result (AddsArms (given_of given.now) walk.old.types walk.new.types walk.old.names (arm.now ∷ []) (arms_of done.old) (arms_of done.new)) }
     ensures breaks { IfErr result (IsRule (λ rule at_line. BrokenArms (given_of given.now) walk.old.types walk.old.names (arm.now ∷ []) (arms_of done.old) rule at_line)) }
     ensures results { OnOk result (AddsResults (given_of given.now) walk.old.types walk.new.types walk.old.names (arm.now ∷ []) (arms_of done.old) (arms_of done.new)) }
+    ensures some { OnOk result (IfSome done.old.types (λ ns. 1 ≤ length ns) → IsSomeAnd done.new.types (λ ns. 1 ≤ length ns)) }
 {
     let Arm {
         line,
@@ -140,6 +147,7 @@ fn one_arm(arm: &Arm, done: &mut Arms, given: &Given<'_>, walk: &mut Walk) -> Re
 /// The results of the tags that no arm names.
 #[cycle(walk)]
 fn last(es: &[Expr], done: &mut Arms, given: &Given<'_>, walk: &mut Walk) -> Result<(), TypeFault>
+    requires spelled { All (IsSpelled given.now.tokens.now (length given.now.spellings.now)) es.now }
     ensures used { OnOk result (IsUsedIn (given_of given.now) walk.old.types walk.new.types) }
     ensures names { OnOk result (walk.new.names ≡ walk.old.names) }
     ensures adds { OnOk result (AddsLast (given_of given.now) walk.new.types walk.old.names es.now (arms_of done.old) (arms_of done.new)) }
@@ -152,6 +160,7 @@ fn last(es: &[Expr], done: &mut Arms, given: &Given<'_>, walk: &mut Walk) -> Res
 
 /// Brings the content of these tags into force, where it has a name.
 fn enter(tags: &[Named], line: u32, done: &mut Arms, walk: &mut Walk) -> Result<(), TypeFault>
+    requires { 1 ≤ length tags.now }
     ensures types { walk.new.types ≡ walk.old.types }
     ensures enters { OnOk result (EntersArm walk.old.types line tags.now (arms_of done.old) (arms_of done.new) walk.old.names walk.new.names) }
     ensures breaks { IfErr result (IsRule (λ rule at_line. IsNoArm walk.old.types line tags.now (arms_of done.old) rule at_line)) }
@@ -213,8 +222,10 @@ fn case(
     subject: Parts,
     done: Arms,
 ) -> Result<TypedExpr, TypeFault>
+    requires { IsSomeAnd done.types (λ ns. 1 ≤ length ns) }
     ensures is { IfOk result (λ t. IsCase line count (parts_of subject) (arms_of done) t) }
     ensures breaks { IfErr result (IsRule (λ rule at_line. (rule ≡ 18) × (at_line ≡ line) × (done.is_even ≡ false))) }
+    ensures some { IfOk result (λ t. 1 ≤ length t.types) }
 {
     let Arms {
         name,
@@ -226,9 +237,7 @@ fn case(
     if !is_even {
         return Err(TypeFault::Rule { rule: 18, line });
     }
-    let Some(types) = types else {
-        return Err(TypeFault::NoMemory);
-    };
+    let Some(types) = types else { unreachable!() };
     let case = Case {
         named: named_arms(name, count),
         choices: choices.into_choices(alloc)?,

@@ -1,12 +1,13 @@
 //! Clauses of loops: SISAL Language Reference Manual 1.2, `returns`.
 ghost use Rattle.breaking_laws.specs.Parts.{BrokenMade, BrokenValues, EndsFalse};
 ghost use Rattle.sisal_check.specs.Walked.{folds_of, given_of, parts_of};
-ghost use Rattle.std.specs.Prelude.{IfErr, IfOk, OnOk, [], false, suc, true, ℕ, ◌++◌, ◌∷◌, ◌≡◌, ◌≢◌, ◌⊎◌};
+ghost use Rattle.std.specs.Prelude.{All, IfErr, IfOk, OnOk, [], false, length, suc, true, ℕ, ◌++◌, ◌+◌, ◌∷◌, ◌≡◌, ◌≢◌, ◌≤◌, ◌⊎◌};
 ghost use Rattle.type_rules.specs.Faults.{IsRule};
 ghost use Rattle.typing_laws.specs.Judged.{Adds, IsUsedIn};
 ghost use Rattle.typing_laws.specs.Looping.{AllMade, AllValues, FoldAdded, mask_of};
 ghost use Rattle.typing_laws.specs.Given.{Given as LawGiven};
 ghost use Rattle.type_rules.specs.declared.fault.Refused.TheVariants as Refused;
+ghost use Rattle.text_trees.specs.Spelled.{IsClause};
 
 use crate::lists::one;
 use crate::state::{Given, Parts, Walk};
@@ -38,10 +39,12 @@ pub(crate) fn clause_values(
     given: &Given<'_>,
     walk: &mut Walk,
 ) -> Result<Parts, TypeFault>
+    requires spelled { All (IsClause given.now.tokens.now (length given.now.spellings.now)) cs.now }
     ensures used { OnOk result (IsUsedIn (given_of given.now) walk.old.types walk.new.types) }
     ensures names { OnOk result (walk.new.names ≡ walk.old.names) }
     ensures typed { IfOk result (λ p. AllValues (given_of given.now) walk.new.types walk.old.names cs.now p.exprs p.types) }
     ensures breaks { IfErr result (IsRule (λ rule at_line. BrokenValues (given_of given.now) walk.old.types walk.old.names cs.now rule at_line)) }
+    ensures count { IfOk result (λ p. length p.types ≡ length cs.now) }
 {
     let mut values = Parts::new(given.alloc);
     for c in cs {
@@ -59,10 +62,12 @@ fn clause_value(
     given: &Given<'_>,
     walk: &mut Walk,
 ) -> Result<(), TypeFault>
+    requires spelled { IsClause given.now.tokens.now (length given.now.spellings.now) c.now }
     ensures used { OnOk result (IsUsedIn (given_of given.now) walk.old.types walk.new.types) }
     ensures names { OnOk result (walk.new.names ≡ walk.old.names) }
     ensures adds { OnOk result (Adds (parts_of values.old) (parts_of values.new) (AllValues (given_of given.now) walk.new.types walk.old.names (c.now ∷ []))) }
     ensures breaks { IfErr result (IsRule (λ rule at_line. BrokenValues (given_of given.now) walk.old.types walk.old.names (c.now ∷ []) rule at_line)) }
+    ensures count { OnOk result (length values.new.types ≡ length values.old.types + 1) }
 {
     let Clause {
         line,
@@ -108,6 +113,7 @@ pub(crate) fn made_of(
     ensures names { OnOk result (walk.new.names ≡ walk.old.names) }
     ensures made { IfOk result (λ m. AllMade walk.new.types cs.now is_masked values.now (folds_of m)) }
     ensures breaks { IfErr result (IsRule (λ rule at_line. (groups : ℕ) → BrokenMade (given_of given.now) walk.old.types (suc groups) line cs.now values.now rule at_line)) }
+    ensures some { IfOk result (λ m. 1 ≤ length cs.now → 1 ≤ length values.now → 1 ≤ length m.types) }
 {
     let mut made = Folds {
         forms: Seq::new(given.alloc),

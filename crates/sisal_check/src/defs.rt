@@ -1,7 +1,7 @@
 //! Definitions.
 ghost use Rattle.breaking_laws.specs.Parts.{BrokenDefs, BrokenTargets, StandsTwice};
 ghost use Rattle.sisal_check.specs.Walked.{defined_of, given_of};
-ghost use Rattle.std.specs.Prelude.{IfErr, IfOk, None, OnOk, Option, [], ℕ, ◌++◌, ◌∷◌, ◌≡◌, ◌≢◌};
+ghost use Rattle.std.specs.Prelude.{All, IfErr, IfOk, None, OnOk, Option, [], length, ℕ, ◌++◌, ◌+◌, ◌∷◌, ◌≡◌, ◌≢◌, ◌≤◌};
 ghost use Rattle.type_rules.specs.Faults.{IsRule};
 ghost use Rattle.typed_tree.specs.Scopes.{AreDistinct, targets};
 ghost use Rattle.typed_tree.specs.Typing.{names_in};
@@ -10,6 +10,7 @@ ghost use Rattle.typing_laws.specs.Judged.{IsUsedIn};
 ghost use Rattle.value_names.specs.Scopes.{twice_in};
 ghost use Rattle.typed_tree.specs.Breaks.{line_of as first_line};
 ghost use Rattle.typing_laws.specs.Given.{Given as LawGiven};
+ghost use Rattle.text_trees.specs.Spelled.{IsDef, IsTarget, IsTypeIf};
 
 use crate::lists::all;
 use crate::state::{Given, Parts, Walk};
@@ -43,11 +44,13 @@ pub(crate) fn defs(
     given: &Given<'_>,
     walk: &mut Walk,
 ) -> Result<Defined, TypeFault>
+    requires spelled { All (IsDef given.now.tokens.now (length given.now.spellings.now)) ds.now }
     ensures used { OnOk result (IsUsedIn (given_of given.now) walk.old.types walk.new.types) }
     ensures typed { IfOk result (λ d. AllDefined (given_of given.now) walk.new.types walk.old.names walk.new.names turn ds.now d.exprs d.types) }
     ensures targets { IfOk result (λ d. d.targets ≡ targets_in ds.now) }
     ensures distinct { OnOk result (AreDistinct (targets ds.now)) }
     ensures breaks { IfErr result (IsRule (λ rule at_line. BrokenDefs (given_of given.now) walk.old.types walk.old.names turn ds.now rule at_line)) }
+    ensures height { IfOk result (λ d. walk.new.names.height ≡ walk.old.names.height + length d.types) }
 {
     let targets = targets_of(given.alloc, ds)?;
     walk.types.holds();
@@ -71,6 +74,7 @@ fn def(
     given: &Given<'_>,
     walk: &mut Walk,
 ) -> Result<(), TypeFault>
+    requires spelled { IsDef given.now.tokens.now (length given.now.spellings.now) d.now }
     ensures used { OnOk result (IsUsedIn (given_of given.now) walk.old.types walk.new.types) }
     ensures adds { OnOk result (AddsDef (given_of given.now) walk.new.types walk.old.names walk.new.names turn d.now (defined_of defined.old) (defined_of defined.new)) }
     ensures breaks { IfErr result (IsRule (λ rule at_line. BrokenDefs (given_of given.now) walk.old.types walk.old.names turn (d.now ∷ []) rule at_line)) }
@@ -122,12 +126,14 @@ fn enter(
     given: &Given<'_>,
     walk: &mut Walk,
 ) -> Result<(), TypeFault>
+    requires some { 1 ≤ length targets.now }
+    requires spelled { All (IsTarget given.now.tokens.now (length given.now.spellings.now)) targets.now }
     ensures used { OnOk result (IsUsedIn (given_of given.now) walk.old.types walk.new.types) }
     ensures enters { OnOk result (Enters (given_of given.now) walk.new.types walk.old.names walk.new.names turn targets.now values.exprs values.types (defined_of defined.old) (defined_of defined.new)) }
     ensures breaks { IfErr result (IsRule (λ rule at_line. BrokenTargets (given_of given.now) walk.old.types walk.old.names turn (first_line targets.now) targets.now values.types rule at_line)) }
 {
     let Parts { exprs, types } = values;
-    let line = line_of(targets)?;
+    let line = line_of(targets);
     walk.types.holds();
     if types.len() != targets.len() {
         return Err(TypeFault::Rule { rule: 14, line });
@@ -141,13 +147,14 @@ fn enter(
     Ok(())
 }
 
-/// The line of the first target; each definition of a text has one.
-fn line_of(targets: &[Target]) -> Result<u32, NoMemory>
-    ensures { IfOk result (λ line. line ≡ first_line targets.now) }
+/// The line of the first target.
+fn line_of(targets: &[Target]) -> u32
+    requires { 1 ≤ length targets.now }
+    ensures { result ≡ first_line targets.now }
 {
     match targets {
-        [first, ..] => Ok(first.name.line),
-        [] => Err(NoMemory),
+        [first, ..] => first.name.line,
+        [] => unreachable!(),
     }
 }
 
@@ -160,6 +167,7 @@ fn suit(
     given: &Given<'_>,
     walk: &mut Walk,
 ) -> Result<(), TypeFault>
+    requires spelled { All (IsTarget given.now.tokens.now (length given.now.spellings.now)) targets.now }
     ensures used { OnOk result (IsUsedIn (given_of given.now) walk.old.types walk.new.types) }
     ensures names { OnOk result (walk.new.names ≡ walk.old.names) }
     ensures declared { OnOk result (AreDeclaredAs (given_of given.now) walk.new.types targets.now types.now) }
@@ -183,6 +191,7 @@ fn has_type(
     given: &Given<'_>,
     walk: &mut Walk,
 ) -> Result<(), TypeFault>
+    requires { IsTypeIf given.now.tokens.now target.ty }
     ensures used { OnOk result (IsUsedIn (given_of given.now) walk.old.types walk.new.types) }
     ensures names { OnOk result (walk.new.names ≡ walk.old.names) }
     ensures declared { OnOk result (IsDeclaredAs (given_of given.now) walk.new.types target.ty ty) }

@@ -2,12 +2,14 @@
 ghost use Rattle.breaking_laws.specs.Parts.{BrokenGenerator, BrokenGroup, BrokenGroups, HasNoSource, StandsTwice};
 ghost use Rattle.sisal_check.specs.Walked.{given_of, group_of, parts_of};
 ghost use Rattle.sisal_tree.specs.declared.expr.Generator.{out-Generator};
-ghost use Rattle.std.specs.Prelude.{Err, IfErr, IfOk, List, None, Ok, OnOk, [], is_some, map, ◌++◌, ◌∷◌, ◌≡◌, ◌⊎◌};
+ghost use Rattle.std.specs.Prelude.{All, Err, IfErr, IfOk, List, None, Ok, OnOk, [], is_some, length, map, ◌++◌, ◌∷◌, ◌≡◌, ◌⊎◌};
 ghost use Rattle.type_rules.specs.Faults.{IsRule};
 ghost use Rattle.type_rules.specs.Parts.{sequence_at};
 ghost use Rattle.typing_laws.specs.Judged.{IsUsedIn};
 ghost use Rattle.typing_laws.specs.Looping.{AddsGenerator, GoesOver, GroupTyped, GroupsTyped, IsElement, KeepsGenerator, index_names, index_types};
 ghost use Rattle.value_names.specs.Scopes.{define_all, twice_in};
+ghost use Rattle.text_trees.specs.Spelled.{IsGenerator};
+ghost use Rattle.text_trees.specs.Parts.{IsGroup};
 
 use crate::defs::distinct;
 use crate::lists::one;
@@ -40,6 +42,7 @@ pub(crate) fn groups(
     given: &Given<'_>,
     walk: &mut Walk,
 ) -> Result<Seq<Group>, TypeFault>
+    requires spelled { All (IsGroup given.now.tokens.now (length given.now.spellings.now)) gs.now }
     ensures used { OnOk result (IsUsedIn (given_of given.now) walk.old.types walk.new.types) }
     ensures typed { IfOk result (λ goes. GroupsTyped (given_of given.now) walk.new.types walk.old.names gs.now (map group_of goes) walk.new.names) }
     ensures breaks { IfErr result (IsRule (λ rule at_line. BrokenGroups (given_of given.now) walk.old.types walk.old.names gs.now rule at_line)) }
@@ -57,6 +60,7 @@ pub(crate) fn groups(
 /// before it were looked at.
 #[cycle(walk)]
 fn one_group(gs: &Seq<Generator>, given: &Given<'_>, walk: &mut Walk) -> Result<Group, TypeFault>
+    requires spelled { All (IsGenerator given.now.tokens.now (length given.now.spellings.now)) gs.now }
     ensures used { OnOk result (IsUsedIn (given_of given.now) walk.old.types walk.new.types) }
     ensures typed { IfOk result (λ m. GroupTyped (given_of given.now) walk.new.types walk.old.names gs.now (group_of m)) }
     ensures names { IfOk result (λ m. walk.new.names ≡ define_all m.names m.types walk.old.names) }
@@ -81,6 +85,7 @@ fn generator(
     given: &Given<'_>,
     walk: &mut Walk,
 ) -> Result<(), TypeFault>
+    requires spelled { IsGenerator given.now.tokens.now (length given.now.spellings.now) g.now }
     ensures used { OnOk result (IsUsedIn (given_of given.now) walk.old.types walk.new.types) }
     ensures names { OnOk result (walk.new.names ≡ walk.old.names) }
     ensures adds { OnOk result (AddsGenerator (given_of given.now) walk.old.types walk.new.types walk.old.names g.now (group_of made.old) (group_of made.new)) }

@@ -3,16 +3,19 @@ ghost use Rattle.breaking_laws.specs.Broken.{Broken, Misnamed};
 ghost use Rattle.breaking_laws.specs.Refusals.{IsUnnamed};
 ghost use Rattle.name_scope.specs.Newest.{newest};
 ghost use Rattle.sisal_check.specs.Walked.{IsArrayHead, IsErrorHead, IsHeadSpelled, given_of};
-ghost use Rattle.std.specs.Prelude.{All, IfErr, IfOk, List, OnOk, Some, length, ℕ, ◌<◌, ◌≡◌};
+ghost use Rattle.std.specs.Prelude.{All, IfErr, IfOk, List, OnOk, Some, length, ℕ, ◌≡◌, ◌≤◌};
 ghost use Rattle.sisal_tree.specs.declared.expr.ExprKind.TheViews.{out-ExprKind};
 ghost use Rattle.type_rules.specs.Faults.{IsRule};
 ghost use Rattle.type_rules.specs.Heads.{IsForm};
 ghost use Rattle.typed_tree.specs.Typing.{at};
 ghost use Rattle.typing_laws.specs.Forming.{AreFound, IsHead, IsRecordHead, fields_of};
 ghost use Rattle.typing_laws.specs.Judged.{IsUsedIn};
+ghost use Rattle.text_trees.specs.Spelled.{IsType};
+ghost use Rattle.text_trees.specs.Parts.{HasParts, IsValue};
+ghost use Rattle.type_rules.specs.Applies.{HasField};
 
 use crate::state::{Given, Walk};
-use flow_value::{NoMemory, Numbers, Seq, item_at};
+use flow_value::{NoMemory, Numbers, Seq};
 use sisal_tree::{ExprKind, FieldValue, Written};
 use std::alloc::Global;
 use type_rules::{Head, TypeFault, unnamed_head};
@@ -27,11 +30,13 @@ pub(crate) fn head_of(
     given: &Given<'_>,
     walk: &mut Walk,
 ) -> Result<Head, TypeFault>
-    requires { IsForm (out-ExprKind kind.now) }
+    requires spelled { HasParts given.now.tokens.now (length given.now.spellings.now) (out-ExprKind kind.now) }
+    requires form { IsForm (out-ExprKind kind.now) }
     ensures used { OnOk result (IsUsedIn (given_of given.now) walk.old.types walk.new.types) }
     ensures names { OnOk result (walk.new.names ≡ walk.old.names) }
     ensures head { IfOk result (λ h. IsHead (given_of given.now) walk.new.types kind.now h) }
     ensures spelled { IfOk result (λ h. IsHeadSpelled given.now.spellings.now h) }
+    ensures field { IfOk result HasField }
     ensures breaks { IfErr result (IsRule (λ rule at_line. Broken (given_of given.now) walk.old.types walk.old.names (at line kind.now) rule at_line)) }
 {
     walk.types.holds();
@@ -47,6 +52,7 @@ pub(crate) fn head_of(
 }
 
 fn error_of(written: Written, given: &Given<'_>, walk: &mut Walk) -> Result<Head, TypeFault>
+    requires { IsType given.now.tokens.now written }
     ensures used { OnOk result (IsUsedIn (given_of given.now) walk.old.types walk.new.types) }
     ensures names { OnOk result (walk.new.names ≡ walk.old.names) }
     ensures head { IfOk result (λ h. IsErrorHead (given_of given.now) walk.new.types written h) }
@@ -70,12 +76,14 @@ fn record_of(
     line: u32,
     given: &Given<'_>,
 ) -> Result<Head, TypeFault>
+    requires spelled { All (IsValue given.now.tokens.now (length given.now.spellings.now)) vs.now }
+    requires some { 1 ≤ length vs.now }
     ensures head { IfOk result (λ h. IsRecordHead (given_of given.now) name vs.now h) }
+    ensures field { IfOk result HasField }
     ensures breaks { IfErr result (IsRule (λ rule at_line. IsUnnamed (given_of given.now).named name line rule at_line)) }
 {
     let ty = type_of(name, line, given)?;
     let names = names_of(given.alloc, vs)?;
-    all_spelled(names.as_slice(), given)?;
     Ok(Head::Record(ty, names))
 }
 
@@ -88,6 +96,7 @@ fn array_of(
 ) -> Result<Head, TypeFault>
     ensures head { IfOk result (λ h. IsArrayHead (given_of given.now) name has_elements h) }
     ensures spelled { IfOk result (λ h. (spellings : List (List ℕ)) → IsHeadSpelled spellings h) }
+    ensures field { IfOk result HasField }
     ensures breaks { IfErr result (IsRule (λ rule at_line. IsUnnamed (given_of given.now).named name line rule at_line)) }
 {
     let ty = type_of(name, line, given)?;
@@ -129,16 +138,4 @@ fn names_of(alloc: Global, vs: &[FieldValue]) -> Result<Numbers, NoMemory>
         names.add(v.field.name)?;
     }
     Ok(names)
-}
-
-/// Tests that the names have spellings, as all names of a text have.
-fn all_spelled(names: &[u32], given: &Given<'_>) -> Result<(), NoMemory>
-    ensures { OnOk result (All (λ y. y < length given.now.spellings.now) names.now) }
-{
-    for name in names {
-        if item_at(given.spellings, *name as usize).is_none() {
-            return Err(NoMemory);
-        }
-    }
-    Ok(())
 }

@@ -2,7 +2,7 @@
 ghost use Rattle.breaking_laws.specs.Broken.{Broken};
 ghost use Rattle.breaking_laws.specs.Refusals.{Never};
 ghost use Rattle.sisal_check.specs.Walked.{given_of};
-ghost use Rattle.std.specs.Prelude.{IfErr, IfOk, [], ◌∷◌, ◌≡◌};
+ghost use Rattle.std.specs.Prelude.{IfErr, IfOk, [], length, ◌∷◌, ◌≡◌, ◌≤◌};
 ghost use Rattle.type_rules.specs.Faults.{IsRule};
 ghost use Rattle.typed_tree.specs.Typing.{at, with};
 ghost use Rattle.typing_laws.specs.Forming.{constant_number};
@@ -53,6 +53,7 @@ pub(crate) fn value(
     ensures typed { IfOk result (λ t. Typed (given_of given.now) walk.now.types walk.now.names (at line (tree.Name name)) t) }
     ensures line { IfOk result (λ t. t.line ≡ line) }
     ensures breaks { IfErr result (IsRule (λ rule at_line. Broken (given_of given.now) walk.now.types walk.now.names (at line (tree.Name name)) rule at_line)) }
+    ensures some { IfOk result (λ t. 1 ≤ length t.types) }
 {
     match walk.names.find(name) {
         Some(found) => level(line, found, given),
@@ -74,6 +75,7 @@ pub(crate) fn old_value(
     ensures typed { IfOk result (λ t. Typed (given_of given.now) walk.now.types walk.now.names (at line (tree.Old name)) t) }
     ensures line { IfOk result (λ t. t.line ≡ line) }
     ensures breaks { IfErr result (IsRule (λ rule at_line. Broken (given_of given.now) walk.now.types walk.now.names (at line (tree.Old name)) rule at_line)) }
+    ensures some { IfOk result (λ t. 1 ≤ length t.types) }
 {
     match walk.names.find_old(name) {
         Some(found) => level(line, found, given),

@@ -14,9 +14,11 @@ mod lists;
 mod loops;
 mod making;
 mod state;
+mod texts;
 mod turns;
 mod typed;
 mod units;
 
+pub use texts::units_of_texts_are_texts;
 pub use type_rules::TypeFault;
 pub use units::check;

@@ -2,9 +2,11 @@
 ghost use Rattle.breaking_laws.specs.Broken.{BrokenField, BrokenIn, BrokenOne};
 ghost use Rattle.breaking_laws.specs.Refusals.{NotOne};
 ghost use Rattle.sisal_check.specs.Walked.{given_of, parts_of};
-ghost use Rattle.std.specs.Prelude.{IfErr, IfOk, OnOk, [], length, map, ◌++◌, ◌∷◌, ◌≡◌};
+ghost use Rattle.std.specs.Prelude.{All, IfErr, IfOk, OnOk, [], length, map, ◌++◌, ◌+◌, ◌∷◌, ◌≡◌, ◌≤◌};
 ghost use Rattle.type_rules.specs.Faults.{IsRule};
 ghost use Rattle.typing_laws.specs.Judged.{Adds, AddsSingle, AllOnes, AllTyped, IsUsedIn};
+ghost use Rattle.text_trees.specs.Spelled.{IsSpelled};
+ghost use Rattle.text_trees.specs.Parts.{IsValue};
 
 use crate::state::{Given, Parts, Walk};
 use crate::typed::typed;
@@ -20,6 +22,7 @@ pub(crate) fn one(
     given: &Given<'_>,
     walk: &mut Walk,
 ) -> Result<(), TypeFault>
+    requires spelled { IsSpelled given.now.tokens.now (length given.now.spellings.now) e.now }
     ensures used { OnOk result (IsUsedIn (given_of given.now) walk.old.types walk.new.types) }
     ensures names { OnOk result (walk.new.names ≡ walk.old.names) }
     ensures adds { OnOk result (Adds (parts_of parts.old) (parts_of parts.new) (AllOnes (given_of given.now) walk.new.types walk.old.names (e.now ∷ []))) }
@@ -39,10 +42,12 @@ pub(crate) fn many(
     given: &Given<'_>,
     walk: &mut Walk,
 ) -> Result<(), TypeFault>
+    requires spelled { All (IsSpelled given.now.tokens.now (length given.now.spellings.now)) es.now }
     ensures used { OnOk result (IsUsedIn (given_of given.now) walk.old.types walk.new.types) }
     ensures names { OnOk result (walk.new.names ≡ walk.old.names) }
     ensures adds { OnOk result (Adds (parts_of parts.old) (parts_of parts.new) (AllTyped (given_of given.now) walk.new.types walk.old.names es.now)) }
     ensures breaks { IfErr result (IsRule (λ rule at_line. BrokenIn (given_of given.now) walk.old.types walk.old.names es.now rule at_line)) }
+    ensures some { OnOk result (length parts.old.types + length es.now ≤ length parts.new.types) }
 {
     for e in es {
         let made = typed(e, given, walk)?;
@@ -54,10 +59,12 @@ pub(crate) fn many(
 /// The expressions of a list, typed.
 #[cycle(walk)]
 pub(crate) fn all(es: &[Expr], given: &Given<'_>, walk: &mut Walk) -> Result<Parts, TypeFault>
+    requires spelled { All (IsSpelled given.now.tokens.now (length given.now.spellings.now)) es.now }
     ensures used { OnOk result (IsUsedIn (given_of given.now) walk.old.types walk.new.types) }
     ensures names { OnOk result (walk.new.names ≡ walk.old.names) }
     ensures typed { IfOk result (λ p. AllTyped (given_of given.now) walk.new.types walk.old.names es.now p.exprs p.types) }
     ensures breaks { IfErr result (IsRule (λ rule at_line. BrokenIn (given_of given.now) walk.old.types walk.old.names es.now rule at_line)) }
+    ensures some { IfOk result (λ p. length es.now ≤ length p.types) }
 {
     let mut parts = Parts::new(given.alloc);
     many(es, &mut parts, given, walk)?;
@@ -67,6 +74,7 @@ pub(crate) fn all(es: &[Expr], given: &Given<'_>, walk: &mut Walk) -> Result<Par
 /// The expression, which has one value.
 #[cycle(walk)]
 pub(crate) fn only(e: &Expr, given: &Given<'_>, walk: &mut Walk) -> Result<Parts, TypeFault>
+    requires spelled { IsSpelled given.now.tokens.now (length given.now.spellings.now) e.now }
     ensures used { OnOk result (IsUsedIn (given_of given.now) walk.old.types walk.new.types) }
     ensures names { OnOk result (walk.new.names ≡ walk.old.names) }
     ensures typed { IfOk result (λ p. AllOnes (given_of given.now) walk.new.types walk.old.names (e.now ∷ []) p.exprs p.types) }
@@ -86,6 +94,7 @@ pub(crate) fn fields(
     given: &Given<'_>,
     walk: &mut Walk,
 ) -> Result<(), TypeFault>
+    requires spelled { All (IsValue given.now.tokens.now (length given.now.spellings.now)) vs.now }
     ensures used { OnOk result (IsUsedIn (given_of given.now) walk.old.types walk.new.types) }
     ensures names { OnOk result (walk.new.names ≡ walk.old.names) }
     ensures adds { OnOk result (Adds (parts_of parts.old) (parts_of parts.new) (AllOnes (given_of given.now) walk.new.types walk.old.names (map (λ v. v.value) vs.now))) }

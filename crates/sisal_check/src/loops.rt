@@ -2,11 +2,12 @@
 ghost use Rattle.breaking_laws.specs.Broken.{Broken};
 ghost use Rattle.breaking_laws.specs.Parts.{BrokenMade, MakesTypes};
 ghost use Rattle.sisal_check.specs.Walked.{CrossesAll, IsInitial, IsLoopOver, IsProduct, defined_of, given_of, group_of, parts_of, turned_of};
-ghost use Rattle.std.specs.Prelude.{IfErr, IfOk, OnOk, [], false, length, map, suc, true, ℕ, ◌∷◌, ◌≡◌};
+ghost use Rattle.std.specs.Prelude.{IfErr, IfOk, OnOk, [], false, length, map, suc, true, ℕ, ◌∷◌, ◌≡◌, ◌≤◌};
 ghost use Rattle.type_rules.specs.Faults.{IsRule};
 ghost use Rattle.typed_tree.specs.Typing.{at};
 ghost use Rattle.typing_laws.specs.Judged.{IsUsedIn, Typed};
 ghost use Rattle.sisal_tree.specs.declared.expr.ExprKind.TheVariants as tree;
+ghost use Rattle.text_trees.specs.Spelled.{IsLoop};
 
 use crate::clauses::{clause_values, made_of};
 use crate::defs::{Defined, defs};
@@ -27,11 +28,13 @@ pub(crate) fn looped(
     given: &Given<'_>,
     walk: &mut Walk,
 ) -> Result<TypedExpr, TypeFault>
+    requires spelled { IsLoop given.now.tokens.now (length given.now.spellings.now) l.now }
     ensures used { OnOk result (IsUsedIn (given_of given.now) walk.old.types walk.new.types) }
     ensures names { OnOk result (walk.new.names ≡ walk.old.names) }
     ensures typed { IfOk result (λ t. Typed (given_of given.now) walk.new.types walk.old.names (at line (tree.For l.now)) t) }
     ensures line { IfOk result (λ t. t.line ≡ line) }
     ensures breaks { IfErr result (IsRule (λ rule at_line. Broken (given_of given.now) walk.old.types walk.old.names (at line (tree.For l.now)) rule at_line)) }
+    ensures some { IfOk result (λ t. 1 ≤ length t.types) }
 {
     let outer = walk.names.mark();
     match l {
@@ -54,8 +57,7 @@ pub(crate) fn looped(
 }
 
 /// A loop over groups of generators: over the last one stand the definitions and the clauses, and
-/// each one before it is a loop of its own over the results of the loop behind it. A loop without
-/// groups, which no text has, is want of memory.
+/// each one before it is a loop of its own over the results of the loop behind it.
 #[inline(never)]
 fn product(
     line: u32,
@@ -66,15 +68,17 @@ fn product(
     given: &Given<'_>,
     walk: &mut Walk,
 ) -> Result<TypedExpr, TypeFault>
+    requires { 1 ≤ length goes }
     ensures used { OnOk result (IsUsedIn (given_of given.now) walk.old.types walk.new.types) }
     ensures names { OnOk result (walk.new.names ≡ walk.old.names) }
     ensures crossed { IfOk result (λ t. IsProduct (given_of given.now) walk.old.types walk.new.types line cs.now (map group_of goes) defined.exprs defined.types (parts_of values) t) }
     ensures line { IfOk result (λ t. t.line ≡ line) }
     ensures breaks { IfErr result (IsRule (λ rule at_line. BrokenMade (given_of given.now) walk.old.types (length goes) line cs.now values.types rule at_line)) }
+    ensures some { IfOk result (λ t. 1 ≤ length cs.now → 1 ≤ length values.types → 1 ≤ length t.types) }
 {
     let mut goes = goes;
     let Some(last) = goes.pop() else {
-        return Err(TypeFault::NoMemory);
+        unreachable!()
     };
     let inner = over(line, cs, last, defined, values, given, walk)?;
     crossed(line, cs, goes, inner, given, walk)
@@ -95,6 +99,7 @@ fn over(
     ensures over { IfOk result (λ t. IsLoopOver walk.new.types line cs.now true values.types (group_of group) defined.exprs values.exprs t) }
     ensures breaks { IfErr result (IsRule (λ rule at_line. (groups : ℕ) → BrokenMade (given_of given.now) walk.old.types (suc groups) line cs.now values.types rule at_line)) }
     ensures makes { IfOk result (λ t. MakesTypes walk.new.types cs.now true values.types t.types) }
+    ensures some { IfOk result (λ t. 1 ≤ length cs.now → 1 ≤ length values.types → 1 ≤ length t.types) }
 {
     let made = made_of(line, cs, values.types.as_slice(), true, given, walk)?;
     let product = Product {
@@ -122,6 +127,7 @@ fn crossed(
     ensures crossed { IfOk result (λ t. CrossesAll (given_of given.now) walk.old.types walk.new.types line cs.now (map group_of goes) inner t) }
     ensures line { IfOk result (λ t. inner.line ≡ line → t.line ≡ line) }
     ensures breaks { IfErr result (IsRule (λ rule at_line. BrokenMade (given_of given.now) walk.old.types (length goes) line cs.now inner.types rule at_line)) }
+    ensures some { IfOk result (λ t. 1 ≤ length cs.now → 1 ≤ length inner.types → 1 ≤ length t.types) }
 {
     let mut goes = goes;
     let mut made = inner;
@@ -145,6 +151,7 @@ fn around(
     ensures over { IfOk result (λ t. IsLoopOver walk.new.types line cs.now false inner.types (group_of group) [] (inner ∷ []) t) }
     ensures breaks { IfErr result (IsRule (λ rule at_line. (groups : ℕ) → BrokenMade (given_of given.now) walk.old.types (suc groups) line cs.now inner.types rule at_line)) }
     ensures makes { IfOk result (λ t. MakesTypes walk.new.types cs.now false inner.types t.types) }
+    ensures some { IfOk result (λ t. 1 ≤ length cs.now → 1 ≤ length inner.types → 1 ≤ length t.types) }
 {
     let made = made_of(line, cs, inner.types.as_slice(), false, given, walk)?;
     let product = Product {
@@ -175,6 +182,7 @@ fn initial(
     ensures names { OnOk result (walk.new.names ≡ walk.old.names) }
     ensures is { IfOk result (λ t. IsInitial walk.new.types line cs.now (defined_of started) (turned_of turned) (parts_of values) t) }
     ensures breaks { IfErr result (IsRule (λ rule at_line. BrokenMade (given_of given.now) walk.old.types 1 line cs.now values.types rule at_line)) }
+    ensures some { IfOk result (λ t. 1 ≤ length cs.now → 1 ≤ length values.types → 1 ≤ length t.types) }
 {
     let made = made_of(line, cs, values.types.as_slice(), true, given, walk)?;
     let turns = Turns {

@@ -6,6 +6,7 @@ ghost use Rattle.type_rules.specs.Faults.{IsRule, fault_at};
 ghost use Rattle.typed_tree.specs.Typing.{with};
 ghost use Rattle.typing_laws.specs.Forming.{Finishes, IfElses};
 ghost use Rattle.typing_laws.specs.Judged.{IsUsedIn};
+ghost use Rattle.type_rules.specs.Applies.{HasField};
 
 use crate::defs::Defined;
 use crate::leaves::single;
@@ -24,6 +25,7 @@ pub(crate) fn finish(
     given: &Given<'_>,
     walk: &mut Walk,
 ) -> Result<TypedExpr, TypeFault>
+    requires { HasField head }
     ensures used { IsHeadSpelled given.now.spellings.now head → OnOk result (IsUsedIn (given_of given.now) walk.old.types walk.new.types) }
     ensures names { walk.new.names ≡ walk.old.names }
     ensures finishes { IfOk result (λ t. Finishes walk.old.types walk.new.types line head (parts_of parts) t) }

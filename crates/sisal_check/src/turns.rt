@@ -1,12 +1,13 @@
 //! The turns of a `for initial`.
 ghost use Rattle.breaking_laws.specs.Parts.{BrokenRenewing, BrokenTurn, IsNoTruth};
 ghost use Rattle.sisal_check.specs.Walked.{defined_of, given_of, turned_of};
-ghost use Rattle.std.specs.Prelude.{IfErr, IfOk, OnOk, [], ◌∷◌, ◌≡◌};
+ghost use Rattle.std.specs.Prelude.{All, IfErr, IfOk, OnOk, [], length, min, ◌+◌, ◌∷◌, ◌≡◌, ◌≤◌};
 ghost use Rattle.type_rules.specs.Faults.{IsRule};
 ghost use Rattle.typing_laws.specs.Defining.{targets_in};
 ghost use Rattle.typing_laws.specs.Judged.{IsUsedIn};
 ghost use Rattle.typing_laws.specs.Looping.{AllRenewed, IsAround, TurnTyped};
 ghost use Rattle.typing_laws.specs.Turns.{AreBelow, in_turn, loop_names, renewals};
+ghost use Rattle.text_trees.specs.Spelled.{IsDef, IsTurn};
 
 use crate::defs::{Defined, defs, targets_of};
 use crate::lists::only;
@@ -50,6 +51,8 @@ pub(crate) fn turn_of(
     given: &Given<'_>,
     walk: &mut Walk,
 ) -> Result<Turned, TypeFault>
+    requires fits { first + min (length started.now.targets) (length started.now.types) ≤ walk.old.names.height }
+    requires spelled { IsTurn given.now.tokens.now (length given.now.spellings.now) turn.now }
     ensures used { OnOk result (IsUsedIn (given_of given.now) walk.old.types walk.new.types) }
     ensures names { OnOk result (walk.new.names ≡ walk.old.names) }
     ensures typed { IfOk result (λ t. TurnTyped (given_of given.now) walk.new.types walk.old.names first (defined_of started.now) turn.now (turned_of t)) }
@@ -114,6 +117,8 @@ fn turn_defs(
     given: &Given<'_>,
     walk: &mut Walk,
 ) -> Result<Renewing, TypeFault>
+    requires fits { first + min (length started.now.targets) (length started.now.types) ≤ walk.old.names.height }
+    requires spelled { All (IsDef given.now.tokens.now (length given.now.spellings.now)) ds.now }
     ensures used { OnOk result (IsUsedIn (given_of given.now) walk.old.types walk.new.types) }
     ensures names { OnOk result (walk.new.names ≡ walk.old.names) }
     ensures renewed { IfOk result (λ r. AllRenewed (given_of given.now) walk.new.types walk.old.names first (defined_of started.now) ds.now r.renewed r.exprs) }
@@ -139,6 +144,7 @@ fn begin(
     given: &Given<'_>,
     walk: &mut Walk,
 ) -> Result<Seq<Option<u32>>, NoMemory>
+    requires fits { first + min (length started.now.targets) (length started.now.types) ≤ walk.old.names.height }
     ensures types { walk.new.types ≡ walk.old.types }
     ensures around { OnOk result (IsAround walk.old.names walk.new.names) }
     ensures names { OnOk result (AreBelow first walk.old.names.olds → walk.new.names ≡ in_turn (loop_names first started.now.targets started.now.types) (targets_in ds.now) walk.old.names) }

@@ -1,15 +1,17 @@
 //! Expressions.
 ghost use Rattle.breaking_laws.specs.Broken.{Broken, BrokenForm};
-ghost use Rattle.breaking_laws.specs.Refusals.{HasElements, Never};
+ghost use Rattle.breaking_laws.specs.Refusals.{HasElements};
 ghost use Rattle.sisal_check.specs.Walked.{IsPlain, given_of, parts_of};
 ghost use Rattle.sisal_tree.specs.declared.expr.ExprKind.TheVariants as tree;
 ghost use Rattle.sisal_tree.specs.declared.expr.ExprKind.TheViews.{out-ExprKind};
-ghost use Rattle.std.specs.Prelude.{IfErr, IfOk, OnOk, Option, Some, [], length, ℕ, ◌<◌, ◌≡◌};
+ghost use Rattle.std.specs.Prelude.{IfErr, IfOk, OnOk, Option, Some, length, ℕ, ◌<◌, ◌≡◌, ◌≤◌};
 ghost use Rattle.type_rules.specs.Faults.{IsRule};
 ghost use Rattle.type_rules.specs.Heads.{IsForm};
 ghost use Rattle.typed_tree.specs.Typing.{at};
 ghost use Rattle.typing_laws.specs.Forming.{Operands};
 ghost use Rattle.typing_laws.specs.Judged.{Adds, IsUsedIn, Typed};
+ghost use Rattle.text_trees.specs.Spelled.{AreElements, IsSpelled};
+ghost use Rattle.text_trees.specs.Parts.{HasParts};
 
 use crate::calls::call;
 use crate::cases::tag_case;
@@ -27,11 +29,13 @@ use typed_tree::TypedExpr;
 /// The typed tree of an expression: SISAL Language Reference Manual 1.2, expressions.
 #[cycle(walk)]
 pub(crate) fn typed(e: &Expr, given: &Given<'_>, walk: &mut Walk) -> Result<TypedExpr, TypeFault>
+    requires spelled { IsSpelled given.now.tokens.now (length given.now.spellings.now) e.now }
     ensures used { OnOk result (IsUsedIn (given_of given.now) walk.old.types walk.new.types) }
     ensures names { OnOk result (walk.new.names ≡ walk.old.names) }
     ensures typed { IfOk result (λ t. Typed (given_of given.now) walk.new.types walk.old.names e.now t) }
     ensures line { IfOk result (λ t. t.line ≡ e.now.line) }
     ensures breaks { IfErr result (IsRule (λ rule at_line. Broken (given_of given.now) walk.old.types walk.old.names e.now rule at_line)) }
+    ensures some { IfOk result (λ t. 1 ≤ length t.types) }
 {
     let Expr { line, kind } = e;
     match kind {
@@ -45,12 +49,14 @@ pub(crate) fn typed(e: &Expr, given: &Given<'_>, walk: &mut Walk) -> Result<Type
 #[inline(never)]
 #[cycle(walk)]
 fn plain(e: &Expr, given: &Given<'_>, walk: &mut Walk) -> Result<TypedExpr, TypeFault>
-    requires { IsPlain (out-ExprKind e.now.kind) }
+    requires spelled { HasParts given.now.tokens.now (length given.now.spellings.now) (out-ExprKind e.now.kind) }
+    requires plain { IsPlain (out-ExprKind e.now.kind) }
     ensures used { OnOk result (IsUsedIn (given_of given.now) walk.old.types walk.new.types) }
     ensures names { OnOk result (walk.new.names ≡ walk.old.names) }
     ensures typed { IfOk result (λ t. Typed (given_of given.now) walk.new.types walk.old.names e.now t) }
     ensures line { IfOk result (λ t. t.line ≡ e.now.line) }
     ensures breaks { IfErr result (IsRule (λ rule at_line. Broken (given_of given.now) walk.old.types walk.old.names e.now rule at_line)) }
+    ensures some { IfOk result (λ t. 1 ≤ length t.types) }
 {
     let Expr { line, kind } = e;
     match kind {
@@ -94,12 +100,14 @@ fn applied(
     given: &Given<'_>,
     walk: &mut Walk,
 ) -> Result<TypedExpr, TypeFault>
-    requires { IsForm (out-ExprKind kind.now) }
+    requires spelled { HasParts given.now.tokens.now (length given.now.spellings.now) (out-ExprKind kind.now) }
+    requires form { IsForm (out-ExprKind kind.now) }
     ensures used { OnOk result (IsUsedIn (given_of given.now) walk.old.types walk.new.types) }
     ensures names { OnOk result (walk.new.names ≡ walk.old.names) }
     ensures typed { IfOk result (λ t. Typed (given_of given.now) walk.new.types walk.old.names (at line kind.now) t) }
     ensures line { IfOk result (λ t. t.line ≡ line) }
     ensures breaks { IfErr result (IsRule (λ rule at_line. Broken (given_of given.now) walk.old.types walk.old.names (at line kind.now) rule at_line)) }
+    ensures some { IfOk result (λ t. 1 ≤ length t.types) }
 {
     let head = head_of(kind, line, given, walk)?;
     let mut parts = Parts::new(given.alloc);
@@ -116,7 +124,8 @@ fn operands(
     given: &Given<'_>,
     walk: &mut Walk,
 ) -> Result<(), TypeFault>
-    requires { IsForm (out-ExprKind kind.now) }
+    requires spelled { HasParts given.now.tokens.now (length given.now.spellings.now) (out-ExprKind kind.now) }
+    requires form { IsForm (out-ExprKind kind.now) }
     ensures used { OnOk result (IsUsedIn (given_of given.now) walk.old.types walk.new.types) }
     ensures names { OnOk result (walk.new.names ≡ walk.old.names) }
     ensures adds { OnOk result (Adds (parts_of parts.old) (parts_of parts.new) (Operands (given_of given.now) walk.new.types walk.old.names kind.now)) }
@@ -151,11 +160,7 @@ fn operands(
             Some(elements) => elements_of(elements, parts, given, walk),
             None => Ok(()),
         },
-        ExprKind::Stream(_, es) => {
-            let before = parts.types.len();
-            many(es.as_slice(), parts, given, walk)?;
-            has_value(es.as_slice(), before, parts)
-        }
+        ExprKind::Stream(_, es) => many(es.as_slice(), parts, given, walk),
         ExprKind::Record(_, vs) => fields(vs.as_slice(), parts, given, walk),
         ExprKind::ErrorOf(_) => Ok(()),
         _ => unreachable!(),
@@ -170,6 +175,7 @@ fn elements_of(
     given: &Given<'_>,
     walk: &mut Walk,
 ) -> Result<(), TypeFault>
+    requires spelled { AreElements given.now.tokens.now (length given.now.spellings.now) elements.now }
     ensures used { OnOk result (IsUsedIn (given_of given.now) walk.old.types walk.new.types) }
     ensures names { OnOk result (walk.new.names ≡ walk.old.names) }
     ensures adds { OnOk result ((x : Option ℕ) → Adds (parts_of parts.old) (parts_of parts.new) (Operands (given_of given.now) walk.new.types walk.old.names (tree.Array x (Some elements.now)))) }
@@ -177,30 +183,5 @@ fn elements_of(
     ensures breaks { IfErr result (IsRule (λ rule at_line. (x : Option ℕ) → BrokenForm (given_of given.now) walk.old.types walk.old.names (tree.Array x (Some elements.now)) rule at_line)) }
 {
     one(elements.lower.get(), parts, given, walk)?;
-    many(elements.values.as_slice(), parts, given, walk)?;
-    has_element(parts)
-}
-
-/// An array has some element behind its lower bound; what has none, as no text has, is refused as
-/// want of memory.
-fn has_element(parts: &Parts) -> Result<(), TypeFault>
-    ensures element { OnOk result (1 < length parts.now.types) }
-    ensures breaks { IfErr result (IsRule (λ rule at_line. Never rule at_line)) }
-{
-    if parts.types.len() < 2 {
-        return Err(TypeFault::NoMemory);
-    }
-    Ok(())
-}
-
-/// The expressions of a stream have some value behind so many, if there are any; those without a
-/// value, as no text has, are refused as want of memory.
-fn has_value(es: &[Expr], before: usize, parts: &Parts) -> Result<(), TypeFault>
-    ensures value { OnOk result (length parts.now.types ≡ before → es.now ≡ []) }
-    ensures breaks { IfErr result (IsRule (λ rule at_line. Never rule at_line)) }
-{
-    if !es.is_empty() && parts.types.len() == before {
-        return Err(TypeFault::NoMemory);
-    }
-    Ok(())
+    many(elements.values.as_slice(), parts, given, walk)
 }

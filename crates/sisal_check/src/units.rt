@@ -19,6 +19,7 @@ use value_names::InForce;
 /// The typed program of a unit, or the first rule that it breaks with the line: SISAL Language
 /// Reference Manual 1.2, types, scope and programs.
 pub fn check(alloc: Global, unit: Unit) -> Result<Program, TypeFault>
+    requires text { IsText unit }
     ensures typed { IfOk result (λ p. IsText unit → IsTyped unit p) }
     ensures types { IfOk result (λ p. IsTable p.types) }
     ensures standing { IfOk result (λ p. IsText unit → AreStanding unit.tokens.names p.types) }

@@ -1,6 +1,5 @@
 pub mod Fronts
 pub mod Lengths
-pub mod Lexed
 pub mod Refusing
 pub mod Replies
 pub mod Writes

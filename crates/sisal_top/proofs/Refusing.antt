@@ -23,7 +23,7 @@ use Rattle.sisal_top.specs.Program.{AskToRead, Fits, IsUnitOf, ReadsText}
 use Rattle.sisal_top.specs.Refusals.{IsCause, IsNoProgram, IsUnread}
 use Rattle.sisal_top.specs.Status.{of_checker, of_lexer, of_parser, of_words}
 use Rattle.sisal_top.proofs.Lengths.{fault_lined}
-use Rattle.sisal_top.proofs.Lexed.{is_text}
+use Rattle.sisal_check.proofs.Lexed.{is_text}
 use Rattle.sisal_top.specs.declared.status.Status.{Status}
 use Rattle.sisal_top.specs.declared.status.Status.TheVariants as status
 
@@ -72,7 +72,7 @@ pub checker_cause : {X : Type 0} (u : tree.Unit) (f : TypeFault) (r : Result X S
     → IfErr r (λ s. (bytes : List ℕ) → IsUnitOf bytes u → IsNoProgram bytes s)
 checker_cause u f (Ok x) breaks is = tt
 checker_cause u checker.NoMemory (Err s) breaks is = λ bytes unit. subst (IsNoProgram bytes) (sym is) tt
-checker_cause u (checker.Rule rule line) (Err s) breaks is = λ bytes unit. subst (IsNoProgram bytes) (sym is) (record { unit = u; is = unit; breaks = breaks (is_text bytes u unit) })
+checker_cause u (checker.Rule rule line) (Err s) breaks is = λ bytes unit. subst (IsNoProgram bytes) (sym is) (record { unit = u; is = unit; breaks = breaks (is_text bytes u.tokens u unit.lexed refl unit.spelled) })
 
 -- a fault of the bytes is a reason for which they are no program
 pub cause_no_program : (bytes : List ℕ) (s : Status) → IsCause bytes s → IsNoProgram bytes s

@@ -3,13 +3,14 @@ ghost use Rattle.std.specs.Prelude.{ℕ, List, IfOk, IfErr};
 ghost use Rattle.lowering_meaning.specs.Coverage.{AreCovered};
 ghost use Rattle.text_ready.specs.LoweredRulesLaws.{rule_forms};
 ghost use Rattle.lowered_units.specs.Fitting.{IsFitting};
+ghost use Rattle.sisal_check.specs.Texts.{IsText};
 ghost use Rattle.sisal_top.specs.Outputs.{HasProgram};
 ghost use Rattle.sisal_top.specs.Program.{Fits, IsUnitOf};
 ghost use Rattle.sisal_top.specs.Refusals.{IsCause, IsNoProgram};
 
 use crate::status::Status;
 use fitting_texts::programs_of_texts_fit;
-use sisal_check::check;
+use sisal_check::{check, units_of_texts_are_texts};
 use sisal_lex::lex;
 use sisal_parse::parse;
 use sisal_tree::Unit;
@@ -37,12 +38,14 @@ pub fn typed(alloc: Global, text: &[u8]) -> Result<Program, Status>
     ensures refused { IfErr result (IsNoProgram text.now) }
 {
     let unit = unit_of(alloc, text)?;
+    units_of_texts_are_texts();
     let program = program_of(alloc, unit)?;
     Ok(program)
 }
 
 /// The typed program of a unit.
 fn program_of(alloc: Global, unit: Unit) -> Result<Program, Status>
+    requires { IsText unit }
     ensures program { IfOk result (λ program. (bytes : List ℕ) → IsUnitOf bytes unit → HasProgram bytes program) }
     ensures fits { IfOk result (λ program. (bytes : List ℕ) → IsUnitOf bytes unit → IsFitting program) }
     ensures covered { IfOk result (λ program. (bytes : List ℕ) → IsUnitOf bytes unit → AreCovered rule_forms program.functions) }

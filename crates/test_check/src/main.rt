@@ -5,7 +5,7 @@
 //! comes from a separate implementation.
 #![tactic(auto)]
 
-use sisal_check::check;
+use sisal_check::{check, units_of_texts_are_texts};
 use sisal_lex::lex;
 use sisal_parse::parse;
 use std::alloc::Global;
@@ -35,6 +35,7 @@ fn told(alloc: Global, text: &[u8]) -> Answer {
     let Ok(unit) = parse(alloc, tokens) else {
         return Answer::NoUnit;
     };
+    units_of_texts_are_texts();
     match check(alloc, unit) {
         Ok(_) => Answer::Typed,
         Err(TypeFault::Rule { rule, line }) => Answer::Broken(rule, line),

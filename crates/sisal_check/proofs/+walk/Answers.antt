@@ -1,37 +1,42 @@
 use Rattle.breaking_laws.proofs.FCalls.{refused_call_breaks, uneven_breaks}
 use Rattle.breaking_laws.proofs.FFinish.{refused_breaks}
-use Rattle.breaking_laws.proofs.FParts.{not_one_breaks, one_breaks, list_breaks, field_breaks, group_breaks, operand_breaks, elements_break, fields_break, arguments_break, definitions_break, results_break, test_breaks, then_breaks, else_breaks}
+use Rattle.breaking_laws.proofs.FParts.{not_one_breaks, one_breaks, list_breaks, field_breaks, group_breaks, arguments_break, definitions_break, results_break, test_breaks, then_breaks, else_breaks}
 use Rattle.breaking_laws.proofs.FPassing.{reach_later}
-use Rattle.breaking_laws.proofs.PArms.{arm_results_refused, after_arms, arm_result_added, no_results, more_results}
+use Rattle.breaking_laws.proofs.PArms.{arm_results_refused, after_arms, arm_result_added, more_results}
 use Rattle.breaking_laws.proofs.PCases.{case_subject_refused, case_no_union_refused, case_arms_refused, case_otherwise_refused, case_no_arm, case_arms_differ, case_otherwise_differs}
 use Rattle.breaking_laws.proofs.PClauses.{clause_value_refused, clause_mask_refused, mask_refused, one_clause_refused}
 use Rattle.breaking_laws.proofs.PDefs.{targets_twice, after_defs, values_refused, targets_refused}
-use Rattle.breaking_laws.proofs.PGenerators.{from_refused, to_refused, source_refused, one_generator_refused, group_twice, after_groups, product_groups_refused, product_defs_refused, product_clauses_refused}
+use Rattle.breaking_laws.proofs.PGenerators.{from_refused, to_refused, source_refused, group_twice, after_groups, product_groups_refused, product_defs_refused, product_clauses_refused}
 use Rattle.breaking_laws.proofs.PMade.{made_refused}
 use Rattle.breaking_laws.proofs.PTags.{arm_tags_refused}
 use Rattle.breaking_laws.proofs.PTurns.{renewing_refused, turn_defs_refused, turn_test_refused, truth_refused, initial_defs_refused, initial_turn_refused, initial_clauses_refused}
 use Rattle.breaking_laws.specs.Broken.{Broken, BrokenOne, BrokenIn, BrokenField, BrokenForm, BreaksAt}
 use Rattle.breaking_laws.specs.FormLaws as part
-use Rattle.breaking_laws.specs.Parts.{BrokenDefs, StandsTwice, IsNoArm, IsNoUnion, IsNoTruth, EndsFalse, BrokenTargets, BrokenTurn, BrokenRenewing, BrokenMade, BrokenClauses, BrokenGroup, BrokenGroups, BrokenValues, BrokenArms, BrokenGenerator, AddsResults}
+use Rattle.breaking_laws.specs.Parts.{BrokenDefs, StandsTwice, IsNoArm, EndsFalse, BrokenTargets, BrokenTurn, BrokenRenewing, BrokenMade, BrokenClauses, BrokenGroups, BrokenValues, BrokenArms, AddsResults}
 use Rattle.breaking_laws.specs.Refusals.{NotOne, Refuses, RefusesCall, Uneven}
 use Rattle.sisal_check.proofs.+walk.Goals as goal
 use Rattle.sisal_check.proofs.+walk.Goals.{cases::tag_case-in-Some+in_ok-last-in-Some, cases::tag_case-in-None+in_ok-name_all-in-None}
 use Rattle.sisal_check.proofs.Depths.{of_group, among_groups}
+use Rattle.sisal_check.proofs.Items.{item_at, if_some, first_some, first_stays, some_on, none_of, no_levels, levels_more, one_value_more, two_values, finished_some, call_some, product_parts, initial_parts, in_use}
 use Rattle.sisal_check.proofs.Forms.{faults_weaker, passed_on, operand_fault, elements_fault, fields_fault, no_elements, no_error_operands}
-use Rattle.sisal_check.proofs.Parts.{whole_at, first_names, names_behind, group_fails, groups_many, single_of}
+use Rattle.sisal_check.proofs.Parts.{whole_at, first_names, group_fails, groups_many, single_of}
 use Rattle.sisal_check.specs.Walked.{given_of, parts_of, arms_of, group_of, defined_of, DiffersIn, turned_of}
 use Rattle.sisal_tree.proofs.expr.Generator.TheLaws.{the_size}
+use Rattle.sisal_tree.specs.declared.expr.ExprKind.TheViews as kinds
 use Rattle.sisal_tree.specs.declared.expr.Arm.{out-Arm}
 use Rattle.sisal_tree.specs.declared.expr.Clause.{out-Clause}
 use Rattle.sisal_tree.specs.declared.expr.Def.{out-Def}
 use Rattle.sisal_tree.specs.declared.expr.Elements.{out-Elements}
 use Rattle.sisal_tree.specs.declared.expr.ExprKind.TheVariants as tree
 use Rattle.sisal_tree.specs.declared.expr.Generator.{out-Generator}
-use Rattle.sisal_tree.specs.declared.expr.Loop.TheVariants as loop
 use Rattle.sisal_tree.specs.declared.expr.TagCase.{out-TagCase}
 use Rattle.sisal_tree.specs.declared.expr.Turn.{out-Turn}
-use Rattle.std.proofs.Common.{◌≤◌, arith, ◌≡◌, [], ◌∷◌, None, refl, sym, ap, subst, ◌∙◌, ◌+◌, ◌++◌, map, take, drop, length, false, Some, true, ◌<◌, get_or}
+use Rattle.std.proofs.Common.{All, ◌≤◌, arith, rules, ◌≡◌, [], ◌∷◌, None, refl, sym, ap, subst, ◌∙◌, ◌+◌, ◌++◌, map, take, drop, length, false, Some, true, ◌<◌, get_or}
 use Rattle.std.proofs.lemmas.List.{map-append, take_all}
+use Rattle.std.specs.Prelude.{IfSome, IsSomeAnd, min}
+use Rattle.text_trees.proofs.Parts.{spelled_parts}
+use Rattle.text_trees.specs.Parts.{IsGroup, AreLast}
+use Rattle.text_trees.specs.Spelled.{IsSpelled, IsArm, IsDef, IsClause}
 use Rattle.std.proofs.lemmas.Result.{on_ok_weaker}
 use Rattle.type_rules.specs.Applies.{Grows}
 use Rattle.type_rules.specs.Arms.{are_all_named}
@@ -56,7 +61,6 @@ use Rattle.typing_laws.specs.Defining.{AllDefined, targets_in, Enters}
 use Rattle.typing_laws.specs.Forming.{Operands}
 use Rattle.typing_laws.specs.Judged.{AllOnes, AllTyped, IsUsedIn, Adds, Typed}
 use Rattle.typing_laws.specs.Looping.{GroupsTyped, AllValues, up_to, AllMade, AllRenewed, IsCrossed, IsTest, TurnTyped, AddsGenerator, AllGenerated, GroupTyped, no_group, index_names}
-use Rattle.typing_laws.specs.Turns.{AreBelow, in_turn, loop_names}
 use Rattle.unit_types.proofs.Lists.{on_ok_from, if_ok_weaker}
 use denote.Param.Weighed.{most}
 
@@ -64,7 +68,8 @@ pub generators::groups-one_group-requires : goal.generators::groups-one_group-re
 generators::groups-one_group-requires t c =
     let below : most the_size c.g-item.result ≤ most (of_group the_size) c.args.gs.now =
     among_groups the_size c.args.gs.now c.loop-g.g-index c.g-item.result c.loop-g-test.true c.g-item.is in
-    (omega (arith, below, c.decreases), tt)
+    let group = item_at (IsGroup c.args.given.now.tokens.now (length c.args.given.now.spellings.now)) c.args.gs.now c.loop-g.g-index c.g-item.result c.loop-g-test.true c.g-item.is c.requires.spelled in
+    (omega (arith, below, c.decreases), group.each)
 
 pub cases::each_arm-returns-in_err-one_arm-clause-breaks : goal.cases::each_arm-returns-in_err-one_arm-clause-breaks
 cases::each_arm-returns-in_err-one_arm-clause-breaks t c =
@@ -1170,6 +1175,7 @@ cases::each_arm-loop-arm-preserved t c =
       names = c.in_ok-one_arm.ensures.names ∙ i.names;
       adds = subst (λ l. AddsArms g f h n l first last) more
           (adds_arms_on g f c.loop-arm.walk.types h n (take c.loop-arm.arm-index c.args.arms.now) (x ∷ []) first mid last i.adds (subst (λ m. AddsArms g c.loop-arm.walk.types h m (x ∷ []) mid last) i.names c.in_ok-one_arm.ensures.adds));
+      some = λ known. let now = c.in_ok-one_arm.ensures.some (i.some known).0 in (if_some c.one_arm.new.done.types now, λ le. now);
       results = subst (λ l. AddsResults g f h n l first last) more
           (more_results g f c.loop-arm.walk.types h n (take c.loop-arm.arm-index c.args.arms.now) (x ∷ []) first mid last i.adds i.results (subst (λ m. AddsResults g c.loop-arm.walk.types h m (x ∷ []) mid last) i.names c.in_ok-one_arm.ensures.results));
     }
@@ -1183,6 +1189,7 @@ clauses::clause_values-loop-c-init t c =
       used = used_same g f;
       names = refl;
       typed = subst (λ l. AllValues g f n [] l c.new-values.result.types) (sym c.new-values.ensures.exprs) (subst (λ l. AllValues g f n [] [] l) (sym c.new-values.ensures.types) (no_values g f n));
+      count = ap length c.new-values.ensures.types;
     }
 
 pub clauses::clause_values-loop-c-preserved : goal.clauses::clause_values-loop-c-preserved
@@ -1196,6 +1203,7 @@ clauses::clause_values-loop-c-preserved t c =
       names = c.in_ok-clause_value.ensures.names ∙ i.names;
       typed = values_more g n c.loop-c.walk.types c.clause_value.new.walk.types c.loop-c.walk.names c.args.cs.now c.loop-c.c-index c.c-item.result (parts_of c.loop-c.values) (parts_of c.clause_value.new.values)
           c.loop-c-test.true c.c-item.is c.in_ok-clause_value.ensures.used i.names i.typed c.in_ok-clause_value.ensures.adds;
+      count = c.in_ok-clause_value.ensures.count ∙ ap (λ k. k + 1) i.count;
     }
 
 pub defs::defs-loop-d-init : goal.defs::defs-loop-d-init
@@ -1210,6 +1218,7 @@ defs::defs-loop-d-init t c =
       typed = subst (λ l. AllDefined g h n m c.args.turn [] l c.new-2.result) (sym c.new.ensures) (subst (λ l. AllDefined g h n m c.args.turn [] [] l) (sym c.new-2.ensures)
           (subst (λ k. AllDefined g h n k c.args.turn [] [] []) (sym c.in_ok-distinct.ensures.names) (none_defined g h n c.args.turn)));
       targets = c.in_ok-targets.ensures;
+      height = ap (λ k. k.height) c.in_ok-distinct.ensures.names ∙ no_levels n.height c.new-2.result c.new-2.ensures;
     }
 
 pub defs::defs-loop-d-preserved : goal.defs::defs-loop-d-preserved
@@ -1224,6 +1233,8 @@ defs::defs-loop-d-preserved t c =
           (one_more_defined g c.loop-d.walk.types c.def.new.walk.types n c.loop-d.walk.names c.def.new.walk.names c.args.turn (take c.loop-d.d-index c.args.ds.now) c.d-item.result (defined_of c.loop-d.defined) (defined_of c.def.new.defined)
           c.in_ok-def.ensures.used.grows i.typed c.in_ok-def.ensures.adds);
       targets = c.in_ok-def.ensures.adds.enters.targets ∙ i.targets;
+      height = levels_more (out-Def c.d-item.result).targets c.in_ok-def.ensures.adds.types c.loop-d.defined.types c.def.new.defined.types c.loop-d.walk.names c.def.new.walk.names n.height
+          c.in_ok-def.ensures.adds.enters.count c.in_ok-def.ensures.adds.enters.types c.in_ok-def.ensures.adds.enters.names i.height;
     }
 
 pub defs::defs-returns-clause-distinct : goal.defs::defs-returns-clause-distinct
@@ -1331,7 +1342,7 @@ lists::fields-loop-v-preserved t c =
 
 pub lists::many-loop-e-init : goal.lists::many-loop-e-init
 lists::many-loop-e-init t c =
-    record { used = used_same (given_of c.args.given.now) c.args.walk.now.types; names = refl; adds = adds_no_more (given_of c.args.given.now) c.args.walk.now.types c.args.walk.now.names (parts_of c.args.parts.now) }
+    record { used = used_same (given_of c.args.given.now) c.args.walk.now.types; names = refl; adds = adds_no_more (given_of c.args.given.now) c.args.walk.now.types c.args.walk.now.names (parts_of c.args.parts.now); some = omega arith }
 
 pub lists::many-loop-e-preserved : goal.lists::many-loop-e-preserved
 lists::many-loop-e-preserved t c =
@@ -1344,6 +1355,7 @@ lists::many-loop-e-preserved t c =
       names = c.in_ok-made.ensures.names ∙ i.names;
       adds = many_more g n c.loop-e.walk.types c.typed.new.walk.types c.loop-e.walk.names c.args.es.now c.loop-e.e-index c.e-item.result c.in_ok-made.made (parts_of c.args.parts.now) (parts_of c.loop-e.parts) (parts_of c.add.new.self)
           c.loop-e-test.true c.e-item.is c.in_ok-made.ensures.used i.names i.adds c.in_ok-made.ensures.typed c.in_ok-add.ensures.exprs c.in_ok-add.ensures.types;
+      some = one_value_more c.loop-e.parts.types c.add.new.self.types c.in_ok-made.made.types (length c.args.parts.now.types) c.loop-e.e-index i.some c.in_ok-add.ensures.types c.in_ok-made.ensures.some;
     }
 
 pub typed::operands-returns-in-Convert-clause-breaks : goal.typed::operands-returns-in-Convert-clause-breaks
@@ -1578,29 +1590,6 @@ cases::last-returns-clause-uneven t c =
     let r = c.in_ok-results.results in
     on_ok_weaker c.keep.result (λ d. record { exprs = r.exprs; types = r.types; typed = c.in_ok-results.ensures.typed; differs = d }) c.keep.ensures.uneven
 
-pub typed::operands-returns-in_ok-many-in-Stream-clause-adds : goal.typed::operands-returns-in_ok-many-in-Stream-clause-adds
-typed::operands-returns-in_ok-many-in-Stream-clause-adds t c =
-    let g = given_of c.args.given.now in
-    let n = c.args.walk.now.names in
-    let h = c.many.new.walk.types in
-    let first = parts_of c.args.parts.now in
-    let last = parts_of c.many.new.parts in
-    let x = c.in-Stream.field-0 in
-    let es = c.in-Stream.es in
-    on_ok_weaker c.has_value.result (λ v. operands_of g n h c.args.kind.now (tree.Stream x es) first last c.in-Stream.is
-    (stream_operands g n h x es first last (subst (λ l. Adds first last (AllTyped g h n l)) c.as_slice-in-Stream.ensures c.in_ok-many-in-Stream.ensures.adds)
-    (λ e. sym c.as_slice-in-Stream-2.ensures ∙ v (e ∙ sym c.len-before.ensures)))) c.has_value.ensures.value
-
-pub typed::operands-returns-in_err-many-in-Stream-clause-breaks : goal.typed::operands-returns-in_err-many-in-Stream-clause-breaks
-typed::operands-returns-in_err-many-in-Stream-clause-breaks t c =
-    let g = given_of c.args.given.now in
-    let f = c.args.walk.now.types in
-    let n = c.args.walk.now.names in
-    passed_on c.from_residual-in_err-many-in-Stream.result c.in_err-many-in-Stream.field-0.0 c.from_residual-in_err-many-in-Stream.ensures.1 _ _
-    (λ rule line q. elements_fault g f f n n c.args.kind.now (tree.Stream c.in-Stream.field-0 c.in-Stream.es) rule line (used_same g f) refl c.in-Stream.is c.in-Stream.es c.as_slice-in-Stream.result.now
-    (part.stream c.in-Stream.field-0 c.in-Stream.es) c.as_slice-in-Stream.ensures q)
-    c.in_err-many-in-Stream.ensures.breaks
-
 pub typed::elements_of-returns-in_err-one-clause-breaks : goal.typed::elements_of-returns-in_err-one-clause-breaks
 typed::elements_of-returns-in_err-one-clause-breaks t c =
     let g = given_of c.args.given.now in
@@ -1610,32 +1599,6 @@ typed::elements_of-returns-in_err-one-clause-breaks t c =
     passed_on c.from_residual.result c.in_err-one.field-0.0 c.from_residual.ensures.1 _ _
     (λ rule line q x. operand_fault g f f n n (tree.Array x (Some els)) (tree.Array x (Some els)) rule line (used_same g f) refl refl (out-Elements els).lower c.get.result.now (part.lower x els) c.get.ensures q)
     c.in_err-one.ensures.breaks
-
-pub typed::elements_of-returns-in_err-many-clause-breaks : goal.typed::elements_of-returns-in_err-many-clause-breaks
-typed::elements_of-returns-in_err-many-clause-breaks t c =
-    let g = given_of c.args.given.now in
-    let f = c.args.walk.now.types in
-    let n = c.args.walk.now.names in
-    let els = c.args.elements.now in
-    passed_on c.from_residual-in_err-many.result c.in_err-many.field-0.0 c.from_residual-in_err-many.ensures.1 _ _
-    (λ rule line q x. elements_fault g f c.one.new.walk.types n c.one.new.walk.names (tree.Array x (Some els)) (tree.Array x (Some els)) rule line c.in_ok-one.ensures.used c.in_ok-one.ensures.names refl
-    (out-Elements els).values c.as_slice.result.now (part.array x els) c.as_slice.ensures q)
-    c.in_err-many.ensures.breaks
-
-pub typed::elements_of-returns-clause-adds : goal.typed::elements_of-returns-clause-adds
-typed::elements_of-returns-clause-adds t c =
-    let g = given_of c.args.given.now in
-    let n = c.args.walk.now.names in
-    let els = c.args.elements.now in
-    let h0 = c.one.new.walk.types in
-    let h = c.many.new.walk.types in
-    let now = c.one.new.walk.names in
-    let first = parts_of c.args.parts.now in
-    let mid = parts_of c.one.new.parts in
-    let last = parts_of c.many.new.parts in
-    on_ok_from c.has_element.result (λ x. array_operands g n h0 h now x els first mid last c.in_ok-many.ensures.used c.in_ok-one.ensures.names
-    (subst (λ e. Adds first mid (AllOnes g h0 n (e ∷ []))) c.get.ensures c.in_ok-one.ensures.adds) c.in_ok-one.ensures.single
-    (subst (λ es. Adds mid last (AllTyped g h now es)) c.as_slice.ensures c.in_ok-many.ensures.adds))
 
 pub typed::operands-returns-in-None-clause-adds : goal.typed::operands-returns-in-None-clause-adds
 typed::operands-returns-in-None-clause-adds t c =
@@ -1656,3 +1619,228 @@ typed::operands-returns-in-ErrorOf-clause-adds t c =
 
 pub lists::only-returns-clause-single : goal.lists::only-returns-clause-single
 lists::only-returns-clause-single t c = single_of (parts_of c.new-parts.result) (parts_of c.one.new.parts) c.new-parts.ensures.types c.in_ok-one.ensures.single
+
+pub typed::operands-returns-in-Stream-clause-adds : goal.typed::operands-returns-in-Stream-clause-adds
+typed::operands-returns-in-Stream-clause-adds t c =
+    let g = given_of c.args.given.now in
+    let n = c.args.walk.now.names in
+    let h = c.many.new.walk.types in
+    let first = parts_of c.args.parts.now in
+    let last = parts_of c.many.new.parts in
+    let x = c.in-Stream.field-0 in
+    let es = c.in-Stream.es in
+    ok_two c.many.result (λ q some. operands_of g n h c.args.kind.now (tree.Stream x es) first last c.in-Stream.is
+    (stream_operands g n h x es first last (subst (λ l. Adds first last (AllTyped g h n l)) c.as_slice-in-Stream.ensures q)
+    (λ same. sym c.as_slice-in-Stream.ensures ∙ none_of c.as_slice-in-Stream.result.now (omega (arith, some, same))))) c.many.ensures.adds c.many.ensures.some
+
+pub typed::operands-returns-in-Stream-clause-breaks : goal.typed::operands-returns-in-Stream-clause-breaks
+typed::operands-returns-in-Stream-clause-breaks t c =
+    let g = given_of c.args.given.now in
+    let f = c.args.walk.now.types in
+    let n = c.args.walk.now.names in
+    faults_weaker c.many.result _ _
+    (λ rule line q. elements_fault g f f n n c.args.kind.now (tree.Stream c.in-Stream.field-0 c.in-Stream.es) rule line (used_same g f) refl c.in-Stream.is c.in-Stream.es c.as_slice-in-Stream.result.now
+    (part.stream c.in-Stream.field-0 c.in-Stream.es) c.as_slice-in-Stream.ensures q)
+    c.many.ensures.breaks
+
+pub typed::elements_of-returns-clause-breaks : goal.typed::elements_of-returns-clause-breaks
+typed::elements_of-returns-clause-breaks t c =
+    let g = given_of c.args.given.now in
+    let f = c.args.walk.now.types in
+    let n = c.args.walk.now.names in
+    let els = c.args.elements.now in
+    faults_weaker c.many.result _ _
+    (λ rule line q x. elements_fault g f c.one.new.walk.types n c.one.new.walk.names (tree.Array x (Some els)) (tree.Array x (Some els)) rule line c.in_ok-one.ensures.used c.in_ok-one.ensures.names refl
+    (out-Elements els).values c.as_slice.result.now (part.array x els) c.as_slice.ensures q)
+    c.many.ensures.breaks
+
+pub typed::elements_of-returns-clause-adds : goal.typed::elements_of-returns-clause-adds
+typed::elements_of-returns-clause-adds t c =
+    let g = given_of c.args.given.now in
+    let n = c.args.walk.now.names in
+    let els = c.args.elements.now in
+    let h0 = c.one.new.walk.types in
+    let h = c.many.new.walk.types in
+    let now = c.one.new.walk.names in
+    let first = parts_of c.args.parts.now in
+    let mid = parts_of c.one.new.parts in
+    let last = parts_of c.many.new.parts in
+    ok_two c.many.result (λ used q x. array_operands g n h0 h now x els first mid last used c.in_ok-one.ensures.names
+    (subst (λ e. Adds first mid (AllOnes g h0 n (e ∷ []))) c.get.ensures c.in_ok-one.ensures.adds) c.in_ok-one.ensures.single
+    (subst (λ es. Adds mid last (AllTyped g h now es)) c.as_slice.ensures q)) c.many.ensures.used c.many.ensures.adds
+
+pub typed::elements_of-returns-clause-elements : goal.typed::elements_of-returns-clause-elements
+typed::elements_of-returns-clause-elements t c =
+    let p = spelled_parts.elements c.args.given.now.tokens.now (length c.args.given.now.spellings.now) c.args.elements.now c.requires.spelled in
+    on_ok_weaker c.many.result (λ some. two_values c.args.parts.now.types c.one.new.parts.types c.many.new.parts.types c.in_ok-one.ensures.single.type c.as_slice.result.now (out-Elements c.args.elements.now).values
+    c.in_ok-one.ensures.single.types c.as_slice.ensures p.2 some) c.many.ensures.some
+
+pub cases::one_arm-returns-clause-some : goal.cases::one_arm-returns-clause-some
+cases::one_arm-returns-clause-some t c =
+    let r = c.in_ok-results.results in
+    let p = spelled_parts.arm c.args.given.now.tokens.now (length c.args.given.now.spellings.now) c.args.arm.now c.requires.spelled in
+    let some : 1 ≤ length r.types = some_on (out-Arm c.args.arm.now).results c.as_slice-2.result.now r.types c.as_slice-2.ensures p.2 c.in_ok-results.ensures.some in
+    on_ok_weaker c.keep.result (λ k known. subst (λ o. IsSomeAnd o (λ ns. 1 ≤ length ns)) (sym k.types)
+    (first_some c.enter.new.done.types r.types (subst (λ o. IfSome o (λ ns. 1 ≤ length ns)) (sym c.in_ok-enter.ensures.enters.types) known) some)) c.keep.ensures.keeps
+
+pub cases::each_arm-returns-clause-some : goal.cases::each_arm-returns-clause-some
+cases::each_arm-returns-clause-some t c = λ known le. (c.loop-arm.invariant.some known).1 (let end = c.loop-arm-test.false in omega (arith, end, le))
+
+pub typed::applied-returns-clause-some : goal.typed::applied-returns-clause-some
+typed::applied-returns-clause-some t c =
+    if_ok_weaker c.finish.result (λ u is. finished_some c.operands.new.walk.types c.finish.new.walk.types c.args.line c.in_ok-head.head (parts_of c.operands.new.parts) u is) c.finish.ensures.finishes
+
+pub typed::plain-returns-in-Constant-clause-some : goal.typed::plain-returns-in-Constant-clause-some
+typed::plain-returns-in-Constant-clause-some t c = if_ok_weaker c.constant.result (λ u is. subst (λ x. 1 ≤ length x.types) (sym is) (omega arith)) c.constant.ensures.is
+
+pub typed::plain-returns-in_ok-inner-in-Group-clause-some : goal.typed::plain-returns-in_ok-inner-in-Group-clause-some
+typed::plain-returns-in_ok-inner-in-Group-clause-some t c = if_ok_weaker c.group.result (λ u is. subst (λ x. 1 ≤ length x.types) (sym is) c.in_ok-inner-in-Group.ensures.some) c.group.ensures.is
+
+pub typed::plain-returns-in_ok-operands-in-Call-clause-some : goal.typed::plain-returns-in_ok-operands-in-Call-clause-some
+typed::plain-returns-in_ok-operands-in-Call-clause-some t c =
+    if_ok_weaker c.call.result (λ u is. call_some c.args.given.now c.all.new.walk.types c.call.new.walk.types c.args.e.now.line c.in-Call.x (parts_of c.in_ok-operands-in-Call.operands) u c.args.given.now.results is) c.call.ensures.calls
+
+pub loops::looped-returns-in_ok-values-in-Product-clause-some : goal.loops::looped-returns-in_ok-values-in-Product-clause-some
+loops::looped-returns-in_ok-values-in-Product-clause-some t c =
+    let cs = c.in-Product.cs in
+    let p = product_parts c.args.given.now.tokens.now (length c.args.given.now.spellings.now) c.args.l.now c.in-Product.gs c.in-Product.ds cs c.in-Product.is c.requires.spelled in
+    let some : 1 ≤ length c.as_slice-in-Product-3.result.now = subst (λ l. 1 ≤ length l) (sym c.as_slice-in-Product-3.ensures) p.4 in
+    let count : length c.in_ok-values-in-Product.values.types ≡ length cs = c.in_ok-values-in-Product.ensures.count ∙ ap length c.as_slice-in-Product-2.ensures in
+    if_ok_weaker c.product.result (λ t has. has some (subst (λ k. 1 ≤ k) (sym count) p.4)) c.product.ensures.some
+
+pub loops::looped-returns-in_ok-values-in-Initial-clause-some : goal.loops::looped-returns-in_ok-values-in-Initial-clause-some
+loops::looped-returns-in_ok-values-in-Initial-clause-some t c =
+    let cs = c.in-Initial.cs in
+    let p = initial_parts c.args.given.now.tokens.now (length c.args.given.now.spellings.now) c.args.l.now c.in-Initial.ds c.in-Initial.turn cs c.in-Initial.is c.requires.spelled in
+    let some : 1 ≤ length c.as_slice-in-Initial-3.result.now = subst (λ l. 1 ≤ length l) (sym c.as_slice-in-Initial-3.ensures) p.4 in
+    let count : length c.in_ok-values-in-Initial.values.types ≡ length cs = c.in_ok-values-in-Initial.ensures.count ∙ ap length c.as_slice-in-Initial-2.ensures in
+    if_ok_weaker c.initial.result (λ t has. has some (subst (λ k. 1 ≤ k) (sym count) p.4)) c.initial.ensures.some
+
+pub cases::one_arm-all-requires : goal.cases::one_arm-all-requires
+cases::one_arm-all-requires t c =
+    let tokens = c.args.given.now.tokens.now in
+    let names = length c.args.given.now.spellings.now in
+    let p = spelled_parts.arm tokens names c.args.arm.now c.requires.spelled in
+    (search (rules, kinds.the_lemmas), subst (λ l. All (IsSpelled tokens names) l) (sym c.as_slice-2.ensures) p.1)
+
+pub cases::tag_case-each_arm-requires : goal.cases::tag_case-each_arm-requires
+cases::tag_case-each_arm-requires t c =
+    let tokens = c.args.given.now.tokens.now in
+    let names = length c.args.given.now.spellings.now in
+    let p = spelled_parts.tag_case tokens names c.args.cases.now c.requires.spelled in
+    (search (rules, kinds.the_lemmas), subst (λ l. All (IsArm tokens names) l) (sym c.as_slice.ensures) p.1)
+
+pub cases::tag_case-last-requires : goal.cases::tag_case-last-requires
+cases::tag_case-last-requires t c =
+    let tokens = c.args.given.now.tokens.now in
+    let names = length c.args.given.now.spellings.now in
+    let p = spelled_parts.tag_case tokens names c.args.cases.now c.requires.spelled in
+    let last : All (IsSpelled tokens names) c.in-Some.es × (1 ≤ length c.in-Some.es) = subst (λ o. AreLast tokens names o) c.in-Some.is p.3 in
+    (search (rules, kinds.the_lemmas), subst (λ l. All (IsSpelled tokens names) l) (sym c.as_slice-in-Some.ensures) last.0)
+
+pub cases::tag_case-case-requires : goal.cases::tag_case-case-requires
+cases::tag_case-case-requires t c =
+    let tokens = c.args.given.now.tokens.now in
+    let names = length c.args.given.now.spellings.now in
+    let p = spelled_parts.tag_case tokens names c.args.cases.now c.requires.spelled in
+    let done = c.each_arm.new.done in
+    let few : 1 ≤ length c.as_slice.result.now = let same : length c.as_slice.result.now ≡ length (out-TagCase c.args.cases.now).arms = ap length c.as_slice.ensures in let some = p.2 in omega (arith, same, some) in
+    let first : IsSomeAnd done.types (λ ns. 1 ≤ length ns) = c.in_ok-each_arm.ensures.some (subst (λ o. IfSome o (λ ns. 1 ≤ length ns)) (sym c.in_ok-done.ensures.begins.types) tt) few in
+    elim c.match-otherwise.branch [
+      | cases::tag_case-in-Some+in_ok-last-in-Some w ↦ subst (λ x. IsSomeAnd x.types (λ ns. 1 ≤ length ns)) (sym w.done-is)
+          (subst (λ o. IsSomeAnd o (λ ns. 1 ≤ length ns)) (sym w.in_ok-last-in-Some.ensures.adds.keeps.types) (first_stays done.types w.in_ok-last-in-Some.ensures.adds.types first))
+      | cases::tag_case-in-None+in_ok-name_all-in-None w ↦ subst (λ x. IsSomeAnd x.types (λ ns. 1 ≤ length ns)) (sym w.done-is) first
+    ]
+
+pub defs::def-all-requires : goal.defs::def-all-requires
+defs::def-all-requires t c =
+    let tokens = c.args.given.now.tokens.now in
+    let names = length c.args.given.now.spellings.now in
+    let p = spelled_parts.def tokens names c.args.d.now c.requires.spelled in
+    (search (rules, kinds.the_lemmas), subst (λ l. All (IsSpelled tokens names) l) (sym c.as_slice.ensures) p.2)
+
+pub loops::looped-groups-requires : goal.loops::looped-groups-requires
+loops::looped-groups-requires t c =
+    let tokens = c.args.given.now.tokens.now in
+    let names = length c.args.given.now.spellings.now in
+    let p = product_parts tokens names c.args.l.now c.in-Product.gs c.in-Product.ds c.in-Product.cs c.in-Product.is c.requires.spelled in
+    (search (rules, kinds.the_lemmas), subst (λ l. All (IsGroup tokens names) l) (sym c.as_slice.ensures) p.0)
+
+pub loops::looped-defs-requires : goal.loops::looped-defs-requires
+loops::looped-defs-requires t c =
+    let tokens = c.args.given.now.tokens.now in
+    let names = length c.args.given.now.spellings.now in
+    let p = product_parts tokens names c.args.l.now c.in-Product.gs c.in-Product.ds c.in-Product.cs c.in-Product.is c.requires.spelled in
+    (search (rules, kinds.the_lemmas), subst (λ l. All (IsDef tokens names) l) (sym c.as_slice-in-Product.ensures) p.2)
+
+pub loops::looped-clause_values-requires : goal.loops::looped-clause_values-requires
+loops::looped-clause_values-requires t c =
+    let tokens = c.args.given.now.tokens.now in
+    let names = length c.args.given.now.spellings.now in
+    let p = product_parts tokens names c.args.l.now c.in-Product.gs c.in-Product.ds c.in-Product.cs c.in-Product.is c.requires.spelled in
+    (search (rules, kinds.the_lemmas), subst (λ l. All (IsClause tokens names) l) (sym c.as_slice-in-Product-2.ensures) p.3)
+
+pub loops::looped-product-requires : goal.loops::looped-product-requires
+loops::looped-product-requires t c =
+    let tokens = c.args.given.now.tokens.now in
+    let names = length c.args.given.now.spellings.now in
+    let p = product_parts tokens names c.args.l.now c.in-Product.gs c.in-Product.ds c.in-Product.cs c.in-Product.is c.requires.spelled in
+    let g = given_of c.args.given.now in
+    let h0 = c.groups.new.walk.types in
+    let n = c.args.walk.now.names in
+    let goes = c.in_ok-goes-in-Product.goes in
+    let inside = c.groups.new.walk.names in
+    let grouped : GroupsTyped g h0 n c.in-Product.gs (map group_of goes) inside = subst (λ l. GroupsTyped g h0 n l (map group_of goes) inside) c.as_slice.ensures c.in_ok-goes-in-Product.ensures.typed in
+    subst (λ k. 1 ≤ k) (sym (groups_many g h0 n c.in-Product.gs goes inside grouped)) p.1
+
+pub loops::looped-defs-requires-in-Initial : goal.loops::looped-defs-requires-in-Initial
+loops::looped-defs-requires-in-Initial t c =
+    let tokens = c.args.given.now.tokens.now in
+    let names = length c.args.given.now.spellings.now in
+    let p = initial_parts tokens names c.args.l.now c.in-Initial.ds c.in-Initial.turn c.in-Initial.cs c.in-Initial.is c.requires.spelled in
+    (search (rules, kinds.the_lemmas), subst (λ l. All (IsDef tokens names) l) (sym c.as_slice-in-Initial.ensures) p.0)
+
+pub loops::looped-turn_of-requires : goal.loops::looped-turn_of-requires
+loops::looped-turn_of-requires t c =
+    let tokens = c.args.given.now.tokens.now in
+    let names = length c.args.given.now.spellings.now in
+    let p = initial_parts tokens names c.args.l.now c.in-Initial.ds c.in-Initial.turn c.in-Initial.cs c.in-Initial.is c.requires.spelled in
+    let d = c.in_ok-started-in-Initial.started in
+    let fits = in_use c.height-first.result c.args.walk.now.names.height c.defs-in-Initial.new.walk.names.height (length d.targets) (length d.types) c.height-first.ensures c.in_ok-started-in-Initial.ensures.height in
+    (search (rules, kinds.the_lemmas), (fits, p.2))
+
+pub loops::looped-clause_values-requires-in-Initial : goal.loops::looped-clause_values-requires-in-Initial
+loops::looped-clause_values-requires-in-Initial t c =
+    let tokens = c.args.given.now.tokens.now in
+    let names = length c.args.given.now.spellings.now in
+    let p = initial_parts tokens names c.args.l.now c.in-Initial.ds c.in-Initial.turn c.in-Initial.cs c.in-Initial.is c.requires.spelled in
+    (search (rules, kinds.the_lemmas), subst (λ l. All (IsClause tokens names) l) (sym c.as_slice-in-Initial-2.ensures) p.3)
+
+pub turns::turn_of-turn_defs-requires : goal.turns::turn_of-turn_defs-requires
+turns::turn_of-turn_defs-requires t c =
+    let tokens = c.args.given.now.tokens.now in
+    let names = length c.args.given.now.spellings.now in
+    let p = spelled_parts.turn tokens names c.args.turn.now c.requires.spelled in
+    let d = c.args.started.now in
+    let fits = subst (λ s. c.args.first + min (length d.targets) (length d.types) ≤ s.height) (sym c.in_ok-tests.ensures.names) c.requires.fits in
+    (search (rules, kinds.the_lemmas), (fits, subst (λ l. All (IsDef tokens names) l) (sym c.as_slice.ensures) p.1))
+
+pub turns::turn_of-turn_defs-requires-else-is_first : goal.turns::turn_of-turn_defs-requires-else-is_first
+turns::turn_of-turn_defs-requires-else-is_first t c =
+    let tokens = c.args.given.now.tokens.now in
+    let names = length c.args.given.now.spellings.now in
+    let p = spelled_parts.turn tokens names c.args.turn.now c.requires.spelled in
+    (search (rules, kinds.the_lemmas), (c.requires.fits, subst (λ l. All (IsDef tokens names) l) (sym c.as_slice-else-is_first.ensures) p.1))
+
+pub typed::elements_of-many-requires : goal.typed::elements_of-many-requires
+typed::elements_of-many-requires t c =
+    let tokens = c.args.given.now.tokens.now in
+    let names = length c.args.given.now.spellings.now in
+    let p = spelled_parts.elements tokens names c.args.elements.now c.requires.spelled in
+    (search (rules, kinds.the_lemmas), subst (λ l. All (IsSpelled tokens names) l) (sym c.as_slice.ensures) p.1)
+
+pub typed::typed-plain-requires : goal.typed::typed-plain-requires
+typed::typed-plain-requires t c =
+    let tokens = c.args.given.now.tokens.now in
+    let names = length c.args.given.now.spellings.now in
+    (omega (arith, c.decreases), (spelled_parts.expr tokens names c.args.e.now c.requires.spelled, search rules))

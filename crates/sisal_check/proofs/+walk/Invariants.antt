@@ -1,5 +1,6 @@
 -- The depth of what is walked, and below it how often that is still passed on whole.
-use Rattle.std.proofs.Common.{◌≡◌, ◌+◌, ◌*◌, map, take}
+use Rattle.std.proofs.Common.{◌≡◌, ◌≤◌, ◌+◌, ◌*◌, length, map, take}
+use Rattle.std.specs.Prelude.{IfSome, IsSomeAnd}
 use Rattle.typed_tree.specs.Breaks.{generators_in}
 use Rattle.typing_laws.specs.Casing.{AddsArms}
 use Rattle.typing_laws.specs.Defining.{AllDefined, targets_in}
@@ -88,6 +89,7 @@ invariant-lists::many-loop-e l = record {
   used : IsUsedIn (given_of l.given) l.fn.walk.types l.walk.types;
   names : l.walk.names ≡ l.fn.walk.names;
   adds : Adds (parts_of l.fn.parts) (parts_of l.parts) (AllTyped (given_of l.given) l.walk.types l.fn.walk.names (take l.e-index l.es));
+  some : length l.fn.parts.types + l.e-index ≤ length l.parts.types;
 }
 
 abbrev pub invariant-lists::fields-loop-v : goal.invariant-lists::fields-loop-v
@@ -102,6 +104,7 @@ invariant-clauses::clause_values-loop-c l = record {
   used : IsUsedIn (given_of l.given) l.fn.walk.types l.walk.types;
   names : l.walk.names ≡ l.fn.walk.names;
   typed : AllValues (given_of l.given) l.walk.types l.fn.walk.names (take l.c-index l.cs) l.values.exprs l.values.types;
+  count : length l.values.types ≡ l.c-index;
 }
 
 -- the names of definitions so far came into force
@@ -110,6 +113,7 @@ invariant-defs::defs-loop-d l = record {
   used : IsUsedIn (given_of l.given) l.fn.walk.types l.walk.types;
   typed : AllDefined (given_of l.given) l.walk.types l.fn.walk.names l.walk.names l.turn (take l.d-index l.ds) l.defined.exprs l.defined.types;
   targets : l.defined.targets ≡ targets_in l.ds;
+  height : l.walk.names.height ≡ l.fn.walk.names.height + length l.defined.types;
 }
 
 abbrev pub invariant-generators::groups-loop-g : goal.invariant-generators::groups-loop-g
@@ -133,4 +137,5 @@ invariant-cases::each_arm-loop-arm l = record {
   names : l.walk.names ≡ l.fn.walk.names;
   adds : AddsArms (given_of l.given) l.fn.walk.types l.walk.types l.fn.walk.names (take l.arm-index l.arms) (arms_of l.fn.done) (arms_of l.done);
   results : AddsResults (given_of l.given) l.fn.walk.types l.walk.types l.fn.walk.names (take l.arm-index l.arms) (arms_of l.fn.done) (arms_of l.done);
+  some : IfSome l.fn.done.types (λ ns. 1 ≤ length ns) → IfSome l.done.types (λ ns. 1 ≤ length ns) × (1 ≤ l.arm-index → IsSomeAnd l.done.types (λ ns. 1 ≤ length ns));
 }

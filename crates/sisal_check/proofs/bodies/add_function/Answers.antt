@@ -1,6 +1,8 @@
-use Rattle.std.proofs.Common.{◌≡◌, ◌≤◌, ◌+◌, arith, [], ◌∷◌, ◌++◌, Some, length, slice_get, ap, sym, subst, ◌∙◌}
+use Rattle.std.proofs.Common.{All, ◌≡◌, ◌≤◌, ◌+◌, arith, [], ◌∷◌, ◌++◌, Some, length, slice_get, ap, sym, subst, ◌∙◌}
 use Rattle.std.proofs.lemmas.Result.{on_ok_weaker}
 use Rattle.sisal_tree.specs.declared.unit.FunKind.TheVariants as fun
+use Rattle.text_trees.proofs.Parts.{spelled_parts}
+use Rattle.text_trees.specs.Spelled as text
 use Rattle.unit_types.specs.Headings.{given_as}
 use Rattle.sisal_check.specs.Walked.{AreBodies, IsBody, IsBodyOf, global, defined, given_behind, header_of}
 use Rattle.sisal_check.proofs.Functions.{bodies_later, one_body_more}
@@ -39,11 +41,19 @@ returns-in_ok-body-in-Defined-clause-typed c = λ none kinds are.
 pub header_at-header-requires : goal.header_at-header-requires
 header_at-header-requires c =
     let more : length c.args.all.now + 1 ≤ length c.args.given.now.functions.now =
-    subst (λ k. length c.args.all.now + length (given_as k k) ≤ length c.args.given.now.functions.now) c.in-Global.is c.requires in
+    subst (λ k. length c.args.all.now + length (given_as k k) ≤ length c.args.given.now.functions.now) c.in-Global.is c.requires.room in
     omega (arith, more, c.len.ensures)
 
 pub header_at-header-requires-in-Defined : goal.header_at-header-requires-in-Defined
 header_at-header-requires-in-Defined c =
     let more : length c.args.all.now + 1 ≤ length c.args.given.now.functions.now =
-    subst (λ k. length c.args.all.now + length (given_as k k) ≤ length c.args.given.now.functions.now) c.in-Defined.is c.requires in
+    subst (λ k. length c.args.all.now + length (given_as k k) ≤ length c.args.given.now.functions.now) c.in-Defined.is c.requires.room in
     omega (arith, more, c.len-in-Defined.ensures)
+
+pub body-requires : goal.body-requires
+body-requires c =
+    let tokens = c.args.given.now.tokens.now in
+    let names = length c.args.given.now.spellings.now in
+    let es = c.in-Defined.es in
+    let p : text.IsBody tokens names (fun.Defined es) = subst (λ k. text.IsBody tokens names k) c.in-Defined.is c.requires.spelled in
+    record { spelled = subst (λ l. All (text.IsSpelled tokens names) l) (sym c.as_slice.ensures) (spelled_parts.exprs tokens names es p.0) }

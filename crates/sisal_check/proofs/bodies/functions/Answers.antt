@@ -6,7 +6,9 @@ use Rattle.typing_laws.proofs.Later.{used_on, used_same}
 use Rattle.typing_laws.proofs.Walking.{taken}
 use Rattle.sisal_check.specs.Headed.{HaveFirst, is_defined}
 use Rattle.sisal_check.specs.Walked.{AreBodies, no_body, given_of}
+use Rattle.text_trees.specs.Spelled.{IsItem}
 use Rattle.sisal_check.proofs.Forms.{passed_on}
+use Rattle.sisal_check.proofs.Items.{item_at}
 use Rattle.sisal_check.proofs.Functions.{broken_next, kinds_more, room_for}
 use Rattle.sisal_check.proofs.bodies.functions.Goals as goal
 
@@ -56,9 +58,13 @@ returns-in_err-add_item-clause-breaks c = λ none.
     (λ rule line q. broken_next c.args.given.now c.args.walk.now.types c.loop-item.walk.types items i x (drop (i + 1) items) q.0 c.loop-item.all rule line kept.used
     (cut_at items i x c.loop-item-test.true c.item-item.is) (kept.typed none) q.1 q.2) (c.in_err-add_item.ensures.breaks (kept.names ∙ none))
 
-pub add_item-requires : goal.add_item-requires
-add_item-requires c =
+pub add_item-requires-clause-room : goal.add_item-requires-clause-room
+add_item-requires-clause-room c =
     let items = c.args.items.now in
     let i = c.loop-item.item-index in
     let x = c.item-item.result in
-    room_for items (drop i items) x (drop (i + 1) items) c.loop-item.all (length c.args.given.now.functions.now) (cut_at items i x c.loop-item-test.true c.item-item.is) c.loop-item.invariant.bodies c.requires
+    room_for items (drop i items) x (drop (i + 1) items) c.loop-item.all (length c.args.given.now.functions.now) (cut_at items i x c.loop-item-test.true c.item-item.is) c.loop-item.invariant.bodies c.requires.room
+
+pub add_item-requires-clause-spelled : goal.add_item-requires-clause-spelled
+add_item-requires-clause-spelled c =
+    item_at (IsItem c.args.given.now.tokens.now (length c.args.given.now.spellings.now)) c.args.items.now c.loop-item.item-index c.item-item.result c.loop-item-test.true c.item-item.is c.requires.spelled

@@ -1,4 +1,5 @@
-use Rattle.std.proofs.Common.{◌⊎◌, inl, inr, ◌≤◌, length, false, true, ◌≡◌, refl, ◌∙◌}
+use Rattle.std.proofs.Common.{◌⊎◌, inl, inr, ◌≤◌, ◌+◌, [], ◌∷◌, length, ◌≡◌, refl, ap, ◌∙◌, arith}
+use Rattle.std.proofs.lemmas.List.{length-append}
 use Rattle.std.proofs.lemmas.Option.{slice_get-get_or}
 use Rattle.typing_laws.proofs.Crossed.{all_made}
 use Rattle.typing_laws.proofs.Later.{used_on, used_same}
@@ -15,6 +16,7 @@ loop-place-init c = record {
   used = used_same (given_of c.args.given.now) c.args.walk.now.types;
   names = refl;
   made = λ e. nothing_made c.args.walk.now.types c.args.is_masked c.new.result c.new-2.result c.new.ensures c.new-2.ensures;
+  some = λ e. ap length c.new-2.ensures;
   deep = λ e. absurd cc;
 }
 
@@ -41,6 +43,8 @@ loop-place-preserved c =
       made = λ e. let a = c.in_ok-fold.ensures.added e in
           more_made f h c.args.is_masked c.args.cs.now c.args.values.now i x _ (folds_of c.loop-place.made) (folds_of c.fold.new.made) used.grows c.loop-place-test.true c.index-cs-place.is
           (slice_get-get_or c.args.values.now i _ c.if-place-values.true) (c.loop-place.invariant.made a.0) a.1;
+      some = λ e. let a = c.in_ok-fold.ensures.added e in
+          ap length a.1.types ∙ length-append c.loop-place.made.types (a.1.made.ty ∷ []) ∙ ap (λ n. n + 1) (c.loop-place.invariant.some a.0);
       deep = deep_on g c.args.walk.now.types f c.args.line c.args.cs.now c.args.values.now i x _ c.loop-place.made.is_deep c.fold.new.made.is_deep c.loop-place.invariant.used
           (there_at c.args.cs.now i x c.loop-place-test.true c.index-cs-place.is) (slice_get-get_or c.args.values.now i _ c.if-place-values.true) c.in_ok-fold.ensures.deep c.loop-place.invariant.deep;
     }
@@ -53,3 +57,11 @@ returns-clause-made c =
       | else-loop-place-test w ↦ inl w.loop-place-test.false
     ] in
     all_made c.loop-place.walk.types c.args.is_masked i c.args.cs.now c.args.values.now (folds_of c.loop-place.made) done (c.loop-place.invariant.made c.if-made.false)
+
+pub returns-clause-some : goal.returns-clause-some
+returns-clause-some c = λ a b.
+    let many : length c.loop-place.made.types ≡ c.loop-place.place = c.loop-place.invariant.some c.if-made.false in
+    elim c.loop-place-test.branch [
+      | then-loop-place-test+else-place-values w ↦ let end = w.if-place-values.false in omega (arith, many, end, b)
+      | else-loop-place-test w ↦ let end = w.loop-place-test.false in omega (arith, many, end, a)
+    ]

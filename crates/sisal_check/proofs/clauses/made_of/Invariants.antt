@@ -10,6 +10,7 @@ invariant-loop-place l = record {
   used : IsUsedIn (given_of l.given) l.fn.walk.types l.walk.types;
   names : l.walk.names ≡ l.fn.walk.names;
   made : l.made.is_deep ≡ false → AllMade l.walk.types (take l.place l.cs) l.is_masked (take l.place l.values) (folds_of l.made);
+  some : l.made.is_deep ≡ false → length l.made.types ≡ l.place;
   deep : l.made.is_deep ≡ true → (groups : ℕ) → BrokenMade (given_of l.given) l.fn.walk.types (suc groups) l.line l.cs l.values 4 l.line;
 }
 

@@ -1,4 +1,4 @@
-use Rattle.std.proofs.Common.{◌≡◌, Some, None, sym, ap, subst, ◌∙◌}
+use Rattle.std.proofs.Common.{Some, sym, ap, subst, ◌∙◌}
 use Rattle.std.proofs.lemmas.Result.{IfOk-weaker}
 use Rattle.sisal_tree.specs.declared.expr.ExprKind.TheVariants as tree
 use Rattle.typed_tree.specs.Typing.{at}
@@ -9,6 +9,8 @@ use Rattle.breaking_laws.specs.Refusals.{IsUnnamed}
 use Rattle.breaking_laws.proofs.FParts.{error_of_breaks}
 use Rattle.sisal_check.specs.Walked.{given_of, IsArrayHead, IsErrorHead}
 use Rattle.sisal_check.proofs.Forms.{faults_weaker, passed_on, same_kind, replace_head, arrays_head, unnamed, unnamed_form, unnamed_spelled, array_named, stream_named, record_named, union_named}
+use Rattle.type_rules.specs.Applies.{HasField}
+use Rattle.sisal_check.proofs.Items.{unnamed_field}
 use Rattle.sisal_check.proofs.heads.head_of.Goals as goal
 
 pub returns-in_err-type_of-in-Stream-clause-breaks : goal.returns-in_err-type_of-in-Stream-clause-breaks
@@ -95,3 +97,10 @@ returns-in_default-clause-head c = unnamed_form (given_of c.args.given.now) c.ar
 
 pub returns-in_default-clause-spelled : goal.returns-in_default-clause-spelled
 returns-in_default-clause-spelled c = unnamed_spelled c.args.given.now.spellings.now c.args.kind.now c.unnamed_head.result c.unnamed_head.ensures
+
+pub returns-in-ErrorOf-clause-field : goal.returns-in-ErrorOf-clause-field
+returns-in-ErrorOf-clause-field c =
+    IfOk-weaker c.error_of.result (λ h. IsErrorHead (given_of c.args.given.now) c.error_of.new.walk.types c.in-ErrorOf.written h) HasField (λ h q. subst HasField (sym q.is) tt) c.error_of.ensures.head
+
+pub returns-in_default-clause-field : goal.returns-in_default-clause-field
+returns-in_default-clause-field c = unnamed_field c.args.kind.now c.unnamed_head.result c.unnamed_head.ensures

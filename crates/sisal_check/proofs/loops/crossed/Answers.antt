@@ -1,4 +1,4 @@
-use Rattle.std.proofs.Common.{◌≡◌, [], map, refl, sym, ap, subst, ◌∙◌, ◌++◌, ◌∷◌, length}
+use Rattle.std.proofs.Common.{map, ap, subst, ◌∙◌, length}
 use Rattle.typed_tree.specs.declared.expr.TypedExpr.{TypedExpr}
 use Rattle.typing_laws.proofs.Later.{used_on}
 use Rattle.breaking_laws.specs.Parts.{BrokenMade}
@@ -30,6 +30,7 @@ loop-group-preserved c =
       used = used_on g c.args.walk.now.types f h c.loop-group.invariant.used e.used;
       names = e.names ∙ c.loop-group.invariant.names;
       line = λ same. ap (λ (t : TypedExpr). t.line) e.over.is;
+      some = λ a b. e.some a (c.loop-group.invariant.some a b);
       crossed = λ x t p. c.loop-group.invariant.crossed x t
           (crosses_more g f h x c.args.line c.args.cs.now (map group_of c.loop-group.goes) (map group_of rest) (group_of c.in-Some.group) c.loop-group.made c.in_ok-made.made t e.used.grows
           (groups_end c.loop-group.goes rest c.in-Some.group c.in-Some.ensures) e.over p);

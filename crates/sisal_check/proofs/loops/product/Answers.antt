@@ -33,3 +33,6 @@ returns-clause-breaks c =
     breaks_more (given_of c.args.given.now) c.args.walk.now.types c.over.new.walk.types c.args.line c.args.cs.now _ (length c.args.goes) (length c.pop.new.self) c.args.values.types c.in_ok-inner.inner.types rule line
     c.in_ok-inner.ensures.used (many_end c.args.goes c.pop.new.self c.in-Some.last c.in-Some.ensures) c.in_ok-inner.ensures.makes q)
     c.crossed.ensures.breaks
+
+pub returns-clause-some : goal.returns-clause-some
+returns-clause-some c = if_ok_weaker c.crossed.result (λ t h a b. h a (c.in_ok-inner.ensures.some a b)) c.crossed.ensures.some

@@ -1,5 +1,6 @@
-use Rattle.std.proofs.Common.{◌≡◌, length, map, refl, sym, subst, ap, ◌∙◌}
+use Rattle.std.proofs.Common.{◌≡◌, ◌≤◌, All, length, map, refl, sym, subst, ap, ◌∙◌}
 use Rattle.std.proofs.lemmas.List.{length-map}
+use Rattle.text_trees.specs.Spelled.{IsItem}
 use Rattle.unit_types.specs.Headings.{has_body, given_functions, heading_of, heading_in}
 use Rattle.sisal_check.proofs.Functions.{all_numbered}
 use Rattle.sisal_check.specs.Numbered.{AreNumbered}
@@ -40,10 +41,22 @@ returns-clause-standing c = λ text.
 pub invariant_of-given : goal.invariant_of-given
 invariant_of-given c =
     let d = c.in_ok-types.field-0 in
-    record { numbered = subst (λ hs. AreNumbered d.numbers (length hs)) (sym c.as_slice-3.ensures) (all_numbered d.functions d.numbers c.in_ok-types.ensures.numbers) }
+    record {
+      numbered = subst (λ hs. AreNumbered d.numbers (length hs)) (sym c.as_slice-3.ensures) (all_numbered d.functions d.numbers c.in_ok-types.ensures.numbers);
+      results = subst (λ hs. All (λ s. 1 ≤ length s.results) hs) (sym c.as_slice-3.ensures) c.in_ok-types.ensures.results;
+    }
 
-pub functions-requires : goal.functions-requires
-functions-requires c =
+pub functions-requires-clause-room : goal.functions-requires-clause-room
+functions-requires-clause-room c =
     let d = c.in_ok-types.field-0 in
     let given = given_functions c.args.unit.items in
     ap (λ l. length (given_functions l)) c.as_slice-4.ensures ∙ sym (length-map given heading_of) ∙ sym (ap length c.in_ok-types.ensures.functions) ∙ length-map d.functions heading_in ∙ sym (ap length c.as_slice-3.ensures)
+
+pub functions-requires-clause-spelled : goal.functions-requires-clause-spelled
+functions-requires-clause-spelled c =
+    subst (λ l. All (IsItem c.as_slice.result.now (length c.as_slice-2.result.now)) l) (sym c.as_slice-4.ensures)
+    (subst (λ l. All (IsItem l (length c.as_slice-2.result.now)) c.args.unit.items) (sym c.as_slice.ensures)
+    (subst (λ l. All (IsItem c.args.unit.tokens.list (length l)) c.args.unit.items) (sym c.as_slice-2.ensures) c.requires.text.items))
+
+pub declare-requires : goal.declare-requires
+declare-requires c = c.requires.text.items

@@ -1,3 +1,4 @@
+use Rattle.std.proofs.Common.{refl}
 use Rattle.sisal_top.specs.Refusals.{IsNoProgram}
 use Rattle.sisal_top.proofs.Refusing.{cause_no_program}
 use Rattle.sisal_top.proofs.Replies.{passed_on}
@@ -13,3 +14,6 @@ returns-in_err-program-clause-refused c =
 
 pub returns-clause-covered : goal.returns-clause-covered
 returns-clause-covered c = c.in_ok-program.ensures.covered c.args.text.now c.in_ok-unit.ensures.unit
+
+pub program_of-requires : goal.program_of-requires
+program_of-requires c = let is = c.in_ok-unit.ensures.unit in c.units_of_texts_are_texts.ensures c.args.text.now c.in_ok-unit.unit.tokens c.in_ok-unit.unit is.lexed refl is.spelled

@@ -2,7 +2,8 @@
 use Rattle.std.proofs.Common.{◌≡◌, ◌<◌, ℕ, zero, suc, Bool, true, false, not, cond, ◌||◌, List, [], ◌∷◌, ◌++◌, map, Some, slice_get, get_or, bytes_eq, length, refl, sym, ap, subst, ◌∙◌, arith, if◌then◌else◌, Ok, Err, nat_lt, ◌⊎◌, inl, inr, ◌+◌}
 use Rattle.std.proofs.lemmas.Slice.Eq.{bytes_eq-Decides}
 use Rattle.std.proofs.lemmas.List.Folds.{list_any-append}
-use Rattle.std.proofs.lemmas.Option.{slice_get-get_or}
+use Rattle.std.proofs.lemmas.Option.{slice_get-get_or, slice_get_within}
+use Rattle.std.proofs.lemmas.List.Elements.{All-nil, All-cons}
 use Rattle.std.specs.Prelude.{fold, Result}
 use Rattle.std.specs.List.{list_any, position_or_len}
 use Rattle.sisal_lex.specs.declared.head.Head.{Head}
@@ -22,8 +23,13 @@ use Rattle.sisal_lex.proofs.Turns.{any_used}
 use Rattle.type_rules.specs.Typed.{AreSpelledOnce}
 use Rattle.unit_types.specs.Rests.{IsKindSpelled, AreTokensSpelled}
 use Rattle.sisal_tree.specs.declared.unit.Unit as tree
-use Rattle.sisal_check.specs.Texts.{IsText}
-use Rattle.sisal_top.specs.Program.{IsUnitOf}
+use Rattle.sisal_lex.specs.declared.token.Token.{Token}
+use Rattle.sisal_grammar.specs.Phrases.{unit}
+use Rattle.sisal_grammar.specs.Placed.{placed}
+use Rattle.sisal_grammar.specs.Spells.{Spells}
+use Rattle.text_trees.specs.Spelled.{AreNamed}
+use Rattle.text_trees.proofs.Spelled.{items_spelled}
+use Rattle.sisal_check.specs.Texts.{IsText, TextLaw}
 
 true_false : true ≡ false → ⊥
 true_false e = cc
@@ -184,6 +190,24 @@ tokens_spelled text t e = by (nat_lt 4194304 (length text)) e
     by true e = cc
     by false e = named_spelled (lexed text 1 0) t (λ ls h. lexed_sound text 1 0 ls h) e
 
--- so are those of the unit of a text
-pub is_text : (bytes : List ℕ) (u : tree.Unit) → IsUnitOf bytes u → IsText u
-is_text bytes u is = record { spelled = tokens_spelled bytes u.tokens is.lexed; once = tokens_once bytes u.tokens is.lexed }
+-- ---- what is spelled has a number below that of the names
+
+below : (names : List (List ℕ)) (k : Kind) → IsKindSpelled names k → (x : ℕ) → k ≡ kind.Id x → x < length names
+below names k s x e = let is : IsKindSpelled names (kind.Id x) = subst (IsKindSpelled names) e s in slice_get_within names x is.spelling is.is
+
+all_below : (names : List (List ℕ)) (ts : List Token) → AreTokensSpelled names ts → AreNamed (length names) ts
+all_below names [] s = All-nil (λ t. (x : ℕ) → t.kind ≡ kind.Id x → x < length names)
+all_below names (t ∷ ts) s = All-cons (λ t. (x : ℕ) → t.kind ≡ kind.Id x → x < length names) t ts (below names t.kind s.0) (all_below names ts s.1)
+
+own : (bytes : List ℕ) (u : tree.Unit) → tokens_of bytes ≡ Ok u.tokens → Spells unit (placed 0 u.tokens.list) (record { defines = u.defines; items = u.items }) → IsText u
+own bytes u lexed spelled =
+    let names = tokens_spelled bytes u.tokens lexed in
+    record {
+      spelled = names;
+      once = tokens_once bytes u.tokens lexed;
+      items = items_spelled u.tokens.list (length u.tokens.names) (record { defines = u.defines; items = u.items }) (all_below u.tokens.names u.tokens.list names) spelled;
+    }
+
+pub is_text : TextLaw
+is_text bytes tokens u lexed same spelled =
+    own bytes u (lexed ∙ ap Ok (sym same)) (subst (λ (t : Tokens). Spells unit (placed 0 t.list) (record { defines = u.defines; items = u.items })) (sym same) spelled)
