@@ -18,9 +18,14 @@ fn unit_of(alloc: Global, text: &[u8]) -> Option<Unit>
     if text.len() > MOST_BYTES {
         return None;
     }
+    let Ok(tokens) = lex(alloc, text) else {
+        return None;
+    };
+    let Ok(unit) = parse(alloc, tokens) else {
+        return None;
+    };
     units_of_texts_are_texts();
-    let tokens = lex(alloc, text).ok()?;
-    parse(alloc, tokens).ok()
+    Some(unit)
 }
 
 /// How many types and functions a text has, if it is a unit.
