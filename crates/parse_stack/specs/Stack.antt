@@ -1,14 +1,14 @@
 -- The stack of values.
-use Rattle.std.specs.Prelude.{List, [], ◌∷◌}
+use Rattle.std.specs.Prelude.{◌<◌, List, [], ◌∷◌}
 use Rattle.sisal_grammar.specs.declared.value.Value.{Value}
 use Rattle.sisal_grammar.specs.declared.value.Value.TheVariants as value
 use Rattle.sisal_grammar.specs.Sorts.{Sort, a_token, nothing, an_outline, names, an_item, items, a_type, types, a_field, fields, a_header, an_expr, exprs, maybe_expr, maybe_exprs, tail, a_post, posts, a_bracket, a_value, values, maybe_name, maybe_elements, a_subject, a_rest, an_arm, arms, a_loop, a_gen, gens, groups, a_def, defs, a_target, targets, maybe_type, a_turn, a_test, a_clause, clauses, a_kind, a_reduction, maybe_mask}
 use Rattle.sisal_grammar.specs.declared.value.Placed.{Placed}
 use Rattle.sisal_lex.specs.declared.token.Kind.TheVariants.{Letter}
 
--- The value is of this kind.
+-- The value is of this kind. The place behind a token is a number of 32 bits, as it is in every text.
 abbrev pub IsSort : Sort → Value → Type 0
-IsSort a_token (value.AToken v) = Unit {0}
+IsSort a_token (value.AToken v) = v.place < 4294967295
 IsSort a_token _ = ⊥
 IsSort nothing value.Nothing = Unit {0}
 IsSort nothing _ = ⊥

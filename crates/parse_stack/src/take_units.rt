@@ -13,6 +13,7 @@ impl Values {
     pub fn take_token(&mut self) -> Placed
         requires { Tops (a_token ∷ []) self.old }
         ensures value { self.old ≡ Value.AToken result ∷ self.new }
+        ensures place { result.place < 4294967295 }
         ensures rest { (ks : List Sort) → Tops (a_token ∷ ks) self.old → Tops ks self.new }
     {
         match self.pop() {

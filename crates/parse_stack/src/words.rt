@@ -1,9 +1,8 @@
 //! What a token says beyond its class.
 
-ghost use Rattle.std.specs.Prelude.{◌≡◌, IfOk};
+ghost use Rattle.std.specs.Prelude.{◌≡◌, ◌<◌};
 ghost use Rattle.sisal_grammar.specs.Acts.{binary_of, constant_of, direction_of, gathered_of, is_unless, is_until, name_in, named, prefix_of, reduction_of, scalar_of, span};
 
-use flow_value::NoMemory;
 use sisal_grammar::Placed;
 use sisal_lex::{Kind, Sign, Word};
 use sisal_tree::{
@@ -135,16 +134,13 @@ pub fn gathered_of(kind: &Kind) -> ClauseKind
     }
 }
 
-/// The tokens from one to another. The place after the last one may be out of range: then there is
-/// no room for so many tokens.
-pub fn span(from: &Placed, to: &Placed) -> Result<Written, NoMemory>
-    ensures { IfOk result (λ w. w ≡ span from.now to.now) }
+/// The tokens from one to another.
+pub fn span(from: &Placed, to: &Placed) -> Written
+    requires { to.now.place < 4294967295 }
+    ensures { result ≡ span from.now to.now }
 {
-    match to.place.checked_add(1) {
-        Some(end) => Ok(Written {
-            from: from.place,
-            to: end,
-        }),
-        None => Err(NoMemory),
+    Written {
+        from: from.place,
+        to: to.place + 1,
     }
 }

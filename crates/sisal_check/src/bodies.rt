@@ -5,7 +5,7 @@ ghost use Rattle.sisal_check.specs.Headed.{HaveFirst, is_defined};
 ghost use Rattle.sisal_check.specs.Walked.{AreBodies, IsBody as HasBody, IsBrokenAmong, IsBrokenAt, given_behind, given_of, header_of};
 ghost use Rattle.sisal_tree.specs.declared.unit.FunDef.{FunDef};
 ghost use Rattle.sisal_tree.specs.declared.unit.FunKind.{FunKind as Kind};
-ghost use Rattle.std.specs.Prelude.{All, IfErr, IfOk, List, OnOk, Some, [], is_some, length, map, slice_get, ◌++◌, ◌+◌, ◌∷◌, ◌≡◌, ◌≤◌};
+ghost use Rattle.std.specs.Prelude.{All, IfErr, IfOk, List, OnOk, Some, [], is_some, length, map, slice_get, ℕ, ◌++◌, ◌+◌, ◌∷◌, ◌≡◌, ◌≤◌};
 ghost use Rattle.type_rules.specs.Faults.{IsRule};
 ghost use Rattle.typed_tree.specs.declared.program.Function.{Function as TypedFunction};
 ghost use Rattle.typing_laws.specs.Bodies.{define_params};
@@ -31,6 +31,7 @@ pub(crate) fn functions(
 ) -> Result<Seq<Function>, TypeFault>
     requires spelled { All (IsItem given.now.tokens.now (length given.now.spellings.now)) items.now }
     requires room { length (given_functions items.now) ≡ length given.now.functions.now }
+    requires none { walk.old.names ≡ no_names }
     ensures heads { IfOk result (λ fs. HaveFirst given.now.functions.now fs) }
     ensures bodies { IfOk result (λ fs. map is_defined fs ≡ map (λ f. has_body f.kind) (given_functions items.now)) }
     ensures used { OnOk result (IsUsedIn (given_of given.now) walk.old.types walk.new.types) }
@@ -54,6 +55,7 @@ fn add_item(
 ) -> Result<(), TypeFault>
     requires spelled { IsItem given.now.tokens.now (length given.now.spellings.now) item.now }
     requires room { length all.old + length (given_by item.now) ≤ length given.now.functions.now }
+    requires none { walk.old.names ≡ no_names }
     ensures heads { HaveFirst given.now.functions.now all.old → OnOk result (HaveFirst given.now.functions.now all.new) }
     ensures bodies { OnOk result (map is_defined all.new ≡ map is_defined all.old ++ map (λ f. has_body f.kind) (given_by item.now)) }
     ensures used { OnOk result (IsUsedIn (given_of given.now) walk.old.types walk.new.types) }
@@ -76,6 +78,7 @@ fn add_function(
 ) -> Result<(), TypeFault>
     requires spelled { IsBody given.now.tokens.now (length given.now.spellings.now) kind.now }
     requires room { length all.old + length (given_as kind.now kind.now) ≤ length given.now.functions.now }
+    requires none { walk.old.names ≡ no_names }
     ensures heads { HaveFirst given.now.functions.now all.old → OnOk result (HaveFirst given.now.functions.now all.new) }
     ensures bodies { OnOk result (map is_defined all.new ≡ map is_defined all.old ++ given_as kind.now (has_body kind.now)) }
     ensures used { OnOk result (IsUsedIn (given_of given.now) walk.old.types walk.new.types) }
@@ -128,7 +131,9 @@ fn body(
     given: &Given<'_>,
     walk: &mut Walk,
 ) -> Result<Seq<TypedExpr>, TypeFault>
-    requires spelled { All (IsSpelled given.now.tokens.now (length given.now.spellings.now)) es.now }
+    requires spelled { (h : ℕ) → h ≤ 4194304 → All (IsSpelled given.now.tokens.now (length given.now.spellings.now) h) es.now }
+    requires few { length header.now.parameters ≤ 4194304 }
+    requires none { walk.old.names ≡ no_names }
     ensures used { OnOk result (IsUsedIn (given_behind header.now.known given.now) walk.old.types walk.new.types) }
     ensures names { OnOk result (walk.new.names ≡ walk.old.names) }
     ensures typed { walk.old.names ≡ no_names → IfOk result (λ ts. HasBody (given_behind header.now.known given.now) walk.new.types (header_of header.now) es.now ts) }
@@ -163,6 +168,7 @@ fn body(
 
 /// Brings the parameters into force.
 fn parameters(xs: &[u32], types: &[u32], names: &mut InForce) -> Result<(), NoMemory>
+    requires { names.old.height + length xs.now ≤ 4294967295 }
     ensures { OnOk result (names.new ≡ define_params xs.now types.now names.old) }
 {
     let mut place = 0;

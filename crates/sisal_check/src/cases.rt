@@ -3,17 +3,17 @@ ghost use Rattle.breaking_laws.specs.Broken.{Broken, BrokenIn};
 ghost use Rattle.breaking_laws.specs.Parts.{AddsResults, BrokenArms, Differs, IsNoArm, IsNoUnion};
 ghost use Rattle.breaking_laws.specs.Refusals.{Never};
 ghost use Rattle.sisal_check.specs.Walked.{DiffersIn, arms_of, given_of, parts_of};
-ghost use Rattle.std.specs.Prelude.{All, IfErr, IfOk, IfSome, IsSomeAnd, OnOk, [], false, length, true, ◌∷◌, ◌≡◌, ◌≤◌};
+ghost use Rattle.std.specs.Prelude.{All, IfErr, IfOk, IfSome, IsSomeAnd, OnOk, [], false, length, true, ◌+◌, ◌<◌, ◌∷◌, ◌≡◌, ◌≤◌};
 ghost use Rattle.type_rules.specs.Arms.{are_all_named};
 ghost use Rattle.type_rules.specs.Faults.{IsRule};
 ghost use Rattle.typed_tree.specs.Typing.{at};
 ghost use Rattle.typing_laws.specs.Casing.{AddsArms, AddsLast, Begins, EntersArm, IsCase, Keeps, Suits, named_by};
 ghost use Rattle.typing_laws.specs.Judged.{IsUsedIn, Typed};
 ghost use Rattle.sisal_tree.specs.declared.expr.ExprKind.TheVariants as tree;
-ghost use Rattle.text_trees.specs.Spelled.{IsArm, IsSpelled, IsTagCase};
+ghost use Rattle.text_trees.specs.Spelled.{IsArm, IsSpelled, IsTagCase, content_levels};
 
 use crate::lists::{all, only};
-use crate::state::{Given, Parts, Walk, number_of};
+use crate::state::{Given, Parts, Walk};
 use flow_value::{Numbers, Seq};
 use sisal_tree::{Arm, Expr, Named, TagCase};
 use std::alloc::Global;
@@ -46,7 +46,7 @@ pub(crate) fn tag_case(
     given: &Given<'_>,
     walk: &mut Walk,
 ) -> Result<TypedExpr, TypeFault>
-    requires spelled { IsTagCase given.now.tokens.now (length given.now.spellings.now) cases.now }
+    requires spelled { IsTagCase given.now.tokens.now (length given.now.spellings.now) walk.old.names.height cases.now }
     ensures used { OnOk result (IsUsedIn (given_of given.now) walk.old.types walk.new.types) }
     ensures names { OnOk result (walk.new.names ≡ walk.old.names) }
     ensures typed { IfOk result (λ t. Typed (given_of given.now) walk.new.types walk.old.names (at line (tree.TagCase cases.now)) t) }
@@ -64,7 +64,7 @@ pub(crate) fn tag_case(
     walk.types.holds();
     let mut done = begin(line, *name, &subject, given, walk)?;
     each_arm(arms.as_slice(), &mut done, given, walk)?;
-    let count = number_of(done.results.len())?;
+    let count = done.results.len() as u32;
     walk.types.holds();
     match otherwise {
         Some(es) => last(es.as_slice(), &mut done, given, walk)?,
@@ -106,13 +106,16 @@ fn each_arm(
     given: &Given<'_>,
     walk: &mut Walk,
 ) -> Result<(), TypeFault>
-    requires spelled { All (IsArm given.now.tokens.now (length given.now.spellings.now)) arms.now }
+    requires spelled { All (IsArm given.now.tokens.now (length given.now.spellings.now) (walk.old.names.height + content_levels done.old.name)) arms.now }
+    requires room { walk.old.names.height + content_levels done.old.name ≤ 4294967295 }
+    requires few { length done.old.results + length arms.now ≤ 4294967295 }
     ensures used { OnOk result (IsUsedIn (given_of given.now) walk.old.types walk.new.types) }
     ensures names { OnOk result (walk.new.names ≡ walk.old.names) }
     ensures adds { OnOk result (AddsArms (given_of given.now) walk.old.types walk.new.types walk.old.names arms.now (arms_of done.old) (arms_of done.new)) }
     ensures breaks { IfErr result (IsRule (λ rule at_line. BrokenArms (given_of given.now) walk.old.types walk.old.names arms.now (arms_of done.old) rule at_line)) }
     ensures results { OnOk result (AddsResults (given_of given.now) walk.old.types walk.new.types walk.old.names arms.now (arms_of done.old) (arms_of done.new)) }
     ensures some { OnOk result (IfSome done.old.types (λ ns. 1 ≤ length ns) → 1 ≤ length arms.now → IsSomeAnd done.new.types (λ ns. 1 ≤ length ns)) }
+    ensures count { OnOk result (length done.new.results ≡ length done.old.results + length arms.now) }
 {
     for arm in arms {
         one_arm(arm, done, given, walk)?;
@@ -123,13 +126,17 @@ fn each_arm(
 /// The results of an arm, in which the content is in force where it has a name.
 #[cycle(walk)]
 fn one_arm(arm: &Arm, done: &mut Arms, given: &Given<'_>, walk: &mut Walk) -> Result<(), TypeFault>
-    requires spelled { IsArm given.now.tokens.now (length given.now.spellings.now) arm.now }
+    requires spelled { IsArm given.now.tokens.now (length given.now.spellings.now) (walk.old.names.height + content_levels done.old.name) arm.now }
+    requires room { walk.old.names.height + content_levels done.old.name ≤ 4294967295 }
+    requires few { length done.old.results < 4294967295 }
     ensures used { OnOk result (IsUsedIn (given_of given.now) walk.old.types walk.new.types) }
     ensures names { OnOk result (walk.new.names ≡ walk.old.names) }
     ensures adds { OnOk result (AddsArms (given_of given.now) walk.old.types walk.new.types walk.old.names (arm.now ∷ []) (arms_of done.old) (arms_of done.new)) }
     ensures breaks { IfErr result (IsRule (λ rule at_line. BrokenArms (given_of given.now) walk.old.types walk.old.names (arm.now ∷ []) (arms_of done.old) rule at_line)) }
     ensures results { OnOk result (AddsResults (given_of given.now) walk.old.types walk.new.types walk.old.names (arm.now ∷ []) (arms_of done.old) (arms_of done.new)) }
     ensures some { OnOk result (IfSome done.old.types (λ ns. 1 ≤ length ns) → IsSomeAnd done.new.types (λ ns. 1 ≤ length ns)) }
+    ensures name { OnOk result (done.new.name ≡ done.old.name) }
+    ensures count { OnOk result (length done.new.results ≡ length done.old.results + 1) }
 {
     let Arm {
         line,
@@ -147,7 +154,7 @@ fn one_arm(arm: &Arm, done: &mut Arms, given: &Given<'_>, walk: &mut Walk) -> Re
 /// The results of the tags that no arm names.
 #[cycle(walk)]
 fn last(es: &[Expr], done: &mut Arms, given: &Given<'_>, walk: &mut Walk) -> Result<(), TypeFault>
-    requires spelled { All (IsSpelled given.now.tokens.now (length given.now.spellings.now)) es.now }
+    requires spelled { All (IsSpelled given.now.tokens.now (length given.now.spellings.now) walk.old.names.height) es.now }
     ensures used { OnOk result (IsUsedIn (given_of given.now) walk.old.types walk.new.types) }
     ensures names { OnOk result (walk.new.names ≡ walk.old.names) }
     ensures adds { OnOk result (AddsLast (given_of given.now) walk.new.types walk.old.names es.now (arms_of done.old) (arms_of done.new)) }
@@ -160,12 +167,14 @@ fn last(es: &[Expr], done: &mut Arms, given: &Given<'_>, walk: &mut Walk) -> Res
 
 /// Brings the content of these tags into force, where it has a name.
 fn enter(tags: &[Named], line: u32, done: &mut Arms, walk: &mut Walk) -> Result<(), TypeFault>
-    requires { 1 ≤ length tags.now }
+    requires some { 1 ≤ length tags.now }
+    requires room { walk.old.names.height + content_levels done.old.name ≤ 4294967295 }
+    requires few { length done.old.results < 4294967295 }
     ensures types { walk.new.types ≡ walk.old.types }
     ensures enters { OnOk result (EntersArm walk.old.types line tags.now (arms_of done.old) (arms_of done.new) walk.old.names walk.new.names) }
     ensures breaks { IfErr result (IsRule (λ rule at_line. IsNoArm walk.old.types line tags.now (arms_of done.old) rule at_line)) }
 {
-    let place = number_of(done.results.len())?;
+    let place = done.results.len() as u32;
     let content = done.choices.arm(&walk.types, tags, place, line)?;
     if let Some(name) = done.name {
         walk.names.define(name, content)?;

@@ -39,7 +39,7 @@ pub(crate) fn clause_values(
     given: &Given<'_>,
     walk: &mut Walk,
 ) -> Result<Parts, TypeFault>
-    requires spelled { All (IsClause given.now.tokens.now (length given.now.spellings.now)) cs.now }
+    requires spelled { All (IsClause given.now.tokens.now (length given.now.spellings.now) walk.old.names.height) cs.now }
     ensures used { OnOk result (IsUsedIn (given_of given.now) walk.old.types walk.new.types) }
     ensures names { OnOk result (walk.new.names ≡ walk.old.names) }
     ensures typed { IfOk result (λ p. AllValues (given_of given.now) walk.new.types walk.old.names cs.now p.exprs p.types) }
@@ -62,7 +62,7 @@ fn clause_value(
     given: &Given<'_>,
     walk: &mut Walk,
 ) -> Result<(), TypeFault>
-    requires spelled { IsClause given.now.tokens.now (length given.now.spellings.now) c.now }
+    requires spelled { IsClause given.now.tokens.now (length given.now.spellings.now) walk.old.names.height c.now }
     ensures used { OnOk result (IsUsedIn (given_of given.now) walk.old.types walk.new.types) }
     ensures names { OnOk result (walk.new.names ≡ walk.old.names) }
     ensures adds { OnOk result (Adds (parts_of values.old) (parts_of values.new) (AllValues (given_of given.now) walk.new.types walk.old.names (c.now ∷ []))) }

@@ -10,7 +10,7 @@ ghost use Rattle.typing_laws.specs.Judged.{IsUsedIn};
 ghost use Rattle.value_names.specs.Scopes.{twice_in};
 ghost use Rattle.typed_tree.specs.Breaks.{line_of as first_line};
 ghost use Rattle.typing_laws.specs.Given.{Given as LawGiven};
-ghost use Rattle.text_trees.specs.Spelled.{IsDef, IsTarget, IsTypeIf};
+ghost use Rattle.text_trees.specs.Spelled.{AreDefs, IsDef, IsTarget, IsTypeIf, defs_levels};
 
 use crate::lists::all;
 use crate::state::{Given, Parts, Walk};
@@ -44,13 +44,14 @@ pub(crate) fn defs(
     given: &Given<'_>,
     walk: &mut Walk,
 ) -> Result<Defined, TypeFault>
-    requires spelled { All (IsDef given.now.tokens.now (length given.now.spellings.now)) ds.now }
+    requires spelled { AreDefs given.now.tokens.now (length given.now.spellings.now) walk.old.names.height ds.now }
     ensures used { OnOk result (IsUsedIn (given_of given.now) walk.old.types walk.new.types) }
     ensures typed { IfOk result (λ d. AllDefined (given_of given.now) walk.new.types walk.old.names walk.new.names turn ds.now d.exprs d.types) }
     ensures targets { IfOk result (λ d. d.targets ≡ targets_in ds.now) }
     ensures distinct { OnOk result (AreDistinct (targets ds.now)) }
     ensures breaks { IfErr result (IsRule (λ rule at_line. BrokenDefs (given_of given.now) walk.old.types walk.old.names turn ds.now rule at_line)) }
     ensures height { IfOk result (λ d. walk.new.names.height ≡ walk.old.names.height + length d.types) }
+    ensures levels { IfOk result (λ d. length d.types ≡ defs_levels ds.now) }
 {
     let targets = targets_of(given.alloc, ds)?;
     walk.types.holds();
@@ -74,7 +75,7 @@ fn def(
     given: &Given<'_>,
     walk: &mut Walk,
 ) -> Result<(), TypeFault>
-    requires spelled { IsDef given.now.tokens.now (length given.now.spellings.now) d.now }
+    requires spelled { IsDef given.now.tokens.now (length given.now.spellings.now) walk.old.names.height d.now }
     ensures used { OnOk result (IsUsedIn (given_of given.now) walk.old.types walk.new.types) }
     ensures adds { OnOk result (AddsDef (given_of given.now) walk.new.types walk.old.names walk.new.names turn d.now (defined_of defined.old) (defined_of defined.new)) }
     ensures breaks { IfErr result (IsRule (λ rule at_line. BrokenDefs (given_of given.now) walk.old.types walk.old.names turn (d.now ∷ []) rule at_line)) }
@@ -128,6 +129,7 @@ fn enter(
 ) -> Result<(), TypeFault>
     requires some { 1 ≤ length targets.now }
     requires spelled { All (IsTarget given.now.tokens.now (length given.now.spellings.now)) targets.now }
+    requires room { walk.old.names.height + length targets.now ≤ 4294967295 }
     ensures used { OnOk result (IsUsedIn (given_of given.now) walk.old.types walk.new.types) }
     ensures enters { OnOk result (Enters (given_of given.now) walk.new.types walk.old.names walk.new.names turn targets.now values.exprs values.types (defined_of defined.old) (defined_of defined.new)) }
     ensures breaks { IfErr result (IsRule (λ rule at_line. BrokenTargets (given_of given.now) walk.old.types walk.old.names turn (first_line targets.now) targets.now values.types rule at_line)) }

@@ -2,14 +2,13 @@
 ghost use Rattle.breaking_laws.specs.Parts.{BrokenGenerator, BrokenGroup, BrokenGroups, HasNoSource, StandsTwice};
 ghost use Rattle.sisal_check.specs.Walked.{given_of, group_of, parts_of};
 ghost use Rattle.sisal_tree.specs.declared.expr.Generator.{out-Generator};
-ghost use Rattle.std.specs.Prelude.{All, Err, IfErr, IfOk, List, None, Ok, OnOk, [], is_some, length, map, ◌++◌, ◌∷◌, ◌≡◌, ◌⊎◌};
+ghost use Rattle.std.specs.Prelude.{All, Err, IfErr, IfOk, List, None, Ok, OnOk, [], is_some, length, map, ◌++◌, ◌+◌, ◌∷◌, ◌≡◌, ◌≤◌, ◌⊎◌};
 ghost use Rattle.type_rules.specs.Faults.{IsRule};
 ghost use Rattle.type_rules.specs.Parts.{sequence_at};
 ghost use Rattle.typing_laws.specs.Judged.{IsUsedIn};
 ghost use Rattle.typing_laws.specs.Looping.{AddsGenerator, GoesOver, GroupTyped, GroupsTyped, IsElement, KeepsGenerator, index_names, index_types};
 ghost use Rattle.value_names.specs.Scopes.{define_all, twice_in};
-ghost use Rattle.text_trees.specs.Spelled.{IsGenerator};
-ghost use Rattle.text_trees.specs.Parts.{IsGroup};
+ghost use Rattle.text_trees.specs.Spelled.{AreGroups, IsGenerator, group_levels, groups_levels};
 
 use crate::defs::distinct;
 use crate::lists::one;
@@ -42,10 +41,11 @@ pub(crate) fn groups(
     given: &Given<'_>,
     walk: &mut Walk,
 ) -> Result<Seq<Group>, TypeFault>
-    requires spelled { All (IsGroup given.now.tokens.now (length given.now.spellings.now)) gs.now }
+    requires spelled { AreGroups given.now.tokens.now (length given.now.spellings.now) walk.old.names.height gs.now }
     ensures used { OnOk result (IsUsedIn (given_of given.now) walk.old.types walk.new.types) }
     ensures typed { IfOk result (λ goes. GroupsTyped (given_of given.now) walk.new.types walk.old.names gs.now (map group_of goes) walk.new.names) }
     ensures breaks { IfErr result (IsRule (λ rule at_line. BrokenGroups (given_of given.now) walk.old.types walk.old.names gs.now rule at_line)) }
+    ensures height { IfOk result (λ _. walk.new.names.height ≡ walk.old.names.height + groups_levels gs.now) }
 {
     let mut goes = Seq::new(given.alloc);
     for g in gs {
@@ -60,11 +60,13 @@ pub(crate) fn groups(
 /// before it were looked at.
 #[cycle(walk)]
 fn one_group(gs: &Seq<Generator>, given: &Given<'_>, walk: &mut Walk) -> Result<Group, TypeFault>
-    requires spelled { All (IsGenerator given.now.tokens.now (length given.now.spellings.now)) gs.now }
+    requires spelled { All (IsGenerator given.now.tokens.now (length given.now.spellings.now) walk.old.names.height) gs.now }
+    requires room { walk.old.names.height + group_levels gs.now ≤ 4294967295 }
     ensures used { OnOk result (IsUsedIn (given_of given.now) walk.old.types walk.new.types) }
     ensures typed { IfOk result (λ m. GroupTyped (given_of given.now) walk.new.types walk.old.names gs.now (group_of m)) }
     ensures names { IfOk result (λ m. walk.new.names ≡ define_all m.names m.types walk.old.names) }
     ensures breaks { IfErr result (IsRule (λ rule at_line. BrokenGroup (given_of given.now) walk.old.types walk.old.names gs.now rule at_line)) }
+    ensures height { IfOk result (λ _. walk.new.names.height ≡ walk.old.names.height + group_levels gs.now) }
 {
     let mut made = no_generators(given.alloc);
     for g in gs.as_slice() {
@@ -85,7 +87,7 @@ fn generator(
     given: &Given<'_>,
     walk: &mut Walk,
 ) -> Result<(), TypeFault>
-    requires spelled { IsGenerator given.now.tokens.now (length given.now.spellings.now) g.now }
+    requires spelled { IsGenerator given.now.tokens.now (length given.now.spellings.now) walk.old.names.height g.now }
     ensures used { OnOk result (IsUsedIn (given_of given.now) walk.old.types walk.new.types) }
     ensures names { OnOk result (walk.new.names ≡ walk.old.names) }
     ensures adds { OnOk result (AddsGenerator (given_of given.now) walk.old.types walk.new.types walk.old.names g.now (group_of made.old) (group_of made.new)) }
@@ -126,6 +128,7 @@ fn look_back(gone: Result<(), TypeFault>, made: &Group, walk: &mut Walk) -> Resu
 
 /// Brings the names of a group into force: rule 8 at one that stands twice.
 fn enter(made: Group, walk: &mut Walk) -> Result<Group, TypeFault>
+    requires { walk.old.names.height + length made.names ≤ 4294967295 }
     ensures types { walk.new.types ≡ walk.old.types }
     ensures same { IfOk result (λ m. m ≡ made) }
     ensures once { OnOk result (twice_in made.names ≡ None) }

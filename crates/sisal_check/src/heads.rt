@@ -3,7 +3,7 @@ ghost use Rattle.breaking_laws.specs.Broken.{Broken, Misnamed};
 ghost use Rattle.breaking_laws.specs.Refusals.{IsUnnamed};
 ghost use Rattle.name_scope.specs.Newest.{newest};
 ghost use Rattle.sisal_check.specs.Walked.{IsArrayHead, IsErrorHead, IsHeadSpelled, given_of};
-ghost use Rattle.std.specs.Prelude.{All, IfErr, IfOk, List, OnOk, Some, length, ℕ, ◌≡◌, ◌≤◌};
+ghost use Rattle.std.specs.Prelude.{All, IfErr, IfOk, List, OnOk, Some, length, ℕ, ◌<◌, ◌≡◌, ◌≤◌};
 ghost use Rattle.sisal_tree.specs.declared.expr.ExprKind.TheViews.{out-ExprKind};
 ghost use Rattle.type_rules.specs.Faults.{IsRule};
 ghost use Rattle.type_rules.specs.Heads.{IsForm};
@@ -11,7 +11,7 @@ ghost use Rattle.typed_tree.specs.Typing.{at};
 ghost use Rattle.typing_laws.specs.Forming.{AreFound, IsHead, IsRecordHead, fields_of};
 ghost use Rattle.typing_laws.specs.Judged.{IsUsedIn};
 ghost use Rattle.text_trees.specs.Spelled.{IsType};
-ghost use Rattle.text_trees.specs.Parts.{HasParts, IsValue};
+ghost use Rattle.text_trees.specs.Parts.{HasParts};
 ghost use Rattle.type_rules.specs.Applies.{HasField};
 
 use crate::state::{Given, Walk};
@@ -30,7 +30,7 @@ pub(crate) fn head_of(
     given: &Given<'_>,
     walk: &mut Walk,
 ) -> Result<Head, TypeFault>
-    requires spelled { HasParts given.now.tokens.now (length given.now.spellings.now) (out-ExprKind kind.now) }
+    requires spelled { HasParts given.now.tokens.now (length given.now.spellings.now) walk.old.names.height (out-ExprKind kind.now) }
     requires form { IsForm (out-ExprKind kind.now) }
     ensures used { OnOk result (IsUsedIn (given_of given.now) walk.old.types walk.new.types) }
     ensures names { OnOk result (walk.new.names ≡ walk.old.names) }
@@ -76,7 +76,7 @@ fn record_of(
     line: u32,
     given: &Given<'_>,
 ) -> Result<Head, TypeFault>
-    requires spelled { All (IsValue given.now.tokens.now (length given.now.spellings.now)) vs.now }
+    requires spelled { All (λ v. v.field.name < length given.now.spellings.now) vs.now }
     requires some { 1 ≤ length vs.now }
     ensures head { IfOk result (λ h. IsRecordHead (given_of given.now) name vs.now h) }
     ensures field { IfOk result HasField }

@@ -22,7 +22,7 @@ pub(crate) fn one(
     given: &Given<'_>,
     walk: &mut Walk,
 ) -> Result<(), TypeFault>
-    requires spelled { IsSpelled given.now.tokens.now (length given.now.spellings.now) e.now }
+    requires spelled { IsSpelled given.now.tokens.now (length given.now.spellings.now) walk.old.names.height e.now }
     ensures used { OnOk result (IsUsedIn (given_of given.now) walk.old.types walk.new.types) }
     ensures names { OnOk result (walk.new.names ≡ walk.old.names) }
     ensures adds { OnOk result (Adds (parts_of parts.old) (parts_of parts.new) (AllOnes (given_of given.now) walk.new.types walk.old.names (e.now ∷ []))) }
@@ -42,7 +42,7 @@ pub(crate) fn many(
     given: &Given<'_>,
     walk: &mut Walk,
 ) -> Result<(), TypeFault>
-    requires spelled { All (IsSpelled given.now.tokens.now (length given.now.spellings.now)) es.now }
+    requires spelled { All (IsSpelled given.now.tokens.now (length given.now.spellings.now) walk.old.names.height) es.now }
     ensures used { OnOk result (IsUsedIn (given_of given.now) walk.old.types walk.new.types) }
     ensures names { OnOk result (walk.new.names ≡ walk.old.names) }
     ensures adds { OnOk result (Adds (parts_of parts.old) (parts_of parts.new) (AllTyped (given_of given.now) walk.new.types walk.old.names es.now)) }
@@ -59,7 +59,7 @@ pub(crate) fn many(
 /// The expressions of a list, typed.
 #[cycle(walk)]
 pub(crate) fn all(es: &[Expr], given: &Given<'_>, walk: &mut Walk) -> Result<Parts, TypeFault>
-    requires spelled { All (IsSpelled given.now.tokens.now (length given.now.spellings.now)) es.now }
+    requires spelled { All (IsSpelled given.now.tokens.now (length given.now.spellings.now) walk.old.names.height) es.now }
     ensures used { OnOk result (IsUsedIn (given_of given.now) walk.old.types walk.new.types) }
     ensures names { OnOk result (walk.new.names ≡ walk.old.names) }
     ensures typed { IfOk result (λ p. AllTyped (given_of given.now) walk.new.types walk.old.names es.now p.exprs p.types) }
@@ -74,7 +74,7 @@ pub(crate) fn all(es: &[Expr], given: &Given<'_>, walk: &mut Walk) -> Result<Par
 /// The expression, which has one value.
 #[cycle(walk)]
 pub(crate) fn only(e: &Expr, given: &Given<'_>, walk: &mut Walk) -> Result<Parts, TypeFault>
-    requires spelled { IsSpelled given.now.tokens.now (length given.now.spellings.now) e.now }
+    requires spelled { IsSpelled given.now.tokens.now (length given.now.spellings.now) walk.old.names.height e.now }
     ensures used { OnOk result (IsUsedIn (given_of given.now) walk.old.types walk.new.types) }
     ensures names { OnOk result (walk.new.names ≡ walk.old.names) }
     ensures typed { IfOk result (λ p. AllOnes (given_of given.now) walk.new.types walk.old.names (e.now ∷ []) p.exprs p.types) }
@@ -94,7 +94,7 @@ pub(crate) fn fields(
     given: &Given<'_>,
     walk: &mut Walk,
 ) -> Result<(), TypeFault>
-    requires spelled { All (IsValue given.now.tokens.now (length given.now.spellings.now)) vs.now }
+    requires spelled { All (IsValue given.now.tokens.now (length given.now.spellings.now) walk.old.names.height) vs.now }
     ensures used { OnOk result (IsUsedIn (given_of given.now) walk.old.types walk.new.types) }
     ensures names { OnOk result (walk.new.names ≡ walk.old.names) }
     ensures adds { OnOk result (Adds (parts_of parts.old) (parts_of parts.new) (AllOnes (given_of given.now) walk.new.types walk.old.names (map (λ v. v.value) vs.now))) }

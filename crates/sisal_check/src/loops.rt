@@ -28,7 +28,7 @@ pub(crate) fn looped(
     given: &Given<'_>,
     walk: &mut Walk,
 ) -> Result<TypedExpr, TypeFault>
-    requires spelled { IsLoop given.now.tokens.now (length given.now.spellings.now) l.now }
+    requires spelled { IsLoop given.now.tokens.now (length given.now.spellings.now) walk.old.names.height l.now }
     ensures used { OnOk result (IsUsedIn (given_of given.now) walk.old.types walk.new.types) }
     ensures names { OnOk result (walk.new.names ≡ walk.old.names) }
     ensures typed { IfOk result (λ t. Typed (given_of given.now) walk.new.types walk.old.names (at line (tree.For l.now)) t) }

@@ -1,6 +1,6 @@
 //! What the walk over a function's body is given, and what it changes.
 ghost use Rattle.sisal_check.specs.Numbered.{AreNumbered};
-ghost use Rattle.std.specs.Prelude.{All, IfOk, OnOk, Some, [], length, slice_get, ◌++◌, ◌<◌, ◌∷◌, ◌≡◌, ◌≤◌};
+ghost use Rattle.std.specs.Prelude.{All, OnOk, Some, [], length, slice_get, ◌++◌, ◌<◌, ◌∷◌, ◌≡◌, ◌≤◌};
 
 use flow_value::{Name, NoMemory, Numbers, Seq};
 use name_scope::Scope;
@@ -32,6 +32,8 @@ pub(crate) struct Given<'u> {
     ghost numbered: { AreNumbered numbers.now (length functions.now) },
     /// Each function has a result.
     ghost results: { All (λ s. 1 ≤ length s.results) functions.now },
+    /// No function has more parameters than a text can have tokens.
+    ghost parameters: { All (λ s. length s.parameters ≤ 4194304) functions.now },
 }
 
 /// What the walk changes.
@@ -80,15 +82,4 @@ pub(crate) fn header_at(functions: &[Signature], place: usize) -> &Signature
     ensures { slice_get functions.now place ≡ Some result.now }
 {
     &functions[place]
-}
-
-/// A count of arms as a `u32`. The arms of a `tagcase` are a list whose places are numbers of 32
-/// bits; to ask for one more is a request for memory, which is refused.
-pub(crate) fn number_of(count: usize) -> Result<u32, NoMemory>
-    ensures { IfOk result (λ n. n ≡ count) }
-{
-    match u32::try_from(count) {
-        Ok(number) => Ok(number),
-        Err(_) => Err(NoMemory),
-    }
 }

@@ -7,7 +7,7 @@ ghost use Rattle.typing_laws.specs.Defining.{targets_in};
 ghost use Rattle.typing_laws.specs.Judged.{IsUsedIn};
 ghost use Rattle.typing_laws.specs.Looping.{AllRenewed, IsAround, TurnTyped};
 ghost use Rattle.typing_laws.specs.Turns.{AreBelow, in_turn, loop_names, renewals};
-ghost use Rattle.text_trees.specs.Spelled.{IsDef, IsTurn};
+ghost use Rattle.text_trees.specs.Spelled.{AreDefs, IsTurn};
 
 use crate::defs::{Defined, defs, targets_of};
 use crate::lists::only;
@@ -52,7 +52,7 @@ pub(crate) fn turn_of(
     walk: &mut Walk,
 ) -> Result<Turned, TypeFault>
     requires fits { first + min (length started.now.targets) (length started.now.types) ≤ walk.old.names.height }
-    requires spelled { IsTurn given.now.tokens.now (length given.now.spellings.now) turn.now }
+    requires spelled { IsTurn given.now.tokens.now (length given.now.spellings.now) walk.old.names.height turn.now }
     ensures used { OnOk result (IsUsedIn (given_of given.now) walk.old.types walk.new.types) }
     ensures names { OnOk result (walk.new.names ≡ walk.old.names) }
     ensures typed { IfOk result (λ t. TurnTyped (given_of given.now) walk.new.types walk.old.names first (defined_of started.now) turn.now (turned_of t)) }
@@ -118,7 +118,7 @@ fn turn_defs(
     walk: &mut Walk,
 ) -> Result<Renewing, TypeFault>
     requires fits { first + min (length started.now.targets) (length started.now.types) ≤ walk.old.names.height }
-    requires spelled { All (IsDef given.now.tokens.now (length given.now.spellings.now)) ds.now }
+    requires spelled { AreDefs given.now.tokens.now (length given.now.spellings.now) walk.old.names.height ds.now }
     ensures used { OnOk result (IsUsedIn (given_of given.now) walk.old.types walk.new.types) }
     ensures names { OnOk result (walk.new.names ≡ walk.old.names) }
     ensures renewed { IfOk result (λ r. AllRenewed (given_of given.now) walk.new.types walk.old.names first (defined_of started.now) ds.now r.renewed r.exprs) }

@@ -29,7 +29,7 @@ use typed_tree::TypedExpr;
 /// The typed tree of an expression: SISAL Language Reference Manual 1.2, expressions.
 #[cycle(walk)]
 pub(crate) fn typed(e: &Expr, given: &Given<'_>, walk: &mut Walk) -> Result<TypedExpr, TypeFault>
-    requires spelled { IsSpelled given.now.tokens.now (length given.now.spellings.now) e.now }
+    requires spelled { IsSpelled given.now.tokens.now (length given.now.spellings.now) walk.old.names.height e.now }
     ensures used { OnOk result (IsUsedIn (given_of given.now) walk.old.types walk.new.types) }
     ensures names { OnOk result (walk.new.names ≡ walk.old.names) }
     ensures typed { IfOk result (λ t. Typed (given_of given.now) walk.new.types walk.old.names e.now t) }
@@ -49,7 +49,7 @@ pub(crate) fn typed(e: &Expr, given: &Given<'_>, walk: &mut Walk) -> Result<Type
 #[inline(never)]
 #[cycle(walk)]
 fn plain(e: &Expr, given: &Given<'_>, walk: &mut Walk) -> Result<TypedExpr, TypeFault>
-    requires spelled { HasParts given.now.tokens.now (length given.now.spellings.now) (out-ExprKind e.now.kind) }
+    requires spelled { HasParts given.now.tokens.now (length given.now.spellings.now) walk.old.names.height (out-ExprKind e.now.kind) }
     requires plain { IsPlain (out-ExprKind e.now.kind) }
     ensures used { OnOk result (IsUsedIn (given_of given.now) walk.old.types walk.new.types) }
     ensures names { OnOk result (walk.new.names ≡ walk.old.names) }
@@ -100,7 +100,7 @@ fn applied(
     given: &Given<'_>,
     walk: &mut Walk,
 ) -> Result<TypedExpr, TypeFault>
-    requires spelled { HasParts given.now.tokens.now (length given.now.spellings.now) (out-ExprKind kind.now) }
+    requires spelled { HasParts given.now.tokens.now (length given.now.spellings.now) walk.old.names.height (out-ExprKind kind.now) }
     requires form { IsForm (out-ExprKind kind.now) }
     ensures used { OnOk result (IsUsedIn (given_of given.now) walk.old.types walk.new.types) }
     ensures names { OnOk result (walk.new.names ≡ walk.old.names) }
@@ -124,7 +124,7 @@ fn operands(
     given: &Given<'_>,
     walk: &mut Walk,
 ) -> Result<(), TypeFault>
-    requires spelled { HasParts given.now.tokens.now (length given.now.spellings.now) (out-ExprKind kind.now) }
+    requires spelled { HasParts given.now.tokens.now (length given.now.spellings.now) walk.old.names.height (out-ExprKind kind.now) }
     requires form { IsForm (out-ExprKind kind.now) }
     ensures used { OnOk result (IsUsedIn (given_of given.now) walk.old.types walk.new.types) }
     ensures names { OnOk result (walk.new.names ≡ walk.old.names) }
@@ -175,7 +175,7 @@ fn elements_of(
     given: &Given<'_>,
     walk: &mut Walk,
 ) -> Result<(), TypeFault>
-    requires spelled { AreElements given.now.tokens.now (length given.now.spellings.now) elements.now }
+    requires spelled { AreElements given.now.tokens.now (length given.now.spellings.now) walk.old.names.height elements.now }
     ensures used { OnOk result (IsUsedIn (given_of given.now) walk.old.types walk.new.types) }
     ensures names { OnOk result (walk.new.names ≡ walk.old.names) }
     ensures adds { OnOk result ((x : Option ℕ) → Adds (parts_of parts.old) (parts_of parts.new) (Operands (given_of given.now) walk.new.types walk.old.names (tree.Array x (Some elements.now)))) }

@@ -81,7 +81,7 @@ fn basic(stack: &mut Values) -> Result<(), NoMemory>
     ensures { OnOk result (Some stack.new ≡ perform sisal Action.Basic stack.old) }
 {
     let word = stack.take_token();
-    let ty = span(&word, &word)?;
+    let ty = span(&word, &word);
     stack.push(Value::AType(ty))
 }
 
@@ -94,7 +94,7 @@ fn listed(stack: &mut Values) -> Result<(), NoMemory>
     let _open = stack.take_token();
     let _element = stack.take_written();
     let close = stack.take_token();
-    let ty = span(&word, &close)?;
+    let ty = span(&word, &close);
     stack.push(Value::AType(ty))
 }
 
@@ -108,7 +108,7 @@ fn fielded(stack: &mut Values) -> Result<(), NoMemory>
     let _first = stack.take_field();
     let _rest = stack.take_fields();
     let close = stack.take_token();
-    let ty = span(&word, &close)?;
+    let ty = span(&word, &close);
     stack.push(Value::AType(ty))
 }
 
@@ -122,7 +122,7 @@ fn tagged(stack: &mut Values) -> Result<(), NoMemory>
     stack.take_nothing();
     stack.take_nothing();
     let close = stack.take_token();
-    let ty = span(&word, &close)?;
+    let ty = span(&word, &close);
     stack.push(Value::AType(ty))
 }
 

@@ -1,6 +1,7 @@
 //! Laws of the trees of texts: wherever the grammar asks for an item at least there is one, names
-//! are names of the text, and what stands for a written type are tokens that are a type (SISAL
-//! Language Reference Manual 1.2, syntax).
+//! are names of the text, what stands for a written type are tokens that are a type, and the names
+//! that come into force have levels of 32 bits (SISAL Language Reference Manual 1.2, syntax and
+//! scope).
 #![tactic(auto)]
 
 mod laws;

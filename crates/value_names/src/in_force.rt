@@ -1,5 +1,5 @@
 //! The names that are in force.
-ghost use Rattle.std.specs.Prelude.{◌≡◌, ◌≤◌, ◌+◌, length, map, min, OnOk, OnErr, IfOk};
+ghost use Rattle.std.specs.Prelude.{◌≡◌, ◌<◌, ◌≤◌, ◌+◌, length, map, min, OnOk, OnErr, IfOk};
 ghost use Rattle.name_scope.specs.Newest.{newest};
 ghost use Rattle.value_names.specs.Scopes.{define, define_all, hidden, left, loop_value, mark_of, no_names, not_yet, old_name, place_in_loop, seen, twice_in, under_old};
 
@@ -73,24 +73,21 @@ impl InForce {
         self.olds.find(name)
     }
 
-    /// A name comes into force at the next level. The names in force are a list whose places are
-    /// numbers of 32 bits: to ask for one more place than these is a request for memory that is
-    /// refused. On want of memory all is as it was.
+    /// A name comes into force at the next level. On want of memory all is as it was.
     pub fn define(&mut self, name: u32, ty: u32) -> Result<(), NoMemory>
+        requires { self.old.height < 4294967295 }
         ensures ok { OnOk result (self.new ≡ define name ty self.old) }
         ensures err { OnErr result (self.new ≡ self.old) }
     {
         let level = self.height;
-        let Some(height) = level.checked_add(1) else {
-            return Err(NoMemory);
-        };
         self.names.define(name, Meaning::At(Value { level, ty }))?;
-        self.height = height;
+        self.height = level + 1;
         Ok(())
     }
 
     /// Names with these types come into force, one after another.
     pub fn define_all(&mut self, names: &[Named], types: &[u32]) -> Result<(), NoMemory>
+        requires { self.old.height + length names.now ≤ 4294967295 }
         ensures { OnOk result (self.new ≡ define_all names.now types.now self.old) }
     {
         let mut place = 0;
