@@ -1,6 +1,6 @@
 //! Tokens, types, functions and definitions, each taken off the top of the stack.
 
-ghost use Rattle.std.specs.Prelude.{◌≡◌, ◌∷◌, List, []};
+ghost use Rattle.std.specs.Prelude.{◌≡◌, ◌<◌, ◌∷◌, List, []};
 ghost use Rattle.sisal_grammar.specs.Sorts.{Sort, a_def, a_field, a_header, a_target, a_token, a_type, an_item, an_outline, defs, fields, items, maybe_name, maybe_type, names, nothing, targets, types};
 ghost use Rattle.parse_stack.specs.Stack.{Tops};
 
