@@ -33,7 +33,7 @@ use Rattle.typed_tree.specs.Types.{Member, constant_type, scalar_type, prefix_ty
 use Rattle.typed_tree.specs.Typing as rule
 use Rattle.typed_tree.specs.Typing.{Signature, Known, IsFunction, IsBuiltIn, IsNamedType, Has, IsTag, names_of, AreAllNamed, at, Types, AreTyped, Replaces, HasFields, Defines, Crosses, Generates, AreClauses, IsMask, AreArms, IsOtherwise, Folds}
 use Rattle.typing_unique.specs.Inverted.{at_table, IsInside, IsInnerLoop, TypedIn, FieldsIn, ReplacesIn, MaskIn, IsArray, IsTagCase, IsInitial, IsProduct, IsLoop, Inverted, IsDefinition, DefinesIn, CrossesIn, IsGenerator, GeneratesIn, IsClause, ClausesIn, IsArm, ArmsIn}
-use Rattle.typing_unique.proofs.EViews.{out_constant, out_name, out_old, out_group, out_call, out_convert, out_error_of, out_is_error, out_is_tag, out_prefix, out_binary, out_select, out_update, out_field, out_replace, out_empty_array, out_array, out_stream, out_a_record, out_union, out_let, out_if, out_tag_case, out_for, out_product, out_initial, out_elements, out_def, out_case, out_arm, out_generator, out_turn, out_clause}
+use Rattle.text_trees.proofs.Views.{out_constant, out_name, out_old, out_group, out_call, out_convert, out_error_of, out_is_error, out_is_tag, out_prefix, out_binary, out_select, out_update, out_field, out_replace, out_empty_array, out_array, out_stream, out_a_record, out_union, out_let, out_if, out_tag_case, out_for, out_product, out_initial, out_elements, out_def, out_case, out_arm, out_generator, out_turn, out_clause}
 
 abbrev IsNotEmpty : List (List Generator) → Type 0
 IsNotEmpty [] = ⊥

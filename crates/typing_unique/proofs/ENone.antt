@@ -27,7 +27,7 @@ use Rattle.typed_tree.specs.Breaks as breaks
 use Rattle.typed_tree.specs.Breaks.{IsUnknown, IsPair, targets_in, named_in, generators_in, Breaks, BreaksOne, BreaksIn, BreaksDefs, BreaksGroups, BreaksGenerator, BreaksClause, BreaksArm, HasResults}
 use Rattle.typing_unique.specs.Fair.{AreOnce, AreProper, IsFair}
 use Rattle.typing_unique.specs.Inverted.{at_table, IsProperScope, IsName, IsErrorOf, IsEmptyArray, IsGroup, IsCall, IsConvert, IsIsError, IsIsTag, IsPrefix, IsBinary, IsSelect, IsUpdate, IsField, IsReplace, IsArray, IsArrayIf, IsStreamIf, IsRecord, IsUnion, IsLet, IsIf, IsTagCase, IsInitial, IsProduct, IsBody, IsInside, IsCrossed, IsElements, IsTested}
-use Rattle.typing_unique.proofs.EViews.{out_name, out_old, out_group, out_call, out_convert, out_error_of, out_is_error, out_is_tag, out_prefix, out_binary, out_select, out_update, out_field, out_replace, out_empty_array, out_array, out_stream, out_a_record, out_union, out_let, out_if, out_generator, out_clause, out_arm}
+use Rattle.text_trees.proofs.Views.{out_name, out_old, out_group, out_call, out_convert, out_error_of, out_is_error, out_is_tag, out_prefix, out_binary, out_select, out_update, out_field, out_replace, out_empty_array, out_array, out_stream, out_a_record, out_union, out_let, out_if, out_generator, out_clause, out_arm}
 use Rattle.typing_unique.proofs.EInverted.{view, view_array, view_case, view_product, view_initial, view_definitions, crossed_of}
 use Rattle.typing_unique.proofs.ETypes.{same_record, same_union, same_first, one_result, one_made_through, union_proper, content_proper, one_place}
 use Rattle.typing_unique.proofs.EScopes.{defined_proper, content_defined, turn_proper}

@@ -27,7 +27,7 @@ use Rattle.typed_tree.specs.Typing as rule
 use Rattle.typed_tree.specs.Typing.{Signature, Known, IsBuiltIn, Has, IsTag, AreAllNamed, names_in, names_of, with_content, Folds, Types, AreTyped, HasFields, Defines, Crosses, Generates, AreClauses, AreArms, IsOtherwise}
 use Rattle.typing_unique.specs.Fair.{AreOnce, AreProper, IsFair}
 use Rattle.typing_unique.specs.Inverted.{at_table, IsProperScope, IsConstant, IsName, IsErrorOf, IsEmptyArray, IsGroup, IsCall, IsConvert, IsIsError, IsIsTag, IsPrefix, IsBinary, IsSelect, IsUpdate, IsField, IsReplace, IsArray, IsStreamIf, IsRecord, IsUnion, IsLet, IsIf, IsTagCase, IsInitial, IsProduct, IsNoDefinition, IsDefinition, IsBody, IsInnerLoop, IsCrossed, IsRange, IsElements, IsNoGenerator, IsClause, IsArm, IsNewField, IsFirst}
-use Rattle.typing_unique.proofs.EViews.{out_constant, out_name, out_old, out_group, out_call, out_convert, out_error_of, out_is_error, out_is_tag, out_prefix, out_binary, out_select, out_update, out_field, out_replace, out_empty_array, out_stream, out_a_record, out_union, out_let, out_if, out_clause}
+use Rattle.text_trees.proofs.Views.{out_constant, out_name, out_old, out_group, out_call, out_convert, out_error_of, out_is_error, out_is_tag, out_prefix, out_binary, out_select, out_update, out_field, out_replace, out_empty_array, out_stream, out_a_record, out_union, out_let, out_if, out_clause}
 use Rattle.typing_unique.proofs.EInverted.{has_in, function_in, built_in_in, tags_in, view, view_array, view_case, view_product, view_initial, definitions_of, view_definitions, crossed_of, inner_of, generated_of, view_generators, clauses_of, view_clauses, view_arms, first_of, fields_of}
 use Rattle.typing_unique.proofs.ETypes.{same_array, same_record, same_union, one_element, same_first, one_result, one_made, record_proper, union_proper, content_proper, one_place, made_of, makes_is}
 use Rattle.typing_unique.proofs.EScopes.{defined_proper, content_defined}

@@ -29,7 +29,7 @@ use Rattle.typed_tree.specs.Typing.{Known, Has, IsTag, names_of, AreTargets, nam
 use Rattle.typed_tree.specs.Breaks.{IsTwice, twice, later, targets_in, named_in, index_in, generators_in, IsMistyped, IsPair, IsRetyped}
 use Rattle.typed_tree.specs.Breaks as breaks
 use Rattle.typing_unique.specs.Inverted.{at_table, index_names, IsGenerator, IsRange, IsNoGenerator, MaskIn, IsFirst, IsNewField, IsChanged, IsClause, IsArm, IsDefinition, IsNoDefinition}
-use Rattle.typing_unique.proofs.EViews.{out_def, out_clause}
+use Rattle.text_trees.proofs.Views.{out_def, out_clause}
 use Rattle.typing_unique.proofs.EInverted.{first_of, fields_of, changed_of, mask_of, generated_of, clauses_of, arms_of, definitions_of}
 
 -- ---- lists

@@ -30,7 +30,7 @@ use Rattle.typed_tree.specs.Typing.{Signature, Known, Has, IsTag, tags_from, Cho
 use Rattle.typing_unique.specs.Fair.{AreOnce, AreProper, IsFair}
 use Rattle.typing_unique.specs.Inverted.{IsProperScope}
 use Rattle.typing_unique.specs.InvertedTree.{AreNumbered, HasTree, IsNameTree, IsGroupTree, IsCallTree, IsConvertTree, IsIsErrorTree, IsIsTagTree, IsPrefixTree, IsBinaryTree, IsSelectTree, IsUpdateTree, IsFieldTree, IsReplaceTree, IsArrayTree, IsStreamTree, IsRecordTree, IsUnionTree, IsLetTree, IsIfTree, IsTagCaseTree, IsInitialTree, IsFirstTree, IsNewFieldTree, IsChangedTree, IsDefinitionTree, IsBodyTree, IsInnerLoopTree, IsCrossedTree, IsRangeTree, IsElementsTree, IsClauseTree, IsArmTree, IsTestedTree}
-use Rattle.typing_unique.proofs.EViews.{out_constant, out_name, out_old, out_group, out_call, out_convert, out_error_of, out_is_error, out_is_tag, out_prefix, out_binary, out_select, out_update, out_field, out_replace, out_empty_array, out_stream, out_a_record, out_union, out_let, out_if}
+use Rattle.text_trees.proofs.Views.{out_constant, out_name, out_old, out_group, out_call, out_convert, out_error_of, out_is_error, out_is_tag, out_prefix, out_binary, out_select, out_update, out_field, out_replace, out_empty_array, out_stream, out_a_record, out_union, out_let, out_if}
 use Rattle.typing_unique.proofs.ETreeViews.{view, view_array, view_case, view_product, view_initial, first_of, fields_of, changed_of, definitions_of, view_definitions, crossed_of, inner_of, generated_of, view_generators, clauses_of, view_clauses, arms_of, view_arms, mask_of}
 use Rattle.typing_unique.proofs.ETypes.{same_record, same_union, same_first, record_proper, union_proper, content_proper, one_place}
 use Rattle.typing_unique.proofs.EScopes.{defined_proper, content_defined, turn_proper}

@@ -13,7 +13,7 @@ use Rattle.typed_tree.specs.Typing as rule
 use Rattle.typed_tree.specs.Typing.{Known, Number, AreChoices, with, Folds}
 use Rattle.typing_unique.specs.Fair.{AreOnce}
 use Rattle.typing_unique.specs.InvertedTree.{AreNumbered, HasTree}
-use Rattle.typing_unique.proofs.EViews.{out_clause}
+use Rattle.text_trees.proofs.Views.{out_clause}
 use Rattle.typing_unique.proofs.ETypes.{one_place}
 
 -- ---- numbers

@@ -36,7 +36,7 @@ use Rattle.typed_tree.specs.Operations.{prefix_operation, binary_operation, conv
 use Rattle.typed_tree.specs.Typing as rule
 use Rattle.typed_tree.specs.Typing.{Known, Number, names_of, loop_of, named_arms, at, with, Types, AreTyped, Replaces, HasFields, Defines, Crosses, Generates, AreClauses, IsMask, AreArms, Folds}
 use Rattle.typing_unique.specs.InvertedTree.{HasTree, IsArrayTree, IsTagCaseTree, IsInitialTree, IsLoopTree, InvertedTree, TypedTreeIn, FieldsTreeIn, ReplacesTreeIn, IsDefinitionTree, DefinesTreeIn, IsInsideTree, IsInnerLoopTree, CrossesTreeIn, IsGeneratorTree, GeneratesTreeIn, IsClauseTree, ClausesTreeIn, IsArmTree, ArmsTreeIn, MaskTreeIn}
-use Rattle.typing_unique.proofs.EViews.{out_constant, out_name, out_old, out_group, out_call, out_convert, out_error_of, out_is_error, out_is_tag, out_prefix, out_binary, out_select, out_update, out_field, out_replace, out_empty_array, out_array, out_stream, out_a_record, out_union, out_let, out_if, out_tag_case, out_for, out_product, out_initial, out_elements, out_def, out_case, out_arm, out_generator, out_turn, out_clause}
+use Rattle.text_trees.proofs.Views.{out_constant, out_name, out_old, out_group, out_call, out_convert, out_error_of, out_is_error, out_is_tag, out_prefix, out_binary, out_select, out_update, out_field, out_replace, out_empty_array, out_array, out_stream, out_a_record, out_union, out_let, out_if, out_tag_case, out_for, out_product, out_initial, out_elements, out_def, out_case, out_arm, out_generator, out_turn, out_clause}
 use Rattle.typing_unique.proofs.EInverted.{some_group}
 
 module _ (k : Known) (denotes : Written → Ty → Type 0) where

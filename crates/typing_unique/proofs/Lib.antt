@@ -9,7 +9,6 @@ pub mod UDeclared
 pub mod UHeaders
 pub mod UFair
 pub mod UPrograms
-pub mod EViews
 pub mod EInverted
 pub mod ETreeViews
 pub mod ETypes
