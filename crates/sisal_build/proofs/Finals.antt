@@ -18,18 +18,19 @@ use Rattle.sisal_grammar.specs.Plan.{plan}
 use Rattle.sisal_grammar.proofs.Plans.{plan_typed, first_kind}
 use Rattle.parse_stack.specs.Stack.{IsSort, Tops}
 use Rattle.sisal_build.proofs.Places.{placed_classes}
+use Rattle.sisal_build.proofs.Rooms.{HasRoom, HaveRoom}
 
-is_sort : (k : Sort) (v : Val k) → IsSort k (into k v)
-is_sort a_token v = tt
-is_sort _ v = tt
+is_sort : (k : Sort) (v : Val k) → HasRoom (into k v) → IsSort k (into k v)
+is_sort a_token v h = h
+is_sort _ v h = tt
 
-loaded : (ks : List Sort) (vs : Vals Val ks) (s : List Value) → Tops ks (load sisal ks vs s)
-loaded [] vs s = tt
-loaded (k ∷ ks) vs s = (is_sort k vs.0, loaded ks vs.1 s)
+loaded : (ks : List Sort) (vs : Vals Val ks) (s : List Value) → HaveRoom (load sisal ks vs s) → Tops ks (load sisal ks vs s)
+loaded [] vs s h = tt
+loaded (k ∷ ks) vs s h = (is_sort k vs.0 h.0, loaded ks vs.1 s h.1)
 
 -- values of these kinds are on top
-pub tops : (ks : List Sort) (x : List Value) → OnTop sisal ks x → Tops ks x
-tops ks x o = rw o.2 (loaded ks o.0 o.1)
+pub tops : (ks : List Sort) (x : List Value) → OnTop sisal ks x → HaveRoom x → Tops ks x
+tops ks x o h = rw o.2 (loaded ks o.0 o.1 (subst HaveRoom o.2 h))
 
 pub same_some : {A : Type 0} {x y : A} → Some x ≡ Some y → x ≡ y
 same_some e = cc

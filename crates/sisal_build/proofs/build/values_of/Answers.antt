@@ -19,6 +19,7 @@ use Rattle.parse_stack.specs.Stack.{Tops}
 use Rattle.sisal_build.specs.Nowhere.{nowhere}
 use Rattle.sisal_build.proofs.Places.{placed_length, placed_classes, map_length}
 use Rattle.sisal_build.proofs.Finals.{tops, derived}
+use Rattle.sisal_build.proofs.Rooms.{HaveRoom, values_have_room}
 use Rattle.sisal_build.proofs.build.values_of.Goals as goal
 
 -- as many tokens are read as there are
@@ -55,7 +56,8 @@ loop-k-preserved-in-Continue-branch-2 c =
 pub perform-requires : goal.perform-requires
 perform-requires c =
     let t : OpenTurn sisal plan c.args.steps.now (placed 0 c.args.tokens.now) c.loop-k.k c.loop-k.left c.in-Open.production c.loop-k.values = open_turn language sisal plan plan_typed (Rule 0 ∷ []) c.args.steps.now (placed 0 c.args.tokens.now) c.loop-k.k c.loop-k.left c.in-Open.production c.loop-k.values (derived c.args.steps.now c.args.tokens.now c.requires.derived) c.loop-k-test.true c.loop-k.invariant.within c.in-Open.is c.loop-k.invariant.place c.loop-k.invariant.values in
-    rw c.action_of.ensures (tops (args (plan.action c.in-Open.production)) c.loop-k.values t.top)
+    let room : HaveRoom c.loop-k.values = values_have_room (drop c.loop-k.k c.args.steps.now) c.args.tokens.now c.loop-k.left c.loop-k.values c.requires.few c.loop-k.invariant.values in
+    rw c.action_of.ensures (tops (args (plan.action c.in-Open.production)) c.loop-k.values t.top room)
 
 pub loop-k-preserved : goal.loop-k-preserved
 loop-k-preserved c =
