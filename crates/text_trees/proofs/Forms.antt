@@ -22,81 +22,73 @@ use Rattle.sisal_grammar.specs.Acts.{at, joined, chained, selected, followed, po
 use Rattle.sisal_grammar.specs.Phrases.{ElseIf}
 use Rattle.sisal_grammar.specs.Spells.{compared, nested, listed}
 use Rattle.text_trees.specs.Spelled as is
-use Rattle.text_trees.specs.Spelled.{IsType, IsTypeIf, IsSpelled, AreSpelled, AreValues, AreElements, IsDef, AreDefs, IsArm, AreArms, IsGenerator, AreGenerators, AreGroups, IsClause, AreClauses}
+use Rattle.text_trees.specs.Spelled.{IsType, IsTypeIf, IsSpelled, AreSpelled, AreValues, AreElements, AreDefs, IsArm, AreArms, HasArms, IsGenerator, AreGenerators, IsClause, AreClauses}
 use Rattle.text_trees.proofs.Every.{Each, IfAny}
 
-module _ (tokens : List Token) (names : ℕ) where
+module _ (tokens : List Token) (names h : ℕ) where
   -- ---- one or more
 
   abbrev pub Exprs : List Expr → Type 0
-  Exprs es = AreSpelled tokens names es × (1 ≤ length es)
+  Exprs es = AreSpelled tokens names h es × (1 ≤ length es)
 
   abbrev pub Defs : List Def → Type 0
-  Defs ds = AreDefs tokens names ds × (1 ≤ length ds)
+  Defs ds = AreDefs tokens names h ds × (1 ≤ length ds)
 
   abbrev pub Group : List Generator → Type 0
-  Group g = AreGenerators tokens names g × (1 ≤ length g)
+  Group g = AreGenerators tokens names h g × (1 ≤ length g)
 
   abbrev pub Value : FieldValue → Type 0
-  Value v = (v.field.name < names) × IsSpelled tokens names v.value
+  Value v = (v.field.name < names) × IsSpelled tokens names h v.value
 
   -- ---- lists
 
-  pub exprs_of : (es : List Expr) → Each (λ e. IsSpelled tokens names e) es → AreSpelled tokens names es
+  pub exprs_of : (es : List Expr) → Each (λ e. IsSpelled tokens names h e) es → AreSpelled tokens names h es
   exprs_of [] p = is.no_expr
   exprs_of (e ∷ es) p = is.an_expr p.0 (exprs_of es p.1)
 
-  pub values_of : (vs : List FieldValue) → Each Value vs → AreValues tokens names vs
+  pub values_of : (vs : List FieldValue) → Each Value vs → AreValues tokens names h vs
   values_of [] p = is.no_value
   values_of (v ∷ vs) p = is.a_value {n = v.field} {e = v.value} p.0.0 p.0.1 (values_of vs p.1)
 
-  pub defs_of : (ds : List Def) → Each (λ d. IsDef tokens names d) ds → AreDefs tokens names ds
-  defs_of [] p = is.no_def
-  defs_of (d ∷ ds) p = is.a_def p.0 (defs_of ds p.1)
-
-  pub arms_of : (bs : List Arm) → Each (λ a. IsArm tokens names a) bs → AreArms tokens names bs
+  pub arms_of : (bs : List Arm) → Each (λ a. IsArm tokens names h a) bs → AreArms tokens names h bs
   arms_of [] p = is.no_arm
   arms_of (a ∷ bs) p = is.an_arm p.0 (arms_of bs p.1)
 
-  pub generators_of : (gs : List Generator) → Each (λ g. IsGenerator tokens names g) gs → AreGenerators tokens names gs
+  pub generators_of : (gs : List Generator) → Each (λ g. IsGenerator tokens names h g) gs → AreGenerators tokens names h gs
   generators_of [] p = is.no_generator
   generators_of (g ∷ gs) p = is.a_generator p.0 (generators_of gs p.1)
 
-  pub groups_of : (gs : List (List Generator)) → Each Group gs → AreGroups tokens names gs
-  groups_of [] p = is.no_group
-  groups_of (g ∷ gs) p = is.a_group p.0.0 p.0.1 (groups_of gs p.1)
-
-  pub clauses_of : (cs : List Clause) → Each (λ c. IsClause tokens names c) cs → AreClauses tokens names cs
+  pub clauses_of : (cs : List Clause) → Each (λ c. IsClause tokens names h c) cs → AreClauses tokens names h cs
   clauses_of [] p = is.no_clause
   clauses_of (c ∷ cs) p = is.a_clause p.0 (clauses_of cs p.1)
 
   -- ---- operators and selections one after another
 
-  pub chained_spelled : (l : List (BinaryOperator × Expr)) (a : Expr) → IsSpelled tokens names a → Each (λ t. IsSpelled tokens names t.1) l → IsSpelled tokens names (chained a l)
+  pub chained_spelled : (l : List (BinaryOperator × Expr)) (a : Expr) → IsSpelled tokens names h a → Each (λ t. IsSpelled tokens names h t.1) l → IsSpelled tokens names h (chained a l)
   chained_spelled [] a p q = p
   chained_spelled (t ∷ l) a p q = chained_spelled l (joined a t) (is.binary p q.0) q.1
 
-  pub compared_spelled : (c : Option (BinaryOperator × Expr)) (a : Expr) → IsSpelled tokens names a → IfAny (λ t. IsSpelled tokens names t.1) c → IsSpelled tokens names (compared a c)
+  pub compared_spelled : (c : Option (BinaryOperator × Expr)) (a : Expr) → IsSpelled tokens names h a → IfAny (λ t. IsSpelled tokens names h t.1) c → IsSpelled tokens names h (compared a c)
   compared_spelled None a p q = p
   compared_spelled (Some t) a p q = is.binary p q
 
-  selected_spelled : (es : List Expr) (a : Expr) → IsSpelled tokens names a → AreSpelled tokens names es → IsSpelled tokens names (fold selected a es)
+  selected_spelled : (es : List Expr) (a : Expr) → IsSpelled tokens names h a → AreSpelled tokens names h es → IsSpelled tokens names h (fold selected a es)
   selected_spelled _ a p is.no_expr = p
   selected_spelled _ a p (is.an_expr {e = e} {es = es} q qs) = selected_spelled es (selected a e) (is.select p q) qs
 
   abbrev pub IsFineSelector : Selector → Type 0
-  IsFineSelector (select.At es) = AreSpelled tokens names es
-  IsFineSelector (select.Change i v) = IsSpelled tokens names i × IsSpelled tokens names v
+  IsFineSelector (select.At es) = AreSpelled tokens names h es
+  IsFineSelector (select.Change i v) = IsSpelled tokens names h i × IsSpelled tokens names h v
   IsFineSelector (select.Field x) = x < names
-  IsFineSelector (select.Replace vs) = AreValues tokens names vs × (1 ≤ length vs)
+  IsFineSelector (select.Replace vs) = AreValues tokens names h vs × (1 ≤ length vs)
 
-  followed_spelled : (a : Expr) (s : Selector) → IsSpelled tokens names a → IsFineSelector s → IsSpelled tokens names (followed a s)
+  followed_spelled : (a : Expr) (s : Selector) → IsSpelled tokens names h a → IsFineSelector s → IsSpelled tokens names h (followed a s)
   followed_spelled a (select.At es) p q = selected_spelled es a p q
   followed_spelled a (select.Change i v) p q = is.update p q.0 q.1
   followed_spelled a (select.Field x) p q = is.field q p
   followed_spelled a (select.Replace vs) p q = is.replace p q.0 q.1
 
-  pub posted_spelled : (l : List Selector) (a : Expr) → IsSpelled tokens names a → Each IsFineSelector l → IsSpelled tokens names (posted a l)
+  pub posted_spelled : (l : List Selector) (a : Expr) → IsSpelled tokens names h a → Each IsFineSelector l → IsSpelled tokens names h (posted a l)
   posted_spelled [] a p q = p
   posted_spelled (s ∷ l) a p q = posted_spelled l (followed a s) (followed_spelled a s p q.0) q.1
 
@@ -106,41 +98,41 @@ module _ (tokens : List Token) (names : ℕ) where
   type_if None p = tt
   type_if (Some w) p = p
 
-  pub listed_exprs : (o : Option (List Expr)) → IfAny Exprs o → AreSpelled tokens names (listed o)
+  pub listed_exprs : (o : Option (List Expr)) → IfAny Exprs o → AreSpelled tokens names h (listed o)
   listed_exprs None p = is.no_expr
   listed_exprs (Some es) p = p.0
 
-  pub listed_defs : (o : Option (List Def)) → IfAny Defs o → AreDefs tokens names (listed o)
+  pub listed_defs : (o : Option (List Def)) → IfAny Defs o → AreDefs tokens names h (listed o)
   listed_defs None p = is.no_def
   listed_defs (Some ds) p = p.0
 
-  pub array_spelled : (l : ℕ) (x : Option ℕ) (o : Option Elements) → IfAny (λ els. AreElements tokens names els) o → IsSpelled tokens names (at l (tree.Array x o))
+  pub array_spelled : (l : ℕ) (x : Option ℕ) (o : Option Elements) → IfAny (λ els. AreElements tokens names h els) o → IsSpelled tokens names h (at l (tree.Array x o))
   array_spelled l x None p = is.no_elements
   array_spelled l x (Some els) p = is.array p
 
-  pub content_spelled : (t : Placed) (o : Option Expr) → IfAny (λ e. IsSpelled tokens names e) o → IsSpelled tokens names (content t o)
+  pub content_spelled : (t : Placed) (o : Option Expr) → IfAny (λ e. IsSpelled tokens names h e) o → IsSpelled tokens names h (content t o)
   content_spelled t None p = is.constant
   content_spelled t (Some e) p = p
 
-  pub generator_spelled : (n : Named) (e : Expr) (o : Option Expr) (x : Option ℕ) → n.name < names → IsSpelled tokens names e → IfAny (λ f. IsSpelled tokens names f) o
-      → IsGenerator tokens names (roll-Generator (record { name = n; from = e; to = o; at = x }))
+  pub generator_spelled : (n : Named) (e : Expr) (o : Option Expr) (x : Option ℕ) → n.name < names → IsSpelled tokens names h e → IfAny (λ f. IsSpelled tokens names h f) o
+      → IsGenerator tokens names h (roll-Generator (record { name = n; from = e; to = o; at = x }))
   generator_spelled n e None x low p q = is.over n x low p
   generator_spelled n e (Some f) x low p q = is.range n x low p q
 
-  pub clause_spelled : (l : ℕ) (k : ClauseKind) (e : Expr) (o : Option Mask) → IsSpelled tokens names e → IfAny (λ m. IsSpelled tokens names m.test) o
-      → IsClause tokens names (roll-Clause (record { line = l; kind = k; value = e; mask = o }))
+  pub clause_spelled : (l : ℕ) (k : ClauseKind) (e : Expr) (o : Option Mask) → IsSpelled tokens names h e → IfAny (λ m. IsSpelled tokens names h m.test) o
+      → IsClause tokens names h (roll-Clause (record { line = l; kind = k; value = e; mask = o }))
   clause_spelled l k e None p q = is.all_kept l k p
   clause_spelled l k e (Some m) p q = is.masked l k m.is_unless {f = m.test} p q
 
-  pub case_spelled : (l : ℕ) (x : Option ℕ) (e : Expr) (bs : List Arm) (o : Option (List Expr)) → IsSpelled tokens names e → AreArms tokens names bs → 1 ≤ length bs → IfAny Exprs o
-      → IsSpelled tokens names (at l (tree.TagCase (tag_case (record { name = x; expr = e }) bs o)))
-  case_spelled l x e bs None p q some r = is.tag_case (is.all_named x p q some)
-  case_spelled l x e bs (Some es) p q some r = is.tag_case (is.otherwise x p q some r.0 r.1)
+  pub case_spelled : (l : ℕ) (x : Option ℕ) (e : Expr) (bs : List Arm) (o : Option (List Expr)) → IsSpelled tokens names h e → HasArms tokens names h x bs → IfAny Exprs o
+      → IsSpelled tokens names h (at l (tree.TagCase (tag_case (record { name = x; expr = e }) bs o)))
+  case_spelled l x e bs None p q r = is.tag_case (is.all_named x p q)
+  case_spelled l x e bs (Some es) p q r = is.tag_case (is.otherwise x p q r.0 r.1)
 
   -- ---- an `elseif` is an `if` in the `else` part
 
   abbrev pub IsFineElse : ElseIf → Type 0
-  IsFineElse i = IsSpelled tokens names i.test × Exprs i.results
+  IsFineElse i = IsSpelled tokens names h i.test × Exprs i.results
 
   pub nested_spelled : (l : List ElseIf) (es : List Expr) → Each IsFineElse l → Exprs es → Exprs (nested l es)
   nested_spelled [] es p q = q

@@ -1,4 +1,5 @@
 pub mod Every
+pub mod Counts
 pub mod Pieces
 pub mod Forms
 pub mod Spelled

@@ -1,5 +1,5 @@
 -- What a spelled expression consists of.
-use Rattle.std.proofs.Common.{◌≡◌, ◌≤◌, ◌+◌, ℕ, List, [], ◌∷◌, Option, Some, None, All, length, sym, subst}
+use Rattle.std.proofs.Common.{◌≡◌, ◌≤◌, ◌+◌, ℕ, List, ◌∷◌, Option, Some, None, All, length, sym, subst}
 use Rattle.std.proofs.lemmas.List.Elements.{All-nil, All-cons}
 use Rattle.sisal_lex.specs.declared.token.Token.{Token}
 use Rattle.sisal_tree.specs.declared.expr.Expr.{Expr}

@@ -1,5 +1,5 @@
 -- Pieces of the tokens of a text: their places follow one another, and those that are a type are so where the text has them.
-use Rattle.std.proofs.Common.{◌≡◌, ℕ, zero, suc, ◌+◌, ◌-◌, ◌<◌, List, [], ◌∷◌, ◌++◌, length, take, drop, slice_range, refl, sym, ap, subst, ◌∙◌, arith, append_assoc, append-nil, length-append}
+use Rattle.std.proofs.Common.{◌≡◌, ℕ, zero, suc, ◌+◌, ◌-◌, ◌<◌, ◌≤◌, List, [], ◌∷◌, ◌++◌, length, take, drop, slice_range, refl, sym, ap, subst, ◌∙◌, arith, append_assoc, append-nil, length-append}
 use Rattle.std.specs.Prelude.{slice_index_or}
 use Rattle.std.proofs.lemmas.List.Elements.{All-head, All-tail}
 use Rattle.std.proofs.Math.Seq.{take-append_seam, drop-append_seam}
@@ -52,13 +52,13 @@ module _ (tokens : List Token) (names : ℕ) where
     is = append_assoc p.before xs (ys ++ p.after) ∙ ap (λ zs. p.before ++ zs) (sym (append_assoc xs ys p.after)) ∙ p.is;
   }
 
-  pub left : (xs ys : List Placed) → AreTold (xs ++ ys) → AreTold xs
-  left [] ys p = tt
-  left (x ∷ xs) ys p = ((p.0.0, front (x ∷ xs) ys p.0.1), left xs ys p.1)
+  told_left : (xs ys : List Placed) → AreTold (xs ++ ys) → AreTold xs
+  told_left [] ys p = tt
+  told_left (x ∷ xs) ys p = ((p.0.0, front (x ∷ xs) ys p.0.1), told_left xs ys p.1)
 
-  pub right : (xs ys : List Placed) → AreTold (xs ++ ys) → AreTold ys
-  right [] ys p = p
-  right (x ∷ xs) ys p = right xs ys p.1
+  told_right : (xs ys : List Placed) → AreTold (xs ++ ys) → AreTold ys
+  told_right [] ys p = p
+  told_right (x ∷ xs) ys p = told_right xs ys p.1
 
   told_from : (n : ℕ) (ts : List Token) (before : List Placed) → before ++ placed n ts ≡ placed 0 tokens → AreNamed names ts → AreTold (placed n ts)
   told_from n [] before e named = tt
@@ -68,9 +68,36 @@ module _ (tokens : List Token) (names : ℕ) where
         told_from (n + 1) ts (before ++ (u ∷ [])) (append_assoc before (u ∷ []) (placed (n + 1) ts) ∙ e) (All-tail (λ (t : Token). IsLow t.kind) t ts named),
       )
 
+  -- such tokens where so many names are in force: each may bring one more into force, and there are levels for all
+  pub record Told (h : ℕ) (ts : List Placed) : Type 0 where
+    pub each : AreTold ts
+    pub room : h + length ts ≤ 4294967295
+    pub few : length ts ≤ 4194304
+
+  pub left : {h : ℕ} (xs ys : List Placed) → Told h (xs ++ ys) → Told h xs
+  left xs ys p = let all = length-append xs ys in record { each = told_left xs ys p.each; room = omega (arith, p.room, all); few = omega (arith, p.few, all) }
+
+  -- where earlier tokens have brought names into force
+  pub raised : {h : ℕ} (n : ℕ) (xs ys : List Placed) → n ≤ length xs → Told h (xs ++ ys) → Told (h + n) ys
+  raised n xs ys le p = let all = length-append xs ys in record { each = told_right xs ys p.each; room = omega (arith, p.room, le, all); few = omega (arith, p.few, all) }
+
+  pub right : {h : ℕ} (xs ys : List Placed) → Told h (xs ++ ys) → Told h ys
+  right xs ys p = let all = length-append xs ys in record { each = told_right xs ys p.each; room = omega (arith, p.room, all); few = omega (arith, p.few, all) }
+
+  pub next : {h : ℕ} {t : Placed} {ts : List Placed} → Told h (t ∷ ts) → Told h ts
+  next p = record { each = p.each.1; room = omega (arith, p.room); few = omega (arith, p.few) }
+
+  -- the same height, said otherwise
+  pub at_height : {h : ℕ} {ts : List Placed} (k : ℕ) → Told h ts → k ≡ h → Told k ts
+  at_height k p e = record { each = p.each; room = omega (arith, p.room, e); few = p.few }
+
+  -- with as many names in force as a text can have
+  pub anywhere : {h : ℕ} {ts : List Placed} (k : ℕ) → k ≤ 4194304 → Told h ts → Told k ts
+  anywhere k le p = record { each = p.each; room = omega (arith, p.few, le); few = p.few }
+
   -- so are all tokens of the text
-  pub tokens_told : AreNamed names tokens → AreTold (placed 0 tokens)
-  tokens_told named = told_from 0 tokens [] refl named
+  pub tokens_told : AreNamed names tokens → length tokens ≤ 4194304 → Told 0 (placed 0 tokens)
+  tokens_told named few = let all = placed_counted 0 tokens in record { each = told_from 0 tokens [] refl named; room = omega (arith, few, all); few = omega (arith, few, all) }
 
   pub name_low : (t : Placed) → IsName t → IsLow t.kind → name_in t < names
   name_low t i low = subst (λ k. name_of k < names) (sym i.is) (low i.number i.is)
