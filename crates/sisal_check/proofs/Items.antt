@@ -154,10 +154,10 @@ pub defs_next : (tokens : List Token) (names : ℕ) (ds : List Def) (i : ℕ) (d
 defs_next tokens names ds i d lt is ns before after count entered all =
     let many : length ns ≡ length (named_targets (out-Def d).targets) = count ∙ sym (length-map (out-Def d).targets (λ x. x.name)) in
     let up : after.height ≡ before.height + length (out-Def d).targets = ap (λ s. s.height) entered ∙ levels (named_targets (out-Def d).targets) ns before many ∙ ap (λ k. before.height + k) count in
-    subst (λ k. AreDefs tokens names k (drop (i + 1) ds)) (sym up) (spelled_parts.defs tokens names before.height d (drop (i + 1) ds) (subst (λ l. AreDefs tokens names before.height l) (cut ds i d lt is) all)).1
+    subst (λ k. AreDefs tokens names k (drop (i + 1) ds)) (sym up) (spelled_parts.defs tokens names before.height d (drop (i + 1) ds) (subst (λ l. AreDefs tokens names before.height l) (cut ds i d d lt is) all)).1
 
 pub def_at : (tokens : List Token) (names h : ℕ) (ds : List Def) (i : ℕ) (d : Def) → i < length ds → d ≡ get_or ds i d → AreDefs tokens names h (drop i ds) → IsDef tokens names h d
-def_at tokens names h ds i d lt is all = (spelled_parts.defs tokens names h d (drop (i + 1) ds) (subst (λ l. AreDefs tokens names h l) (cut ds i d lt is) all)).0
+def_at tokens names h ds i d lt is all = (spelled_parts.defs tokens names h d (drop (i + 1) ds) (subst (λ l. AreDefs tokens names h l) (cut ds i d d lt is) all)).0
 
 pub targets_levels : (ds : List Def) → length (targets ds) ≡ defs_levels ds
 targets_levels [] = refl
@@ -166,10 +166,10 @@ targets_levels (d ∷ ds) =
 
 pub group_at : (tokens : List Token) (names h : ℕ) (gs : List (List Generator)) (i : ℕ) (g : List Generator) → i < length gs → g ≡ get_or gs i g → AreGroups tokens names h (drop i gs)
     → All (IsGenerator tokens names h) g × (1 ≤ length g) × (h + group_levels g ≤ 4294967295) × AreGroups tokens names (h + group_levels g) (drop (i + 1) gs)
-group_at tokens names h gs i g lt is all = spelled_parts.groups tokens names h g (drop (i + 1) gs) (subst (λ l. AreGroups tokens names h l) (cut gs i g lt is) all)
+group_at tokens names h gs i g lt is all = spelled_parts.groups tokens names h g (drop (i + 1) gs) (subst (λ l. AreGroups tokens names h l) (cut gs i g g lt is) all)
 
 pub groups_next : (gs : List (List Generator)) (i : ℕ) (g : List Generator) → i < length gs → g ≡ get_or gs i g → groups_levels (drop i gs) ≡ group_levels g + groups_levels (drop (i + 1) gs)
-groups_next gs i g lt is = ap groups_levels (cut gs i g lt is)
+groups_next gs i g lt is = ap groups_levels (cut gs i g g lt is)
 
 index_count : (line : ℕ) (x : Option ℕ) → length (index_in line x) ≡ index_levels x
 index_count line None = refl

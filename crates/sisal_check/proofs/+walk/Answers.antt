@@ -235,7 +235,7 @@ cases::tag_case-returns-clause-typed t c =
     let adds : AddsArms g h0 h1 n arms begun done = subst (λ m. AddsArms g h0 h1 m arms begun done) same (subst (λ l. AddsArms g h0 h1 c.only.new.walk.names l begun done) c.as_slice.ensures c.in_ok-each_arm.ensures.adds) in
     let begins = c.in_ok-done.ensures.begins in
     let many : length done.results ≡ length arms = (adds.holds begins.union [] (arms_begin g h0 n (out-TagCase cases).name (parts_of s) begun begins)).count in
-    let count : c.in_ok-count.count ≡ length arms = c.in_ok-count.ensures ∙ c.len.ensures ∙ many in
+    let count : c.len-count.result ≡ length arms = c.len-count.ensures ∙ many in
     let now : c.each_arm.new.walk.names ≡ n = c.in_ok-each_arm.ensures.names ∙ same in
     let ends : Ends g h2 n (out-TagCase cases).otherwise done final = elim c.match-otherwise.branch [
       | cases::tag_case-in-Some+in_ok-last-in-Some w ↦
@@ -245,7 +245,7 @@ cases::tag_case-returns-clause-typed t c =
       | cases::tag_case-in-None+in_ok-name_all-in-None w ↦ subst (λ o. Ends g h2 n o done final) (sym w.in-None.is)
           (subst (λ x. are_all_named x.types done.union done.chosen ≡ true) (sym w.walk-is) w.in_ok-name_all-in-None.ensures.named, ap arms_of w.done-is)
     ] in
-    if_ok_weaker c.case.result (λ t is. case_typed g h0 h1 h2 n c.args.line c.in_ok-count.count cases (parts_of s) begun done final t c.in_ok-each_arm.ensures.used.grows used.grows subject begins adds count ends is) c.case.ensures.is
+    if_ok_weaker c.case.result (λ t is. case_typed g h0 h1 h2 n c.args.line c.len-count.result cases (parts_of s) begun done final t c.in_ok-each_arm.ensures.used.grows used.grows subject begins adds count ends is) c.case.ensures.is
 
 pub cases::tag_case-returns-clause-breaks : goal.cases::tag_case-returns-clause-breaks
 cases::tag_case-returns-clause-breaks t c =
@@ -1753,8 +1753,7 @@ cases::tag_case-each_arm-requires t c =
     let few = p.1.few in
     (search (rules, kinds.the_lemmas), (
       subst (λ k. All (IsArm tokens names k) c.as_slice.result.now) (sym same) (subst (λ l. All (IsArm tokens names (h + content_levels x)) l) (sym c.as_slice.ensures) p.1.each),
-      subst (λ k. k ≤ 4294967295) (sym same) p.1.room,
-      omega (arith, none, count, few),
+      (subst (λ k. k ≤ 4294967295) (sym same) p.1.room, omega (arith, none, count, few)),
     ))
 
 pub cases::tag_case-last-requires : goal.cases::tag_case-last-requires
@@ -1936,7 +1935,7 @@ generators::one_group-returns-clause-height t c =
 pub cases::one_arm-enter-requires : goal.cases::one_arm-enter-requires
 cases::one_arm-enter-requires t c =
     let p = spelled_parts.arm c.args.given.now.tokens.now (length c.args.given.now.spellings.now) (c.args.walk.now.names.height + content_levels c.args.done.now.name) c.args.arm.now c.requires.spelled in
-    (subst (λ l. 1 ≤ length l) (sym c.as_slice.ensures) p.0, c.requires.room, c.requires.few)
+    record { some = subst (λ l. 1 ≤ length l) (sym c.as_slice.ensures) p.0; room = c.requires.room; few = c.requires.few }
 
 pub cases::each_arm-one_arm-requires : goal.cases::each_arm-one_arm-requires
 cases::each_arm-one_arm-requires t c =
@@ -1950,7 +1949,7 @@ cases::each_arm-one_arm-requires t c =
     let few = c.requires.few in
     let count = i.count in
     let below = c.loop-arm-test.true in
-    (search (rules, kinds.the_lemmas), (subst (λ k. IsArm tokens names k c.arm-item.result) (sym same) here, subst (λ k. k ≤ 4294967295) (sym same) c.requires.room, omega (arith, few, count, below)))
+    (search (rules, kinds.the_lemmas), (subst (λ k. IsArm tokens names k c.arm-item.result) (sym same) here, (subst (λ k. k ≤ 4294967295) (sym same) c.requires.room, omega (arith, few, count, below))))
 
 pub cases::one_arm-returns-clause-name : goal.cases::one_arm-returns-clause-name
 cases::one_arm-returns-clause-name t c = on_ok_weaker c.keep.result (λ k. k.name ∙ c.in_ok-enter.ensures.enters.name) c.keep.ensures.keeps
@@ -1967,9 +1966,28 @@ defs::def-enter-requires t c =
     let p = spelled_parts.def tokens names h c.args.d.now c.requires.spelled in
     let xs = c.as_slice-2.result.now in
     let is : xs ≡ (out-Def c.args.d.now).targets = c.as_slice-2.ensures in
-    (subst (λ l. 1 ≤ length l) (sym is) p.1, subst (λ l. All (IsTarget tokens names) l) (sym is) p.0,
-    subst (λ s. s.height + length xs ≤ 4294967295) (sym c.in_ok-values.ensures.names) (subst (λ l. h + length l ≤ 4294967295) (sym is) p.2))
+    record {
+      some = subst (λ l. 1 ≤ length l) (sym is) p.1;
+      spelled = subst (λ l. All (IsTarget tokens names) l) (sym is) p.0;
+      room = subst (λ s. s.height + length xs ≤ 4294967295) (sym c.in_ok-values.ensures.names) (subst (λ l. h + length l ≤ 4294967295) (sym is) p.2);
+    }
 
 pub defs::defs-def-requires : goal.defs::defs-def-requires
 defs::defs-def-requires t c =
     (search (rules, kinds.the_lemmas), def_at c.args.given.now.tokens.now (length c.args.given.now.spellings.now) c.loop-d.walk.names.height c.args.ds.now c.loop-d.d-index c.d-item.result c.loop-d-test.true c.d-item.is c.loop-d.invariant.spelled)
+
+pub cases::tag_case-overflow_cast-count : goal.cases::tag_case-overflow_cast-count
+cases::tag_case-overflow_cast-count t c =
+    let p = spelled_parts.tag_case c.args.given.now.tokens.now (length c.args.given.now.spellings.now) c.args.walk.now.names.height c.args.cases.now c.requires.spelled in
+    let none : length c.in_ok-done.done.results ≡ 0 = ap length c.in_ok-done.ensures.begins.results in
+    let same : length c.as_slice.result.now ≡ length (out-TagCase c.args.cases.now).arms = ap length c.as_slice.ensures in
+    let few = p.1.few in
+    let count = c.in_ok-each_arm.ensures.count in
+    let is = c.len-count.ensures in
+    omega (arith, none, same, few, count, is)
+
+pub turns::turn_defs-defs-requires : goal.turns::turn_defs-defs-requires
+turns::turn_defs-defs-requires t c =
+    let tokens = c.args.given.now.tokens.now in
+    let names = length c.args.given.now.spellings.now in
+    (search (rules, kinds.the_lemmas), subst (λ k. AreDefs tokens names k c.args.ds.now) (sym c.in_ok-renewed.ensures.height) c.requires.spelled)
