@@ -3,7 +3,7 @@ use Rattle.std.proofs.Common.{◌≡◌, ℕ, zero, suc, ◌+◌, ◌<◌, ◌�
 use Rattle.std.specs.Prelude.{IfSome, IsSomeAnd, min}
 use Rattle.std.specs.List.{filter}
 use Rattle.std.proofs.lemmas.List.{length-append, length-map}
-use Rattle.std.proofs.lemmas.List.Elements.{All-get_or, All-nil, All-cons, All-head, All-tail, All-map, All-weaker}
+use Rattle.std.proofs.lemmas.List.Elements.{All-get_or, All-nil, All-cons, All-head, All-tail, All-map}
 use Rattle.std.proofs.Math.Nat.{min-le_right}
 use Rattle.std.proofs.lemmas.Option.{same_Some}
 use Rattle.sisal_lex.specs.declared.token.Token.{Token}
@@ -15,7 +15,7 @@ use Rattle.sisal_tree.specs.declared.unit.Item.{Item}
 use Rattle.sisal_tree.specs.declared.unit.Item.TheVariants as item
 use Rattle.sisal_tree.specs.declared.expr.Target.{Target}
 use Rattle.typing_laws.specs.Defining.{named_targets}
-use Rattle.text_trees.specs.Parts.{IsValue, HasLoopParts}
+use Rattle.text_trees.specs.Parts.{HasLoopParts}
 use Rattle.text_trees.proofs.Parts.{spelled_parts}
 use Rattle.type_rules.specs.Applies.{HasField}
 use Rattle.type_rules.specs.Heads.{IsUnnamedHead, convert, is_error, is_tag, prefix, binary, select, update, field}
@@ -58,9 +58,6 @@ item_at P xs i x lt is all = subst P (sym is) (All-get_or P xs i x lt all)
 -- the names of fields
 pub names_spelled : (names : ℕ) (vs : List FieldValue) → All (λ v. v.field.name < names) vs → All (λ y. y < names) (fields_of vs)
 names_spelled names vs all = All-map (λ y. y < names) (λ v. v.field.name) vs all
-
-pub fields_named : (tokens : List Token) (names h : ℕ) (vs : List FieldValue) → All (IsValue tokens names h) vs → All (λ v. v.field.name < names) vs
-fields_named tokens names h vs all = All-weaker (IsValue tokens names h) (λ v. v.field.name < names) (λ v p. p.named) vs all
 
 pub as_many_fields : (vs : List FieldValue) (names : List ℕ) → names ≡ fields_of vs → 1 ≤ length vs → 1 ≤ length names
 as_many_fields vs names is some = let many : length names ≡ length vs = ap length is ∙ length-map vs (λ v. v.field.name) in omega (arith, many, some)
