@@ -1,6 +1,7 @@
 -- The names in the tokens of a text are spelled, each in its own way.
 use Rattle.std.proofs.Common.{◌≡◌, ◌<◌, ◌≤◌, ℕ, zero, suc, Bool, true, false, not, cond, ◌||◌, List, [], ◌∷◌, ◌++◌, map, Some, slice_get, get_or, bytes_eq, length, refl, sym, ap, subst, ◌∙◌, arith, if◌then◌else◌, Ok, Err, nat_lt, ◌⊎◌, inl, inr, ◌+◌}
 use Rattle.std.proofs.lemmas.Slice.Eq.{bytes_eq-Decides}
+use Rattle.std.proofs.lemmas.Bool.Decides.{nat_tests}
 use Rattle.std.proofs.lemmas.List.Folds.{list_any-append}
 use Rattle.std.proofs.lemmas.Option.{slice_get-get_or, slice_get_within}
 use Rattle.std.proofs.lemmas.List.Elements.{All-nil, All-cons}

@@ -24,4 +24,4 @@ all-requires c =
     let few = c.requires.few in
     let is : c.parameters.new.names.height ≡ (define_params xs c.as_slice-2.result.now c.args.walk.now.names).height = ap (λ s. s.height) c.in_ok-parameters.ensures in
     let least = params_height xs c.as_slice-2.result.now c.args.walk.now.names in
-    c.requires.spelled c.parameters.new.names.height (omega (arith, none, same, few, is, least))
+    record { spelled = c.requires.spelled c.parameters.new.names.height (omega (arith, none, same, few, is, least)) }
