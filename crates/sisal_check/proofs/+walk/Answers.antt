@@ -1750,11 +1750,13 @@ cases::tag_case-each_arm-requires t c =
     let same : c.only.new.walk.names.height + content_levels done.name ≡ h + content_levels x = ap (λ s. s.height + content_levels done.name) c.in_ok-subject.ensures.names ∙ ap (λ o. h + content_levels o) begins.name in
     let none : length done.results ≡ 0 = ap length begins.results in
     let count : length c.as_slice.result.now ≡ length (out-TagCase c.args.cases.now).arms = ap length c.as_slice.ensures in
-    let few = p.1.few in
-    (search (rules, kinds.the_lemmas), (
-      subst (λ k. All (IsArm tokens names k) c.as_slice.result.now) (sym same) (subst (λ l. All (IsArm tokens names (h + content_levels x)) l) (sym c.as_slice.ensures) p.1.each),
-      (subst (λ k. k ≤ 4294967295) (sym same) p.1.room, omega (arith, none, count, few)),
-    ))
+    let few = p.1.few in (
+      search (rules, kinds.the_lemmas),
+      (
+        subst (λ k. All (IsArm tokens names k) c.as_slice.result.now) (sym same) (subst (λ l. All (IsArm tokens names (h + content_levels x)) l) (sym c.as_slice.ensures) p.1.each),
+        (subst (λ k. k ≤ 4294967295) (sym same) p.1.room, omega (arith, none, count, few)),
+      ),
+    )
 
 pub cases::tag_case-last-requires : goal.cases::tag_case-last-requires
 cases::tag_case-last-requires t c =
@@ -1815,9 +1817,11 @@ loops::looped-clause_values-requires t c =
     let d = c.in_ok-defined-in-Product.defined in
     let defined = c.in_ok-defined-in-Product.ensures in
     let high : c.defs.new.walk.names.height ≡ h + groups_levels c.in-Product.gs + defs_levels c.in-Product.ds =
-    defined.height ∙ ap (λ k. k + length d.types) up ∙ ap (λ k. h + groups_levels c.in-Product.gs + k) (defined.levels ∙ ap defs_levels c.as_slice-in-Product.ensures) in
-    (search (rules, kinds.the_lemmas), subst (λ k. All (IsClause tokens names k) c.as_slice-in-Product-2.result.now) (sym high)
-    (subst (λ l. All (IsClause tokens names (h + groups_levels c.in-Product.gs + defs_levels c.in-Product.ds)) l) (sym c.as_slice-in-Product-2.ensures) p.3))
+    defined.height ∙ ap (λ k. k + length d.types) up ∙ ap (λ k. h + groups_levels c.in-Product.gs + k) (defined.levels ∙ ap defs_levels c.as_slice-in-Product.ensures) in (
+      search (rules, kinds.the_lemmas),
+      subst (λ k. All (IsClause tokens names k) c.as_slice-in-Product-2.result.now) (sym high)
+          (subst (λ l. All (IsClause tokens names (h + groups_levels c.in-Product.gs + defs_levels c.in-Product.ds)) l) (sym c.as_slice-in-Product-2.ensures) p.3),
+    )
 
 pub loops::looped-product-requires : goal.loops::looped-product-requires
 loops::looped-product-requires t c =
