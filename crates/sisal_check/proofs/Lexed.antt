@@ -1,9 +1,11 @@
 -- The names in the tokens of a text are spelled, each in its own way.
-use Rattle.std.proofs.Common.{◌≡◌, ◌<◌, ℕ, zero, suc, Bool, true, false, not, cond, ◌||◌, List, [], ◌∷◌, ◌++◌, map, Some, slice_get, get_or, bytes_eq, length, refl, sym, ap, subst, ◌∙◌, arith, if◌then◌else◌, Ok, Err, nat_lt, ◌⊎◌, inl, inr, ◌+◌}
+use Rattle.std.proofs.Common.{◌≡◌, ◌<◌, ◌≤◌, ℕ, zero, suc, Bool, true, false, not, cond, ◌||◌, List, [], ◌∷◌, ◌++◌, map, Some, slice_get, get_or, bytes_eq, length, refl, sym, ap, subst, ◌∙◌, arith, if◌then◌else◌, Ok, Err, nat_lt, ◌⊎◌, inl, inr, ◌+◌}
 use Rattle.std.proofs.lemmas.Slice.Eq.{bytes_eq-Decides}
+use Rattle.std.proofs.lemmas.Bool.Decides.{nat_tests}
 use Rattle.std.proofs.lemmas.List.Folds.{list_any-append}
 use Rattle.std.proofs.lemmas.Option.{slice_get-get_or, slice_get_within}
 use Rattle.std.proofs.lemmas.List.Elements.{All-nil, All-cons}
+use Rattle.std.proofs.lemmas.List.{length-map}
 use Rattle.std.specs.Prelude.{fold, Result}
 use Rattle.std.specs.List.{list_any, position_or_len}
 use Rattle.sisal_lex.specs.declared.head.Head.{Head}
@@ -190,6 +192,40 @@ tokens_spelled text t e = by (nat_lt 4194304 (length text)) e
     by true e = cc
     by false e = named_spelled (lexed text 1 0) t (λ ls h. lexed_sound text 1 0 ls h) e
 
+-- ---- a text has no more tokens than bytes
+
+followed_few : (n : ℕ) (l : Lexed) (r : Result (List Lexed) LexFault) (ls : List Lexed) → followed l r ≡ Ok ls → ((ms : List Lexed) → r ≡ Ok ms → length ms ≤ n) → length ls ≤ suc n
+followed_few n l (Ok ms) ls e rest = let q : l ∷ ms ≡ ls = cc in let few = rest ms refl in subst (λ xs. length xs ≤ suc n) q (omega (arith, few))
+followed_few n l (Err f) ls e rest = cc
+
+turn_few : (n : ℕ) (h : Head) (line : ℕ) (after : ℕ → Result (List Lexed) LexFault) (ls : List Lexed) → in_turn h line after ≡ Ok ls → ((m : ℕ) (ms : List Lexed) → after m ≡ Ok ms → length ms ≤ n) → length ls ≤ suc n
+turn_few n (head.Gap more) line after ls e rest = let few = rest more ls e in omega (arith, few)
+turn_few n (head.Found x more) line after ls e rest = followed_few n (record { lexeme = x; line = line }) (after more) ls e (rest more)
+turn_few n (head.Fault f) line after ls e rest = cc
+
+lexed_few : (s : List ℕ) (line left : ℕ) (ls : List Lexed) → lexed s line left ≡ Ok ls → length ls ≤ length s
+lexed_few [] line left ls e = let q : [] ≡ ls = cc in subst (λ xs. length xs ≤ 0) q (omega arith)
+lexed_few (b ∷ s) line (suc left) ls e = let few = lexed_few s (line_after line b) left ls e in omega (arith, few)
+lexed_few (b ∷ s) line zero ls e = turn_few (length s) (head_of line b s) line (lexed s (line_after line b)) ls e (λ n ms h. lexed_few s (line_after line b) n ms h)
+
+not_more : (m n : ℕ) → nat_lt m n ≡ false → n ≤ m
+not_more m n h = grind (arith, nat_tests)
+
+named_few : (n : ℕ) (r : Result (List Lexed) LexFault) (t : Tokens) → ((ls : List Lexed) → r ≡ Ok ls → length ls ≤ n) → named r ≡ Ok t → length t.list ≤ n
+named_few n (Ok ls) t few e =
+    let q : with_names ls ≡ t = cc in let least = few ls refl in let same = length-map ls (numbered (names_of ls)) in
+    subst (λ (u : Tokens). length u.list ≤ n) q (omega (arith, least, same))
+named_few n (Err f) t few e = cc
+
+tokens_few : (text : List ℕ) (t : Tokens) → tokens_of text ≡ Ok t → length t.list ≤ 4194304
+tokens_few text t e = by (nat_lt 4194304 (length text)) refl e
+  where
+    by : (b : Bool) → nat_lt 4194304 (length text) ≡ b → (if b then Err fault.TooLong else named (lexed text 1 0)) ≡ Ok t → length t.list ≤ 4194304
+    by true q e = cc
+    by false q e =
+        let most = not_more 4194304 (length text) q in
+        named_few 4194304 (lexed text 1 0) t (λ ls h. let few = lexed_few text 1 0 ls h in omega (arith, most, few)) e
+
 -- ---- what is spelled has a number below that of the names
 
 below : (names : List (List ℕ)) (k : Kind) → IsKindSpelled names k → (x : ℕ) → k ≡ kind.Id x → x < length names
@@ -205,7 +241,8 @@ own bytes u lexed spelled =
     record {
       spelled = names;
       once = tokens_once bytes u.tokens lexed;
-      items = items_spelled u.tokens.list (length u.tokens.names) (record { defines = u.defines; items = u.items }) (all_below u.tokens.names u.tokens.list names) spelled;
+      items = items_spelled u.tokens.list (length u.tokens.names) (record { defines = u.defines; items = u.items }) (all_below u.tokens.names u.tokens.list names)
+          (tokens_few bytes u.tokens lexed) spelled;
     }
 
 pub is_text : TextLaw

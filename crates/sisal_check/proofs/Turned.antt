@@ -69,6 +69,16 @@ begun_around first loop_xs ts [] s = subst (IsAround s) (sym (under_is first loo
 begun_around first loop_xs ts (x ∷ xs) s =
     let t : Names = not_yet first xs (under_old first loop_xs ts s) in above_by x.name (loop_value first (newest x.name t.olds)) t s (begun_around first loop_xs ts xs s)
 
+-- no level is taken
+height_by : (x : ℕ) (o : Option Value) (s : Names) → (hidden_if o x s).height ≡ s.height
+height_by x None s = refl
+height_by x (Some v) s = refl
+
+pub begun_height : (first : ℕ) (loop_xs : List Named) (ts : List ℕ) (xs : List Named) (s : Names) → (not_yet first xs (under_old first loop_xs ts s)).height ≡ s.height
+begun_height first loop_xs ts [] s = ap (λ t. t.height) (under_is first loop_xs ts s)
+begun_height first loop_xs ts (x ∷ xs) s =
+    let t : Names = not_yet first xs (under_old first loop_xs ts s) in height_by x.name (loop_value first (newest x.name t.olds)) t ∙ begun_height first loop_xs ts xs s
+
 pub renewed_is : (first : ℕ) (loop_xs : List Named) (ts : List ℕ) (all xs : List Named) (s : Names) → AreBelow first s.olds
     → map (λ t. place_in_loop first t.name (in_turn (loop_names first loop_xs ts) all s)) xs ≡ renewals first (loop_names first loop_xs ts) xs
 renewed_is first loop_xs ts all [] s below = refl

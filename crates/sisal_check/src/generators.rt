@@ -92,6 +92,7 @@ fn generator(
     ensures names { OnOk result (walk.new.names ≡ walk.old.names) }
     ensures adds { OnOk result (AddsGenerator (given_of given.now) walk.old.types walk.new.types walk.old.names g.now (group_of made.old) (group_of made.new)) }
     ensures gained { OnOk result (made.new.names ≡ made.old.names ++ ((out-Generator g.now).name ∷ index_names (out-Generator g.now).at (out-Generator g.now).name.line)) }
+    ensures even { OnOk result (length made.old.types ≡ length made.old.names → length made.new.types ≡ length made.new.names) }
     ensures breaks { IfErr result (IsRule (λ rule at_line. BrokenGenerator (given_of given.now) walk.old.types walk.old.names g.now rule at_line)) }
     ensures front { (more : List Named) × (made.old.names ++ ((out-Generator g.now).name ∷ index_names (out-Generator g.now).at (out-Generator g.now).name.line) ≡ made.new.names ++ more) }
 {

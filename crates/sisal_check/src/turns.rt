@@ -147,6 +147,7 @@ fn begin(
     requires fits { first + min (length started.now.targets) (length started.now.types) ≤ walk.old.names.height }
     ensures types { walk.new.types ≡ walk.old.types }
     ensures around { OnOk result (IsAround walk.old.names walk.new.names) }
+    ensures height { OnOk result (walk.new.names.height ≡ walk.old.names.height) }
     ensures names { OnOk result (AreBelow first walk.old.names.olds → walk.new.names ≡ in_turn (loop_names first started.now.targets started.now.types) (targets_in ds.now) walk.old.names) }
     ensures renewed { IfOk result (λ places. AreBelow first walk.old.names.olds → places ≡ renewals first (loop_names first started.now.targets started.now.types) (targets_in ds.now)) }
 {

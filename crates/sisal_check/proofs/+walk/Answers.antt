@@ -17,7 +17,7 @@ use Rattle.breaking_laws.specs.Refusals.{NotOne, Refuses, RefusesCall, Uneven}
 use Rattle.sisal_check.proofs.+walk.Goals as goal
 use Rattle.sisal_check.proofs.+walk.Goals.{cases::tag_case-in-Some+in_ok-last-in-Some, cases::tag_case-in-None+in_ok-name_all-in-None}
 use Rattle.sisal_check.proofs.Depths.{of_group, among_groups}
-use Rattle.sisal_check.proofs.Items.{item_at, if_some, first_some, first_stays, some_on, none_of, no_levels, levels_more, one_value_more, two_values, finished_some, call_some, product_parts, initial_parts, in_use}
+use Rattle.sisal_check.proofs.Items.{item_at, if_some, first_some, first_stays, some_on, none_of, no_levels, levels, levels_more, one_value_more, two_values, finished_some, call_some, product_parts, initial_parts, in_use, defs_next, def_at, targets_levels, group_at, groups_next, generators_levels, keeps_even, content_height}
 use Rattle.sisal_check.proofs.Forms.{faults_weaker, passed_on, operand_fault, elements_fault, fields_fault, no_elements, no_error_operands}
 use Rattle.sisal_check.proofs.Parts.{whole_at, first_names, group_fails, groups_many, single_of}
 use Rattle.sisal_check.specs.Walked.{given_of, parts_of, arms_of, group_of, defined_of, DiffersIn, turned_of}
@@ -32,11 +32,11 @@ use Rattle.sisal_tree.specs.declared.expr.Generator.{out-Generator}
 use Rattle.sisal_tree.specs.declared.expr.TagCase.{out-TagCase}
 use Rattle.sisal_tree.specs.declared.expr.Turn.{out-Turn}
 use Rattle.std.proofs.Common.{All, ◌≤◌, arith, rules, ◌≡◌, [], ◌∷◌, None, refl, sym, ap, subst, ◌∙◌, ◌+◌, ◌++◌, map, take, drop, length, false, Some, true, ◌<◌, get_or}
-use Rattle.std.proofs.lemmas.List.{map-append, take_all}
+use Rattle.std.proofs.lemmas.List.{map-append, take_all, drop_all, length-append}
 use Rattle.std.specs.Prelude.{IfSome, IsSomeAnd, min}
 use Rattle.text_trees.proofs.Parts.{spelled_parts}
-use Rattle.text_trees.specs.Parts.{IsGroup, AreLast}
-use Rattle.text_trees.specs.Spelled.{IsSpelled, IsArm, IsDef, IsClause}
+use Rattle.text_trees.specs.Parts.{AreLast}
+use Rattle.text_trees.specs.Spelled.{IsSpelled, IsArm, AreDefs, IsClause, AreGroups, IsTurn, IsTarget, defs_levels, group_levels, groups_levels, content_levels}
 use Rattle.std.proofs.lemmas.Result.{on_ok_weaker}
 use Rattle.type_rules.specs.Applies.{Grows}
 use Rattle.type_rules.specs.Arms.{are_all_named}
@@ -68,8 +68,8 @@ pub generators::groups-one_group-requires : goal.generators::groups-one_group-re
 generators::groups-one_group-requires t c =
     let below : most the_size c.g-item.result ≤ most (of_group the_size) c.args.gs.now =
     among_groups the_size c.args.gs.now c.loop-g.g-index c.g-item.result c.loop-g-test.true c.g-item.is in
-    let group = item_at (IsGroup c.args.given.now.tokens.now (length c.args.given.now.spellings.now)) c.args.gs.now c.loop-g.g-index c.g-item.result c.loop-g-test.true c.g-item.is c.requires.spelled in
-    (omega (arith, below, c.decreases), group.each)
+    let group = group_at c.args.given.now.tokens.now (length c.args.given.now.spellings.now) c.loop-g.walk.names.height c.args.gs.now c.loop-g.g-index c.g-item.result c.loop-g-test.true c.g-item.is c.loop-g.invariant.spelled in
+    (omega (arith, below, c.decreases), (group.0, group.2))
 
 pub cases::each_arm-returns-in_err-one_arm-clause-breaks : goal.cases::each_arm-returns-in_err-one_arm-clause-breaks
 cases::each_arm-returns-in_err-one_arm-clause-breaks t c =
@@ -235,7 +235,7 @@ cases::tag_case-returns-clause-typed t c =
     let adds : AddsArms g h0 h1 n arms begun done = subst (λ m. AddsArms g h0 h1 m arms begun done) same (subst (λ l. AddsArms g h0 h1 c.only.new.walk.names l begun done) c.as_slice.ensures c.in_ok-each_arm.ensures.adds) in
     let begins = c.in_ok-done.ensures.begins in
     let many : length done.results ≡ length arms = (adds.holds begins.union [] (arms_begin g h0 n (out-TagCase cases).name (parts_of s) begun begins)).count in
-    let count : c.in_ok-count.count ≡ length arms = c.in_ok-count.ensures ∙ c.len.ensures ∙ many in
+    let count : c.len-count.result ≡ length arms = c.len-count.ensures ∙ many in
     let now : c.each_arm.new.walk.names ≡ n = c.in_ok-each_arm.ensures.names ∙ same in
     let ends : Ends g h2 n (out-TagCase cases).otherwise done final = elim c.match-otherwise.branch [
       | cases::tag_case-in-Some+in_ok-last-in-Some w ↦
@@ -245,7 +245,7 @@ cases::tag_case-returns-clause-typed t c =
       | cases::tag_case-in-None+in_ok-name_all-in-None w ↦ subst (λ o. Ends g h2 n o done final) (sym w.in-None.is)
           (subst (λ x. are_all_named x.types done.union done.chosen ≡ true) (sym w.walk-is) w.in_ok-name_all-in-None.ensures.named, ap arms_of w.done-is)
     ] in
-    if_ok_weaker c.case.result (λ t is. case_typed g h0 h1 h2 n c.args.line c.in_ok-count.count cases (parts_of s) begun done final t c.in_ok-each_arm.ensures.used.grows used.grows subject begins adds count ends is) c.case.ensures.is
+    if_ok_weaker c.case.result (λ t is. case_typed g h0 h1 h2 n c.args.line c.len-count.result cases (parts_of s) begun done final t c.in_ok-each_arm.ensures.used.grows used.grows subject begins adds count ends is) c.case.ensures.is
 
 pub cases::tag_case-returns-clause-breaks : goal.cases::tag_case-returns-clause-breaks
 cases::tag_case-returns-clause-breaks t c =
@@ -1176,6 +1176,7 @@ cases::each_arm-loop-arm-preserved t c =
       adds = subst (λ l. AddsArms g f h n l first last) more
           (adds_arms_on g f c.loop-arm.walk.types h n (take c.loop-arm.arm-index c.args.arms.now) (x ∷ []) first mid last i.adds (subst (λ m. AddsArms g c.loop-arm.walk.types h m (x ∷ []) mid last) i.names c.in_ok-one_arm.ensures.adds));
       some = λ known. let now = c.in_ok-one_arm.ensures.some (i.some known).0 in (if_some c.one_arm.new.done.types now, λ le. now);
+      count = let one = c.in_ok-one_arm.ensures.count in let so = i.count in omega (arith, one, so);
       results = subst (λ l. AddsResults g f h n l first last) more
           (more_results g f c.loop-arm.walk.types h n (take c.loop-arm.arm-index c.args.arms.now) (x ∷ []) first mid last i.adds i.results (subst (λ m. AddsResults g c.loop-arm.walk.types h m (x ∷ []) mid last) i.names c.in_ok-one_arm.ensures.results));
     }
@@ -1218,6 +1219,7 @@ defs::defs-loop-d-init t c =
       typed = subst (λ l. AllDefined g h n m c.args.turn [] l c.new-2.result) (sym c.new.ensures) (subst (λ l. AllDefined g h n m c.args.turn [] [] l) (sym c.new-2.ensures)
           (subst (λ k. AllDefined g h n k c.args.turn [] [] []) (sym c.in_ok-distinct.ensures.names) (none_defined g h n c.args.turn)));
       targets = c.in_ok-targets.ensures;
+      spelled = subst (λ s. AreDefs c.args.given.now.tokens.now (length c.args.given.now.spellings.now) s.height c.args.ds.now) (sym c.in_ok-distinct.ensures.names) c.requires.spelled;
       height = ap (λ k. k.height) c.in_ok-distinct.ensures.names ∙ no_levels n.height c.new-2.result c.new-2.ensures;
     }
 
@@ -1233,6 +1235,8 @@ defs::defs-loop-d-preserved t c =
           (one_more_defined g c.loop-d.walk.types c.def.new.walk.types n c.loop-d.walk.names c.def.new.walk.names c.args.turn (take c.loop-d.d-index c.args.ds.now) c.d-item.result (defined_of c.loop-d.defined) (defined_of c.def.new.defined)
           c.in_ok-def.ensures.used.grows i.typed c.in_ok-def.ensures.adds);
       targets = c.in_ok-def.ensures.adds.enters.targets ∙ i.targets;
+      spelled = defs_next c.args.given.now.tokens.now (length c.args.given.now.spellings.now) c.args.ds.now c.loop-d.d-index c.d-item.result c.loop-d-test.true c.d-item.is c.in_ok-def.ensures.adds.types
+          c.loop-d.walk.names c.def.new.walk.names c.in_ok-def.ensures.adds.enters.count c.in_ok-def.ensures.adds.enters.names i.spelled;
       height = levels_more (out-Def c.d-item.result).targets c.in_ok-def.ensures.adds.types c.loop-d.defined.types c.def.new.defined.types c.loop-d.walk.names c.def.new.walk.names n.height
           c.in_ok-def.ensures.adds.enters.count c.in_ok-def.ensures.adds.enters.types c.in_ok-def.ensures.adds.enters.names i.height;
     }
@@ -1246,7 +1250,7 @@ generators::groups-loop-g-init t c =
     let g = given_of c.args.given.now in
     let n = c.args.walk.now.names in
     let f = c.args.walk.now.types in
-    record { used = used_same g f; typed = subst (λ l. GroupsTyped g f n [] (map group_of l) n) (sym c.new-goes.ensures) no_group }
+    record { used = used_same g f; typed = subst (λ l. GroupsTyped g f n [] (map group_of l) n) (sym c.new-goes.ensures) no_group; spelled = c.requires.spelled; height = refl }
 
 pub generators::groups-loop-g-preserved : goal.generators::groups-loop-g-preserved
 generators::groups-loop-g-preserved t c =
@@ -1261,7 +1265,13 @@ generators::groups-loop-g-preserved t c =
     let between = c.loop-g.walk.names in
     let front = take c.loop-g.g-index c.args.gs.now in
     let goes = map group_of c.loop-g.goes in
+    let group = group_at c.args.given.now.tokens.now (length c.args.given.now.spellings.now) between.height c.args.gs.now c.loop-g.g-index x c.loop-g-test.true c.g-item.is i.spelled in
+    let next : groups_levels (drop c.loop-g.g-index c.args.gs.now) ≡ group_levels x + groups_levels (drop (c.loop-g.g-index + 1) c.args.gs.now) = groups_next c.args.gs.now c.loop-g.g-index x c.loop-g-test.true c.g-item.is in
+    let up : after.height ≡ between.height + group_levels x = c.in_ok-made.ensures.height in
+    let so : between.height + groups_levels (drop c.loop-g.g-index c.args.gs.now) ≡ n.height + groups_levels c.args.gs.now = i.height in
     record {
+      spelled = subst (λ k. AreGroups c.args.given.now.tokens.now (length c.args.given.now.spellings.now) k (drop (c.loop-g.g-index + 1) c.args.gs.now)) (sym up) group.3;
+      height = omega (arith, next, up, so);
       used = used_on g f c.loop-g.walk.types h i.used c.in_ok-made.ensures.used;
       typed = subst (λ l. GroupsTyped g h n l (map group_of c.add.new.self) after) (taken c.args.gs.now c.loop-g.g-index x c.loop-g-test.true c.g-item.is)
           (subst (λ l. GroupsTyped g h n (front ++ x ∷ []) l after) (sym (ap (map group_of) c.in_ok-add.ensures.ok ∙ map-append group_of c.loop-g.goes (made ∷ [])))
@@ -1275,7 +1285,7 @@ generators::one_group-loop-g-init t c =
     let n = c.args.walk.now.names in
     let f = c.args.walk.now.types in
     let r = c.no_generators-made.result in
-    record { used = used_same g f; names = refl; typed = none_generated g f n (group_of r) c.no_generators-made.ensures; front = ap (λ x. x.names) c.no_generators-made.ensures }
+    record { used = used_same g f; names = refl; typed = none_generated g f n (group_of r) c.no_generators-made.ensures; front = ap (λ x. x.names) c.no_generators-made.ensures; even = ap (λ x. length x.types) c.no_generators-made.ensures ∙ sym (ap (λ x. length x.names) c.no_generators-made.ensures) }
 
 pub generators::one_group-loop-g-preserved : goal.generators::one_group-loop-g-preserved
 generators::one_group-loop-g-preserved t c =
@@ -1299,6 +1309,7 @@ generators::one_group-loop-g-preserved t c =
       used = subst (λ y. IsUsedIn g f y) (sym c.in_ok-look_back.ensures.types) (used_on g f now h i.used used);
       names = c.in_ok-look_back.ensures.names ∙ names ∙ i.names;
       typed = subst (λ y. AllGenerated g y n (take (c.loop-g.g-index + 1) c.args.gs.now) new) (sym c.in_ok-look_back.ensures.types) (subst (λ l. AllGenerated g h n l new) more (adds.holds front i.typed));
+      even = ok_now c.generator-gone.result tt gone c.generator-gone.ensures.even i.even;
       front = gained ∙ ap (λ l. l ++ ((out-Generator x).name ∷ index_names (out-Generator x).at (out-Generator x).name.line)) i.front ∙ sym (generators_more front x) ∙ ap generators_in more;
     }
 
@@ -1671,14 +1682,14 @@ typed::elements_of-returns-clause-adds t c =
 
 pub typed::elements_of-returns-clause-elements : goal.typed::elements_of-returns-clause-elements
 typed::elements_of-returns-clause-elements t c =
-    let p = spelled_parts.elements c.args.given.now.tokens.now (length c.args.given.now.spellings.now) c.args.elements.now c.requires.spelled in
+    let p = spelled_parts.elements c.args.given.now.tokens.now (length c.args.given.now.spellings.now) c.args.walk.now.names.height c.args.elements.now c.requires.spelled in
     on_ok_weaker c.many.result (λ some. two_values c.args.parts.now.types c.one.new.parts.types c.many.new.parts.types c.in_ok-one.ensures.single.type c.as_slice.result.now (out-Elements c.args.elements.now).values
     c.in_ok-one.ensures.single.types c.as_slice.ensures p.2 some) c.many.ensures.some
 
 pub cases::one_arm-returns-clause-some : goal.cases::one_arm-returns-clause-some
 cases::one_arm-returns-clause-some t c =
     let r = c.in_ok-results.results in
-    let p = spelled_parts.arm c.args.given.now.tokens.now (length c.args.given.now.spellings.now) c.args.arm.now c.requires.spelled in
+    let p = spelled_parts.arm c.args.given.now.tokens.now (length c.args.given.now.spellings.now) (c.args.walk.now.names.height + content_levels c.args.done.now.name) c.args.arm.now c.requires.spelled in
     let some : 1 ≤ length r.types = some_on (out-Arm c.args.arm.now).results c.as_slice-2.result.now r.types c.as_slice-2.ensures p.2 c.in_ok-results.ensures.some in
     on_ok_weaker c.keep.result (λ k known. subst (λ o. IsSomeAnd o (λ ns. 1 ≤ length ns)) (sym k.types)
     (first_some c.enter.new.done.types r.types (subst (λ o. IfSome o (λ ns. 1 ≤ length ns)) (sym c.in_ok-enter.ensures.enters.types) known) some)) c.keep.ensures.keeps
@@ -1703,7 +1714,7 @@ typed::plain-returns-in_ok-operands-in-Call-clause-some t c =
 pub loops::looped-returns-in_ok-values-in-Product-clause-some : goal.loops::looped-returns-in_ok-values-in-Product-clause-some
 loops::looped-returns-in_ok-values-in-Product-clause-some t c =
     let cs = c.in-Product.cs in
-    let p = product_parts c.args.given.now.tokens.now (length c.args.given.now.spellings.now) c.args.l.now c.in-Product.gs c.in-Product.ds cs c.in-Product.is c.requires.spelled in
+    let p = product_parts c.args.given.now.tokens.now (length c.args.given.now.spellings.now) c.args.walk.now.names.height c.args.l.now c.in-Product.gs c.in-Product.ds cs c.in-Product.is c.requires.spelled in
     let some : 1 ≤ length c.as_slice-in-Product-3.result.now = subst (λ l. 1 ≤ length l) (sym c.as_slice-in-Product-3.ensures) p.4 in
     let count : length c.in_ok-values-in-Product.values.types ≡ length cs = c.in_ok-values-in-Product.ensures.count ∙ ap length c.as_slice-in-Product-2.ensures in
     if_ok_weaker c.product.result (λ t has. has some (subst (λ k. 1 ≤ k) (sym count) p.4)) c.product.ensures.some
@@ -1711,7 +1722,7 @@ loops::looped-returns-in_ok-values-in-Product-clause-some t c =
 pub loops::looped-returns-in_ok-values-in-Initial-clause-some : goal.loops::looped-returns-in_ok-values-in-Initial-clause-some
 loops::looped-returns-in_ok-values-in-Initial-clause-some t c =
     let cs = c.in-Initial.cs in
-    let p = initial_parts c.args.given.now.tokens.now (length c.args.given.now.spellings.now) c.args.l.now c.in-Initial.ds c.in-Initial.turn cs c.in-Initial.is c.requires.spelled in
+    let p = initial_parts c.args.given.now.tokens.now (length c.args.given.now.spellings.now) c.args.walk.now.names.height c.args.l.now c.in-Initial.ds c.in-Initial.turn cs c.in-Initial.is c.requires.spelled in
     let some : 1 ≤ length c.as_slice-in-Initial-3.result.now = subst (λ l. 1 ≤ length l) (sym c.as_slice-in-Initial-3.ensures) p.4 in
     let count : length c.in_ok-values-in-Initial.values.types ≡ length cs = c.in_ok-values-in-Initial.ensures.count ∙ ap length c.as_slice-in-Initial-2.ensures in
     if_ok_weaker c.initial.result (λ t has. has some (subst (λ k. 1 ≤ k) (sym count) p.4)) c.initial.ensures.some
@@ -1720,31 +1731,50 @@ pub cases::one_arm-all-requires : goal.cases::one_arm-all-requires
 cases::one_arm-all-requires t c =
     let tokens = c.args.given.now.tokens.now in
     let names = length c.args.given.now.spellings.now in
-    let p = spelled_parts.arm tokens names c.args.arm.now c.requires.spelled in
-    (search (rules, kinds.the_lemmas), subst (λ l. All (IsSpelled tokens names) l) (sym c.as_slice-2.ensures) p.1)
+    let h = c.args.walk.now.names.height in
+    let x = c.args.done.now.name in
+    let p = spelled_parts.arm tokens names (h + content_levels x) c.args.arm.now c.requires.spelled in
+    let entered = c.in_ok-enter.ensures.enters in
+    let up : c.enter.new.walk.names.height ≡ h + content_levels x = ap (λ s. s.height) entered.names ∙ content_height x entered.content c.args.walk.now.names in
+    (search (rules, kinds.the_lemmas), subst (λ k. All (IsSpelled tokens names k) c.as_slice-2.result.now) (sym up) (subst (λ l. All (IsSpelled tokens names (h + content_levels x)) l) (sym c.as_slice-2.ensures) p.1))
 
 pub cases::tag_case-each_arm-requires : goal.cases::tag_case-each_arm-requires
 cases::tag_case-each_arm-requires t c =
     let tokens = c.args.given.now.tokens.now in
     let names = length c.args.given.now.spellings.now in
-    let p = spelled_parts.tag_case tokens names c.args.cases.now c.requires.spelled in
-    (search (rules, kinds.the_lemmas), subst (λ l. All (IsArm tokens names) l) (sym c.as_slice.ensures) p.1)
+    let h = c.args.walk.now.names.height in
+    let p = spelled_parts.tag_case tokens names h c.args.cases.now c.requires.spelled in
+    let x = (out-TagCase c.args.cases.now).name in
+    let done = c.in_ok-done.done in
+    let begins = c.in_ok-done.ensures.begins in
+    let same : c.only.new.walk.names.height + content_levels done.name ≡ h + content_levels x = ap (λ s. s.height + content_levels done.name) c.in_ok-subject.ensures.names ∙ ap (λ o. h + content_levels o) begins.name in
+    let none : length done.results ≡ 0 = ap length begins.results in
+    let count : length c.as_slice.result.now ≡ length (out-TagCase c.args.cases.now).arms = ap length c.as_slice.ensures in
+    let few = p.1.few in (
+      search (rules, kinds.the_lemmas),
+      (
+        subst (λ k. All (IsArm tokens names k) c.as_slice.result.now) (sym same) (subst (λ l. All (IsArm tokens names (h + content_levels x)) l) (sym c.as_slice.ensures) p.1.each),
+        (subst (λ k. k ≤ 4294967295) (sym same) p.1.room, omega (arith, none, count, few)),
+      ),
+    )
 
 pub cases::tag_case-last-requires : goal.cases::tag_case-last-requires
 cases::tag_case-last-requires t c =
     let tokens = c.args.given.now.tokens.now in
     let names = length c.args.given.now.spellings.now in
-    let p = spelled_parts.tag_case tokens names c.args.cases.now c.requires.spelled in
-    let last : All (IsSpelled tokens names) c.in-Some.es × (1 ≤ length c.in-Some.es) = subst (λ o. AreLast tokens names o) c.in-Some.is p.3 in
-    (search (rules, kinds.the_lemmas), subst (λ l. All (IsSpelled tokens names) l) (sym c.as_slice-in-Some.ensures) last.0)
+    let h = c.args.walk.now.names.height in
+    let p = spelled_parts.tag_case tokens names h c.args.cases.now c.requires.spelled in
+    let last : All (IsSpelled tokens names h) c.in-Some.es × (1 ≤ length c.in-Some.es) = subst (λ o. AreLast tokens names h o) c.in-Some.is p.2 in
+    let same : c.each_arm.new.walk.names ≡ c.args.walk.now.names = c.in_ok-each_arm.ensures.names ∙ c.in_ok-subject.ensures.names in
+    (search (rules, kinds.the_lemmas), subst (λ n. All (IsSpelled tokens names n.height) c.as_slice-in-Some.result.now) (sym same) (subst (λ l. All (IsSpelled tokens names h) l) (sym c.as_slice-in-Some.ensures) last.0))
 
 pub cases::tag_case-case-requires : goal.cases::tag_case-case-requires
 cases::tag_case-case-requires t c =
     let tokens = c.args.given.now.tokens.now in
     let names = length c.args.given.now.spellings.now in
-    let p = spelled_parts.tag_case tokens names c.args.cases.now c.requires.spelled in
+    let p = spelled_parts.tag_case tokens names c.args.walk.now.names.height c.args.cases.now c.requires.spelled in
     let done = c.each_arm.new.done in
-    let few : 1 ≤ length c.as_slice.result.now = let same : length c.as_slice.result.now ≡ length (out-TagCase c.args.cases.now).arms = ap length c.as_slice.ensures in let some = p.2 in omega (arith, same, some) in
+    let few : 1 ≤ length c.as_slice.result.now = let same : length c.as_slice.result.now ≡ length (out-TagCase c.args.cases.now).arms = ap length c.as_slice.ensures in let some = p.1.some in omega (arith, same, some) in
     let first : IsSomeAnd done.types (λ ns. 1 ≤ length ns) = c.in_ok-each_arm.ensures.some (subst (λ o. IfSome o (λ ns. 1 ≤ length ns)) (sym c.in_ok-done.ensures.begins.types) tt) few in
     elim c.match-otherwise.branch [
       | cases::tag_case-in-Some+in_ok-last-in-Some w ↦ subst (λ x. IsSomeAnd x.types (λ ns. 1 ≤ length ns)) (sym w.done-is)
@@ -1756,35 +1786,48 @@ pub defs::def-all-requires : goal.defs::def-all-requires
 defs::def-all-requires t c =
     let tokens = c.args.given.now.tokens.now in
     let names = length c.args.given.now.spellings.now in
-    let p = spelled_parts.def tokens names c.args.d.now c.requires.spelled in
-    (search (rules, kinds.the_lemmas), subst (λ l. All (IsSpelled tokens names) l) (sym c.as_slice.ensures) p.2)
+    let h = c.args.walk.now.names.height in
+    let p = spelled_parts.def tokens names h c.args.d.now c.requires.spelled in
+    (search (rules, kinds.the_lemmas), subst (λ l. All (IsSpelled tokens names h) l) (sym c.as_slice.ensures) p.3)
 
 pub loops::looped-groups-requires : goal.loops::looped-groups-requires
 loops::looped-groups-requires t c =
     let tokens = c.args.given.now.tokens.now in
     let names = length c.args.given.now.spellings.now in
-    let p = product_parts tokens names c.args.l.now c.in-Product.gs c.in-Product.ds c.in-Product.cs c.in-Product.is c.requires.spelled in
-    (search (rules, kinds.the_lemmas), subst (λ l. All (IsGroup tokens names) l) (sym c.as_slice.ensures) p.0)
+    let h = c.args.walk.now.names.height in
+    let p = product_parts tokens names h c.args.l.now c.in-Product.gs c.in-Product.ds c.in-Product.cs c.in-Product.is c.requires.spelled in
+    (search (rules, kinds.the_lemmas), subst (λ l. AreGroups tokens names h l) (sym c.as_slice.ensures) p.0)
 
 pub loops::looped-defs-requires : goal.loops::looped-defs-requires
 loops::looped-defs-requires t c =
     let tokens = c.args.given.now.tokens.now in
     let names = length c.args.given.now.spellings.now in
-    let p = product_parts tokens names c.args.l.now c.in-Product.gs c.in-Product.ds c.in-Product.cs c.in-Product.is c.requires.spelled in
-    (search (rules, kinds.the_lemmas), subst (λ l. All (IsDef tokens names) l) (sym c.as_slice-in-Product.ensures) p.2)
+    let h = c.args.walk.now.names.height in
+    let p = product_parts tokens names h c.args.l.now c.in-Product.gs c.in-Product.ds c.in-Product.cs c.in-Product.is c.requires.spelled in
+    let up : c.groups.new.walk.names.height ≡ h + groups_levels c.in-Product.gs = c.in_ok-goes-in-Product.ensures.height ∙ ap (λ l. h + groups_levels l) c.as_slice.ensures in
+    (search (rules, kinds.the_lemmas), subst (λ k. AreDefs tokens names k c.as_slice-in-Product.result.now) (sym up) (subst (λ l. AreDefs tokens names (h + groups_levels c.in-Product.gs) l) (sym c.as_slice-in-Product.ensures) p.2))
 
 pub loops::looped-clause_values-requires : goal.loops::looped-clause_values-requires
 loops::looped-clause_values-requires t c =
     let tokens = c.args.given.now.tokens.now in
     let names = length c.args.given.now.spellings.now in
-    let p = product_parts tokens names c.args.l.now c.in-Product.gs c.in-Product.ds c.in-Product.cs c.in-Product.is c.requires.spelled in
-    (search (rules, kinds.the_lemmas), subst (λ l. All (IsClause tokens names) l) (sym c.as_slice-in-Product-2.ensures) p.3)
+    let h = c.args.walk.now.names.height in
+    let p = product_parts tokens names h c.args.l.now c.in-Product.gs c.in-Product.ds c.in-Product.cs c.in-Product.is c.requires.spelled in
+    let up : c.groups.new.walk.names.height ≡ h + groups_levels c.in-Product.gs = c.in_ok-goes-in-Product.ensures.height ∙ ap (λ l. h + groups_levels l) c.as_slice.ensures in
+    let d = c.in_ok-defined-in-Product.defined in
+    let defined = c.in_ok-defined-in-Product.ensures in
+    let high : c.defs.new.walk.names.height ≡ h + groups_levels c.in-Product.gs + defs_levels c.in-Product.ds =
+    defined.height ∙ ap (λ k. k + length d.types) up ∙ ap (λ k. h + groups_levels c.in-Product.gs + k) (defined.levels ∙ ap defs_levels c.as_slice-in-Product.ensures) in (
+      search (rules, kinds.the_lemmas),
+      subst (λ k. All (IsClause tokens names k) c.as_slice-in-Product-2.result.now) (sym high)
+          (subst (λ l. All (IsClause tokens names (h + groups_levels c.in-Product.gs + defs_levels c.in-Product.ds)) l) (sym c.as_slice-in-Product-2.ensures) p.3),
+    )
 
 pub loops::looped-product-requires : goal.loops::looped-product-requires
 loops::looped-product-requires t c =
     let tokens = c.args.given.now.tokens.now in
     let names = length c.args.given.now.spellings.now in
-    let p = product_parts tokens names c.args.l.now c.in-Product.gs c.in-Product.ds c.in-Product.cs c.in-Product.is c.requires.spelled in
+    let p = product_parts tokens names c.args.walk.now.names.height c.args.l.now c.in-Product.gs c.in-Product.ds c.in-Product.cs c.in-Product.is c.requires.spelled in
     let g = given_of c.args.given.now in
     let h0 = c.groups.new.walk.types in
     let n = c.args.walk.now.names in
@@ -1797,50 +1840,158 @@ pub loops::looped-defs-requires-in-Initial : goal.loops::looped-defs-requires-in
 loops::looped-defs-requires-in-Initial t c =
     let tokens = c.args.given.now.tokens.now in
     let names = length c.args.given.now.spellings.now in
-    let p = initial_parts tokens names c.args.l.now c.in-Initial.ds c.in-Initial.turn c.in-Initial.cs c.in-Initial.is c.requires.spelled in
-    (search (rules, kinds.the_lemmas), subst (λ l. All (IsDef tokens names) l) (sym c.as_slice-in-Initial.ensures) p.0)
+    let h = c.args.walk.now.names.height in
+    let p = initial_parts tokens names h c.args.l.now c.in-Initial.ds c.in-Initial.turn c.in-Initial.cs c.in-Initial.is c.requires.spelled in
+    (search (rules, kinds.the_lemmas), subst (λ l. AreDefs tokens names h l) (sym c.as_slice-in-Initial.ensures) p.0)
 
 pub loops::looped-turn_of-requires : goal.loops::looped-turn_of-requires
 loops::looped-turn_of-requires t c =
     let tokens = c.args.given.now.tokens.now in
     let names = length c.args.given.now.spellings.now in
-    let p = initial_parts tokens names c.args.l.now c.in-Initial.ds c.in-Initial.turn c.in-Initial.cs c.in-Initial.is c.requires.spelled in
+    let h = c.args.walk.now.names.height in
+    let p = initial_parts tokens names h c.args.l.now c.in-Initial.ds c.in-Initial.turn c.in-Initial.cs c.in-Initial.is c.requires.spelled in
+    let started = c.in_ok-started-in-Initial.ensures in
+    let high : c.defs-in-Initial.new.walk.names.height ≡ h + defs_levels c.in-Initial.ds = started.height ∙ ap (λ k. h + k) (started.levels ∙ ap defs_levels c.as_slice-in-Initial.ensures) in
     let d = c.in_ok-started-in-Initial.started in
-    let fits = in_use c.height-first.result c.args.walk.now.names.height c.defs-in-Initial.new.walk.names.height (length d.targets) (length d.types) c.height-first.ensures c.in_ok-started-in-Initial.ensures.height in
-    (search (rules, kinds.the_lemmas), (fits, p.2))
+    let fits = in_use c.height-first.result h c.defs-in-Initial.new.walk.names.height (length d.targets) (length d.types) c.height-first.ensures started.height in
+    (search (rules, kinds.the_lemmas), (fits, subst (λ k. IsTurn tokens names k c.in-Initial.turn) (sym high) p.2))
 
 pub loops::looped-clause_values-requires-in-Initial : goal.loops::looped-clause_values-requires-in-Initial
 loops::looped-clause_values-requires-in-Initial t c =
     let tokens = c.args.given.now.tokens.now in
     let names = length c.args.given.now.spellings.now in
-    let p = initial_parts tokens names c.args.l.now c.in-Initial.ds c.in-Initial.turn c.in-Initial.cs c.in-Initial.is c.requires.spelled in
-    (search (rules, kinds.the_lemmas), subst (λ l. All (IsClause tokens names) l) (sym c.as_slice-in-Initial-2.ensures) p.3)
+    let h = c.args.walk.now.names.height in
+    let p = initial_parts tokens names h c.args.l.now c.in-Initial.ds c.in-Initial.turn c.in-Initial.cs c.in-Initial.is c.requires.spelled in
+    let started = c.in_ok-started-in-Initial.ensures in
+    let high : c.defs-in-Initial.new.walk.names.height ≡ h + defs_levels c.in-Initial.ds = started.height ∙ ap (λ k. h + k) (started.levels ∙ ap defs_levels c.as_slice-in-Initial.ensures) in
+    let after : c.turn_of.new.walk.names.height ≡ h + defs_levels c.in-Initial.ds = ap (λ s. s.height) c.in_ok-turned-in-Initial.ensures.names ∙ high in
+    (search (rules, kinds.the_lemmas), subst (λ k. All (IsClause tokens names k) c.as_slice-in-Initial-2.result.now) (sym after) (subst (λ l. All (IsClause tokens names (h + defs_levels c.in-Initial.ds)) l) (sym c.as_slice-in-Initial-2.ensures) p.3))
 
 pub turns::turn_of-turn_defs-requires : goal.turns::turn_of-turn_defs-requires
 turns::turn_of-turn_defs-requires t c =
     let tokens = c.args.given.now.tokens.now in
     let names = length c.args.given.now.spellings.now in
-    let p = spelled_parts.turn tokens names c.args.turn.now c.requires.spelled in
+    let h = c.args.walk.now.names.height in
+    let p = spelled_parts.turn tokens names h c.args.turn.now c.requires.spelled in
     let d = c.args.started.now in
-    let fits = subst (λ s. c.args.first + min (length d.targets) (length d.types) ≤ s.height) (sym c.in_ok-tests.ensures.names) c.requires.fits in
-    (search (rules, kinds.the_lemmas), (fits, subst (λ l. All (IsDef tokens names) l) (sym c.as_slice.ensures) p.1))
+    let same = c.in_ok-tests.ensures.names in
+    let fits = subst (λ s. c.args.first + min (length d.targets) (length d.types) ≤ s.height) (sym same) c.requires.fits in
+    (search (rules, kinds.the_lemmas), (fits, subst (λ s. AreDefs tokens names s.height c.as_slice.result.now) (sym same) (subst (λ l. AreDefs tokens names h l) (sym c.as_slice.ensures) p.1)))
 
 pub turns::turn_of-turn_defs-requires-else-is_first : goal.turns::turn_of-turn_defs-requires-else-is_first
 turns::turn_of-turn_defs-requires-else-is_first t c =
     let tokens = c.args.given.now.tokens.now in
     let names = length c.args.given.now.spellings.now in
-    let p = spelled_parts.turn tokens names c.args.turn.now c.requires.spelled in
-    (search (rules, kinds.the_lemmas), (c.requires.fits, subst (λ l. All (IsDef tokens names) l) (sym c.as_slice-else-is_first.ensures) p.1))
+    let h = c.args.walk.now.names.height in
+    let p = spelled_parts.turn tokens names h c.args.turn.now c.requires.spelled in
+    (search (rules, kinds.the_lemmas), (c.requires.fits, subst (λ l. AreDefs tokens names h l) (sym c.as_slice-else-is_first.ensures) p.1))
 
 pub typed::elements_of-many-requires : goal.typed::elements_of-many-requires
 typed::elements_of-many-requires t c =
     let tokens = c.args.given.now.tokens.now in
     let names = length c.args.given.now.spellings.now in
-    let p = spelled_parts.elements tokens names c.args.elements.now c.requires.spelled in
-    (search (rules, kinds.the_lemmas), subst (λ l. All (IsSpelled tokens names) l) (sym c.as_slice.ensures) p.1)
+    let h = c.args.walk.now.names.height in
+    let p = spelled_parts.elements tokens names h c.args.elements.now c.requires.spelled in
+    (search (rules, kinds.the_lemmas), subst (λ s. All (IsSpelled tokens names s.height) c.as_slice.result.now) (sym c.in_ok-one.ensures.names) (subst (λ l. All (IsSpelled tokens names h) l) (sym c.as_slice.ensures) p.1))
 
 pub typed::typed-plain-requires : goal.typed::typed-plain-requires
 typed::typed-plain-requires t c =
     let tokens = c.args.given.now.tokens.now in
     let names = length c.args.given.now.spellings.now in
-    (omega (arith, c.decreases), (spelled_parts.expr tokens names c.args.e.now c.requires.spelled, search rules))
+    (omega (arith, c.decreases), (spelled_parts.expr tokens names c.args.walk.now.names.height c.args.e.now c.requires.spelled, search rules))
+
+pub generators::generator-returns-in_ok-one-in-Some-clause-even : goal.generators::generator-returns-in_ok-one-in-Some-clause-even
+generators::generator-returns-in_ok-one-in-Some-clause-even t c = on_ok_weaker c.keep.result (λ k. keeps_even _ _ _ _ (group_of c.args.made.now) (group_of c.keep.new.made) k) c.keep.ensures.keeps
+
+pub generators::generator-returns-in-None-clause-even : goal.generators::generator-returns-in-None-clause-even
+generators::generator-returns-in-None-clause-even t c = on_ok_weaker c.keep-in-None.result (λ k. keeps_even _ _ _ _ (group_of c.args.made.now) (group_of c.keep-in-None.new.made) k) c.keep-in-None.ensures.keeps
+
+pub defs::defs-returns-clause-levels : goal.defs::defs-returns-clause-levels
+defs::defs-returns-clause-levels t c =
+    c.loop-d.invariant.typed.count ∙ ap (λ l. length (targets l)) (take_all c.loop-d.d-index c.args.ds.now c.loop-d-test.false) ∙ targets_levels c.args.ds.now
+
+pub generators::groups-returns-clause-height : goal.generators::groups-returns-clause-height
+generators::groups-returns-clause-height t c =
+    let none : groups_levels (drop c.loop-g.g-index c.args.gs.now) ≡ 0 = ap groups_levels (drop_all c.loop-g.g-index c.args.gs.now c.loop-g-test.false) in
+    let so = c.loop-g.invariant.height in
+    omega (arith, none, so)
+
+pub generators::one_group-enter-requires : goal.generators::one_group-enter-requires
+generators::one_group-enter-requires t c =
+    let gs = c.args.gs.now in
+    let made = c.loop-g.made in
+    let all : take c.loop-g.g-index gs ≡ gs = take_all c.loop-g.g-index gs (subst (λ l. length l ≤ c.loop-g.g-index) c.as_slice-g-items.ensures c.loop-g-test.false) in
+    let many : length made.names ≡ group_levels gs = ap length (c.loop-g.invariant.front ∙ ap generators_in all) ∙ generators_levels gs in
+    let same : c.loop-g.walk.names.height ≡ c.args.walk.now.names.height = ap (λ s. s.height) c.loop-g.invariant.names in
+    let room = c.requires.room in
+    omega (arith, many, same, room)
+
+pub generators::one_group-returns-clause-height : goal.generators::one_group-returns-clause-height
+generators::one_group-returns-clause-height t c =
+    let gs = c.args.gs.now in
+    let made = c.loop-g.made in
+    let all : take c.loop-g.g-index gs ≡ gs = take_all c.loop-g.g-index gs (subst (λ l. length l ≤ c.loop-g.g-index) c.as_slice-g-items.ensures c.loop-g-test.false) in
+    let many : length made.names ≡ group_levels gs = ap length (c.loop-g.invariant.front ∙ ap generators_in all) ∙ generators_levels gs in
+    let same : c.loop-g.walk.names.height ≡ c.args.walk.now.names.height = ap (λ s. s.height) c.loop-g.invariant.names in
+    let even : length made.types ≡ length made.names = c.loop-g.invariant.even in
+    ok_both c.enter.result (λ m is names. let up = ap (λ s. s.height) names ∙ levels made.names made.types c.loop-g.walk.names even in omega (arith, up, even, many, same)) c.enter.ensures.same c.enter.ensures.names
+
+pub cases::one_arm-enter-requires : goal.cases::one_arm-enter-requires
+cases::one_arm-enter-requires t c =
+    let p = spelled_parts.arm c.args.given.now.tokens.now (length c.args.given.now.spellings.now) (c.args.walk.now.names.height + content_levels c.args.done.now.name) c.args.arm.now c.requires.spelled in
+    record { some = subst (λ l. 1 ≤ length l) (sym c.as_slice.ensures) p.0; room = c.requires.room; few = c.requires.few }
+
+pub cases::each_arm-one_arm-requires : goal.cases::each_arm-one_arm-requires
+cases::each_arm-one_arm-requires t c =
+    let tokens = c.args.given.now.tokens.now in
+    let names = length c.args.given.now.spellings.now in
+    let h = c.args.walk.now.names.height in
+    let x = c.args.done.now.name in
+    let i = c.loop-arm.invariant in
+    let same : c.loop-arm.walk.names.height + content_levels c.loop-arm.done.name ≡ h + content_levels x = ap (λ s. s.height + content_levels c.loop-arm.done.name) i.names ∙ ap (λ o. h + content_levels o) i.adds.name in
+    let here : IsArm tokens names (h + content_levels x) c.arm-item.result = item_at (IsArm tokens names (h + content_levels x)) c.args.arms.now c.loop-arm.arm-index c.arm-item.result c.loop-arm-test.true c.arm-item.is c.requires.spelled in
+    let few = c.requires.few in
+    let count = i.count in
+    let below = c.loop-arm-test.true in
+    (search (rules, kinds.the_lemmas), (subst (λ k. IsArm tokens names k c.arm-item.result) (sym same) here, (subst (λ k. k ≤ 4294967295) (sym same) c.requires.room, omega (arith, few, count, below))))
+
+pub cases::one_arm-returns-clause-name : goal.cases::one_arm-returns-clause-name
+cases::one_arm-returns-clause-name t c = on_ok_weaker c.keep.result (λ k. k.name ∙ c.in_ok-enter.ensures.enters.name) c.keep.ensures.keeps
+
+pub cases::one_arm-returns-clause-count : goal.cases::one_arm-returns-clause-count
+cases::one_arm-returns-clause-count t c =
+    on_ok_weaker c.keep.result (λ k. ap length k.results ∙ length-append c.enter.new.done.results _ ∙ ap (λ l. length l + 1) c.in_ok-enter.ensures.enters.results) c.keep.ensures.keeps
+
+pub defs::def-enter-requires : goal.defs::def-enter-requires
+defs::def-enter-requires t c =
+    let tokens = c.args.given.now.tokens.now in
+    let names = length c.args.given.now.spellings.now in
+    let h = c.args.walk.now.names.height in
+    let p = spelled_parts.def tokens names h c.args.d.now c.requires.spelled in
+    let xs = c.as_slice-2.result.now in
+    let is : xs ≡ (out-Def c.args.d.now).targets = c.as_slice-2.ensures in
+    record {
+      some = subst (λ l. 1 ≤ length l) (sym is) p.1;
+      spelled = subst (λ l. All (IsTarget tokens names) l) (sym is) p.0;
+      room = subst (λ s. s.height + length xs ≤ 4294967295) (sym c.in_ok-values.ensures.names) (subst (λ l. h + length l ≤ 4294967295) (sym is) p.2);
+    }
+
+pub defs::defs-def-requires : goal.defs::defs-def-requires
+defs::defs-def-requires t c =
+    (search (rules, kinds.the_lemmas), def_at c.args.given.now.tokens.now (length c.args.given.now.spellings.now) c.loop-d.walk.names.height c.args.ds.now c.loop-d.d-index c.d-item.result c.loop-d-test.true c.d-item.is c.loop-d.invariant.spelled)
+
+pub cases::tag_case-overflow_cast-count : goal.cases::tag_case-overflow_cast-count
+cases::tag_case-overflow_cast-count t c =
+    let p = spelled_parts.tag_case c.args.given.now.tokens.now (length c.args.given.now.spellings.now) c.args.walk.now.names.height c.args.cases.now c.requires.spelled in
+    let none : length c.in_ok-done.done.results ≡ 0 = ap length c.in_ok-done.ensures.begins.results in
+    let same : length c.as_slice.result.now ≡ length (out-TagCase c.args.cases.now).arms = ap length c.as_slice.ensures in
+    let few = p.1.few in
+    let count = c.in_ok-each_arm.ensures.count in
+    let is = c.len-count.ensures in
+    omega (arith, none, same, few, count, is)
+
+pub turns::turn_defs-defs-requires : goal.turns::turn_defs-defs-requires
+turns::turn_defs-defs-requires t c =
+    let tokens = c.args.given.now.tokens.now in
+    let names = length c.args.given.now.spellings.now in
+    (search (rules, kinds.the_lemmas), subst (λ k. AreDefs tokens names k c.args.ds.now) (sym c.in_ok-renewed.ensures.height) c.requires.spelled)

@@ -1,6 +1,7 @@
 -- The depth of what is walked, and below it how often that is still passed on whole.
-use Rattle.std.proofs.Common.{◌≡◌, ◌≤◌, ◌+◌, ◌*◌, length, map, take}
+use Rattle.std.proofs.Common.{◌≡◌, ◌≤◌, ◌+◌, ◌*◌, drop, length, map, take}
 use Rattle.std.specs.Prelude.{IfSome, IsSomeAnd}
+use Rattle.text_trees.specs.Spelled.{AreDefs, AreGroups, groups_levels}
 use Rattle.typed_tree.specs.Breaks.{generators_in}
 use Rattle.typing_laws.specs.Casing.{AddsArms}
 use Rattle.typing_laws.specs.Defining.{AllDefined, targets_in}
@@ -114,12 +115,15 @@ invariant-defs::defs-loop-d l = record {
   typed : AllDefined (given_of l.given) l.walk.types l.fn.walk.names l.walk.names l.turn (take l.d-index l.ds) l.defined.exprs l.defined.types;
   targets : l.defined.targets ≡ targets_in l.ds;
   height : l.walk.names.height ≡ l.fn.walk.names.height + length l.defined.types;
+  spelled : AreDefs l.given.tokens.now (length l.given.spellings.now) l.walk.names.height (drop l.d-index l.ds);
 }
 
 abbrev pub invariant-generators::groups-loop-g : goal.invariant-generators::groups-loop-g
 invariant-generators::groups-loop-g l = record {
   used : IsUsedIn (given_of l.given) l.fn.walk.types l.walk.types;
   typed : GroupsTyped (given_of l.given) l.walk.types l.fn.walk.names (take l.g-index l.gs) (map group_of l.goes) l.walk.names;
+  spelled : AreGroups l.given.tokens.now (length l.given.spellings.now) l.walk.names.height (drop l.g-index l.gs);
+  height : l.walk.names.height + groups_levels (drop l.g-index l.gs) ≡ l.fn.walk.names.height + groups_levels l.gs;
 }
 
 -- the names of generators so far are the first ones
@@ -129,6 +133,7 @@ invariant-generators::one_group-loop-g l = record {
   names : l.walk.names ≡ l.fn.walk.names;
   typed : AllGenerated (given_of l.given) l.walk.types l.fn.walk.names (take l.g-index l.gs) (group_of l.made);
   front : l.made.names ≡ generators_in (take l.g-index l.gs);
+  even : length l.made.types ≡ length l.made.names;
 }
 
 abbrev pub invariant-cases::each_arm-loop-arm : goal.invariant-cases::each_arm-loop-arm
@@ -138,4 +143,5 @@ invariant-cases::each_arm-loop-arm l = record {
   adds : AddsArms (given_of l.given) l.fn.walk.types l.walk.types l.fn.walk.names (take l.arm-index l.arms) (arms_of l.fn.done) (arms_of l.done);
   results : AddsResults (given_of l.given) l.fn.walk.types l.walk.types l.fn.walk.names (take l.arm-index l.arms) (arms_of l.fn.done) (arms_of l.done);
   some : IfSome l.fn.done.types (λ ns. 1 ≤ length ns) → IfSome l.done.types (λ ns. 1 ≤ length ns) × (1 ≤ l.arm-index → IsSomeAnd l.done.types (λ ns. 1 ≤ length ns));
+  count : length l.done.results ≡ length l.fn.done.results + l.arm-index;
 }

@@ -5,6 +5,7 @@ use Rattle.text_trees.proofs.Parts.{spelled_parts}
 use Rattle.text_trees.specs.Spelled as text
 use Rattle.unit_types.specs.Headings.{given_as}
 use Rattle.sisal_check.specs.Walked.{AreBodies, IsBody, IsBodyOf, global, defined, given_behind, header_of}
+use Rattle.sisal_check.proofs.Items.{header_few}
 use Rattle.sisal_check.proofs.Functions.{bodies_later, one_body_more}
 use Rattle.sisal_check.proofs.bodies.add_function.Goals as goal
 
@@ -56,4 +57,8 @@ body-requires c =
     let names = length c.args.given.now.spellings.now in
     let es = c.in-Defined.es in
     let p : text.IsBody tokens names (fun.Defined es) = subst (λ k. text.IsBody tokens names k) c.in-Defined.is c.requires.spelled in
-    record { spelled = subst (λ l. All (text.IsSpelled tokens names) l) (sym c.as_slice.ensures) (spelled_parts.exprs tokens names es p.0) }
+    record {
+      spelled = λ h le. subst (λ l. All (text.IsSpelled tokens names h) l) (sym c.as_slice.ensures) (spelled_parts.exprs tokens names h es (p.0 h le));
+      few = header_few c.args.given.now.functions.now c.len-in-Defined.result c.header_at-header-in-Defined.result.now c.args.given.now.parameters c.header_at-header-in-Defined.ensures;
+      none = c.requires.none;
+    }

@@ -68,3 +68,6 @@ add_item-requires-clause-room c =
 pub add_item-requires-clause-spelled : goal.add_item-requires-clause-spelled
 add_item-requires-clause-spelled c =
     item_at (IsItem c.args.given.now.tokens.now (length c.args.given.now.spellings.now)) c.args.items.now c.loop-item.item-index c.item-item.result c.loop-item-test.true c.item-item.is c.requires.spelled
+
+pub add_item-requires-clause-none : goal.add_item-requires-clause-none
+add_item-requires-clause-none c = c.loop-item.invariant.names ∙ c.requires.none

@@ -8,7 +8,7 @@ returns-clause-head c = record {
   named = c.in_ok-ty.ty;
   is = ap (λ l. head.Record c.in_ok-ty.ty l) c.in_ok-names.ensures;
   found = c.in_ok-ty.ensures.found;
-  spelled = names_spelled c.args.given.now.tokens.now (length c.args.given.now.spellings.now) c.args.vs.now c.requires.spelled;
+  spelled = names_spelled (length c.args.given.now.spellings.now) c.args.vs.now c.requires.spelled;
 }
 
 pub returns-clause-field : goal.returns-clause-field

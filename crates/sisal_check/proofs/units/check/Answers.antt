@@ -3,6 +3,7 @@ use Rattle.std.proofs.lemmas.List.{length-map}
 use Rattle.text_trees.specs.Spelled.{IsItem}
 use Rattle.unit_types.specs.Headings.{has_body, given_functions, heading_of, heading_in}
 use Rattle.sisal_check.proofs.Functions.{all_numbered}
+use Rattle.sisal_check.proofs.Items.{few_parameters}
 use Rattle.sisal_check.specs.Numbered.{AreNumbered}
 use Rattle.sisal_check.specs.Headed.{HaveFirst, head_at, head_in}
 use Rattle.sisal_check.proofs.Forms.{passed_on}
@@ -44,7 +45,12 @@ invariant_of-given c =
     record {
       numbered = subst (λ hs. AreNumbered d.numbers (length hs)) (sym c.as_slice-3.ensures) (all_numbered d.functions d.numbers c.in_ok-types.ensures.numbers);
       results = subst (λ hs. All (λ s. 1 ≤ length s.results) hs) (sym c.as_slice-3.ensures) c.in_ok-types.ensures.results;
+      parameters = subst (λ hs. All (λ s. length s.parameters ≤ 4194304) hs) (sym c.as_slice-3.ensures)
+          (few_parameters c.args.unit.tokens.list (length c.args.unit.tokens.names) c.args.unit.items d.functions c.requires.text.items c.in_ok-types.ensures.functions);
     }
+
+pub functions-requires-clause-none : goal.functions-requires-clause-none
+functions-requires-clause-none c = c.new.ensures
 
 pub functions-requires-clause-room : goal.functions-requires-clause-room
 functions-requires-clause-room c =
