@@ -3,7 +3,6 @@ use crate::unit::{Named, Written};
 use flow_value::{Held, Seq, Text};
 
 /// An expression and the line on which it begins.
-#[derive(Drop)]
 #[cycle(tree)]
 pub struct Expr {
     /// The line of its first token, from 1.
@@ -12,8 +11,17 @@ pub struct Expr {
     pub kind: ExprKind,
 }
 
+impl Drop for Expr {
+    #[cycle(drop_tree)]
+    fn drop(self) {
+        let Expr {
+            line: _,
+            kind: _kind,
+        } = self;
+    }
+}
+
 /// What an expression is.
-#[derive(Drop)]
 #[cycle(tree)]
 pub enum ExprKind {
     /// A constant.
@@ -64,8 +72,38 @@ pub enum ExprKind {
     For(Loop),
 }
 
+impl Drop for ExprKind {
+    #[cycle(drop_tree)]
+    fn drop(self) {
+        match self {
+            ExprKind::Constant(_part) => {}
+            ExprKind::Name(_) => {}
+            ExprKind::Old(_) => {}
+            ExprKind::Group(_part) => {}
+            ExprKind::Call(_, _part) => {}
+            ExprKind::Convert(_, _part) => {}
+            ExprKind::ErrorOf(_) => {}
+            ExprKind::IsError(_part) => {}
+            ExprKind::IsTag(_, _part) => {}
+            ExprKind::Prefix(_, _part) => {}
+            ExprKind::Binary(_, _part1, _part2) => {}
+            ExprKind::Select(_part0, _part1) => {}
+            ExprKind::Update(_part0, _part1, _part2) => {}
+            ExprKind::Field(_part, _) => {}
+            ExprKind::Replace(_part0, _part1) => {}
+            ExprKind::Array(_, _part) => {}
+            ExprKind::Stream(_, _part) => {}
+            ExprKind::Record(_, _part) => {}
+            ExprKind::Union(_, _, _part) => {}
+            ExprKind::Let(_part0, _part1) => {}
+            ExprKind::If(_part0, _part1, _part2) => {}
+            ExprKind::TagCase(_part) => {}
+            ExprKind::For(_part) => {}
+        }
+    }
+}
+
 /// A constant.
-#[derive(Drop)]
 pub enum Constant {
     /// A number.
     Integer(i64),
@@ -79,6 +117,19 @@ pub enum Constant {
     False,
     /// `nil`
     Nil,
+}
+
+impl Drop for Constant {
+    fn drop(self) {
+        match self {
+            Constant::Integer(_) => {}
+            Constant::Letter(_) => {}
+            Constant::Quoted(_part) => {}
+            Constant::True => {}
+            Constant::False => {}
+            Constant::Nil => {}
+        }
+    }
 }
 
 /// A type that a value is converted to.
@@ -133,7 +184,6 @@ pub enum BinaryOperator {
 }
 
 /// `name ":" expr`
-#[derive(Drop)]
 #[cycle(tree)]
 pub struct FieldValue {
     /// The field, where it stands.
@@ -142,8 +192,17 @@ pub struct FieldValue {
     pub value: Expr,
 }
 
+impl Drop for FieldValue {
+    #[cycle(drop_tree)]
+    fn drop(self) {
+        let FieldValue {
+            field: _,
+            value: _value,
+        } = self;
+    }
+}
+
 /// `expr ":" exprs`: the lower bound of an array and its elements.
-#[derive(Drop)]
 #[cycle(tree)]
 pub struct Elements {
     /// The lower bound.
@@ -152,14 +211,33 @@ pub struct Elements {
     pub values: Seq<Expr>,
 }
 
+impl Drop for Elements {
+    #[cycle(drop_tree)]
+    fn drop(self) {
+        let Elements {
+            lower: _lower,
+            values: _values,
+        } = self;
+    }
+}
+
 /// `target {"," target} ":=" exprs`
-#[derive(Drop)]
 #[cycle(tree)]
 pub struct Def {
     /// What is defined.
     pub targets: Seq<Target>,
     /// The values.
     pub values: Seq<Expr>,
+}
+
+impl Drop for Def {
+    #[cycle(drop_tree)]
+    fn drop(self) {
+        let Def {
+            targets: _targets,
+            values: _values,
+        } = self;
+    }
 }
 
 /// `name [":" type]`
@@ -172,7 +250,6 @@ pub struct Target {
 }
 
 /// `tagcase [name ":="] expr arm {arm} ["otherwise" ":" exprs] end tagcase`
-#[derive(Drop)]
 #[cycle(tree)]
 pub struct TagCase {
     /// The name of the content, where there is one.
@@ -185,8 +262,19 @@ pub struct TagCase {
     pub otherwise: Option<Seq<Expr>>,
 }
 
+impl Drop for TagCase {
+    #[cycle(drop_tree)]
+    fn drop(self) {
+        let TagCase {
+            name: _,
+            subject: _subject,
+            arms: _arms,
+            otherwise: _otherwise,
+        } = self;
+    }
+}
+
 /// `"tag" name {"," name} ":" exprs`
-#[derive(Drop)]
 #[cycle(tree)]
 pub struct Arm {
     /// The line of the word `tag`.
@@ -197,8 +285,18 @@ pub struct Arm {
     pub results: Seq<Expr>,
 }
 
+impl Drop for Arm {
+    #[cycle(drop_tree)]
+    fn drop(self) {
+        let Arm {
+            line: _,
+            tags: _tags,
+            results: _results,
+        } = self;
+    }
+}
+
 /// What stands between `for` and `end for`.
-#[derive(Drop)]
 #[cycle(tree)]
 pub enum Loop {
     /// `group {"cross" group} [defs] "returns" clause {clause}`: the groups of generators, the
@@ -208,8 +306,17 @@ pub enum Loop {
     Initial(Seq<Def>, Turn, Seq<Clause>),
 }
 
+impl Drop for Loop {
+    #[cycle(drop_tree)]
+    fn drop(self) {
+        match self {
+            Loop::Product(_part0, _part1, _part2) => {}
+            Loop::Initial(_part0, _part1, _part2) => {}
+        }
+    }
+}
+
 /// `name "in" expr ["," expr] ["at" name]`
-#[derive(Drop)]
 #[cycle(tree)]
 pub struct Generator {
     /// The name, where it stands.
@@ -222,8 +329,19 @@ pub struct Generator {
     pub at: Option<u32>,
 }
 
+impl Drop for Generator {
+    #[cycle(drop_tree)]
+    fn drop(self) {
+        let Generator {
+            name: _,
+            from: _from,
+            to: _to,
+            at: _,
+        } = self;
+    }
+}
+
 /// The turn of a loop with its test.
-#[derive(Drop)]
 #[cycle(tree)]
 pub struct Turn {
     /// Whether the test stands before the turn.
@@ -236,8 +354,19 @@ pub struct Turn {
     pub defs: Seq<Def>,
 }
 
+impl Drop for Turn {
+    #[cycle(drop_tree)]
+    fn drop(self) {
+        let Turn {
+            is_first: _,
+            is_until: _,
+            test: _test,
+            defs: _defs,
+        } = self;
+    }
+}
+
 /// A result of a loop.
-#[derive(Drop)]
 #[cycle(tree)]
 pub struct Clause {
     /// The line of its first word.
@@ -248,6 +377,18 @@ pub struct Clause {
     pub value: Expr,
     /// Which places are kept, where not all are.
     pub mask: Option<Mask>,
+}
+
+impl Drop for Clause {
+    #[cycle(drop_tree)]
+    fn drop(self) {
+        let Clause {
+            line: _,
+            kind: _,
+            value: _value,
+            mask: _mask,
+        } = self;
+    }
 }
 
 /// What a clause makes of its values.
@@ -292,11 +433,20 @@ pub enum Reduction {
 }
 
 /// `when e` or `unless e`
-#[derive(Drop)]
 #[cycle(tree)]
 pub struct Mask {
     /// Whether a place is kept where the test doesn't hold.
     pub is_unless: bool,
     /// The test.
     pub test: Expr,
+}
+
+impl Drop for Mask {
+    #[cycle(drop_tree)]
+    fn drop(self) {
+        let Mask {
+            is_unless: _,
+            test: _test,
+        } = self;
+    }
 }

@@ -22,7 +22,6 @@ pub struct Written {
 }
 
 /// `name {"," name} ":" type`: names of one type, the parameters of a header.
-#[derive(Drop)]
 pub struct Field {
     /// The names in order.
     pub names: Seq<Named>,
@@ -30,8 +29,16 @@ pub struct Field {
     pub ty: Written,
 }
 
+impl Drop for Field {
+    fn drop(self) {
+        let Field {
+            names: _names,
+            ty: _,
+        } = self;
+    }
+}
+
 /// `"type" name "=" type`
-#[derive(Drop)]
 pub struct TypeDef {
     /// The line of the word `type`.
     pub line: u32,
@@ -41,8 +48,17 @@ pub struct TypeDef {
     pub ty: Written,
 }
 
+impl Drop for TypeDef {
+    fn drop(self) {
+        let TypeDef {
+            line: _,
+            name: _,
+            ty: _,
+        } = self;
+    }
+}
+
 /// `name "(" .. "returns" type {"," type} ")"`
-#[derive(Drop)]
 pub struct Header {
     /// The function's name.
     pub name: Named,
@@ -52,8 +68,17 @@ pub struct Header {
     pub results: Seq<Written>,
 }
 
+impl Drop for Header {
+    fn drop(self) {
+        let Header {
+            name: _,
+            params: _params,
+            results: _results,
+        } = self;
+    }
+}
+
 /// How a function is given.
-#[derive(Drop)]
 pub enum FunKind {
     /// `forward function`: by its header, and its definition stands elsewhere in the text.
     Forward,
@@ -63,8 +88,17 @@ pub enum FunKind {
     Defined(Seq<Expr>),
 }
 
+impl Drop for FunKind {
+    fn drop(self) {
+        match self {
+            FunKind::Forward => {}
+            FunKind::Global => {}
+            FunKind::Defined(_part) => {}
+        }
+    }
+}
+
 /// A function.
-#[derive(Drop)]
 pub struct FunDef {
     /// The line of its first word.
     pub line: u32,
@@ -74,13 +108,31 @@ pub struct FunDef {
     pub kind: FunKind,
 }
 
+impl Drop for FunDef {
+    fn drop(self) {
+        let FunDef {
+            line: _,
+            header: _header,
+            kind: _kind,
+        } = self;
+    }
+}
+
 /// What a unit is made of.
-#[derive(Drop)]
 pub enum Item {
     /// A type definition.
     Alias(TypeDef),
     /// A function.
     Function(FunDef),
+}
+
+impl Drop for Item {
+    fn drop(self) {
+        match self {
+            Item::Alias(_part) => {}
+            Item::Function(_part) => {}
+        }
+    }
 }
 
 /// A unit: a whole text.

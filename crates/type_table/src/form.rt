@@ -15,7 +15,6 @@ pub struct Member {
 }
 
 /// What a type is made of; a part is named by its number in the table.
-#[derive(Drop)]
 pub enum Form {
     /// `boolean`
     Boolean,
@@ -33,6 +32,21 @@ pub enum Form {
     Record(Seq<Member>),
     /// `union [name : t; ..]`, the tags in order.
     Union(Seq<Member>),
+}
+
+impl Drop for Form {
+    fn drop(self) {
+        match self {
+            Form::Boolean => {}
+            Form::Character => {}
+            Form::Integer => {}
+            Form::Null => {}
+            Form::Array(_) => {}
+            Form::Stream(_) => {}
+            Form::Record(_part) => {}
+            Form::Union(_part) => {}
+        }
+    }
 }
 
 /// The fields of a record, the tags of a union.

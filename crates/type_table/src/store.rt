@@ -17,7 +17,6 @@ use std::marker::Model;
 pub const DEEPEST: u32 = 64;
 
 /// A form with its depth.
-#[derive(Drop)]
 pub struct Known {
     /// The form.
     pub form: Form,
@@ -25,12 +24,29 @@ pub struct Known {
     pub depth: u32,
 }
 
+impl Drop for Known {
+    fn drop(self) {
+        let Known {
+            form: _form,
+            depth: _,
+        } = self;
+    }
+}
+
 /// The forms in the order of their numbers, by their keys, and the places of the members by type
 /// and name. A place may be noted for a type that is not there yet.
-#[derive(Drop)]
 pub struct Store {
     forms: IndexMap<Vec<u32>, Known>,
     places: IndexMap<(u32, u32), u32>,
+}
+
+impl Drop for Store {
+    fn drop(self) {
+        let Store {
+            forms: _forms,
+            places: _places,
+        } = self;
+    }
 }
 
 impl Model for Store {

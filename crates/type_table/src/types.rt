@@ -24,9 +24,14 @@ pub const TEXT: u32 = 4;
 /// The types of a program, each once, by number. Two types are equal by structure, the names and
 /// the order of members included, so they are equal where their numbers are. The first five are
 /// `boolean`, `character`, `integer`, `null` and `array [character]`.
-#[derive(Drop)]
 pub struct Types {
     store: Store,
+}
+
+impl Drop for Types {
+    fn drop(self) {
+        let Types { store: _store } = self;
+    }
 }
 
 impl Model for Types {

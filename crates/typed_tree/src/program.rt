@@ -7,7 +7,6 @@ use flow_value::{Name, Numbers, Seq, item_at};
 use type_table::Types;
 
 /// A function. Types are numbers of the program's table, names are numbers of its list.
-#[derive(Drop)]
 pub struct Function {
     /// The line of its first word, from 1.
     pub line: u32,
@@ -23,8 +22,20 @@ pub struct Function {
     pub body: Option<Seq<TypedExpr>>,
 }
 
+impl Drop for Function {
+    fn drop(self) {
+        let Function {
+            line: _,
+            name: _,
+            parameters: _parameters,
+            params: _params,
+            results: _results,
+            body: _body,
+        } = self;
+    }
+}
+
 /// A typed program.
-#[derive(Drop)]
 pub struct Program {
     /// The spelling of each name, in small letters.
     pub names: Seq<Name>,
@@ -34,6 +45,17 @@ pub struct Program {
     pub functions: Seq<Function>,
     /// The functions after `define`, by their numbers from 0.
     pub defines: Numbers,
+}
+
+impl Drop for Program {
+    fn drop(self) {
+        let Program {
+            names: _names,
+            types: _types,
+            functions: _functions,
+            defines: _defines,
+        } = self;
+    }
 }
 
 impl Program {
