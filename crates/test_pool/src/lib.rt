@@ -19,22 +19,22 @@ pub use refusing::{Kept, build_beside, reserve_beside};
 pub use sharing::build_by_four;
 
 #[cfg(test)]
-mod fire_lock;
+mod fire_lock_tests;
 #[cfg(test)]
-mod flow_gen;
+mod flow_gen_tests;
 #[cfg(test)]
-mod flow_io;
+mod flow_io_tests;
 #[cfg(test)]
-mod forall_slicer;
+mod forall_slicer_tests;
 #[cfg(test)]
-mod front_list;
+mod front_list_tests;
 #[cfg(test)]
-mod lease;
+mod lease_tests;
 #[cfg(test)]
-mod name_scope;
+mod name_scope_tests;
 #[cfg(test)]
-mod pushdown;
+mod pushdown_tests;
 #[cfg(test)]
-mod segment;
+mod segment_tests;
 #[cfg(test)]
 mod tests;

@@ -3,8 +3,8 @@ ghost use Rattle.std.specs.Prelude.{◌≡◌, ℕ, ◌+◌, ◌-◌, ◌%◌, �
 ghost use Rattle.fire_lock.specs.Passes.{Of, Same};
 ghost use Rattle.fire_lock.specs.History.{Reached};
 ghost use Rattle.fire_lock.specs.declared.entry.Entry.{Entry};
-ghost use Rattle.test_pool.specs.declared.fire_lock.Event.{Event};
-ghost use Rattle.test_pool.specs.declared.fire_lock.Reply.{Reply};
+ghost use Rattle.test_pool.specs.declared.fire_lock_tests.Event.{Event};
+ghost use Rattle.test_pool.specs.declared.fire_lock_tests.Reply.{Reply};
 ghost use denote.Param.Send.{IsSync};
 
 use fire_lock::{FireLock, Machine, Pass};
