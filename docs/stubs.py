@@ -243,6 +243,11 @@ def stub(source, to):
         write(path.replace(source, to, 1), with_import(text) if it and it.has_stub else text)
 
 
+def is_law(path):
+    """Whether a file of proofs is of a type's law, or of what of it may cross threads."""
+    return "/TheLaw/" in path or "/TheSendSync/" in path
+
+
 def cited(top, crates):
     """The files of lemmas that another crate than their own cites, and those that these cite: pairs of crate and module."""
     modules = {}
@@ -268,7 +273,7 @@ def cited(top, crates):
     for crate in crates:
         for part in ("src", "specs", "proofs"):
             for path in files(f"{top}/crates/{crate}/{part}", (".rt", ".antt")):
-                cite(read(path), None if part == "specs" or "/TheLaw/" in path else crate)
+                cite(read(path), None if part == "specs" or is_law(path) else crate)
     while open_ones:
         cite(read(modules[open_ones.pop()]))
     return modules, found
@@ -278,7 +283,7 @@ def lemmas(top, crate, to, modules, found):
     """Writes those files of a library's lemmas that are cited, and the laws of its types."""
     folder = f"{top}/crates/{crate}/proofs"
     for path in files(folder, ".antt"):
-        if "/TheLaw/" in path:
+        if is_law(path):
             write(path.replace(f"{top}/crates/{crate}", to, 1), read(path))
     stay = {name for it, name in found if it == crate}
     for name in stay and stay | {"Lib"}:

@@ -9,8 +9,6 @@ mod lock;
 mod machine;
 mod pass;
 mod plays;
-#[cfg(test)]
-mod tests;
 mod view;
 
 pub use entry::Entry;

@@ -52,6 +52,3 @@ fn put_number(text: &mut Text, number: u64) -> Result<(), NoMemory>
     let mut buffer = Buffer::new();
     text.extend(buffer.format(number).as_bytes())
 }
-
-#[cfg(test)]
-mod tests;

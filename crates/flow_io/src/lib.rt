@@ -7,8 +7,6 @@ mod reading;
 mod sink;
 mod source;
 mod stream;
-#[cfg(test)]
-mod tests;
 mod writing;
 
 pub use failed::Failed;

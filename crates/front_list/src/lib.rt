@@ -11,6 +11,3 @@ pub use block::Block;
 pub use list::FrontList;
 #[doc(hidden)]
 pub use row::Row;
-
-#[cfg(test)]
-mod tests;

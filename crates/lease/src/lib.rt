@@ -106,6 +106,3 @@ impl<T> Lease<T> {
         self.stake.read()
     }
 }
-
-#[cfg(test)]
-mod tests;

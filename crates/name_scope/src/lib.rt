@@ -4,9 +4,6 @@
 //! ends. Looking a name up, defining one and ending a definition each take constant time.
 #![tactic(auto)]
 
-#[cfg(test)]
-mod tests;
-
 ghost use Rattle.std.specs.Prelude.{◌≡◌, ℕ, ◌-◌, ◌<◌, ◌≤◌, [], ◌∷◌, length, drop, None, OnOk, OnErr, get_or, option_map, slice_get, vec_len};
 ghost use Rattle.name_scope.specs.Newest.{newest};
 

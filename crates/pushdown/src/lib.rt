@@ -141,6 +141,3 @@ pub fn derive(alloc: Global, tables: &Tables, tokens: &[u8]) -> Result<Vec<Step>
         Some(_) => Err(Refusal::Syntax(tokens.len())),
     }
 }
-
-#[cfg(test)]
-mod tests;

@@ -119,6 +119,3 @@ impl<T> Segment<T> {
         self.run.write(place, value);
     }
 }
-
-#[cfg(test)]
-mod tests;

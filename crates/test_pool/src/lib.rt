@@ -1,6 +1,7 @@
 //! Callers of the pool, proved by its clauses alone: a value that two threads read while the pool goes on, an array
 //! whose parts two threads write, one of any size each place of which is a segment that one of four threads writes, and
-//! a pool that is refused memory.
+//! a pool that is refused memory. Beside them stand the tests of public calls, of the pool and of other crates, which have a
+//! module each.
 #![tactic(auto)]
 
 mod building;
@@ -17,5 +18,23 @@ pub use opening::empty_pool;
 pub use refusing::{Kept, build_beside, reserve_beside};
 pub use sharing::build_by_four;
 
+#[cfg(test)]
+mod fire_lock_tests;
+#[cfg(test)]
+mod flow_gen_tests;
+#[cfg(test)]
+mod flow_io_tests;
+#[cfg(test)]
+mod forall_slicer_tests;
+#[cfg(test)]
+mod front_list_tests;
+#[cfg(test)]
+mod lease_tests;
+#[cfg(test)]
+mod name_scope_tests;
+#[cfg(test)]
+mod pushdown_tests;
+#[cfg(test)]
+mod segment_tests;
 #[cfg(test)]
 mod tests;

@@ -1,4 +1,5 @@
-use crate::FrontList;
+//! Lists that grow and shrink at both ends.
+use front_list::FrontList;
 use std::test::Fail;
 
 #[test]

@@ -1,4 +1,5 @@
-use super::*;
+//! Texts that are generated.
+use flow_gen::make;
 use std::test::Fail;
 
 #[test]

@@ -1,7 +1,8 @@
+//! Rooms that are written in parts.
 ghost use Rattle.std.specs.Prelude.{◌≡◌, [], ◌∷◌};
 ghost use Rattle.segment.specs.Places.{unwritten, written};
 
-use crate::{Room, Segment};
+use segment::{Room, Segment};
 use std::test::Fail;
 use std::thread::{Threads, join_mut};
 

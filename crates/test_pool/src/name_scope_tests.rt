@@ -1,5 +1,5 @@
 //! A small history of definitions.
-use crate::Scope;
+use name_scope::Scope;
 use std::test::Fail;
 
 #[test]

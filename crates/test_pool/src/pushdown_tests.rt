@@ -2,9 +2,9 @@
 ghost use Rattle.std.specs.Prelude.{◌≡◌, true};
 ghost use Rattle.pushdown.specs.Rows.{AreRight, rows_of, start_test};
 
-use crate::Symbol::{Rule, Want};
-use crate::tables::Tables;
-use crate::{Refusal, Step, Symbol, derive};
+use pushdown::Symbol::{Rule, Want};
+use pushdown::tables::Tables;
+use pushdown::{Refusal, Step, Symbol, derive};
 use std::test::Fail;
 
 const COMMA: u8 = 1;

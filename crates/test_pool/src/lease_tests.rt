@@ -1,6 +1,7 @@
+//! A value that is read beside its owner.
 ghost use Rattle.std.specs.Prelude.{◌≡◌, ◌<◌, ◌^◌};
 
-use crate::{Lease, Owner};
+use lease::{Lease, Owner};
 use std::test::Fail;
 use std::thread::{Threads, join_mut};
 

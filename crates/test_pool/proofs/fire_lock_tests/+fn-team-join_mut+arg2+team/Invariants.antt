@@ -1,5 +1,5 @@
 use Rattle.std.proofs.Common.{◌+◌, ◌-◌, ◌*◌}
-use Rattle.fire_lock.proofs.tests.+fn-team-join_mut+arg2+team.Given as goal
+use Rattle.test_pool.proofs.fire_lock_tests.+fn-team-join_mut+arg2+team.Given as goal
 
 abbrev pub decreases-join_mut+arg2 : goal.decreases-join_mut+arg2
 decreases-join_mut+arg2 g l = 2 * (l.count - 1) + 1

@@ -1,12 +1,13 @@
+//! Desks that hand out items, behind a lock that one, two and four passes step.
 ghost use Rattle.std.specs.Prelude.{◌≡◌, ℕ, ◌+◌, ◌-◌, ◌%◌, ◌^◌, ◌<◌, ◌≤◌, List, IfOk, IfErr};
 ghost use Rattle.fire_lock.specs.Passes.{Of, Same};
 ghost use Rattle.fire_lock.specs.History.{Reached};
 ghost use Rattle.fire_lock.specs.declared.entry.Entry.{Entry};
-ghost use Rattle.fire_lock.specs.declared.tests.Event.{Event};
-ghost use Rattle.fire_lock.specs.declared.tests.Reply.{Reply};
+ghost use Rattle.test_pool.specs.declared.fire_lock_tests.Event.{Event};
+ghost use Rattle.test_pool.specs.declared.fire_lock_tests.Reply.{Reply};
 ghost use denote.Param.Send.{IsSync};
 
-use crate::{FireLock, Machine, Pass};
+use fire_lock::{FireLock, Machine, Pass};
 use std::alloc::Global;
 use std::hint::spin_loop;
 use std::sync::Wait;

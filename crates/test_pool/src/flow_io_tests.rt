@@ -1,5 +1,7 @@
-//! What the calls do at a happy path, and what no clause says.
-use super::*;
+//! What the calls of sources and sinks do at a happy path, and what no clause says.
+use flow_io::{
+    MemSink, MemSource, Plan, ReadFail, ReaderSource, Sink, Source, WriterSink, read_all, write_all,
+};
 use flow_value::{Seq, Text};
 use std::alloc::Global;
 use std::test::Fail;
