@@ -1,13 +1,12 @@
 #!/bin/bash
-# Builds the program of a crate, the argument, which a bench times, and prints its path. Where it is built already, the variable
-# with the crate's name in capitals, as BENCH_CODE, may tell the path instead. Run it at the top of the repository.
-crate=$1 variable=${1^^}
-program=${!variable}
+# Builds the program bench_calls, which the benches time, and prints its path. Where it is built already, the variable
+# BENCH_CALLS may tell the path instead. Run it at the top of the repository.
+program=$BENCH_CALLS folder=crates/bench_calls
 if [ -z "$program" ]; then
     log=$(mktemp)
     trap 'rm -f "$log"' EXIT
-    (cd "crates/$crate" && rt run <stdin) >"$log" 2>&1 || { cat "$log" >&2; exit 1; }
-    program=$(find "crates/$crate/out" -type f -perm -u+x -name "$crate*" | head -1)
+    (cd $folder && rt run <stdin) >"$log" 2>&1 || { cat "$log" >&2; exit 1; }
+    program=$(find $folder/out -type f -perm -u+x -name 'bench_calls*' | head -1)
 fi
-[ -x "$program" ] || { echo "no program $crate in crates/$crate/out: set $variable" >&2; exit 1; }
+[ -x "$program" ] || { echo "no program bench_calls in $folder/out: set BENCH_CALLS" >&2; exit 1; }
 echo "$program"

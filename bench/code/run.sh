@@ -8,14 +8,14 @@ set -e
 rounds=${1:-5}
 build=$(mktemp -d)
 trap 'rm -rf "$build"' EXIT
-program=$(bench/built.sh bench_code)
+program=$(bench/built.sh)
 
 # least TEXT: the least times to read the text and to make the code, in nanoseconds, and the bytes of the code
 least() {
     local read code best_read= best_code= bytes
     for ((i = 0; i < rounds; i++)); do
         # a step has 40 bytes, an operand 8, a target 4, a collection at most 16, a mark 1, a literal 16
-        bytes=$("$program" <"$1" 2>"$build/times" | tr -d ',' | awk '{ b += NR == 1 ? 40 * $1 + 8 * $3 + 4 * $5 : 16 * $1 + $3 + 16 * $5 } END { print b }')
+        bytes=$("$program" code <"$1" 2>"$build/times" | tr -d ',' | awk '{ b += NR == 1 ? 40 * $1 + 8 * $3 + 4 * $5 : 16 * $1 + $3 + 16 * $5 } END { print b }')
         read -r read _ code <"$build/times"
         if [ -z "$best_read" ] || [ "$read" -lt "$best_read" ]; then best_read=$read; fi
         if [ -z "$best_code" ] || [ "$code" -lt "$best_code" ]; then best_code=$code; fi

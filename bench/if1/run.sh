@@ -24,14 +24,12 @@ for side in first last; do
     done
 done
 
-program=${BENCH_TEXTS:-$(bench/texts.sh)}
-[ -x "$program" ] || exit 1
-answering=$(bench/built.sh bench_answers)
+program=$(bench/built.sh)
 
 milliseconds() { # a text
     local begin end
     begin=$(date +%s%N)
-    "$program" if1 <"$1" >"$build/printed"
+    "$program" texts if1 <"$1" >"$build/printed"
     end=$(date +%s%N)
     echo $(((end - begin) / 1000000))
 }
@@ -39,7 +37,7 @@ declare -A least
 keep() { [ -n "${least[$1]}" ] && awk -v a="${least[$1]}" -v b="$2" 'BEGIN { exit !(a <= b) }' || least[$1]=$2; }
 answered() { # a text
     local read found
-    "$answering" <"$build/$1.if1" 2>"$build/times" >"$build/answers $1"
+    "$program" answers <"$build/$1.if1" 2>"$build/times" >"$build/answers $1"
     read -r read found <"$build/times"
     keep "read $1" "$read"
     keep "answers $1" "$found"

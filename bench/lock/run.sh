@@ -6,9 +6,8 @@ rounds=${1:-10}
 build=$(mktemp -d)
 trap 'rm -rf "$build"' EXIT
 rustc -O -o "$build/mutex" bench/lock/mutex.rs
-(cd crates/bench_lock && rt run </dev/null) >"$build/rt" 2>&1 || { cat "$build/rt" >&2; exit 1; }
-lock=${BENCH_LOCK:-$(find crates/bench_lock/out -type f -perm -u+x -name 'bench_lock*' | head -1)}
-[ -x "$lock" ] || { echo "no program bench_lock in crates/bench_lock/out: set BENCH_LOCK" >&2; exit 1; }
+program=$(bench/built.sh)
+ours() { "$program" lock "$@"; }
 
 picoseconds() { # the program, the number of workers
     local begin end
@@ -21,7 +20,7 @@ picoseconds() { # the program, the number of workers
 for workers in 1 2 4; do
     best_lock= best_mutex=
     for ((i = 0; i < rounds; i++)); do
-        a=$(picoseconds "$lock" $workers)
+        a=$(picoseconds ours $workers)
         cp "$build/printed" "$build/first"
         b=$(picoseconds "$build/mutex" $workers)
         cmp "$build/first" "$build/printed"

@@ -9,13 +9,13 @@ set -e
 rounds=${1:-5}
 build=$(mktemp -d)
 trap 'rm -rf "$build"' EXIT
-program=$(bench/built.sh bench_marks)
+program=$(bench/built.sh)
 
 # least TEXT: the least times to read the text, to make the marks and to check them, in nanoseconds, and what the program printed
 least() {
     local read made checked best_read= best_made= best_checked= printed
     for ((i = 0; i < rounds; i++)); do
-        printed=$("$program" <"$1" 2>"$build/times")
+        printed=$("$program" marks <"$1" 2>"$build/times")
         read -r read made checked <"$build/times"
         if [ -z "$best_read" ] || [ "$read" -lt "$best_read" ]; then best_read=$read; fi
         if [ -z "$best_made" ] || [ "$made" -lt "$best_made" ]; then best_made=$made; fi

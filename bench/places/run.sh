@@ -9,9 +9,8 @@ rounds=${1:-10}
 build=$(mktemp -d)
 trap 'rm -rf "$build"' EXIT
 rustc -O -o "$build/peer" bench/places/peer.rs
-(cd crates/bench_places && rt run </dev/null) >"$build/rt" 2>&1 || { cat "$build/rt" >&2; exit 1; }
-ours=${BENCH_PLACES:-$(find crates/bench_places/out -type f -perm -u+x -name 'bench_places*' | head -1)}
-[ -x "$ours" ] || { echo "no program bench_places in crates/bench_places/out: set BENCH_PLACES" >&2; exit 1; }
+program=$(bench/built.sh)
+ours() { "$program" places "$@"; }
 
 nanoseconds() { # the program and its words
     local begin end
@@ -30,7 +29,7 @@ for work in replace ends front; do
     for size in few some many; do
         for ((i = 0; i < rounds; i++)); do
             for amount in short long; do
-                keep ours $work $size $amount "$(nanoseconds "$ours" $work $size $amount)"
+                keep ours $work $size $amount "$(nanoseconds ours $work $size $amount)"
                 cp "$build/printed" "$build/first"
                 keep peer $work $size $amount "$(nanoseconds "$build/peer" $work $size $amount)"
                 cmp "$build/first" "$build/printed"

@@ -8,9 +8,8 @@ rounds=${1:-10}
 build=$(mktemp -d)
 trap 'rm -rf "$build"' EXIT
 rustc -O -o "$build/peer" bench/pool/peer.rs
-(cd crates/bench_pool && rt run </dev/null) >"$build/rt" 2>&1 || { cat "$build/rt" >&2; exit 1; }
-pool=${BENCH_POOL:-$(find crates/bench_pool/out -type f -perm -u+x -name 'bench_pool*' | head -1)}
-[ -x "$pool" ] || { echo "no program bench_pool in crates/bench_pool/out: set BENCH_POOL" >&2; exit 1; }
+program=$(bench/built.sh)
+ours() { "$program" pool "$@"; }
 
 nanoseconds() { # the program, the work, how much
     local begin end
@@ -31,7 +30,7 @@ time_once() { # whose, its program, the work, how much
 for work in put lend room write; do
     for amount in short long; do
         for ((i = 0; i < rounds; i++)); do
-            time_once pool "$pool" $work $amount
+            time_once pool ours $work $amount
             cp "$build/printed" "$build/first"
             time_once peer "$build/peer" $work $amount
             cmp "$build/first" "$build/printed"

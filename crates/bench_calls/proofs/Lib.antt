@@ -1,0 +1,4 @@
+mod Emptied
+mod Filled
+mod Lent
+mod Listed

@@ -1,3 +1,0 @@
-mod Emptied
-mod Filled
-mod Lent
