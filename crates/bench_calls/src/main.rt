@@ -25,8 +25,6 @@ mod told;
 mod units;
 mod values;
 
-ghost use Rattle.std.specs.Prelude.{◌≤◌, length};
-
 use flow_io::{ReaderSource, read_all};
 use std::alloc::Global;
 use std::io::{BufRead, BufReader};
