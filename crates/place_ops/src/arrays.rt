@@ -120,8 +120,8 @@ fn adjust_to(a: Array, lo: i64, hi: i64) -> Val
         return Val::Err(Cause::Bounds);
     }
     let from = natural_of(distance(a.lo(), lo));
-    let count = natural_of(room(lo, hi));
     let (_, items) = a.into_parts();
+    let count = natural_of(room(lo, hi));
     array_of(lo, part(items, from, count))
 }
 
