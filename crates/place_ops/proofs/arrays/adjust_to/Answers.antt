@@ -8,7 +8,7 @@ pub natural_of-count-requires : goal.natural_of-count-requires
 natural_of-count-requires c =
     let within : are_places c.args.a c.args.lo c.args.hi ≡ true = search (rules, c.if-not-are_places_in.ensures) in
     let fits = part-length c.args.a c.args.lo c.args.hi within in
-    let few : length c.args.a.items ≤ 4194304 = search (rules, c.into_parts.ensures.fits.few) in
+    let few : length c.args.a.items ≤ 4194304 = search (rules, c.into_parts-items.ensures.fits.few) in
     omega (arith, ints)
 
 pub part-requires : goal.part-requires
