@@ -286,7 +286,8 @@ def lemmas(top, crate, to, modules, found):
         if is_law(path):
             write(path.replace(f"{top}/crates/{crate}", to, 1), read(path))
     stay = {name for it, name in found if it == crate}
-    for name in stay and stay | {"Lib"}:
+    passes_on = (crate, "Lib") in modules and "pub use" in read(modules[crate, "Lib"])
+    for name in stay | {"Lib"} if stay or passes_on else ():
         if (crate, name) not in modules:
             continue
         inside = "" if name == "Lib" else f"{name}."

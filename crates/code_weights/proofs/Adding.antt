@@ -1,9 +1,9 @@
 -- What the steps of made code add.
 use Rattle.std.proofs.Common.{◌≡◌, ℕ, List, map, get_or, refl, ap, ◌∙◌, subst}
-use Rattle.graph_meaning.specs.Carried.{Carried}
-use Rattle.run_code.specs.Made.{OfInputs, OfNode, OfNothing, OfResults, OfRows, Origin, Plan, functions_lines}
-use Rattle.run_made.specs.Plans.{Weighing, adds, last_line}
-use Rattle.run_store.specs.Stored.{Mode, copied}
+use Rattle.made_store.specs.Carried.{Carried}
+use Rattle.made_store.specs.Made.{OfInputs, OfNode, OfNothing, OfResults, OfRows, Origin, Plan, functions_lines}
+use Rattle.made_store.specs.Plans.{Weighing, adds, last_line}
+use Rattle.made_store.specs.Stored.{Mode, copied}
 use Rattle.made_store.specs.Settled.{functions_settings, handling_of}
 use Rattle.step_code.specs.declared.code.Code.{Code}
 use Rattle.step_code.specs.declared.step.Counted.{Counted}

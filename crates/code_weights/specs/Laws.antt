@@ -1,7 +1,7 @@
 -- The laws of what the steps of made code add.
 use Rattle.std.specs.Prelude.{ℕ, List, get_or}
-use Rattle.run_code.specs.Made.{Plan, functions_lines}
-use Rattle.run_made.specs.Plans.{Weighing, weigh_at}
+use Rattle.made_store.specs.Made.{Plan, functions_lines}
+use Rattle.made_store.specs.Plans.{Weighing, weigh_at}
 use Rattle.made_store.specs.Settings.{Shares}
 use Rattle.made_store.specs.Settled as settled
 use Rattle.made_store.specs.Settled.{functions_settings}

@@ -1,3 +1,13 @@
 pub use Rattle.code_maker.specs.Grows
+pub use Rattle.code_maker.specs.PlanData
+pub use Rattle.code_maker.specs.PlanNode
+pub use Rattle.code_maker.specs.Work
+pub use Rattle.code_maker.specs.Parts
+pub use Rattle.step_code.specs.declared.code.Code
+pub use Rattle.step_code.specs.declared.step.Counted
+pub use Rattle.step_code.specs.declared.step.Written
+pub use Rattle.step_code.specs.Laid
+pub use Rattle.code_maker.specs.Seats
+pub use Rattle.code_maker.specs.Makes
 pub mod Weights
 pub mod Laws

@@ -1,11 +1,11 @@
 -- What the data tells of nodes, weighed by the plan that stands in it.
 use Rattle.std.specs.Prelude.{◌≡◌, ℕ, List, map, length}
-use Rattle.graph_meaning.specs.Carried.{Carried}
-use Rattle.graph_meaning.specs.Demand.{Vertex}
-use Rattle.run_code.specs.Made.{Plan}
-use Rattle.run_code.specs.Steps.{Fire, Step}
-use Rattle.run_made.specs.Plans.{Weighing}
-use Rattle.run_store.specs.Stored.{Mode, copied}
+use Rattle.made_store.specs.Carried.{Carried}
+use Rattle.made_store.specs.Demand.{Vertex}
+use Rattle.made_store.specs.Made.{Plan}
+use Rattle.made_store.specs.Steps.{Fire, Step}
+use Rattle.made_store.specs.Plans.{Weighing}
+use Rattle.made_store.specs.Stored.{Mode, copied}
 use Rattle.step_code.specs.declared.code.Code.{Code}
 use Rattle.step_code.specs.Laid.{copied_at, written_at}
 use Rattle.code_maker.specs.PlanData.{PlanData}

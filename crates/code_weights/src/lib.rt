@@ -3,4 +3,5 @@
 
 mod laws;
 
+pub use code_maker::code_of;
 pub use laws::{copies_of_code_are_of_plans, writes_of_code_are_of_plans};

@@ -25,10 +25,10 @@ use Rattle.graph_meaning.proofs.Units.{units-orderly}
 use Rattle.graph_meaning.specs.Demand.{EachNode, Fixed, IsLabel, Port, Source, Vertex, at_label, data_labels, waits}
 use Rattle.graph_meaning.specs.Entered.{IsIn}
 use Rattle.graph_meaning.specs.Networks.{kind_of, net_at, network, nothing, vertex_of}
-use Rattle.ordered_meaning.specs.Orders.{IsAlong, IsInOrder}
-use Rattle.unit_laws.proofs.TypedChoices.{got-below}
-use Rattle.unit_laws.proofs.TypedEdges.{found-edge, graph-formed, node-formed}
-use Rattle.unit_laws.proofs.TypedNodes.{node-found}
+use Rattle.unit_plan.specs.OrderedMeaningOrders.{IsAlong, IsInOrder}
+use Rattle.unit_plan.proofs.TypedChoices.{got-below}
+use Rattle.unit_plan.proofs.TypedEdges.{found-edge, graph-formed, node-formed}
+use Rattle.unit_plan.proofs.TypedNodes.{node-found}
 use Rattle.unit_plan.proofs.Found.{at-own, net-is}
 use Rattle.unit_plan.proofs.Sources.{by-edge, in-ins}
 use Rattle.firing_order.specs.Laws.{AreFiringOrdersInOrder, HaveUnitsFiringOrders}

@@ -8,7 +8,7 @@ use Rattle.if1_graph.specs.Units.{Place, number_of, places}
 use Rattle.if1_marks.specs.Sound.{IsSound}
 use Rattle.if1_order.specs.Orders.{node_labels}
 use Rattle.graph_meaning.specs.Networks.{network}
-use Rattle.ordered_meaning.specs.Orders.{AreInOrder, IsInOrder}
+use Rattle.unit_plan.specs.OrderedMeaningOrders.{AreInOrder, IsInOrder}
 use Rattle.firing_order.specs.Orders.{IsFiringOrder, order_by, vertices_at}
 
 -- the nodes at these places are in order along data edges and ordering lists

@@ -1,14 +1,14 @@
 -- The definitions on small graphs: each compound node, its errors, an endless loop, and a ForAll cut in two ways.
 use Rattle.std.proofs.Common.{◌≡◌, ℕ, zero, suc, pos, true, false, List, [], ◌∷◌, ◌++◌, Some, None, refl, ap, subst, rules, eqb, Bool, if◌then◌else◌, inl, inr}
 use Rattle.std.specs.Prelude.{codes, get_or}
-use Rattle.flow_value.specs.Bounds.{bounded}
-use Rattle.flow_value.specs.declared.cause.Cause.{Cause}
-use Rattle.flow_value.specs.declared.cause.Cause.TheVariants as cause
-use Rattle.flow_value.specs.declared.value.Val.{Val}
-use Rattle.flow_value.specs.declared.value.Val.TheOpen.{Val-F}
-use Rattle.flow_value.specs.declared.value.Val.TheVariants as val
-use Rattle.flow_value.specs.declared.value.Val.TheViews as values
-use Rattle.flow_value.specs.declared.operation.Scalar2.TheVariants as two
+use Rattle.loop_folds.specs.Bounds.{bounded}
+use Rattle.loop_folds.specs.Cause.{Cause}
+use Rattle.loop_folds.specs.Cause.TheVariants as cause
+use Rattle.loop_folds.specs.Val.{Val}
+use Rattle.loop_folds.specs.Val.TheOpen.{Val-F}
+use Rattle.loop_folds.specs.Val.TheVariants as val
+use Rattle.loop_folds.specs.Val.TheViews as values
+use Rattle.loop_folds.specs.Scalar2.TheVariants as two
 use Rattle.if1_graph.specs.declared.op.Grouping.TheVariants.{Free}
 use Rattle.if1_graph.specs.declared.op.Simple.{Simple}
 use Rattle.if1_graph.specs.declared.op.Simple.TheVariants as simple

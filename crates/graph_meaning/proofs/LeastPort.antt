@@ -1,12 +1,12 @@
 -- The error of the least strict port is every output, row by row.
 use Rattle.std.proofs.Common.{◌≡◌, ℕ, suc, ℤ, pos, ◌∷◌, List, [], map, Option, Some, None, true, refl, sym, ap, subst, rules}
-use Rattle.flow_value.specs.Scalar.{unless_error}
-use Rattle.flow_value.specs.declared.cause.Cause.{Cause}
-use Rattle.flow_value.specs.declared.operation.Scalar1.TheVariants as one
-use Rattle.flow_value.specs.declared.operation.Scalar2.TheVariants as two
-use Rattle.flow_value.specs.declared.value.Val.{Val}
-use Rattle.flow_value.specs.declared.value.Val.TheOpen.{Val-F}
-use Rattle.flow_value.specs.declared.value.Val.TheViews as values
+use Rattle.loop_folds.specs.Scalar.{unless_error}
+use Rattle.loop_folds.specs.Cause.{Cause}
+use Rattle.loop_folds.specs.Scalar1.TheVariants as one
+use Rattle.loop_folds.specs.Scalar2.TheVariants as two
+use Rattle.loop_folds.specs.Val.{Val}
+use Rattle.loop_folds.specs.Val.TheOpen.{Val-F}
+use Rattle.loop_folds.specs.Val.TheViews as values
 use Rattle.loop_folds.specs.Elements.{or_else, error_of}
 use Rattle.value_ops.specs.Arity.{unless_errors}
 use Rattle.value_ops.specs.Operations.{op_value}

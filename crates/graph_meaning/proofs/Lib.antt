@@ -1,4 +1,5 @@
 pub use Rattle.if1_marks.proofs.Taken
+pub use Rattle.if1_marks.proofs.Tests
 pub mod ItemSums
 pub mod ItemsOnce
 pub mod Counting

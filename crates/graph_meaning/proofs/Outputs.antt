@@ -1,10 +1,10 @@
 -- A simple node has as many outputs as its row of the table.
 use Rattle.std.proofs.Common.{◌≡◌, ℕ, zero, suc, List, [], ◌∷◌, map, length, refl, ap}
-use Rattle.flow_value.specs.declared.operation.Scalar1.TheVariants as one
-use Rattle.flow_value.specs.declared.operation.Scalar2.TheVariants as two
-use Rattle.flow_value.specs.declared.value.Val.{Val}
-use Rattle.flow_value.specs.declared.value.Val.TheOpen.{Val-F}
-use Rattle.flow_value.specs.declared.value.Val.TheViews.{out-Val}
+use Rattle.loop_folds.specs.Scalar1.TheVariants as one
+use Rattle.loop_folds.specs.Scalar2.TheVariants as two
+use Rattle.loop_folds.specs.Val.{Val}
+use Rattle.loop_folds.specs.Val.TheOpen.{Val-F}
+use Rattle.loop_folds.specs.Val.TheViews.{out-Val}
 use Rattle.if1_graph.specs.Ports.{count_from}
 use Rattle.if1_graph.specs.declared.op.Simple.TheVariants as simple
 use Rattle.value_ops.specs.Operations.{op_value}

@@ -1,15 +1,15 @@
 -- What nodes copy and write, row by row, on small operands.
 use Rattle.std.proofs.Common.{◌≡◌, ℕ, pos, Bool, true, false, List, [], ◌∷◌, ◌+◌, length, refl, ap, rules, eqb}
 use Rattle.std.specs.Prelude.{codes, ◌||◌}
-use Rattle.flow_value.specs.Bounds.{bounded}
-use Rattle.flow_value.specs.Leaves.{leaf_step, leaf_count, leaf_count_of_all}
-use Rattle.flow_value.specs.declared.cause.Cause.{Cause}
-use Rattle.flow_value.specs.declared.cause.Cause.TheVariants as cause
-use Rattle.flow_value.specs.declared.value.Val.{Val}
-use Rattle.flow_value.specs.declared.value.Val.TheFolds.{fold-roll-Val}
-use Rattle.flow_value.specs.declared.value.Val.TheOpen.{Val-F}
-use Rattle.flow_value.specs.declared.value.Val.TheVariants as val
-use Rattle.flow_value.specs.declared.value.Val.TheViews as values
+use Rattle.loop_folds.specs.Bounds.{bounded}
+use Rattle.loop_folds.specs.Leaves.{leaf_step, leaf_count, leaf_count_of_all}
+use Rattle.loop_folds.specs.Cause.{Cause}
+use Rattle.loop_folds.specs.Cause.TheVariants as cause
+use Rattle.loop_folds.specs.Val.{Val}
+use Rattle.loop_folds.specs.Val.TheFolds.{fold-roll-Val}
+use Rattle.loop_folds.specs.Val.TheOpen.{Val-F}
+use Rattle.loop_folds.specs.Val.TheVariants as val
+use Rattle.loop_folds.specs.Val.TheViews as values
 use Rattle.if1_graph.specs.declared.op.Grouping.TheVariants.{Free}
 use Rattle.if1_graph.specs.declared.op.Simple.TheVariants as simple
 use Rattle.graph_meaning.specs.Carried.{Carried, Value, Many, Spoiled, Name}

@@ -4,10 +4,10 @@
 -- the change, and the changed array.
 use Rattle.std.proofs.Common.{◌≡◌, ℕ, pos, Bool, true, false, not, List, [], ◌∷◌, ◌+◌, sym, ap, subst, rules, if◌then◌else◌, arith}
 use Rattle.std.specs.Prelude.{codes}
-use Rattle.flow_value.specs.Bounds.{bounded}
-use Rattle.flow_value.specs.declared.value.Val.{Val}
-use Rattle.flow_value.specs.declared.value.Val.TheOpen.{Val-F}
-use Rattle.flow_value.specs.declared.value.Val.TheViews as values
+use Rattle.loop_folds.specs.Bounds.{bounded}
+use Rattle.loop_folds.specs.Val.{Val}
+use Rattle.loop_folds.specs.Val.TheOpen.{Val-F}
+use Rattle.loop_folds.specs.Val.TheViews as values
 use Rattle.if1_graph.specs.declared.graph.Edge.{Edge}
 use Rattle.if1_graph.specs.declared.graph.Graph.{Graph}
 use Rattle.if1_graph.specs.declared.graph.Graph.TheViews as views

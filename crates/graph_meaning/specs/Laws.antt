@@ -1,6 +1,6 @@
 -- The laws of a graph's meaning, of its cost, and of all orders in which it may fire.
 use Rattle.std.specs.Prelude.{◌≡◌, ◌≢◌, ℕ, Bool, true, false, ◌&&◌, not, ◌==◌, ◌≤◌, List, length, find, Some, Contains, ◌↔◌}
-use Rattle.flow_value.specs.declared.cause.Cause.{Cause}
+use Rattle.loop_folds.specs.Cause.{Cause}
 use Rattle.if1_graph.specs.declared.graph.Edge.{Edge}
 use Rattle.if1_graph.specs.declared.graph.Graph.{Graph}
 use Rattle.if1_graph.specs.declared.graph.Graph.TheViews.{out-Graph}

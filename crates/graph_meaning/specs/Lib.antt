@@ -4,8 +4,8 @@ pub use Rattle.loop_folds.specs.Masks
 pub use Rattle.loop_folds.specs.declared.folding.Folding
 pub use Rattle.loop_folds.specs.declared.masking.Keep
 pub use Rattle.loop_folds.specs.declared.masking.Masking
-pub use Rattle.flow_value.specs.declared.operation.Scalar2
-pub use Rattle.flow_value.specs.declared.value.Val
+pub use Rattle.loop_folds.specs.Scalar2
+pub use Rattle.loop_folds.specs.Val
 pub use Rattle.if1_graph.specs.declared.graph.Unit1
 pub use Rattle.if1_graph.specs.Ready
 pub use Rattle.if1_graph.specs.declared.graph.Graph
@@ -20,6 +20,15 @@ pub use Rattle.if1_graph.specs.declared.row.Want
 pub use Rattle.if1_graph.specs.Ports
 pub use Rattle.if1_marks.specs.Sound
 pub use Rattle.if1_marks.specs.Orders
+pub use Rattle.if1_graph.specs.Ops
+pub use Rattle.if1_graph.specs.declared.op.Reducer
+pub use Rattle.loop_folds.specs.Leaves
+pub use Rattle.loop_folds.specs.Scalar
+pub use Rattle.loop_folds.specs.Cause
+pub use Rattle.loop_folds.specs.Folds
+pub use Rattle.if1_marks.specs.Owned
+pub use Rattle.if1_marks.specs.Given
+pub use Rattle.if1_marks.specs.Aggregates
 pub mod Carried
 pub mod Demand
 pub mod Entered

@@ -3,10 +3,10 @@
 -- Only what is an aggregate by the type of its edge counts. An edge whose node takes its aggregate to change it in place is
 -- not copied.
 use Rattle.std.specs.Prelude.{◌≡◌, ℕ, suc, ◌+◌, ◌*◌, Bool, true, false, if◌then◌else◌, ◌&&◌, not, List, [], ◌∷◌, map, drop, min, length, sum, Option, Some}
-use Rattle.flow_value.specs.Leaves.{leaf_count, leaf_count_of_all}
-use Rattle.flow_value.specs.declared.value.Val.{Val}
-use Rattle.flow_value.specs.declared.value.Val.TheOpen.{Val-F}
-use Rattle.flow_value.specs.declared.value.Val.TheViews.{out-Val}
+use Rattle.loop_folds.specs.Leaves.{leaf_count, leaf_count_of_all}
+use Rattle.loop_folds.specs.Val.{Val}
+use Rattle.loop_folds.specs.Val.TheOpen.{Val-F}
+use Rattle.loop_folds.specs.Val.TheViews.{out-Val}
 use Rattle.loop_folds.specs.declared.masking.Keep.TheVariants.{Kept}
 use Rattle.loop_folds.specs.Clauses.{Cell}
 use Rattle.if1_graph.specs.Ops.{reducer_at}

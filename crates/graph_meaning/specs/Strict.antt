@@ -1,9 +1,9 @@
 -- The operands that fit a simple node, and the error that a strict one of them brings to every output (IF1 manual M-170,
 -- simple nodes).
 use Rattle.std.specs.Prelude.{◌≡◌, ℕ, suc, Bool, true, false, if◌then◌else◌, List, [], ◌∷◌, Option, Some, None}
-use Rattle.flow_value.specs.declared.cause.Cause.{Cause}
-use Rattle.flow_value.specs.declared.value.Val.{Val}
-use Rattle.flow_value.specs.declared.value.Val.TheVariants as val
+use Rattle.loop_folds.specs.Cause.{Cause}
+use Rattle.loop_folds.specs.Val.{Val}
+use Rattle.loop_folds.specs.Val.TheVariants as val
 use Rattle.loop_folds.specs.Elements.{or_else, error_of}
 use Rattle.if1_graph.specs.Ops.{reducer_at}
 use Rattle.if1_graph.specs.Rows.{Operand, row_of, operand_of, is_strict}

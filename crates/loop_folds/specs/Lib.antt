@@ -1,4 +1,13 @@
 pub use Rattle.flow_reduce.specs.Elements
+pub use Rattle.flow_reduce.specs.Folds
+pub use Rattle.flow_value.specs.Bounds
+pub use Rattle.flow_value.specs.declared.cause.Cause
+pub use Rattle.flow_value.specs.declared.value.Val
+pub use Rattle.flow_value.specs.declared.operation.Scalar2
+pub use Rattle.flow_value.specs.Scalar
+pub use Rattle.flow_value.specs.declared.operation.Scalar1
+pub use Rattle.flow_value.specs.Leaves
+pub use Rattle.flow_value.specs.declared.ty.Ty
 pub mod Clauses
 pub mod Makings
 pub mod Masks

@@ -8,6 +8,7 @@ mod masking;
 mod masks;
 
 pub use clause::Clause;
+pub use flow_value::{Name, Numbers, Scalar1, Scalar2, item_at};
 pub use folding::Folding;
 pub use masking::{Keep, Masking};
 pub use masks::keep;

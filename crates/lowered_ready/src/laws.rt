@@ -3,9 +3,9 @@ ghost use Rattle.lowered_ready.specs.Laws.{AreReady};
 
 use lowered_order::translated_units_are_acyclic;
 use lowered_ports::ports_hold_where_rules_do;
-use lowered_rules::lowered_graphs_obey_the_rules;
-use lowered_types::right_programs_have_typed_units;
-use lowered_units::translated_units_are_formed;
+use lowered_types::{
+    lowered_graphs_obey_the_rules, right_programs_have_typed_units, translated_units_are_formed,
+};
 
 /// The unit of a fitting program within the limits is ready, where its loops are such that graphs can
 /// obey the rules.

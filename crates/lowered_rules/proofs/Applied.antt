@@ -9,8 +9,8 @@ use Rattle.if1_graph.specs.declared.op.Simple.TheVariants as simple
 use Rattle.if1_graph.specs.Types.{Sort, Plain}
 use Rattle.typed_tree.specs.Types.{IsNumber}
 use Rattle.value_ops.specs.declared.operation.Operation.{Operation}
-use Rattle.fitting_trees.specs.Fitting.{Row}
-use Rattle.fitting_trees.specs.Fitting as is
+use Rattle.lowering_meaning.specs.FittingTreesFitting.{Row}
+use Rattle.lowering_meaning.specs.FittingTreesFitting as is
 use Rattle.lowering.specs.declared.feed.Carried.{Carried}
 use Rattle.lowering.specs.declared.feed.Wire.{Wire}
 use Rattle.lowering.specs.Operations.{one, reversed, row_lowered}

@@ -20,8 +20,8 @@ use Rattle.type_table.specs.Tables.{members_if}
 use Rattle.typed_tree.specs.declared.expr.Case.{Case}
 use Rattle.typed_tree.specs.Types.{Member, IsNumber, AreMembers, AreNumbers}
 use Rattle.typed_tree.specs.Types as number
-use Rattle.meaning.specs.Meaning.{arm_place}
-use Rattle.fitting_trees.specs.Fitting.{TagsFit, IsChosen}
+use Rattle.lowering.specs.Meaning.{arm_place}
+use Rattle.lowering_meaning.specs.FittingTreesFitting.{TagsFit, IsChosen}
 use Rattle.lowering.specs.declared.feed.Feed.TheVariants.{Port}
 use Rattle.lowering.specs.declared.feed.Carried.{Carried}
 use Rattle.lowering.specs.declared.feed.Carried.TheVariants.{One}
@@ -30,8 +30,8 @@ use Rattle.lowering.specs.Feeds.{wire, into}
 use Rattle.lowering.specs.Graphs.{closed_graphs, inputs, size, new_graph, new_graphs}
 use Rattle.lowering.specs.Operations.{Lowers, wire_at, all_lowered}
 use Rattle.lowering.specs.Choices.{content_of, tag_count, type_of, arms_of, arms_from_tag, arm_names, arms_from, first_tag, case_lowered, two_arms, truth, is_tag_lowered}
-use Rattle.lowered_units.proofs.BuiltTrees.{out-bool, out-char, out-int, out-null, out-array, out-stream, out-record, out-union}
-use Rattle.lowered_units.proofs.Wired.{IsTyped, typed-both, typed-into, first-typed, the-number, content-typed}
+use Rattle.lowering_meaning.proofs.BuiltTrees.{out-bool, out-char, out-int, out-null, out-array, out-stream, out-record, out-union}
+use Rattle.lowering_meaning.proofs.Wired.{IsTyped, typed-both, typed-into, first-typed, the-number, content-typed}
 use Rattle.lowered_rules.specs.Ports.{Outs}
 use Rattle.lowered_rules.proofs.Scopes.{Level, level, all-into, in-both}
 use Rattle.lowered_rules.proofs.Closing as closing

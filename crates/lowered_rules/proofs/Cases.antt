@@ -20,7 +20,7 @@ use Rattle.lowering.specs.declared.feed.Wire.{Wire}
 use Rattle.lowering.specs.declared.graph.LoweredGraph.{LoweredGraph}
 use Rattle.lowering.specs.declared.graph.Lowered.{Lowered}
 use Rattle.lowering.specs.Graphs.{closed, closed_wire, closed_wires, closed_graphs, inputs, tag_case_on}
-use Rattle.lowered_units.proofs.Wired.{IsTyped, typed-ports}
+use Rattle.lowering_meaning.proofs.Wired.{IsTyped, typed-ports}
 use Rattle.lowered_rules.specs.Ports.{Outs, sort_in}
 use Rattle.lowered_rules.specs.Parts.{IsShown, most_results, result_of, FitsNodeInput, FitsOwnInput, IsPartInput, AreInputs, IsCompound}
 use Rattle.lowered_rules.specs.Rules.{IsPartGraph}

@@ -18,8 +18,8 @@ use Rattle.loop_folds.specs.declared.folding.Folding.{Folding}
 use Rattle.loop_folds.specs.declared.masking.Masking.TheVariants as masking
 use Rattle.typed_tree.specs.declared.expr.ClauseForm.{ClauseForm}
 use Rattle.typed_tree.specs.Types.{IsNumber, AreNumbers}
-use Rattle.fitting_trees.specs.Fitting.{Makes, AreMade}
-use Rattle.fitting_trees.specs.Fitting as is
+use Rattle.lowering_meaning.specs.FittingTreesFitting.{Makes, AreMade}
+use Rattle.lowering_meaning.specs.FittingTreesFitting as is
 use Rattle.lowering.specs.declared.feed.Feed.TheVariants.{Named}
 use Rattle.lowering.specs.declared.feed.Carried.{Carried}
 use Rattle.lowering.specs.declared.feed.Carried.TheVariants.{One, Many as Multiple, Callee}
@@ -30,7 +30,7 @@ use Rattle.lowering.specs.Graphs.{Lowering, node, only, andthen, ports, closed_w
 use Rattle.lowering.specs.Operations.{Lowers, boolean, integer, one, wire_at, row_lowered}
 use Rattle.lowering.specs.Loops.{many, types, take_up, with_not, mask_places, unless_places, clauses_lowered, grouping_of, span, Bound, Wired, Limit, fold_lowered, returns_lowered}
 use Rattle.lowering_meaning.specs.Coverage.{no_true}
-use Rattle.lowered_units.proofs.Wired.{IsShown as IsSeen, IsTyped, IsMultiple, typed-ports}
+use Rattle.lowering_meaning.proofs.Wired.{IsShown as IsSeen, IsTyped, IsMultiple, typed-ports}
 use Rattle.lowered_rules.specs.Ports.{Outs, IsOne}
 use Rattle.lowered_rules.specs.Parts.{IsShown}
 use Rattle.lowered_rules.proofs.Scopes.{Level, level, in-at}

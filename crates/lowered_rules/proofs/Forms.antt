@@ -13,7 +13,7 @@ use Rattle.if1_graph.specs.Ports.{AreFirst, AreArguments, IsUpTo, count_from, ar
 use Rattle.if1_graph.specs.Typing.{Known}
 use Rattle.sisal_tree.specs.declared.expr.Constant.{Constant}
 use Rattle.typed_tree.specs.Types.{AreNumbers}
-use Rattle.fitting_trees.specs.Fitting.{Header}
+use Rattle.lowering_meaning.specs.FittingTreesFitting.{Header}
 use Rattle.lowering.specs.declared.feed.Feed.TheVariants.{Literal}
 use Rattle.lowering.specs.declared.feed.Carried.{Carried}
 use Rattle.lowering.specs.declared.feed.Carried.TheVariants.{One}
@@ -24,7 +24,7 @@ use Rattle.lowering.specs.Graphs.{Lowering, node, only, andthen, a_node, closed_
 use Rattle.lowering.specs.Operations.{Lowers, integer, one, all_lowered, defs_lowered, body_lowered, wire_at, row_lowered}
 use Rattle.lowering.specs.Choices.{selector_lowered}
 use Rattle.lowering.specs.Phrases.{call_lowered}
-use Rattle.lowered_units.proofs.Wired.{typed-both, typed-at, typed-ports}
+use Rattle.lowering_meaning.proofs.Wired.{typed-both, typed-at, typed-ports}
 use Rattle.lowered_rules.specs.Ports.{Outs, filled_from, AreGiven}
 use Rattle.lowered_rules.proofs.Scopes.{Level, level, in-both, in-at, all-more}
 use Rattle.lowered_rules.proofs.Made as made

@@ -21,7 +21,7 @@ use Rattle.lowering.specs.declared.graph.Lowered.{Lowered}
 use Rattle.lowering.specs.Graphs.{uses, closed, closed_wire, closed_wires, inputs, size, new_graph}
 use Rattle.lowering.specs.Operations.{Lowers, all_lowered}
 use Rattle.lowering.specs.Choices.{selector_lowered, if_lowered}
-use Rattle.lowered_units.proofs.Wired.{typed-into}
+use Rattle.lowering_meaning.proofs.Wired.{typed-into}
 use Rattle.lowered_rules.specs.Ports.{sort_in}
 use Rattle.lowered_rules.specs.Parts.{most_results, result_of, FitsResult, FitsNodeInput, part_inputs, part_results, IsCompound}
 use Rattle.lowered_rules.specs.Rules.{IsPartGraph}

@@ -17,7 +17,7 @@ use Rattle.if1_graph.specs.Ports.{IsAssociation, least_width, tags_of}
 use Rattle.if1_graph.specs.Typing.{IsPlain, IsMultiple as IsAllOf, FitsCompound, giving_part, is_returns}
 use Rattle.typed_tree.specs.declared.expr.Turns.{Turns}
 use Rattle.typed_tree.specs.Types.{AreNumbers}
-use Rattle.fitting_trees.specs.Fitting.{Renews, AreMade}
+use Rattle.lowering_meaning.specs.FittingTreesFitting.{Renews, AreMade}
 use Rattle.lowering.specs.declared.feed.Carried.{Carried}
 use Rattle.lowering.specs.declared.feed.Carried.TheVariants.{One}
 use Rattle.lowering.specs.declared.feed.Wire.{Wire}
@@ -27,7 +27,7 @@ use Rattle.lowering.specs.declared.graph.Lowered.{Lowered}
 use Rattle.lowering.specs.Graphs.{only, andthen, closed, closed_wire, closed_wires, inputs, size, new_graph}
 use Rattle.lowering.specs.Operations.{Lowers, one, wire_at, all_lowered, defs_lowered}
 use Rattle.lowering.specs.Loops.{own_inputs, many, types, take_up, with_not, unless_places, Wired, returns_lowered, Phrase, loop_kind, loop_name, extra, extras, place_of, collected, renew, test_lowered, row_of_turn, initial_lowered}
-use Rattle.lowered_units.proofs.Wired.{typed-length, typed-both, typed-into, typed-drop, typed-take, typed-renew, own-typed}
+use Rattle.lowering_meaning.proofs.Wired.{typed-length, typed-both, typed-into, typed-drop, typed-take, typed-renew, own-typed}
 use Rattle.lowered_rules.specs.Ports.{Outs, sort_in}
 use Rattle.lowered_rules.specs.Parts.{results_at, compound_outputs, part_inputs, part_results, result_of, FitsResult, FitsOwnInput, IsCompound}
 use Rattle.lowered_rules.specs.Rules.{IsPartGraph}

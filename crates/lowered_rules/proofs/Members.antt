@@ -19,7 +19,7 @@ use Rattle.if1_graph.specs.Typing.{Known, IsCarried, IsMember}
 use Rattle.type_table.specs.declared.form.Member.{Member as NumberedMember}
 use Rattle.typed_tree.specs.Types.{Member, IsNumber, AreMembers, AreNumbers}
 use Rattle.typed_tree.specs.Types as number
-use Rattle.fitting_trees.specs.Fitting.{AreFields}
+use Rattle.lowering_meaning.specs.FittingTreesFitting.{AreFields}
 use Rattle.lowering.specs.declared.feed.Feed.{Feed}
 use Rattle.lowering.specs.declared.feed.Feed.TheVariants.{Literal, Named, Absent, Port}
 use Rattle.lowering.specs.declared.feed.Carried.{Carried}
@@ -28,8 +28,8 @@ use Rattle.lowering.specs.declared.feed.Wire.{Wire}
 use Rattle.lowering.specs.declared.graph.Action.TheVariants.{Row}
 use Rattle.lowering.specs.Graphs.{node, closed_wire, closed_wires}
 use Rattle.lowering.specs.Operations.{wire_at, absent, absents, at_place, changed, field_lowered}
-use Rattle.lowered_units.proofs.BuiltTrees.{out-bool, out-char, out-int, out-null, out-array, out-stream, out-record, out-union}
-use Rattle.lowered_units.proofs.Wired.{typed-ports}
+use Rattle.lowering_meaning.proofs.BuiltTrees.{out-bool, out-char, out-int, out-null, out-array, out-stream, out-record, out-union}
+use Rattle.lowering_meaning.proofs.Wired.{typed-ports}
 use Rattle.lowered_rules.specs.Ports.{Outs, filled_if, filled_from, sort_in, AreWanted, IsWanted}
 use Rattle.lowered_rules.specs.Parts.{IsShown}
 use Rattle.lowered_rules.specs.Sorts.{unnamed}

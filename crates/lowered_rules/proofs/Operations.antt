@@ -11,7 +11,7 @@ use Rattle.if1_graph.specs.Types.{Sort, Plain}
 use Rattle.if1_graph.specs.Ports.{is_stream}
 use Rattle.sisal_tree.specs.declared.expr.Constant.TheVariants as constant
 use Rattle.typed_tree.specs.Types.{IsScalar, IsNumber}
-use Rattle.fitting_trees.specs.Fitting.{AreAll, IsOrdered}
+use Rattle.lowering_meaning.specs.FittingTreesFitting.{AreAll, IsOrdered}
 use Rattle.lowering.specs.declared.feed.Feed.TheVariants.{Literal}
 use Rattle.lowering.specs.declared.feed.Carried.{Carried}
 use Rattle.lowering.specs.declared.feed.Carried.TheVariants.{One}
@@ -19,7 +19,7 @@ use Rattle.lowering.specs.declared.feed.Wire.{Wire}
 use Rattle.lowering.specs.Feeds.{wire}
 use Rattle.lowering.specs.Graphs.{closed_wires}
 use Rattle.lowering.specs.Operations.{character, one, reversed, row_lowered, constant_lowered}
-use Rattle.lowered_units.proofs.BuiltTrees.{out-array}
+use Rattle.lowering_meaning.proofs.BuiltTrees.{out-array}
 use Rattle.lowered_rules.specs.Ports.{Outs, IsOne}
 use Rattle.lowered_rules.proofs.Scopes.{Level, level}
 use Rattle.lowered_rules.proofs.Sorting.{AreSorted, AreSorts, sorted, plain-sorts}

@@ -21,8 +21,8 @@ use Rattle.typed_tree.specs.declared.expr.Source.TheVariants as source
 use Rattle.typed_tree.specs.declared.expr.ClauseForm.{ClauseForm}
 use Rattle.typed_tree.specs.Types.{IsNumber, AreNumbers}
 use Rattle.typed_tree.specs.Types as number
-use Rattle.fitting_trees.specs.Fitting.{Goes, AreMade}
-use Rattle.fitting_trees.specs.Fitting as is
+use Rattle.lowering_meaning.specs.FittingTreesFitting.{Goes, AreMade}
+use Rattle.lowering_meaning.specs.FittingTreesFitting as is
 use Rattle.lowering.specs.declared.feed.Carried.{Carried}
 use Rattle.lowering.specs.declared.feed.Carried.TheVariants.{One, Many as Multiple, Callee}
 use Rattle.lowering.specs.declared.feed.Wire.{Wire}
@@ -34,8 +34,8 @@ use Rattle.lowering.specs.Graphs.{Lowering, node, only, andthen, a_node, closed,
 use Rattle.lowering.specs.Operations.{Lowers, integer, one, wire_at}
 use Rattle.lowering.specs.Choices.{element_of, is_array, is_array_form, type_of}
 use Rattle.lowering.specs.Loops.{own_inputs, many, single, types, take_up, Wired, Limit, width, elements_in, generator_lowered, generators_lowered, bound_of, returns_lowered, forall_lowered}
-use Rattle.lowered_units.proofs.BuiltTrees.{out-bool, out-char, out-int, out-null, out-array, out-stream, out-record, out-union}
-use Rattle.lowered_units.proofs.Wired.{IsMultiple, AreMultiples, IsTyped, ones-typed, typed-both, typed-into, typed-drop, typed-take, first-typed, the-number, array-elements, stream-elements}
+use Rattle.lowering_meaning.proofs.BuiltTrees.{out-bool, out-char, out-int, out-null, out-array, out-stream, out-record, out-union}
+use Rattle.lowering_meaning.proofs.Wired.{IsMultiple, AreMultiples, IsTyped, ones-typed, typed-both, typed-into, typed-drop, typed-take, first-typed, the-number, array-elements, stream-elements}
 use Rattle.lowered_rules.specs.Ports.{Outs}
 use Rattle.lowered_rules.specs.Parts.{results_at, result_of, FitsOwnInput, IsCompound}
 use Rattle.lowered_rules.specs.Rules.{IsPartGraph}

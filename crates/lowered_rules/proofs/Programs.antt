@@ -15,7 +15,7 @@ use Rattle.typed_tree.specs.declared.expr.TypedExpr.{TypedExpr}
 use Rattle.typed_tree.specs.declared.program.Function.{Function as TypedFunction}
 use Rattle.typed_tree.specs.Types.{AreNumbers}
 use Rattle.typed_tree.specs.Types as number
-use Rattle.fitting_trees.specs.Fitting.{Header, BodyFits, FunctionsFit}
+use Rattle.lowering_meaning.specs.FittingTreesFitting.{Header, BodyFits, FunctionsFit}
 use Rattle.lowering.specs.declared.feed.Feed.{Feed}
 use Rattle.lowering.specs.declared.feed.Feed.TheVariants.{Literal, Named, Absent, Port}
 use Rattle.lowering.specs.declared.feed.Carried.{Carried}
@@ -29,9 +29,9 @@ use Rattle.lowering.specs.Graphs.{closed, closed_graphs, numbers, size, uses, ne
 use Rattle.lowering.specs.Loops.{own_inputs}
 use Rattle.lowering.specs.Phrases.{phrase, lowers}
 use Rattle.lowering.specs.Programs.{bodies, function_lowered, functions_lowered, graphs, graph_at}
-use Rattle.lowered_units.specs.Fitting.{HaveMembers}
-use Rattle.lowered_units.proofs.Programs.{has-basics}
-use Rattle.lowered_units.proofs.Wired.{typed-ports}
+use Rattle.lowering_meaning.specs.Fitting.{HaveMembers}
+use Rattle.lowering_meaning.proofs.Programs.{has-basics}
+use Rattle.lowering_meaning.proofs.Wired.{typed-ports}
 use Rattle.lowered_rules.specs.Rules.{HasPartsRight, AreListed, IsFunctionGraph}
 use Rattle.lowered_rules.specs.Laws.{ObeyRules}
 use Rattle.lowered_rules.proofs.Scopes.{AreIn, own-in}

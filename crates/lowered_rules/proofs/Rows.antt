@@ -14,7 +14,7 @@ use Rattle.if1_graph.specs.Types.{Sort, Plain, Many}
 use Rattle.if1_graph.specs.Ports.{count_from}
 use Rattle.if1_graph.specs.Typing.{Known, Fits, IsCarried, HasElements, IsSequence, IfCarried}
 use Rattle.lowering.specs.declared.feed.Carried.{Carried}
-use Rattle.fitting_trees.specs.Fitting.{IsArithmetic, IsEquality, IsOrder}
+use Rattle.lowering_meaning.specs.FittingTreesFitting.{IsArithmetic, IsEquality, IsOrder}
 use Rattle.lowered_rules.specs.Ports.{AreFilled}
 use Rattle.lowered_rules.proofs.Sorting.{AreFit, first-ports}
 

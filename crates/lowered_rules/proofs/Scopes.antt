@@ -14,7 +14,7 @@ use Rattle.lowering.specs.Feeds.{inside, into}
 use Rattle.lowering.specs.Graphs.{ports}
 use Rattle.lowering.specs.Operations.{wire_at}
 use Rattle.lowering.specs.Loops.{take_up, renew, renew_one}
-use Rattle.lowered_units.proofs.Wired.{IsTyped, AreTyped}
+use Rattle.lowering_meaning.proofs.Wired.{IsTyped, AreTyped}
 use Rattle.lowered_rules.specs.Ports.{Outs, type_from, type_at}
 
 -- the own inputs of a graph, and what its nodes give

@@ -10,14 +10,14 @@ use Rattle.if1_graph.specs.Formed.{IsOnce}
 use Rattle.if1_graph.specs.Ports.{AreFirst, count_from}
 use Rattle.if1_graph.specs.Typing.{Known, Fits}
 use Rattle.type_table.specs.declared.form.Form.{Form}
-use Rattle.fitting_trees.specs.Fitting.{Header}
+use Rattle.lowering_meaning.specs.FittingTreesFitting.{Header}
 use Rattle.lowering.specs.declared.feed.Feed.{Feed}
 use Rattle.lowering.specs.declared.feed.Feed.TheVariants.{Literal, Named, Absent, Port}
 use Rattle.lowering.specs.declared.feed.Carried.{Carried}
 use Rattle.lowering.specs.declared.feed.Carried.TheVariants.{One, Many as Multiple, Callee}
 use Rattle.lowering.specs.declared.feed.Wire.{Wire}
 use Rattle.lowering.specs.Graphs.{closed_wires}
-use Rattle.lowered_units.proofs.Wired.{IsShown as IsSeen, IsTyped, AreTyped}
+use Rattle.lowering_meaning.proofs.Wired.{IsShown as IsSeen, IsTyped, AreTyped}
 use Rattle.lowered_rules.specs.Ports.{filled_from, sort_if, sort_in, IsWanted, AreWanted}
 use Rattle.lowered_rules.specs.Parts.{IsShown}
 use Rattle.lowered_rules.specs.Sorts.{IsSorting}

@@ -19,8 +19,8 @@ use Rattle.typed_tree.specs.declared.expr.ClauseForm.{ClauseForm}
 use Rattle.typed_tree.specs.declared.expr.Source.{Source}
 use Rattle.typed_tree.specs.Typing.{with}
 use Rattle.typed_tree.specs.Types.{AreNumbers, constant_type}
-use Rattle.fitting_trees.specs.Fitting.{AreMade, TagsFit, IsChosen, Fits, AllFit, DefsFit, ArmsFit}
-use Rattle.fitting_trees.specs.Fitting as is
+use Rattle.lowering_meaning.specs.FittingTreesFitting.{AreMade, TagsFit, IsChosen, Fits, AllFit, DefsFit, ArmsFit}
+use Rattle.lowering_meaning.specs.FittingTreesFitting as is
 use Rattle.lowering.specs.declared.feed.Carried.TheVariants.{One}
 use Rattle.lowering.specs.Graphs.{andthen}
 use Rattle.lowering.specs.Operations.{Lowers, all_lowered, body_lowered, constant_lowered}
@@ -30,7 +30,7 @@ use Rattle.lowering.specs.Phrases.{Kind, each, expr_lowered, kind_lowered, phras
 use Rattle.lowering.specs.Programs.{stub}
 use Rattle.lowering_meaning.specs.Coverage.{verdict, kind_covered, all_ok, each_ok, counts, all_one, no_true, masks_alone}
 use Rattle.lowering_meaning.proofs.Layers.{parts_lowered, name-is, parts_covered, covered-is, count-is, and-true}
-use Rattle.lowered_units.proofs.BuiltTrees.{numbers-length}
+use Rattle.lowering_meaning.proofs.BuiltTrees.{numbers-length}
 use Rattle.lowered_rules.specs.Laws.{has_source, rule_forms}
 use Rattle.lowered_rules.proofs.World.{World, To, AllTo, to_none, to_more, DefsTo, to_no_def, to_def, ArmsTo, to_no_arm, to_named_arm, to_arm, row-does}
 use Rattle.lowered_rules.proofs.Rows as rows

@@ -17,7 +17,7 @@ use Rattle.lowering.specs.declared.graph.LoweredGraph.{LoweredGraph}
 use Rattle.lowering.specs.declared.graph.Lowered.{Lowered}
 use Rattle.lowering.specs.Feeds.{outsides}
 use Rattle.lowering.specs.Graphs.{node, resolved, closed, closed_wires, closed_graphs, inputs, uses, whole}
-use Rattle.lowered_units.proofs.Wired.{typed-ports}
+use Rattle.lowering_meaning.proofs.Wired.{typed-ports}
 use Rattle.lowered_rules.specs.Ports.{Outs, sort_in}
 use Rattle.lowered_rules.specs.Parts.{part_inputs, part_results, compound_outputs, result_of, FitsResult, AreResults, FitsNodeInput, FitsOwnInput, IsPartInput, AreInputs, AreOutputs, IsCompound}
 use Rattle.lowered_rules.specs.Rules.{IsPartGraph}

@@ -12,7 +12,7 @@ use Rattle.if1_graph.specs.Ports.{IsUpTo}
 use Rattle.if1_graph.specs.Typing.{Known, Fits, StandsRight}
 use Rattle.type_table.specs.declared.form.Form.{Form}
 use Rattle.typed_tree.specs.Types.{IsNumber}
-use Rattle.fitting_trees.specs.Fitting.{Header}
+use Rattle.lowering_meaning.specs.FittingTreesFitting.{Header}
 use Rattle.lowering.specs.declared.feed.Carried.{Carried}
 use Rattle.lowering.specs.declared.feed.Carried.TheVariants.{One}
 use Rattle.lowering.specs.declared.feed.Wire.{Wire}
@@ -20,8 +20,8 @@ use Rattle.lowering.specs.declared.graph.Action.TheVariants.{Row}
 use Rattle.lowering.specs.declared.graph.LoweredGraph.{LoweredGraph}
 use Rattle.lowering.specs.Graphs.{Lowering, node, closed_wires}
 use Rattle.lowering.specs.Operations.{Lowers, row_lowered}
-use Rattle.lowered_units.specs.Fitting.{HaveMembers}
-use Rattle.lowered_units.proofs.Wired.{AreTyped, typed-ports}
+use Rattle.lowering_meaning.specs.Fitting.{HaveMembers}
+use Rattle.lowering_meaning.proofs.Wired.{AreTyped, typed-ports}
 use Rattle.lowered_rules.specs.Ports.{Outs, outputs_by, AreFilled, IsBounded, IsNamedRight}
 use Rattle.lowered_rules.specs.Sorts.{IsSorting}
 use Rattle.lowered_rules.proofs.Scopes.{Level, level, AreIn}

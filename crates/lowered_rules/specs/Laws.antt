@@ -5,7 +5,7 @@ use Rattle.if1_graph.specs.Types.{Sort}
 use Rattle.typed_tree.specs.declared.expr.Source.{Source}
 use Rattle.typed_tree.specs.declared.program.Program.{Program}
 use Rattle.lowering.specs.declared.feed.Carried.{Carried}
-use Rattle.lowered_units.specs.Fitting.{IsFitting}
+use Rattle.lowering_meaning.specs.Fitting.{IsFitting}
 use Rattle.lowering_meaning.specs.Coverage.{Coverage, AreCovered, masks_alone, all_one}
 use Rattle.lowered_rules.specs.Sorts.{IsSorting}
 use Rattle.lowered_rules.specs.Rules.{AreRight}

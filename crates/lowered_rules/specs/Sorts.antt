@@ -5,7 +5,7 @@ use Rattle.flow_value.specs.declared.ty.Ty.TheVariants as ty
 use Rattle.if1_graph.specs.Types.{Sort, Plain, Many, Function}
 use Rattle.type_table.specs.declared.form.Form.{Form}
 use Rattle.typed_tree.specs.Types.{Member, IsNumber}
-use Rattle.fitting_trees.specs.Fitting.{Header}
+use Rattle.lowering_meaning.specs.FittingTreesFitting.{Header}
 use Rattle.lowering.specs.declared.feed.Carried.{Carried}
 use Rattle.lowering.specs.declared.feed.Carried.TheVariants.{One, Many as Multiple, Callee}
 

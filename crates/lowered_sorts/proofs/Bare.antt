@@ -12,7 +12,7 @@ use Rattle.type_table.specs.Tables.{depths, IsTable}
 use Rattle.typed_tree.specs.declared.program.Program.{Program}
 use Rattle.typed_tree.specs.Types.{IsNumber, AreMembers, AreNumbers, no_member, a_member}
 use Rattle.typed_tree.specs.Types as number
-use Rattle.lowered_units.proofs.Depths.{depth_at}
+use Rattle.lowering_meaning.proofs.Depths.{depth_at}
 use Rattle.lowering_meaning.proofs.Sorts.{shallow, form-at}
 use Rattle.lowered_sorts.specs.Sorts.{unnamed, bare_step, bare, members_of, type_of, type_within, type_at, types_at}
 

@@ -21,9 +21,9 @@ use Rattle.typed_tree.specs.declared.program.Function.{Function}
 use Rattle.typed_tree.specs.declared.program.Program.{Program}
 use Rattle.lowering.specs.Types.{Entry, entry, Table, Labelled, enter, basics, Part, members, named, over, form_label, type_label, tuple_label, function_label}
 use Rattle.lowering.proofs.Tables.{Grows, grows-then, enter-grows, within-grows, tuple-grows}
-use Rattle.lowered_units.specs.Units.{entries_from}
-use Rattle.lowered_units.proofs.Canonical.{as_type}
-use Rattle.lowered_units.proofs.Depths.{depth_at}
+use Rattle.lowering_meaning.specs.Units.{entries_from}
+use Rattle.lowering_meaning.proofs.Canonical.{as_type}
+use Rattle.lowering_meaning.proofs.Depths.{depth_at}
 use Rattle.lowering_meaning.proofs.LowTables.{IsLow, low-at}
 use Rattle.lowering_meaning.proofs.Sorts.{HasEntry, entered, E, within, at-entry, kind-there, shallow}
 use Rattle.lowering_meaning.proofs.Sorts as read

@@ -10,7 +10,7 @@ use Rattle.type_table.specs.declared.form.Form.TheVariants.{Integer}
 use Rattle.typed_tree.specs.declared.program.Function.{Function}
 use Rattle.typed_tree.specs.declared.program.Program.{Program}
 use Rattle.typed_tree.specs.Types.{AreNumbers}
-use Rattle.fitting_trees.specs.Fitting.{Header, FunctionsFit}
+use Rattle.lowering_meaning.specs.FittingTreesFitting.{Header, FunctionsFit}
 use Rattle.lowering.specs.declared.feed.Feed.{Feed}
 use Rattle.lowering.specs.declared.feed.Feed.TheVariants.{Literal, Named, Absent, Port}
 use Rattle.lowering.specs.declared.feed.Carried.{Carried}
@@ -26,13 +26,13 @@ use Rattle.lowering.specs.Programs.{functions_lowered, graphs}
 use Rattle.lowering.specs.Types.{Table, Labelled, basics, callee_label, carried_label, function_label, header_need, body_needs, with_needs, table, label_of}
 use Rattle.lowering.proofs.Stable.{function-stays}
 use Rattle.lowering.proofs.Tables.{Grows, grows-none, grows-then, function-grows, bodies-grow, table-begins}
-use Rattle.lowered_units.specs.Fitting.{IsFitting}
-use Rattle.lowered_units.specs.Units.{IsTranslated}
-use Rattle.lowered_units.proofs.Built.{IsGap, IsLineType}
-use Rattle.lowered_units.proofs.Heads.{In}
-use Rattle.lowered_units.proofs.Lined.{WiresIn, IsCalleeIn, NodesIn, GraphsIn, program-lined}
-use Rattle.lowered_units.proofs.Lines.{AreLines, all-lines}
-use Rattle.lowered_units.proofs.Programs.{functions, basics as basic_types, program-built, function-count}
+use Rattle.lowering_meaning.specs.Fitting.{IsFitting}
+use Rattle.lowering_meaning.specs.Units.{IsTranslated}
+use Rattle.lowering_meaning.proofs.Built.{IsGap, IsLineType}
+use Rattle.lowering_meaning.proofs.Heads.{In}
+use Rattle.lowering_meaning.proofs.Lined.{WiresIn, IsCalleeIn, NodesIn, GraphsIn, program-lined}
+use Rattle.lowering_meaning.proofs.Lines.{AreLines, all-lines}
+use Rattle.lowering_meaning.proofs.Programs.{functions, basics as basic_types, program-built, function-count}
 use Rattle.lowering_meaning.proofs.LowTables.{IsLow, table-low}
 use Rattle.lowering_meaning.proofs.Sorts.{E, form-at, program-stays}
 use Rattle.lowered_sorts.specs.Sorts.{callee_sort, sort_of}

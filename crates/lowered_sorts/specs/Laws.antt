@@ -13,8 +13,8 @@ use Rattle.lowering.specs.Feeds.{carried}
 use Rattle.lowering.specs.Graphs.{callee}
 use Rattle.lowering.specs.Programs.{graphs}
 use Rattle.lowering.specs.Types.{label_of, header_label}
-use Rattle.lowered_units.specs.Fitting.{IsFitting}
-use Rattle.lowered_units.specs.Units.{IsTranslated}
+use Rattle.lowering_meaning.specs.Fitting.{IsFitting}
+use Rattle.lowering_meaning.specs.Units.{IsTranslated}
 use Rattle.lowered_sorts.specs.Sorts.{bare, type_at, function_sort, sort_of}
 
 -- the label of what is carried stands for it in the unit

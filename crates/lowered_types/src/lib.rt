@@ -4,3 +4,5 @@
 mod laws;
 
 pub use laws::right_programs_have_typed_units;
+pub use lowered_rules::lowered_graphs_obey_the_rules;
+pub use lowered_units::translated_units_are_formed;

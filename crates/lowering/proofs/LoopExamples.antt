@@ -7,10 +7,10 @@ use Rattle.flow_value.specs.declared.operation.Scalar2.TheVariants as two
 use Rattle.if1_graph.specs.declared.op.Simple.TheVariants as simple
 use Rattle.if1_graph.specs.declared.op.Grouping.TheVariants as grouping
 use Rattle.if1_graph.specs.declared.op.Compound.TheVariants as compound
-use Rattle.sisal_tree.specs.declared.expr.Direction.TheVariants as direction
-use Rattle.value_ops.specs.declared.operation.Operation.TheVariants as operation
-use Rattle.loop_folds.specs.declared.folding.Folding.TheVariants as folding
-use Rattle.loop_folds.specs.declared.masking.Masking.TheVariants as masking
+use Rattle.typed_tree.specs.Direction.TheVariants as direction
+use Rattle.typed_tree.specs.Operation.TheVariants as operation
+use Rattle.typed_tree.specs.Folding.TheVariants as folding
+use Rattle.typed_tree.specs.Masking.TheVariants as masking
 use Rattle.typed_tree.specs.declared.expr.Source.TheVariants as source
 use Rattle.typed_tree.specs.declared.expr.TypedKind.TheOpen.{TypedKind-F}
 use Rattle.lowering.specs.declared.feed.Feed.TheVariants.{Named}

@@ -3,8 +3,8 @@ use Rattle.std.proofs.Common.{◌≡◌, refl, List, [], ◌∷◌}
 use Rattle.flow_value.specs.declared.operation.Scalar1.TheVariants as unary
 use Rattle.flow_value.specs.declared.operation.Scalar2.TheVariants as two
 use Rattle.if1_graph.specs.declared.op.Simple.TheVariants as simple
-use Rattle.sisal_tree.specs.declared.expr.Constant.TheVariants as constants
-use Rattle.value_ops.specs.declared.operation.Operation.TheVariants as operation
+use Rattle.typed_tree.specs.Constant.TheVariants as constants
+use Rattle.typed_tree.specs.Operation.TheVariants as operation
 use Rattle.typed_tree.specs.declared.expr.TypedKind.TheOpen.{TypedKind-F}
 use Rattle.lowering.specs.declared.feed.Feed.TheVariants.{Literal}
 use Rattle.lowering.specs.declared.feed.Carried.TheVariants.{One, Callee}

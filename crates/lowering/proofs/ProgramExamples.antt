@@ -2,8 +2,8 @@
 use Rattle.std.proofs.Common.{◌≡◌, ℕ, refl, ◌++◌, map, List, [], ◌∷◌, None}
 use Rattle.std.specs.Prelude.{codes}
 use Rattle.if1_graph.specs.declared.op.Simple.TheVariants as simple
-use Rattle.value_ops.specs.declared.operation.Operation.TheVariants as operation
-use Rattle.loop_folds.specs.declared.folding.Folding.TheVariants as folding
+use Rattle.typed_tree.specs.Operation.TheVariants as operation
+use Rattle.typed_tree.specs.Folding.TheVariants as folding
 use Rattle.typed_tree.specs.declared.expr.Source.TheVariants as source
 use Rattle.typed_tree.specs.declared.expr.TypedKind.TheOpen.{TypedKind-F}
 use Rattle.lowering.specs.declared.feed.Carried.TheVariants.{One, Callee}

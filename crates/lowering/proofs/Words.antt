@@ -1,17 +1,17 @@
 -- Short words for examples: phrases of typed trees with their parts lowered already, and graphs as they are written.
 use Rattle.std.specs.Prelude.{ℕ, pos, List, [], ◌∷◌, map}
 use Rattle.if1_graph.specs.declared.op.Simple.{Simple}
-use Rattle.sisal_tree.specs.declared.expr.Constant.{Constant}
-use Rattle.sisal_tree.specs.declared.expr.Constant.TheVariants as constants
-use Rattle.sisal_tree.specs.declared.expr.Direction.{Direction}
-use Rattle.sisal_tree.specs.declared.expr.Direction.TheVariants as direction
-use Rattle.value_ops.specs.declared.operation.Operation.{Operation}
-use Rattle.loop_folds.specs.declared.folding.Folding.{Folding}
-use Rattle.loop_folds.specs.declared.masking.Masking.{Masking}
-use Rattle.loop_folds.specs.declared.masking.Masking.TheVariants as masking
-use Rattle.type_table.specs.declared.form.Form.{Form}
-use Rattle.type_table.specs.declared.form.Form.TheVariants.{Boolean, Character, Integer, Null, Array, Stream, Record, Union}
-use Rattle.type_table.specs.declared.form.Member.{Member}
+use Rattle.typed_tree.specs.Constant.{Constant}
+use Rattle.typed_tree.specs.Constant.TheVariants as constants
+use Rattle.typed_tree.specs.Direction.{Direction}
+use Rattle.typed_tree.specs.Direction.TheVariants as direction
+use Rattle.typed_tree.specs.Operation.{Operation}
+use Rattle.typed_tree.specs.Folding.{Folding}
+use Rattle.typed_tree.specs.Masking.{Masking}
+use Rattle.typed_tree.specs.Masking.TheVariants as masking
+use Rattle.typed_tree.specs.Form.{Form}
+use Rattle.typed_tree.specs.Form.TheVariants.{Boolean, Character, Integer, Null, Array, Stream, Record, Union}
+use Rattle.typed_tree.specs.Member.{Member}
 use Rattle.typed_tree.specs.declared.expr.Case.{Case}
 use Rattle.typed_tree.specs.declared.expr.Choice.{Choice}
 use Rattle.typed_tree.specs.declared.expr.ClauseForm.{ClauseForm}

@@ -4,17 +4,17 @@ use Rattle.std.specs.Prelude.{ℕ, zero, suc, ◌+◌, Bool, true, false, nat_eq
 use Rattle.flow_value.specs.declared.operation.Scalar1.TheVariants as unary
 use Rattle.if1_graph.specs.declared.op.Simple.TheVariants as simple
 use Rattle.if1_graph.specs.declared.op.Compound.TheVariants as compound
-use Rattle.sisal_tree.specs.declared.expr.Constant.{Constant}
-use Rattle.sisal_tree.specs.declared.expr.Constant.TheVariants as constant
-use Rattle.type_table.specs.declared.form.Form.{Form}
-use Rattle.type_table.specs.declared.form.Form.TheVariants as form
-use Rattle.type_table.specs.declared.form.Member.{Member}
-use Rattle.type_table.specs.Tables.{members_at}
+use Rattle.typed_tree.specs.Constant.{Constant}
+use Rattle.typed_tree.specs.Constant.TheVariants as constant
+use Rattle.typed_tree.specs.Form.{Form}
+use Rattle.typed_tree.specs.Form.TheVariants as form
+use Rattle.typed_tree.specs.Member.{Member}
+use Rattle.typed_tree.specs.Tables.{members_at}
 use Rattle.typed_tree.specs.declared.expr.Case.{Case}
 use Rattle.typed_tree.specs.declared.expr.Choice.{Choice}
 use Rattle.meaning.specs.Meaning.{arm_place}
-use Rattle.value_ops.specs.declared.operation.Operation.{Operation}
-use Rattle.value_ops.specs.declared.operation.Operation.TheVariants as operation
+use Rattle.typed_tree.specs.Operation.{Operation}
+use Rattle.typed_tree.specs.Operation.TheVariants as operation
 use Rattle.lowering.specs.declared.feed.Feed.TheVariants.{Literal, Port}
 use Rattle.lowering.specs.declared.feed.Carried.{Carried}
 use Rattle.lowering.specs.declared.feed.Carried.TheVariants.{One, Many, Callee}

@@ -7,13 +7,13 @@ use Rattle.if1_graph.specs.declared.op.Grouping.{Grouping}
 use Rattle.if1_graph.specs.declared.op.Grouping.TheVariants as grouping
 use Rattle.if1_graph.specs.declared.op.Compound.{Compound}
 use Rattle.if1_graph.specs.declared.op.Compound.TheVariants as compound
-use Rattle.sisal_tree.specs.declared.expr.Direction.{Direction}
-use Rattle.sisal_tree.specs.declared.expr.Direction.TheVariants as direction
-use Rattle.loop_folds.specs.declared.folding.Folding.{Folding}
-use Rattle.loop_folds.specs.declared.folding.Folding.TheVariants as folding
-use Rattle.loop_folds.specs.declared.masking.Masking.{Masking}
-use Rattle.loop_folds.specs.declared.masking.Masking.TheVariants as masking
-use Rattle.type_table.specs.declared.form.Form.{Form}
+use Rattle.typed_tree.specs.Direction.{Direction}
+use Rattle.typed_tree.specs.Direction.TheVariants as direction
+use Rattle.typed_tree.specs.Folding.{Folding}
+use Rattle.typed_tree.specs.Folding.TheVariants as folding
+use Rattle.typed_tree.specs.Masking.{Masking}
+use Rattle.typed_tree.specs.Masking.TheVariants as masking
+use Rattle.typed_tree.specs.Form.{Form}
 use Rattle.typed_tree.specs.declared.expr.Product.{Product}
 use Rattle.typed_tree.specs.declared.expr.Turns.{Turns}
 use Rattle.typed_tree.specs.declared.expr.Source.{Source}

@@ -4,10 +4,10 @@ use Rattle.std.specs.Prelude.{ℕ, zero, suc, List, [], ◌∷◌, ◌++◌, map
 use Rattle.if1_graph.specs.declared.op.Simple.{Simple}
 use Rattle.if1_graph.specs.declared.op.Simple.TheVariants as simple
 use Rattle.if1_graph.specs.Units.{greatest}
-use Rattle.sisal_tree.specs.declared.expr.Constant.{Constant}
-use Rattle.sisal_tree.specs.declared.expr.Constant.TheVariants as constant
-use Rattle.value_ops.specs.declared.operation.Operation.{Operation}
-use Rattle.value_ops.specs.declared.operation.Operation.TheVariants as operation
+use Rattle.typed_tree.specs.Constant.{Constant}
+use Rattle.typed_tree.specs.Constant.TheVariants as constant
+use Rattle.typed_tree.specs.Operation.{Operation}
+use Rattle.typed_tree.specs.Operation.TheVariants as operation
 use Rattle.lowering.specs.declared.feed.Feed.TheVariants.{Literal, Absent}
 use Rattle.lowering.specs.declared.feed.Carried.TheVariants.{One}
 use Rattle.lowering.specs.declared.feed.Wire.{Wire}

@@ -1,7 +1,7 @@
 -- What each form of phrase becomes (SISAL Language Reference Manual 1.2, expressions). Names, `let` and parentheses make no node, and
 -- every definition is lowered, used or not.
 use Rattle.std.specs.Prelude.{ℕ, List, [], ◌∷◌, map, Option, Some, None}
-use Rattle.type_table.specs.declared.form.Form.{Form}
+use Rattle.typed_tree.specs.Form.{Form}
 use Rattle.typed_tree.specs.declared.expr.TypedExpr.{TypedExpr}
 use Rattle.typed_tree.specs.declared.expr.TypedKind.{TypedKind}
 use Rattle.typed_tree.specs.declared.expr.TypedKind.TheOpen.{TypedKind-F, TypedExpr-F}

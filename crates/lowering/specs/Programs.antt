@@ -2,7 +2,7 @@
 -- the parameters; a function that another text has gives an error for each result (SISAL Language Reference Manual 1.2, programs).
 use Rattle.std.specs.Prelude.{ℕ, suc, zero, List, [], ◌∷◌, map, get_or, slice_get, Option, Some, None}
 use Rattle.if1_graph.specs.declared.op.Simple.TheVariants as simple
-use Rattle.type_table.specs.declared.form.Form.{Form}
+use Rattle.typed_tree.specs.Form.{Form}
 use Rattle.typed_tree.specs.declared.expr.TypedExpr.{TypedExpr}
 use Rattle.typed_tree.specs.declared.program.Function.{Function}
 use Rattle.typed_tree.specs.declared.program.Program.{Program}

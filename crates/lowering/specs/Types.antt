@@ -1,9 +1,9 @@
 -- The table of types of a unit: each entry once, in the order of first need, headers of functions first; the parts of a type stand
 -- before it, and the members of a list are entered from the last to the first, each behind its type (IF1 manual M-170, type table).
 use Rattle.std.specs.Prelude.{ℕ, zero, suc, Bool, ◌&&◌, nat_eq, bytes_eq, codes, List, [], ◌∷◌, ◌++◌, map, length, slice_get, get_or, Option, Some, None, if◌then◌else◌}
-use Rattle.type_table.specs.declared.form.Form.{Form}
-use Rattle.type_table.specs.declared.form.Form.TheVariants.{Boolean, Character, Integer, Null, Array, Stream, Record, Union}
-use Rattle.type_table.specs.declared.form.Member.{Member}
+use Rattle.typed_tree.specs.Form.{Form}
+use Rattle.typed_tree.specs.Form.TheVariants.{Boolean, Character, Integer, Null, Array, Stream, Record, Union}
+use Rattle.typed_tree.specs.Member.{Member}
 use Rattle.typed_tree.specs.declared.program.Function.{Function}
 use Rattle.typed_tree.specs.declared.program.Program.{Program}
 use Rattle.lowering.specs.declared.feed.Carried.{Carried}

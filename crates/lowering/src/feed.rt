@@ -1,6 +1,6 @@
 //! What fills the ports of nodes while a graph is made.
 use flow_value::Text;
-use sisal_tree::Constant;
+use typed_tree::Constant;
 
 /// What fills a port while a graph is made (IF1 manual M-170, edges and literals): a literal, or a
 /// port of this graph or of one around it.

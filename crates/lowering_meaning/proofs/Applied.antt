@@ -16,8 +16,8 @@ use Rattle.type_table.specs.declared.form.Form.{Form}
 use Rattle.value_ops.specs.Operations.{op_value}
 use Rattle.value_ops.specs.declared.operation.Operation.{Operation}
 use Rattle.value_ops.specs.declared.operation.Operation.TheVariants as operation
-use Rattle.fitting_trees.specs.Fitting.{Row, AreFields}
-use Rattle.fitting_trees.specs.Fitting as is
+use Rattle.typed_values.specs.Fitting.{Row, AreFields}
+use Rattle.typed_values.specs.Fitting as is
 use Rattle.meaning.specs.Timed.{given}
 use Rattle.flow_value.specs.declared.value.Val.TheVariants as val
 use Rattle.sisal_tree.specs.declared.expr.Constant.TheVariants as constant

@@ -15,7 +15,7 @@ use Rattle.type_table.specs.Tables.{members_if}
 use Rattle.typed_tree.specs.declared.expr.Case.{Case}
 use Rattle.typed_tree.specs.Types.{IsNumber, AreMembers, Member}
 use Rattle.typed_tree.specs.Types as number
-use Rattle.fitting_trees.specs.Fitting.{TagsFit}
+use Rattle.typed_values.specs.Fitting.{TagsFit}
 use Rattle.typed_rows.specs.Rows.{AreOf}
 use Rattle.typed_rows.proofs.Scalars.{with_one}
 use Rattle.typed_rows.proofs.ValueKinds.{UniKind, a_uni, no_uni, as_uni, out_uni, out_err}

@@ -8,7 +8,7 @@ use Rattle.flow_value.specs.declared.ty.Ty.TheVariants as ty
 use Rattle.type_table.specs.declared.form.Form.{Form}
 use Rattle.typed_tree.specs.declared.expr.Case.{Case}
 use Rattle.typed_tree.specs.Types.{Member}
-use Rattle.fitting_trees.specs.Fitting.{TagsFit}
+use Rattle.typed_values.specs.Fitting.{TagsFit}
 use Rattle.typed_rows.specs.Rows.{AreOf}
 use Rattle.typed_rows.proofs.Scalars.{with_one}
 use Rattle.typed_rows.proofs.ValueKinds.{UniKind, a_uni, no_uni, as_uni, out_uni, out_err}

@@ -15,7 +15,7 @@ use Rattle.value_ops.specs.Operations.{op_value}
 use Rattle.value_ops.specs.declared.operation.Operation.TheVariants as operation
 use Rattle.if1_graph.specs.Units.{greatest}
 use Rattle.typed_rows.specs.Rows.{Member, AreOf}
-use Rattle.fitting_trees.specs.Fitting.{AreFields}
+use Rattle.typed_values.specs.Fitting.{AreFields}
 use Rattle.typed_rows.proofs.ValueKinds.{RecKind, a_rec, no_rec, as_rec, out_rec}
 use Rattle.graph_meaning.specs.Carried.{Carried, Value, Unfilled, vals, filled_from}
 use Rattle.lowering_meaning.specs.Coverage.{is_in, all_apart}

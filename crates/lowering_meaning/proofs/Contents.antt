@@ -16,7 +16,7 @@ use Rattle.typed_tree.specs.declared.expr.Choice.{Choice}
 use Rattle.typed_tree.specs.Types.{Member, IsNumber, AreMembers, AreNumbers}
 use Rattle.typed_tree.specs.Types as number
 use Rattle.meaning.specs.Meaning.{arm_place}
-use Rattle.fitting_trees.specs.Fitting.{IsChosen, TagsFit}
+use Rattle.typed_values.specs.Fitting.{IsChosen, TagsFit}
 use Rattle.lowering.specs.Choices.{type_in, content_of, tag_named, first_tag}
 use Rattle.lowered_units.proofs.BuiltTrees.{out-bool, out-char, out-int, out-null, out-array, out-stream, out-record, out-union}
 

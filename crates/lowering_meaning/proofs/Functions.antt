@@ -11,7 +11,7 @@ use Rattle.type_table.specs.declared.form.Form.{Form}
 use Rattle.typed_tree.specs.declared.expr.TypedExpr.{TypedExpr}
 use Rattle.typed_tree.specs.declared.program.Function.{Function}
 use Rattle.typed_tree.specs.Types.{AreNumbers}
-use Rattle.fitting_trees.specs.Fitting.{Header, FunctionFits, FunctionsFit, BodyFits}
+use Rattle.typed_values.specs.Fitting.{Header, FunctionFits, FunctionsFit, BodyFits}
 use Rattle.typed_rows.specs.Rows.{AreOf}
 use Rattle.meaning.specs.Timed.{given, plus, andthen}
 use Rattle.meaning.specs.Words.{failed}

@@ -9,7 +9,7 @@ use Rattle.if1_graph.specs.declared.op.Simple.TheVariants as simple
 use Rattle.type_table.specs.declared.form.Form.{Form}
 use Rattle.typed_tree.specs.declared.expr.Source.{Source}
 use Rattle.typed_tree.specs.declared.expr.Source.TheVariants as source
-use Rattle.fitting_trees.specs.Fitting.{Goes, no_source, over_range, over_array, over_stream, over_array_at, over_stream_at}
+use Rattle.typed_values.specs.Fitting.{Goes, no_source, over_range, over_array, over_stream, over_array_at, over_stream_at}
 use Rattle.typed_rows.specs.Rows.{AreOf}
 use Rattle.graph_meaning.specs.Carried.{Carried, Value, Unfilled}
 use Rattle.lowering_meaning.proofs.Told.{Telling}

@@ -8,7 +8,7 @@ use Rattle.type_table.specs.declared.form.Form.{Form}
 use Rattle.typed_tree.specs.declared.expr.Source.{Source}
 use Rattle.typed_tree.specs.Types.{IsNumber}
 use Rattle.typed_tree.specs.Types as number
-use Rattle.fitting_trees.specs.Fitting.{Goes, no_source, over_range, over_array, over_stream, over_array_at, over_stream_at}
+use Rattle.typed_values.specs.Fitting.{Goes, no_source, over_range, over_array, over_stream, over_array_at, over_stream_at}
 use Rattle.lowering.specs.declared.feed.Carried.{Carried}
 use Rattle.lowering.specs.declared.feed.Carried.TheVariants.{One, Many, Callee}
 use Rattle.lowering.specs.declared.feed.Wire.{Wire}

@@ -1,3 +1,12 @@
+pub use Rattle.lowered_units.proofs.BuiltTrees
+pub use Rattle.lowered_units.proofs.Wired
+pub use Rattle.lowered_units.proofs.Programs
+pub use Rattle.lowered_units.proofs.Depths
+pub use Rattle.lowered_units.proofs.Canonical
+pub use Rattle.lowered_units.proofs.Built
+pub use Rattle.lowered_units.proofs.Heads
+pub use Rattle.lowered_units.proofs.Lined
+pub use Rattle.lowered_units.proofs.Lines
 pub mod From
 pub mod Timed
 pub mod Told

@@ -10,7 +10,7 @@ use Rattle.value_ops.specs.declared.operation.Operation.TheVariants as operation
 use Rattle.if1_graph.specs.declared.op.Simple.TheVariants as simple
 use Rattle.type_table.specs.declared.form.Form.{Form}
 use Rattle.typed_tree.specs.declared.program.Function.{Function}
-use Rattle.fitting_trees.specs.Fitting.{Header}
+use Rattle.typed_values.specs.Fitting.{Header}
 use Rattle.typed_rows.specs.Rows.{AreOf}
 use Rattle.meaning.specs.Timed.{Timed, given, plus, andthen}
 use Rattle.meaning.specs.Meaning.{Gives as Means, all_of, defined, body_of}

@@ -7,7 +7,7 @@ use Rattle.type_table.specs.declared.form.Form.{Form}
 use Rattle.typed_tree.specs.declared.expr.Product.{Product}
 use Rattle.typed_tree.specs.declared.program.Function.{Function}
 use Rattle.typed_tree.specs.Types.{IsNumber}
-use Rattle.fitting_trees.specs.Fitting.{Header}
+use Rattle.typed_values.specs.Fitting.{Header}
 use Rattle.meaning.specs.Timed.{Timed, plus}
 use Rattle.meaning.specs.Sources.{places_of, names_at}
 use Rattle.meaning.specs.Meaning.{Gives as Means, all_of, defined, body_of, over}

@@ -18,8 +18,8 @@ use Rattle.typed_tree.specs.declared.expr.Source.{Source}
 use Rattle.typed_tree.specs.declared.expr.Source.TheVariants as source
 use Rattle.typed_tree.specs.declared.program.Function.{Function}
 use Rattle.typed_tree.specs.Types.{IsNumber, AreNumbers}
-use Rattle.fitting_trees.specs.Fitting.{Header, Goes, AreMade}
-use Rattle.fitting_trees.specs.Fitting as is
+use Rattle.typed_values.specs.Fitting.{Header, Goes, AreMade}
+use Rattle.typed_values.specs.Fitting as is
 use Rattle.typed_rows.specs.Rows.{AreOf}
 use Rattle.typed_values.proofs.Clauses.{names_well}
 use Rattle.typed_rows.proofs.ValueKinds.{out_err}

@@ -11,8 +11,8 @@ use Rattle.typed_tree.specs.declared.expr.ClauseForm.{ClauseForm}
 use Rattle.typed_tree.specs.declared.program.Program.{Program}
 use Rattle.typed_tree.specs.Types.{Member, IsNumber, AreNumbers}
 use Rattle.typed_tree.specs.Types as number
-use Rattle.fitting_trees.specs.Fitting.{Makes, AreMade}
-use Rattle.fitting_trees.specs.Fitting as is
+use Rattle.typed_values.specs.Fitting.{Makes, AreMade}
+use Rattle.typed_values.specs.Fitting as is
 use Rattle.sisal_tree.specs.declared.expr.Direction.{Direction}
 use Rattle.graph_meaning.specs.NodeValues.{gathering, catenation}
 use Rattle.graph_meaning.specs.NodeValues as shapes

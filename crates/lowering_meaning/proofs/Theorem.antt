@@ -11,7 +11,7 @@ use Rattle.typed_tree.specs.Types.{IsNumber, AreNumbers}
 use Rattle.typed_tree.specs.Types as number
 use Rattle.flow_value.specs.declared.ty.Ty.TheVariants as ty
 use Rattle.lowering.specs.Operations.{integer}
-use Rattle.fitting_trees.specs.Fitting.{Header, Fits}
+use Rattle.typed_values.specs.Fitting.{Header, Fits}
 use Rattle.typed_rows.specs.Rows.{AreOf}
 use Rattle.typed_values.proofs.Values.{expressions_typed, calls_typed}
 use Rattle.meaning.specs.Meaning.{calls, meaning}

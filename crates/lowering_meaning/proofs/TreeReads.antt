@@ -16,8 +16,8 @@ use Rattle.typed_tree.specs.declared.expr.Turns.{Turns}
 use Rattle.typed_tree.specs.declared.program.Function.{Function}
 use Rattle.typed_tree.specs.Typing.{with}
 use Rattle.typed_tree.specs.Types.{AreNumbers}
-use Rattle.fitting_trees.specs.Fitting.{Goes, AreMade, Renews, Header, Fits}
-use Rattle.fitting_trees.specs.Fitting as is
+use Rattle.typed_values.specs.Fitting.{Goes, AreMade, Renews, Header, Fits}
+use Rattle.typed_values.specs.Fitting as is
 use Rattle.typed_rows.specs.Rows.{AreOf}
 use Rattle.meaning.specs.Timed.{given, plus}
 use Rattle.meaning.specs.Words.{constant_value, value_at}

@@ -19,8 +19,8 @@ use Rattle.typed_tree.specs.declared.expr.Turns.{Turns}
 use Rattle.typed_tree.specs.declared.program.Function.{Function}
 use Rattle.typed_tree.specs.Typing.{with}
 use Rattle.typed_tree.specs.Types.{IsNumber, AreNumbers, constant_type}
-use Rattle.fitting_trees.specs.Fitting.{Row, Goes, AreMade, Renews, TagsFit, Header, Fits, AllFit, DefsFit, ArmsFit}
-use Rattle.fitting_trees.specs.Fitting as is
+use Rattle.typed_values.specs.Fitting.{Row, Goes, AreMade, Renews, TagsFit, Header, Fits, AllFit, DefsFit, ArmsFit}
+use Rattle.typed_values.specs.Fitting as is
 use Rattle.typed_rows.specs.Rows.{AreOf}
 use Rattle.meaning.specs.Timed.{given, plus, andthen}
 use Rattle.meaning.specs.Words.{constant_value, value_at}

@@ -12,7 +12,7 @@ use Rattle.if1_graph.specs.declared.op.Simple.TheVariants as simple
 use Rattle.sisal_tree.specs.declared.expr.Constant.TheVariants as constant
 use Rattle.flow_value.specs.declared.ty.Ty.{Ty}
 use Rattle.type_table.specs.declared.form.Form.{Form as TypeForm}
-use Rattle.fitting_trees.specs.Fitting.{Renews}
+use Rattle.typed_values.specs.Fitting.{Renews}
 use Rattle.typed_tree.specs.declared.expr.Turns.{Turns}
 use Rattle.typed_rows.proofs.Rows.{and_two}
 use Rattle.meaning.specs.Meaning as source

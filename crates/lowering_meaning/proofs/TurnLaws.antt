@@ -8,7 +8,7 @@ use Rattle.typed_tree.specs.declared.expr.Turns.{Turns}
 use Rattle.typed_tree.specs.declared.expr.ClauseForm.{ClauseForm}
 use Rattle.loop_folds.specs.declared.masking.Masking.{Masking}
 use Rattle.loop_folds.specs.declared.masking.Masking.TheVariants as masking
-use Rattle.fitting_trees.specs.Fitting.{Header}
+use Rattle.typed_values.specs.Fitting.{Header}
 use Rattle.meaning.specs.Rows.{span}
 use Rattle.meaning.specs.Meaning.{Gives as Means}
 use Rattle.lowering_meaning.proofs.Told.{Telling}

@@ -9,7 +9,7 @@ use Rattle.type_table.specs.declared.form.Form.{Form}
 use Rattle.typed_tree.specs.declared.program.Function.{Function}
 use Rattle.typed_tree.specs.declared.expr.Turns.{Turns}
 use Rattle.typed_tree.specs.declared.expr.ClauseForm.{ClauseForm}
-use Rattle.fitting_trees.specs.Fitting.{Header, Renews, AreMade, no_clause, unmasked, masked}
+use Rattle.typed_values.specs.Fitting.{Header, Renews, AreMade, no_clause, unmasked, masked}
 use Rattle.typed_rows.specs.Rows.{AreOf}
 use Rattle.typed_values.proofs.Values.{drop_of, renew_well}
 use Rattle.loop_folds.specs.declared.masking.Masking.{Masking}

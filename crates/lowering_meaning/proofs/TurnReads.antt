@@ -8,7 +8,7 @@ use Rattle.if1_graph.specs.declared.op.Simple.TheVariants as simple
 use Rattle.type_table.specs.declared.form.Form.{Form}
 use Rattle.typed_tree.specs.declared.program.Function.{Function}
 use Rattle.typed_tree.specs.declared.expr.Turns.{Turns}
-use Rattle.fitting_trees.specs.Fitting.{Header, Renews, AreMade}
+use Rattle.typed_values.specs.Fitting.{Header, Renews, AreMade}
 use Rattle.typed_rows.specs.Rows.{AreOf}
 use Rattle.typed_values.proofs.Values.{drop_of}
 use Rattle.meaning.specs.Timed.{Timed, given, andthen}

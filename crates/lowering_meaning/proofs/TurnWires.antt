@@ -9,7 +9,7 @@ use Rattle.value_ops.specs.Operations.{op_value}
 use Rattle.value_ops.specs.declared.operation.Operation.TheVariants as operation
 use Rattle.type_table.specs.declared.form.Form.{Form}
 use Rattle.typed_tree.specs.declared.program.Function.{Function}
-use Rattle.fitting_trees.specs.Fitting.{Header, Renews}
+use Rattle.typed_values.specs.Fitting.{Header, Renews}
 use Rattle.typed_rows.specs.Rows.{AreOf}
 use Rattle.meaning.specs.Timed.{given, andthen}
 use Rattle.meaning.specs.Meaning.{Gives as Means, all_of}

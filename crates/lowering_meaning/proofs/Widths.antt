@@ -14,8 +14,8 @@ use Rattle.typed_tree.specs.declared.expr.TypedKind.TheViews.{roll-TypedKind}
 use Rattle.typed_tree.specs.declared.expr.TypedKind.TheOpen.{TypedKind-F}
 use Rattle.typed_tree.specs.Typing.{with}
 use Rattle.typed_tree.specs.Types.{AreNumbers}
-use Rattle.fitting_trees.specs.Fitting.{Header, Fits, AllFit}
-use Rattle.fitting_trees.specs.Fitting as is
+use Rattle.typed_values.specs.Fitting.{Header, Fits, AllFit}
+use Rattle.typed_values.specs.Fitting as is
 use Rattle.lowering.specs.declared.feed.Feed.TheVariants.{Literal}
 use Rattle.lowering.specs.declared.feed.Carried as wired
 use Rattle.lowering.specs.declared.feed.Carried.TheVariants.{One}

@@ -4,7 +4,7 @@ use Rattle.flow_value.specs.declared.value.Val.{Val}
 use Rattle.if1_graph.specs.declared.graph.Unit1.{Unit1}
 use Rattle.if1_graph.specs.Ready.{IsReady}
 use Rattle.typed_tree.specs.declared.program.Program.{Program}
-use Rattle.fitting_trees.specs.Fitting.{Header}
+use Rattle.typed_values.specs.Fitting.{Header}
 use Rattle.typed_rows.specs.Rows.{AreOf}
 use Rattle.meaning.specs.Plain.{plain_calls}
 use Rattle.meaning_laws.specs.Laws.{IsGiven}

@@ -1,6 +1,6 @@
 -- Operands with cells behind them: loop values, elements and collections; and what steps do that put values to collections.
 use Rattle.std.proofs.Common.{◌≡◌, ℕ, zero, suc, ◌+◌, ◌<◌, ◌≤◌, ◌⊎◌, inl, inr, if◌then◌else◌, Bool, true, false, Some, None, List, [], ◌∷◌, ◌++◌, take, length, get_or, slice_get, refl, sym, ap, ◌∙◌, subst, arith}
-use Rattle.flow_value.specs.Leaves.{leaf_count}
+use Rattle.graph_meaning.specs.Leaves.{leaf_count}
 use Rattle.graph_meaning.specs.Carried.{Carried, Unfilled, val_of}
 use Rattle.run_code.specs.Cells.{Operand, At, Lit, cells_at}
 use Rattle.run_code.specs.Collecting.{put_leaves}

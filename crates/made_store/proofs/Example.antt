@@ -1,6 +1,6 @@
 -- A plan that meets what is asked: of the ForAll over the arrays of an array, which adds 1 behind each element.
 use Rattle.std.proofs.Common.{◌≡◌, ℕ, zero, suc, ◌+◌, ◌-◌, ◌<◌, ◌&&◌, ◌||◌, eqb, Bool, true, false, None, List, [], ◌∷◌, get_or, inl, inr, refl, sym, ap, subst, arith}
-use Rattle.if1_graph.specs.declared.op.Simple.TheVariants as simple
+use Rattle.run_code.specs.Simple.TheVariants as simple
 use Rattle.graph_meaning.specs.NodeValues as shape
 use Rattle.graph_meaning.specs.Demand.{Fixed, Port, Vertex}
 use Rattle.run_code.specs.Taking.{AreTakersLast}

@@ -1,5 +1,7 @@
 pub use Rattle.run_made.proofs.Orders
 pub use Rattle.run_made.proofs.Tables
+pub use Rattle.run_code.proofs.Collecting
+pub use Rattle.run_code.proofs.Refolding
 pub mod Alive
 pub mod Scenes
 pub mod Around

@@ -1,7 +1,7 @@
 -- Takers by the marks of a unit are last, for each number of a graph.
 use Rattle.std.proofs.Common.{◌≡◌, T, ◌==◌, List, [], ◌∷◌, find, Option, Some, None, refl, sym, ap, subst}
 use Rattle.std.proofs.Math.Facts.{eqb_yes}
-use Rattle.if1_graph.specs.Units.{Place, edge_into, number_of, places}
+use Rattle.graph_meaning.specs.Units.{Place, edge_into, number_of, places}
 use Rattle.graph_meaning.proofs.Lists.{found-in}
 use Rattle.graph_meaning.specs.Demand.{Vertex}
 use Rattle.graph_meaning.specs.Networks.{net_at, network, nothing}

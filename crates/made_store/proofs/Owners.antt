@@ -1,12 +1,12 @@
 -- What is taken by the marks of a unit is owned.
 use Rattle.std.proofs.Common.{◌≡◌, ◌==◌, ℕ, eqb, if◌then◌else◌, Bool, true, false, List, [], ◌∷◌, map, find, Contains, Option, Some, None, refl, sym, ap, ◌∙◌, subst}
 use Rattle.std.proofs.lemmas.List.Elements.{All-contains}
-use Rattle.if1_graph.specs.declared.graph.Graph.TheViews.{out-Graph}
-use Rattle.if1_graph.specs.declared.graph.Node.{Node}
-use Rattle.if1_graph.specs.declared.graph.Unit1.{Unit1}
-use Rattle.if1_graph.specs.Units.{Place, edge_into, label_of, number_of, places, results}
-use Rattle.if1_marks.specs.Owned.{is_input_owned, is_owned}
-use Rattle.if1_marks.specs.Sound.{AreMarksRight, IsSound, IsTakerRight}
+use Rattle.graph_meaning.specs.Graph.TheViews.{out-Graph}
+use Rattle.graph_meaning.specs.Node.{Node}
+use Rattle.graph_meaning.specs.Unit1.{Unit1}
+use Rattle.graph_meaning.specs.Units.{Place, edge_into, label_of, number_of, places, results}
+use Rattle.graph_meaning.specs.Owned.{is_input_owned, is_owned}
+use Rattle.graph_meaning.specs.Sound.{AreMarksRight, IsSound, IsTakerRight}
 use Rattle.graph_meaning.proofs.Lists.{found-in}
 use Rattle.graph_meaning.specs.Demand.{EachNode, Port, Vertex, at_label}
 use Rattle.graph_meaning.specs.Networks.{kind_of, net_at, net_of, network, source_at, vertex_of}

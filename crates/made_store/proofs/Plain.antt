@@ -1,6 +1,6 @@
 -- Simple nodes, Calls, and steps that bring the results of a graph on.
 use Rattle.std.proofs.Common.{◌≡◌, ℕ, zero, suc, ◌+◌, ◌<◌, ◌≤◌, ◌⊎◌, inl, inr, ◌||◌, Bool, true, false, List, [], ◌∷◌, length, get_or, refl, sym, ap, ◌∙◌, subst, arith}
-use Rattle.if1_graph.specs.declared.op.Simple.{Simple}
+use Rattle.run_code.specs.Simple.{Simple}
 use Rattle.graph_meaning.specs.Carried.{Carried, Unfilled}
 use Rattle.graph_meaning.specs.NodeValues.{Shape}
 use Rattle.graph_meaning.specs.Demand.{Source, Vertex}

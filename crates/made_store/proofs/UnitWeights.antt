@@ -1,13 +1,13 @@
 -- Weights by the marks of a unit.
 use Rattle.std.proofs.Common.{◌≡◌, ℕ, zero, suc, ◌+◌, ◌<◌, ◌≤◌, ◌&&◌, ◌||◌, not, cond, Bool, true, false, List, [], ◌∷◌, map, filter, find, drop, length, Option, Some, None, ◌==◌, refl, sym, ap, ◌∙◌, subst, arith}
-use Rattle.if1_graph.specs.declared.graph.Edge.{Edge}
-use Rattle.if1_graph.specs.declared.graph.Graph.{Graph}
-use Rattle.if1_graph.specs.declared.graph.Graph.TheViews.{out-Graph}
-use Rattle.if1_graph.specs.declared.graph.Node.{Node}
-use Rattle.if1_graph.specs.declared.graph.Unit1.{Unit1}
-use Rattle.if1_graph.specs.Ports.{count_from}
-use Rattle.if1_graph.specs.Units.{Place, edge_into, greatest, number_of, places, width}
-use Rattle.if1_marks.specs.Given.{consumes}
+use Rattle.graph_meaning.specs.Edge.{Edge}
+use Rattle.graph_meaning.specs.Graph.{Graph}
+use Rattle.graph_meaning.specs.Graph.TheViews.{out-Graph}
+use Rattle.graph_meaning.specs.Node.{Node}
+use Rattle.graph_meaning.specs.Unit1.{Unit1}
+use Rattle.graph_meaning.specs.Ports.{count_from}
+use Rattle.graph_meaning.specs.Units.{Place, edge_into, greatest, number_of, places, width}
+use Rattle.graph_meaning.specs.Given.{consumes}
 use Rattle.graph_meaning.specs.Demand.{EachNode, Kind, Plain, Vertex, Whole}
 use Rattle.graph_meaning.specs.Forms as form
 use Rattle.graph_meaning.specs.Networks.{ins_of, kind_of, net_at, network, source_at, sources, vertex_of}

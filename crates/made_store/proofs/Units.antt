@@ -1,6 +1,6 @@
 -- Code of units that is made with its settings.
 use Rattle.std.proofs.Common.{◌≡◌, ℕ, zero, suc, ◌<◌, ◌≤◌, Bool, true, List, [], ◌∷◌, length, get_or, refl, ap, arith}
-use Rattle.if1_graph.specs.declared.graph.Unit1.{Unit1}
+use Rattle.graph_meaning.specs.Unit1.{Unit1}
 use Rattle.graph_meaning.specs.Carried.{Carried, Unfilled}
 use Rattle.graph_meaning.specs.Entered.{IsIn}
 use Rattle.graph_meaning.specs.Demand.{Vertex, Network}

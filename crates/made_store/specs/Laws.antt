@@ -1,9 +1,9 @@
 -- The laws of code that is made with its settings: no step reads what was taken or takes what is lent, and its modes copy what the steps
 -- add.
 use Rattle.std.specs.Prelude.{◌≡◌, ℕ, ◌<◌, ◌≤◌, ◌⊎◌, List, [], length}
-use Rattle.if1_graph.specs.declared.graph.Unit1.{Unit1}
-use Rattle.if1_graph.specs.Ready.{IsReady}
-use Rattle.if1_marks.specs.Sound.{IsSound}
+use Rattle.graph_meaning.specs.Unit1.{Unit1}
+use Rattle.graph_meaning.specs.Ready.{IsReady}
+use Rattle.graph_meaning.specs.Sound.{IsSound}
 use Rattle.graph_meaning.specs.Carried.{Carried}
 use Rattle.graph_meaning.specs.Demand.{Vertex, Network}
 use Rattle.graph_meaning.specs.Entered.{IsIn}

@@ -8,6 +8,15 @@ pub use Rattle.run_store.specs.Ports
 pub use Rattle.run_store.specs.Sums
 pub use Rattle.run_store.specs.Whole
 pub use Rattle.run_store.specs.Stored
+pub use Rattle.graph_meaning.specs.Carried
+pub use Rattle.graph_meaning.specs.Forms
+pub use Rattle.graph_meaning.specs.Demand
+pub use Rattle.run_code.specs.Orders as OrderedMeaningOrders
+pub use Rattle.run_code.specs.Taking
+pub use Rattle.run_code.specs.Refolds
+pub use Rattle.run_code.specs.Known
+pub use Rattle.run_code.specs.Collections
+pub use Rattle.run_code.specs.Steps
 pub mod Settings
 pub mod Shared
 pub mod Settled

@@ -1,8 +1,8 @@
 -- Runs of code that is made of a plan that takes and copies by the marks of its unit.
 use Rattle.std.specs.Prelude.{◌≡◌, ◌<◌, ◌≤◌, ◌⊎◌, ℕ, Bool, List, [], length, false, true}
-use Rattle.if1_graph.specs.declared.graph.Unit1.{Unit1}
-use Rattle.if1_graph.specs.Ready.{IsReady}
-use Rattle.if1_marks.specs.Sound.{IsSound}
+use Rattle.graph_meaning.specs.Unit1.{Unit1}
+use Rattle.graph_meaning.specs.Ready.{IsReady}
+use Rattle.graph_meaning.specs.Sound.{IsSound}
 use Rattle.graph_meaning.specs.Carried.{Carried}
 use Rattle.graph_meaning.specs.Demand.{Vertex}
 use Rattle.graph_meaning.specs.Entered.{IsIn}

@@ -1,10 +1,10 @@
 -- Takers by the marks of a unit are last in each of its graphs.
 use Rattle.std.specs.Prelude.{◌≡◌, ◌==◌, ℕ, Bool, false, true, List, [], find, Option, Some, None}
-use Rattle.if1_graph.specs.declared.graph.Unit1.{Unit1}
-use Rattle.if1_graph.specs.Ready.{IsReady}
-use Rattle.if1_graph.specs.Units.{Place, number_of, places}
-use Rattle.if1_marks.specs.Owned.{is_input_owned}
-use Rattle.if1_marks.specs.Sound.{IsSound}
+use Rattle.graph_meaning.specs.Unit1.{Unit1}
+use Rattle.graph_meaning.specs.Ready.{IsReady}
+use Rattle.graph_meaning.specs.Units.{Place, number_of, places}
+use Rattle.graph_meaning.specs.Owned.{is_input_owned}
+use Rattle.graph_meaning.specs.Sound.{IsSound}
 use Rattle.graph_meaning.specs.Demand.{EachNode, Vertex}
 use Rattle.graph_meaning.specs.Networks.{network}
 use Rattle.graph_meaning.specs.StorageUnits.{storage_of}

@@ -1,6 +1,6 @@
 -- Shares by the marks of a unit, and weights by them.
 use Rattle.std.specs.Prelude.{◌≡◌, ◌⊎◌, ℕ, ◌&&◌, ◌||◌, Bool, false, true, List, [], length}
-use Rattle.if1_graph.specs.declared.graph.Unit1.{Unit1}
+use Rattle.graph_meaning.specs.Unit1.{Unit1}
 use Rattle.graph_meaning.specs.Demand.{Kind, Plain, Vertex, Whole}
 use Rattle.graph_meaning.specs.Forms as form
 use Rattle.graph_meaning.specs.Networks.{network}

@@ -9,7 +9,7 @@ use Rattle.run_words.specs.declared.command.MeanSet.{MeanSet}
 use Rattle.run_words.specs.declared.command.RunSet.{RunSet}
 use Rattle.sisal_top.specs.Answer.{Asks, Replies}
 use Rattle.sisal_top.specs.Outputs.{HasNoGraphs, HasGraphs, RunsUnit, HasNoRun}
-use Rattle.run_call.specs.Texts.{IsUnitOf as IsIf1Of}
+use Rattle.sisal_top.specs.RunCallTexts.{IsUnitOf as IsIf1Of}
 use Rattle.if1_graph.specs.declared.graph.Unit1.{Unit1}
 use Rattle.sisal_top.specs.Program.{Fits, IsBuilt, IsPlain}
 use Rattle.sisal_top.specs.Status.{argument_fault, of_argument, of_refusal}

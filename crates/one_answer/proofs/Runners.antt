@@ -11,10 +11,10 @@ use Rattle.if1_unique.specs.Laws.{IsOneUnit}
 use Rattle.marks_made.specs.Units.{marks_of}
 use Rattle.mean_call.specs.declared.fault.Refusal.{Refusal}
 use Rattle.mean_call.specs.declared.fault.Refusal.TheVariants as refusal
-use Rattle.run_call.specs.Calls.{Gives as GivesRun, IsRefused as HasNoTotals}
-use Rattle.run_call.specs.Texts.{IsUnitOf as IsIf1Of, with_marks}
+use Rattle.sisal_top.specs.Calls.{Gives as GivesRun, IsRefused as HasNoTotals}
+use Rattle.sisal_top.specs.RunCallTexts.{IsUnitOf as IsIf1Of, with_marks}
 use Rattle.run_words.specs.declared.command.RunSet.{RunSet}
-use Rattle.run_call.specs.Totals.{Totals}
+use Rattle.sisal_top.specs.Totals.{Totals}
 use Rattle.unit_entry.specs.Marks.{has_marks}
 use Rattle.sisal_top.specs.Outputs.{lines, totals_if}
 use Rattle.sisal_top.specs.Program.{Fits, most_bytes}

@@ -12,9 +12,9 @@ use Rattle.mean_call.specs.declared.fault.ArgumentFault.{ArgumentFault}
 use Rattle.mean_call.specs.declared.fault.ArgumentFault.TheVariants as argument
 use Rattle.mean_call.specs.declared.fault.Refusal.{Refusal}
 use Rattle.mean_call.specs.declared.fault.Refusal.TheVariants as refusal
-use Rattle.run_call.specs.Totals.{Totals}
-use Rattle.run_call.specs.Calls.{IsEntry, IsCall, Gives, IsRefused, HasNoEntry, HasWrongWords, PassesLimit}
-use Rattle.run_call.specs.Laws.{IsOneRun, IsNoneBeyond}
+use Rattle.sisal_top.specs.Totals.{Totals}
+use Rattle.sisal_top.specs.Calls.{IsEntry, IsCall, Gives, IsRefused, HasNoEntry, HasWrongWords, PassesLimit}
+use Rattle.sisal_top.specs.Laws.{IsOneRun, IsNoneBeyond}
 use Rattle.one_meaning.specs.Laws.{AreWordsOnce}
 use Rattle.one_answer.specs.Laws.{IsRunOnce}
 

@@ -8,13 +8,13 @@ use Rattle.marks_made.specs.Units.{marks_of}
 use Rattle.mean_call.specs.declared.fault.Refusal.{Refusal}
 use Rattle.mean_call.specs.declared.fault.Refusal.TheVariants as refusal
 use Rattle.one_lowering.specs.Laws.{AreLoweredAlike, IsOneLowering}
-use Rattle.run_call.specs.Calls.{Gives as GivesRun, IsRefused as HasNoTotals}
+use Rattle.sisal_top.specs.Calls.{Gives as GivesRun, IsRefused as HasNoTotals}
 use Rattle.run_words.specs.declared.command.RunSet.{RunSet}
 use Rattle.sisal_tree.specs.declared.unit.Unit as tree
 use Rattle.typed_tree.specs.declared.program.Program.{Program}
 use Rattle.typed_tree.specs.Units.{IsTyped}
 use Rattle.typing_unique.specs.UnitLaws.{AreSpelledOnce, NoProgramLaw}
-use Rattle.run_call.specs.Totals.{Totals}
+use Rattle.sisal_top.specs.Totals.{Totals}
 use Rattle.sisal_top.specs.Outputs.{lines, totals_if, HasProgram, HasTypeFault, HasTooMany, HasGraphs}
 use Rattle.sisal_top.specs.Program.{most_bytes, IsUnitOf, IsRefused}
 use Rattle.sisal_top.specs.Status.{of_refusal}

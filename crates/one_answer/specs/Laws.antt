@@ -6,13 +6,13 @@ use Rattle.if1_graph.specs.declared.graph.Unit1.{Unit1}
 use Rattle.lowering.specs.TooMany.{too_many}
 use Rattle.mean_call.specs.declared.fault.Refusal.{Refusal}
 use Rattle.mean_call.specs.declared.fault.Refusal.TheVariants as refusal
-use Rattle.run_call.specs.Calls.{Gives as GivesRun, IsRefused as HasNoTotals}
+use Rattle.sisal_top.specs.Calls.{Gives as GivesRun, IsRefused as HasNoTotals}
 use Rattle.run_words.specs.Words.{IsCommand}
 use Rattle.run_words.specs.declared.command.Command.TheVariants as command
 use Rattle.run_words.specs.declared.command.CompileSet.{CompileSet}
 use Rattle.run_words.specs.declared.command.RunSet.{RunSet}
 use Rattle.typed_tree.specs.declared.program.Program.{Program}
-use Rattle.run_call.specs.Totals.{Totals}
+use Rattle.sisal_top.specs.Totals.{Totals}
 use Rattle.sisal_top.specs.Answer.{Answers, Gives}
 use Rattle.sisal_top.specs.Program.{Fits}
 use Rattle.sisal_top.specs.declared.status.Status.{Status}

@@ -14,10 +14,9 @@ use if1_write::written_is_read;
 use lowered_units::a_program_is_one_unit;
 use one_lowering::typed_trees_are_lowered_alike;
 use one_meaning::{a_program_answers_once, typed_trees_answer_alike, words_are_read_or_refused};
-use run_call::{no_run_passes_the_limit, words_have_one_run};
 use run_words::words_have_one_meaning;
 use sisal_grammar::one_unit;
-use sisal_top::a_program_has_one_text;
+use sisal_top::{a_program_has_one_text, no_run_passes_the_limit, words_have_one_run};
 use typing_unique::a_unit_that_breaks_a_rule_is_no_program;
 
 /// A unit of graphs has one answer to the words of `run`.

@@ -12,6 +12,15 @@ pub use Rattle.graph_meaning.specs.Demand
 pub use Rattle.graph_meaning.specs.Entered
 pub use Rattle.graph_meaning.specs.Plain
 pub use Rattle.graph_meaning.specs.Storage
+pub use Rattle.graph_meaning.specs.Ops
+pub use Rattle.graph_meaning.specs.Reducer
+pub use Rattle.graph_meaning.specs.Grouping
+pub use Rattle.graph_meaning.specs.Scalar2
+pub use Rattle.graph_meaning.specs.Leaves
+pub use Rattle.graph_meaning.specs.Scalar
+pub use Rattle.graph_meaning.specs.Val
+pub use Rattle.graph_meaning.specs.Cause
+pub use Rattle.graph_meaning.specs.Folds
 pub mod Ordered
 pub mod Orders
 pub mod Taking

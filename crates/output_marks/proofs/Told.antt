@@ -24,7 +24,7 @@ use Rattle.graph_meaning.specs.Networks.{callee_number, kind_as, kind_of, shape_
 use Rattle.graph_meaning.specs.NodeValues.{Shape}
 use Rattle.graph_meaning.specs.StorageUnits.{carries_elements, gives_aggregate, operation, storage_of, test_in}
 use Rattle.unit_laws.proofs.TypedNodes.{node-found}
-use Rattle.unit_plan.proofs.Found.{place-found}
+use Rattle.storage_flags.proofs.UnitPlanFound.{place-found}
 use Rattle.storage_flags.proofs.Filtered.{any-filtered}
 use Rattle.row_counts.specs.Counts.{AreMarked, AreOutputsTold, hands_out}
 use Rattle.output_marks.proofs.Lists.{any-both, at-alike, at-each, behind, counted-long}

@@ -2,8 +2,8 @@
 use Rattle.std.proofs.Common.{◌≡◌, ℕ, suc, ◌||◌, if◌then◌else◌, Bool, true, false, List, [], ◌∷◌, map, get_or, refl, sym, ap, ◌∙◌}
 use Rattle.graph_meaning.specs.Demand.{Source, Vertex}
 use Rattle.run_code.specs.Made.{Plan}
-use Rattle.run_store.specs.Ports as ports
-use Rattle.run_store.specs.Stored.{Looks, Takes}
+use Rattle.step_code.specs.Ports as ports
+use Rattle.step_code.specs.Stored.{Looks, Takes}
 use Rattle.plan_data.specs.Settings.{Shares, gives}
 use Rattle.plan_data.specs.declared.plan.Port.{Port}
 use Rattle.plan_data.specs.declared.plan.Work.{Work}

@@ -7,10 +7,10 @@ use Rattle.graph_meaning.specs.Demand.{Vertex}
 use Rattle.graph_meaning.specs.Demand as demand
 use Rattle.graph_meaning.specs.Forms as form
 use Rattle.graph_meaning.specs.Laws.{outputs_by}
-use Rattle.node_ops.specs.Operands.{shape_of}
-use Rattle.ordered_meaning.specs.Taking.{first_port}
+use Rattle.step_code.specs.Operands.{shape_of}
+use Rattle.run_code.specs.Taking.{first_port}
 use Rattle.run_code.specs.Made.{Plan}
-use Rattle.run_store.specs.Ports.{modes_of, picks_of}
+use Rattle.step_code.specs.Ports.{modes_of, picks_of}
 use Rattle.plan_data.specs.Settings.{Shares}
 use Rattle.step_code.specs.declared.step.Counted.{Counted}
 use Rattle.step_code.specs.declared.step.Written.{Written}

@@ -10,7 +10,7 @@ use Rattle.run_made.proofs.Lying.{eqb-sound}
 use Rattle.if1_order.specs.Feeders.{IsPlace}
 use Rattle.if1_order.proofs.Members.{contains_cases, contains_here, contains_none, contains_there}
 use Rattle.if1_order.proofs.Orders.{same_place}
-use Rattle.if1_reach.proofs.Labelled.{same-default}
+use Rattle.firing_order.proofs.Labelled.{same-default}
 use Rattle.plan_builder.specs.declared.outlets.Outlets.{Outlets}
 use Rattle.plan_builder.specs.Outlets.{AreNodesAt, AreOutlets, cells_of, start_of}
 

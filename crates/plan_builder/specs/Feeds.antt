@@ -1,7 +1,7 @@
 -- What fills the ports of the nodes of a graph.
 use Rattle.std.specs.Prelude.{◌≡◌, ℕ, zero, suc, ◌≤◌, List, ◌++◌, Option}
 use Rattle.if1_graph.specs.Ports.{IsUpTo}
-use Rattle.run_cells.specs.declared.cell.Cell.{Cell}
+use Rattle.step_code.specs.Cell.{Cell}
 use Rattle.plan_data.specs.declared.plan.Feed.{Feed}
 use Rattle.plan_data.specs.declared.plan.Feed.TheVariants as feed
 use Rattle.plan_data.specs.declared.plan.PlanData.{PlanData}

@@ -5,9 +5,9 @@ ghost use Rattle.graph_meaning.specs.Carried.{Unfilled};
 ghost use Rattle.graph_meaning.specs.Demand.{Fixed};
 ghost use Rattle.graph_meaning.specs.Demand as demand;
 ghost use Rattle.run_code.specs.Made.{Plan};
-ghost use Rattle.run_cells.specs.declared.cell.Cell.{Cell};
-ghost use Rattle.run_cells.specs.Held.{held};
-ghost use Rattle.run_store.specs.Stored.{owned_in};
+ghost use Rattle.step_code.specs.Cell.{Cell};
+ghost use Rattle.step_code.specs.Held.{held};
+ghost use Rattle.step_code.specs.Stored.{owned_in};
 ghost use Rattle.plan_data.specs.Settings.{Shares};
 ghost use Rattle.plan_data.specs.declared.plan.PlanData.{PlanData};
 ghost use Rattle.plan_data.specs.Parts.{IsBelow, literal_in};
@@ -18,7 +18,7 @@ ghost use Rattle.plan_builder.specs.Feeds.{HasLiterals, IsInput, IsSource};
 use crate::outlets::{Outlets, outlet};
 use flow_value::{NoMemory, Seq};
 use plan_data::Feed;
-use run_cells::Cell;
+use step_code::Cell;
 
 /// What fills a port to which an output of a node leads, or for node 0 an input of the graph.
 pub fn port_feed(outlets: &Outlets, node: u32, port: u32) -> Feed

@@ -3,7 +3,7 @@ ghost use Rattle.std.specs.Prelude.{◌≡◌};
 ghost use Rattle.if1_graph.specs.declared.row.Gives.TheVariants as Gives;
 ghost use Rattle.if1_graph.specs.Rows.{row_of};
 ghost use Rattle.graph_meaning.specs.Laws.{outputs_by};
-ghost use Rattle.node_ops.specs.Operands.{shape_of};
+ghost use Rattle.step_code.specs.Operands.{shape_of};
 
 use flow_value::Shape;
 use if1_graph::{Gives, Simple, gives_of};

@@ -1,10 +1,10 @@
 -- What stands in the data of a plan, and how many steps and cells graphs take by it.
 use Rattle.std.specs.Prelude.{◌≡◌, ℕ, suc, ◌+◌, ◌-◌, ◌^◌, ◌<◌, ◌≤◌, max, Bool, true, false, List, [], ◌∷◌, map, length, get_or, slice_get, Option, Some, None}
-use Rattle.graph_meaning.specs.Carried.{Carried, Unfilled}
-use Rattle.graph_meaning.specs.Forms as form
-use Rattle.graph_meaning.specs.Demand.{Kind}
-use Rattle.graph_meaning.specs.Demand as demand
-use Rattle.node_ops.specs.Operands.{shape_of}
+use Rattle.made_store.specs.Carried.{Carried, Unfilled}
+use Rattle.made_store.specs.Forms as form
+use Rattle.made_store.specs.Demand.{Kind}
+use Rattle.made_store.specs.Demand as demand
+use Rattle.step_code.specs.Operands.{shape_of}
 use Rattle.made_store.specs.Stored.{Mode, Looks, Copies, Takes, owned_in}
 use Rattle.step_code.specs.Cell.TheVariants as cell
 use Rattle.step_code.specs.Held.{held}

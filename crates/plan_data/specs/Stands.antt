@@ -1,7 +1,7 @@
 -- Which plan, with which shares, stands in the data.
 use Rattle.std.specs.Prelude.{◌≡◌, ℕ, suc, ◌+◌, if◌then◌else◌, false, List, [], ◌∷◌, get_or, map}
-use Rattle.graph_meaning.specs.Demand.{Source, Fixed, Vertex}
-use Rattle.graph_meaning.specs.Demand as demand
+use Rattle.made_store.specs.Demand.{Source, Fixed, Vertex}
+use Rattle.made_store.specs.Demand as demand
 use Rattle.made_store.specs.Cells.{At}
 use Rattle.made_store.specs.Made.{Plan, put}
 use Rattle.made_store.specs.Stored.{Looks, Takes}

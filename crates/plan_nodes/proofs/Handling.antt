@@ -4,7 +4,7 @@ use Rattle.std.proofs.lemmas.List.Elements.{All-head, All-tail}
 use Rattle.graph_meaning.specs.Demand.{Source}
 use Rattle.graph_meaning.specs.Storage.{Storage, is_left}
 use Rattle.run_code.specs.Made.{Plan}
-use Rattle.made_store.specs.Settings.{Shares}
+use Rattle.plan_data.specs.Settings.{Shares}
 use Rattle.plan_data.specs.declared.plan.PlanData.{PlanData}
 use Rattle.plan_data.specs.Parts.{AreBelow, IsBelow}
 use Rattle.plan_data.specs.Stands.{AreFed, IsFed}

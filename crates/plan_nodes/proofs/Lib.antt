@@ -1,3 +1,8 @@
+pub use Rattle.told_rows.proofs.Found
+pub use Rattle.told_rows.proofs.RightNodes
+pub use Rattle.told_rows.proofs.Right
+pub use Rattle.told_rows.proofs.Weighed
+pub use Rattle.told_rows.proofs.Weights
 pub mod Past
 pub mod Handling
 pub mod Readings

@@ -6,13 +6,13 @@ use Rattle.graph_meaning.specs.Demand.{Vertex}
 use Rattle.graph_meaning.specs.Storage.{is_left}
 use Rattle.graph_meaning.specs.StorageUnits.{storage_of}
 use Rattle.run_code.specs.Made.{Plan}
-use Rattle.made_store.specs.Settings.{Shares}
+use Rattle.plan_data.specs.Settings.{Shares}
 use Rattle.plan_data.specs.declared.plan.PlanData.{PlanData}
 use Rattle.plan_data.specs.declared.plan.PlanNode.{PlanNode}
 use Rattle.plan_data.specs.Stands.{AreNodes, IsNode}
-use Rattle.unit_plan.specs.Plans.{collects_in, nodes_by}
-use Rattle.unit_plan.specs.Returns.{node_collects, nodes_collects, refolded_node, refolded_nodes}
-use Rattle.code_maker.specs.Grows.{IsPair}
+use Rattle.told_rows.specs.Plans.{collects_in, nodes_by}
+use Rattle.told_rows.specs.Returns.{node_collects, nodes_collects, refolded_node, refolded_nodes}
+use Rattle.told_rows.specs.Grows.{IsPair}
 use Rattle.plan_nodes.proofs.Vertices.{vertex_as, vertex_collects}
 
 -- ---- vertices

@@ -17,12 +17,12 @@ use Rattle.plan_data.specs.declared.plan.PlanNode.{PlanNode}
 use Rattle.plan_data.specs.declared.plan.Work.TheVariants as work
 use Rattle.plan_data.specs.Parts.{AreBelow, IsBelow}
 use Rattle.plan_data.specs.Stands.{AreNodes}
-use Rattle.unit_plan.specs.Plans.{Tables, collects_in, nodes_by, plain_of, plan_of}
-use Rattle.unit_plan.specs.Shares.{shares_of}
+use Rattle.told_rows.specs.Plans.{Tables, collects_in, nodes_by, plain_of, plan_of}
+use Rattle.told_rows.specs.Shares.{shares_of}
 use Rattle.node_works.specs.declared.task.Task.{Task}
 use Rattle.node_works.specs.declared.task.Task.TheVariants as task
 use Rattle.node_works.specs.Tasks.{IsTask}
-use Rattle.code_maker.specs.Grows.{IsPair}
+use Rattle.told_rows.specs.Grows.{IsPair}
 use Rattle.told_rows.specs.Rows.{IsCountedByRow, IsWrittenByRow}
 use Rattle.plan_nodes.specs.declared.parts.NodeParts.{NodeParts}
 use Rattle.plan_nodes.specs.Made.{AreMade, IsMadeOf, IsNothingMade, IsOfNode, IsWorkOf}

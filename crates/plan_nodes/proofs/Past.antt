@@ -8,7 +8,7 @@ use Rattle.if1_graph.specs.Units.{Place, edge_into, greatest, number_of, places,
 use Rattle.graph_meaning.specs.Storage.{Storage, is_left}
 use Rattle.graph_meaning.specs.StorageUnits.{carries_aggregate, storage_of, takes, test_in}
 use Rattle.run_made.proofs.Lying.{eqb-other}
-use Rattle.unit_plan.proofs.Found.{place-found}
+use Rattle.told_rows.proofs.Found.{place-found}
 use Rattle.port_feeds.specs.declared.filled.Filled.{Filled}
 use Rattle.port_feeds.specs.Filled.{AreTold}
 use Rattle.plan_nodes.specs.Ports.{has_left, has_whole}

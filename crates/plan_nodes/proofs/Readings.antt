@@ -9,11 +9,11 @@ use Rattle.graph_meaning.specs.Carried.{Unfilled}
 use Rattle.graph_meaning.specs.Demand.{Fixed, Source}
 use Rattle.graph_meaning.specs.Storage.{Storage}
 use Rattle.run_code.specs.Made.{Plan}
-use Rattle.made_store.specs.Settings.{Shares}
+use Rattle.plan_data.specs.Settings.{Shares}
 use Rattle.plan_data.specs.declared.plan.PlanData.{PlanData}
 use Rattle.plan_data.specs.Parts.{AreBelow, IsBelow}
 use Rattle.plan_data.specs.Stands.{AreFed}
-use Rattle.unit_plan.specs.Returns.{ins_by, multiple, row_by, whole_in, whole_ins}
+use Rattle.told_rows.specs.Returns.{ins_by, multiple, row_by, whole_in, whole_ins}
 use Rattle.plan_builder.specs.declared.ways.Reading.{Reading}
 use Rattle.plan_builder.specs.declared.ways.Reading.TheVariants as reading
 use Rattle.plan_builder.specs.Nodes.{AreHandled, handled_by}

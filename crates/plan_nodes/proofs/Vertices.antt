@@ -20,7 +20,7 @@ use Rattle.node_ops.specs.Operands.{shape_of}
 use Rattle.run_code.specs.Collections.{Collect}
 use Rattle.run_code.specs.Made.{Plan}
 use Rattle.run_store.specs.Ports.{picks_of}
-use Rattle.made_store.specs.Settings.{Shares}
+use Rattle.plan_data.specs.Settings.{Shares}
 use Rattle.step_code.specs.Laid.{collect_in, puts_of}
 use Rattle.row_counts.specs.Counts.{AreOutputsTold, counted_by_row, told_by, written_by_row}
 use Rattle.plan_data.specs.declared.plan.PlanData.{PlanData}
@@ -30,12 +30,12 @@ use Rattle.plan_data.specs.declared.plan.Work.TheVariants as work
 use Rattle.plan_data.specs.Parts.{IsWhole}
 use Rattle.plan_data.specs.Parts as parts
 use Rattle.plan_data.specs.Stands.{AreFed, IsNode}
-use Rattle.unit_laws.proofs.TypedEdges.{node-formed}
-use Rattle.unit_plan.proofs.Found.{at-own}
-use Rattle.unit_plan.proofs.Outputs.{sources-long}
-use Rattle.unit_plan.specs.Plans.{Tables, outputs_in, picks_by, plain_of, plan_of}
-use Rattle.unit_plan.specs.Returns.{collects_by, ins_by, multiple, node_collects, refolded_node, row_by, way_of}
-use Rattle.unit_plan.specs.Shares.{is_last, kind_or, reads_by, reads_multiple, shares_of, takes_collected, takes_more}
+use Rattle.told_rows.proofs.TypedEdges.{node-formed}
+use Rattle.told_rows.proofs.Found.{at-own}
+use Rattle.told_rows.proofs.Outputs.{sources-long}
+use Rattle.told_rows.specs.Plans.{Tables, outputs_in, picks_by, plain_of, plan_of}
+use Rattle.told_rows.specs.Returns.{collects_by, ins_by, multiple, node_collects, refolded_node, row_by, way_of}
+use Rattle.told_rows.specs.Shares.{is_last, kind_or, reads_by, reads_multiple, shares_of, takes_collected, takes_more}
 use Rattle.plan_builder.specs.declared.ways.Reading.{Reading}
 use Rattle.plan_builder.specs.declared.ways.Reading.TheVariants as reading
 use Rattle.plan_builder.specs.Nodes.{made_node}

@@ -18,9 +18,9 @@ use Rattle.plan_data.specs.declared.plan.Work.{Work}
 use Rattle.plan_data.specs.declared.plan.Work.TheVariants as work
 use Rattle.plan_data.specs.Parts.{AreBelow, IsBelow}
 use Rattle.plan_data.specs.Stands.{AreNodes}
-use Rattle.unit_plan.specs.Plans.{Tables, collects_in, nodes_by, outputs_in, plain_of, plan_of}
-use Rattle.unit_plan.specs.Shares.{shares_of}
-use Rattle.code_maker.specs.Grows.{IsPair}
+use Rattle.told_rows.specs.Plans.{Tables, collects_in, nodes_by, outputs_in, plain_of, plan_of}
+use Rattle.told_rows.specs.Shares.{shares_of}
+use Rattle.told_rows.specs.Grows.{IsPair}
 use Rattle.told_rows.specs.Rows.{IsCountedByRow, IsWrittenByRow}
 use Rattle.port_feeds.specs.Filled.{AreFilled, AreTold}
 use Rattle.node_works.specs.declared.task.Task.{Task}

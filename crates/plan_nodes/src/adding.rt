@@ -8,7 +8,7 @@ ghost use Rattle.graph_meaning.specs.Demand.{Vertex};
 ghost use Rattle.graph_meaning.specs.Networks.{vertex_of};
 ghost use Rattle.plan_data.specs.declared.plan.PlanData.{PlanData};
 ghost use Rattle.plan_data.specs.declared.plan.PlanNode.{PlanNode};
-ghost use Rattle.unit_plan.specs.Plans.{Tables, plain_of};
+ghost use Rattle.told_rows.specs.Plans.{Tables, plain_of};
 ghost use Rattle.node_works.specs.Tasks.{IsTask};
 ghost use Rattle.plan_nodes.specs.Made.{AreMade, IsMadeOf, IsOfNode};
 

@@ -12,4 +12,6 @@ mod told;
 
 pub use adding::add_node;
 pub use laws::nothing_is_made_of_no_vertices;
+pub use node_works::{Task, UnitTables, output_types, tables_of, task_of, widths_of};
 pub use parts::NodeParts;
+pub use port_feeds::{Filled, ports_of};

@@ -7,7 +7,7 @@ use Rattle.if1_graph.specs.declared.op.Simple.{Simple}
 use Rattle.if1_graph.specs.declared.op.Simple.TheVariants as simple
 use Rattle.graph_meaning.specs.Carried.{Carried, Many, Name, Spoiled, Unfilled, Value}
 use Rattle.graph_meaning.specs.Storage.{Storage, catenation_written, copied_by, elements_of, filled_copied, is_left, kept_of, last_copied, leaves_at, leaves_of, reduction_written, written_by}
-use Rattle.run_store.specs.Stored.{Mode}
+use Rattle.step_code.specs.Stored.{Mode}
 use Rattle.step_code.specs.declared.code.Code.{Code}
 use Rattle.step_code.specs.declared.step.Counted.TheVariants as counted
 use Rattle.step_code.specs.Laid.{copied_at, filling, joined, joined_by, last_leaves, written_at}

@@ -4,7 +4,7 @@ use Rattle.if1_graph.specs.declared.op.Simple.{Simple}
 use Rattle.if1_graph.specs.declared.op.Simple.TheVariants as simple
 use Rattle.graph_meaning.specs.Carried.{Carried}
 use Rattle.graph_meaning.specs.Storage.{Storage, is_consumed_at, is_left, leaves_at}
-use Rattle.run_store.specs.Stored.{Mode, copied}
+use Rattle.step_code.specs.Stored.{Mode, copied}
 use Rattle.step_code.specs.declared.step.Counted.{Counted}
 use Rattle.step_code.specs.declared.step.Counted.TheVariants as counted
 use Rattle.step_code.specs.declared.step.Written.{Written}

@@ -2,7 +2,7 @@
 ghost use Rattle.std.specs.Prelude.{◌≡◌, ℕ, Bool, List, if◌then◌else◌};
 ghost use Rattle.graph_meaning.specs.Carried.{Carried};
 ghost use Rattle.graph_meaning.specs.Storage.{Storage, copied_by, written_by};
-ghost use Rattle.run_store.specs.Stored.{Mode};
+ghost use Rattle.step_code.specs.Stored.{Mode};
 ghost use Rattle.step_code.specs.Laid.{copied_at, written_at};
 ghost use Rattle.step_code.specs.declared.code.Code.{Code};
 ghost use Rattle.step_code.specs.declared.step.Counted.TheVariants as Counted;

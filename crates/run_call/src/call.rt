@@ -13,9 +13,8 @@ use if1_valid::Ready;
 use mean_call::{ArgumentFault, Refusal, values_of_words};
 use run_gate::Gate;
 use run_words::RunSet;
-use sequential_run::RunFault;
 use std::alloc::Global;
-use unit_code::{Totals, UnitCode, run_unit, unit_code};
+use unit_code::{RunFault, Totals, UnitCode, run_unit, unit_code};
 use unit_entry::{entry, first_lacking};
 
 /// A unit, and its entry with the values of its arguments.

@@ -1,4 +1,12 @@
 pub use Rattle.node_ops.specs.Operands
 pub use Rattle.run_store.specs.Stored
+pub use Rattle.run_store.specs.Cells
+pub use Rattle.run_store.specs.Collections
+pub use Rattle.run_store.specs.Steps
+pub use Rattle.run_store.specs.Facts
+pub use Rattle.run_store.specs.Carried
+pub use Rattle.run_store.specs.Storage
+pub use Rattle.run_store.specs.NodeValues
+pub use Rattle.run_store.specs.Ports
 pub mod Held
 pub mod Sights

@@ -4,8 +4,8 @@
 --
 -- The Select is given the union for its second arm, which copies it to a cell of its own.
 use Rattle.std.proofs.Common.{List, [], ◌∷◌, get_or, inl, inr, refl, sym, subst, arith, true, false}
-use Rattle.flow_value.specs.declared.operation.Scalar2.TheVariants as two
-use Rattle.if1_graph.specs.declared.op.Simple.TheVariants as simple
+use Rattle.ordered_meaning.specs.Scalar2.TheVariants as two
+use Rattle.ordered_meaning.specs.Simple.TheVariants as simple
 use Rattle.ordered_meaning.specs.NodeValues as shape
 use Rattle.ordered_meaning.specs.Forms as form
 use Rattle.ordered_meaning.specs.Demand.{Port, Plain, Whole, Vertex, Net, Network}

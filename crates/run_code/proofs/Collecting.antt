@@ -2,11 +2,11 @@
 -- the sum of what is put. The Rust type of a clause stands for a collection.
 use Rattle.std.proofs.Common.{◌≡◌, ℕ, ◌+◌, ◌<◌, ℤ, Bool, true, false, if◌then◌else◌, List, [], ◌∷◌, ◌++◌, length, map, sum, get_or, pos, Option, Some, None, refl, sym, ap, ◌∙◌, arith}
 use Rattle.std.proofs.lemmas.List.Sums.{sum_by_from}
-use Rattle.flow_value.specs.Leaves.{leaf_count}
-use Rattle.flow_value.specs.Scalar.{unless_error}
-use Rattle.flow_value.specs.declared.value.Val.{Val}
-use Rattle.flow_value.specs.declared.value.Val.TheOpen.{Val-F}
-use Rattle.flow_value.specs.declared.value.Val.TheViews as values
+use Rattle.ordered_meaning.specs.Leaves.{leaf_count}
+use Rattle.ordered_meaning.specs.Scalar.{unless_error}
+use Rattle.ordered_meaning.specs.Val.{Val}
+use Rattle.ordered_meaning.specs.Val.TheOpen.{Val-F}
+use Rattle.ordered_meaning.specs.Val.TheViews as values
 use Rattle.ordered_meaning.specs.Views.{on_integer}
 use Rattle.ordered_meaning.specs.Clauses.{Cell, first_failure, kept_values, fold_value}
 use Rattle.ordered_meaning.specs.Masks.{keep_of}
@@ -15,10 +15,10 @@ use Rattle.ordered_meaning.specs.Folding.TheVariants as folding
 use Rattle.ordered_meaning.specs.Keep.{Keep}
 use Rattle.ordered_meaning.specs.Keep.TheVariants.{Kept, Dropped, Failed}
 use Rattle.ordered_meaning.specs.Masking.TheVariants as masking
-use Rattle.if1_graph.specs.Ops.{reducer_at}
-use Rattle.if1_graph.specs.declared.op.Reducer.{Reducer}
-use Rattle.if1_graph.specs.declared.op.Grouping.{Grouping}
-use Rattle.if1_graph.specs.declared.op.Simple.TheVariants as simple
+use Rattle.ordered_meaning.specs.Ops.{reducer_at}
+use Rattle.ordered_meaning.specs.Reducer.{Reducer}
+use Rattle.ordered_meaning.specs.Grouping.{Grouping}
+use Rattle.ordered_meaning.specs.Simple.TheVariants as simple
 use Rattle.ordered_meaning.specs.Carried.{Carried, Value, Many, Spoiled, Name, Unfilled, val_of}
 use Rattle.ordered_meaning.specs.NodeValues.{Shape, masked, cells_of, folded, fold_of, gathering, reduction, reduced, op}
 use Rattle.ordered_meaning.specs.Forms.{columns}

@@ -1,6 +1,6 @@
 -- The multiples of a loop's turns grow at their ends.
 use Rattle.std.proofs.Common.{◌≡◌, ℕ, zero, suc, ◌+◌, ◌<◌, List, [], ◌∷◌, ◌++◌, length, map, replicate, get_or, refl, ap, ◌∙◌, arith}
-use Rattle.flow_value.specs.declared.value.Val.{Val}
+use Rattle.ordered_meaning.specs.Val.{Val}
 use Rattle.ordered_meaning.specs.Carried.{Carried, Value, Many, Spoiled, Name, Unfilled, val_of}
 use Rattle.ordered_meaning.specs.Forms.{before, add_row, columns_after, turn_columns}
 use Rattle.run_code.specs.Collections.{alone, behind, behind_all}

@@ -4,8 +4,8 @@
 --
 -- The body stands before the test and goes on into it; the loop's beginning leads to the test.
 use Rattle.std.proofs.Common.{◌+◌, List, [], ◌∷◌, get_or, inl, inr, refl, sym, subst, arith, true, false}
-use Rattle.flow_value.specs.declared.operation.Scalar2.TheVariants as two
-use Rattle.if1_graph.specs.declared.op.Simple.TheVariants as simple
+use Rattle.ordered_meaning.specs.Scalar2.TheVariants as two
+use Rattle.ordered_meaning.specs.Simple.TheVariants as simple
 use Rattle.ordered_meaning.specs.NodeValues as shape
 use Rattle.ordered_meaning.specs.Forms as form
 use Rattle.ordered_meaning.specs.Demand.{Port, Fixed, Plain, Whole, Vertex, Net, Network}

@@ -1,8 +1,8 @@
 -- What is collected of one row after another is what is made of the whole columns.
 use Rattle.std.proofs.Common.{◌≡◌, ℕ, zero, suc, ◌<◌, ◌≤◌, List, [], ◌∷◌, ◌++◌, length, map, replicate, get_or, pos, Option, Some, None, refl, sym, ap, ◌∙◌, arith}
-use Rattle.flow_value.specs.declared.cause.Cause.{Cause}
-use Rattle.flow_value.specs.declared.value.Val.{Val}
-use Rattle.flow_reduce.specs.Folds.{last_fold, last_of, later_of, or_empty}
+use Rattle.ordered_meaning.specs.Cause.{Cause}
+use Rattle.ordered_meaning.specs.Val.{Val}
+use Rattle.ordered_meaning.specs.Folds.{last_fold, last_of, later_of, or_empty}
 use Rattle.ordered_meaning.specs.Clauses.{Cell, first_failure, kept_values, gathered, unless_failed}
 use Rattle.ordered_meaning.specs.Masks.{keep_of}
 use Rattle.ordered_meaning.specs.Folding.{Folding}

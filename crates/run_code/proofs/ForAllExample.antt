@@ -1,8 +1,8 @@
 -- The code of a ForAll over a range, whose returns gathers elements where a mask says so. The gather copies what it keeps, and that is
 -- weighed where it is put.
 use Rattle.std.proofs.Common.{◌≡◌, ℕ, zero, suc, ◌+◌, List, [], ◌∷◌, ◌++◌, length, drop, Some, get_or, inl, inr, refl, sym, subst, arith, true}
-use Rattle.flow_value.specs.declared.operation.Scalar2.TheVariants as two
-use Rattle.if1_graph.specs.declared.op.Simple.TheVariants as simple
+use Rattle.ordered_meaning.specs.Scalar2.TheVariants as two
+use Rattle.ordered_meaning.specs.Simple.TheVariants as simple
 use Rattle.ordered_meaning.specs.Carried.{Carried}
 use Rattle.ordered_meaning.specs.NodeValues as shape
 use Rattle.ordered_meaning.specs.Forms.{columns}

@@ -1,7 +1,7 @@
 -- What examples of code share: nodes with one output each, whose cells stand behind one another in the order of their labels.
 use Rattle.std.proofs.Common.{◌≡◌, ℕ, zero, suc, ◌+◌, ◌-◌, ◌<◌, ◌≤◌, if◌then◌else◌, ltb, List, [], ◌∷◌, map, get_or, pos, refl, sym, ap, subst, arith, Bool, true, false}
 use Rattle.std.proofs.lemmas.Bool.{lt-ltb, ltb-true}
-use Rattle.flow_value.specs.declared.value.Val.TheVariants as val
+use Rattle.ordered_meaning.specs.Val.TheVariants as val
 use Rattle.ordered_meaning.specs.Carried.{Carried, Value, Unfilled}
 use Rattle.ordered_meaning.specs.Demand.{Net}
 use Rattle.ordered_meaning.specs.Storage.{Weights}

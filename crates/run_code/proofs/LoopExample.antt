@@ -1,7 +1,7 @@
 -- The code of a loop with two values whose first turn comes before its first test. Its returns wants the last of the first values, and
 -- gathers them where the second ones say so: neither multiple is there.
 use Rattle.std.proofs.Common.{◌≡◌, ℕ, zero, suc, ◌+◌, ◌-◌, if◌then◌else◌, ltb, List, [], ◌∷◌, get_or, Some, inl, inr, refl, sym, ap, subst, arith, true, false}
-use Rattle.if1_graph.specs.declared.op.Simple.TheVariants as simple
+use Rattle.ordered_meaning.specs.Simple.TheVariants as simple
 use Rattle.ordered_meaning.specs.Carried.{Unfilled}
 use Rattle.ordered_meaning.specs.NodeValues as shape
 use Rattle.ordered_meaning.specs.Forms as form

@@ -1,8 +1,8 @@
 -- Values by their forms.
 use Rattle.std.proofs.Common.{◌≡◌, sym, subst, rules}
-use Rattle.flow_value.specs.declared.value.Val.{Val}
-use Rattle.flow_value.specs.declared.value.Val.TheOpen.{Val-F}
-use Rattle.flow_value.specs.declared.value.Val.TheViews as values
+use Rattle.ordered_meaning.specs.Val.{Val}
+use Rattle.ordered_meaning.specs.Val.TheOpen.{Val-F}
+use Rattle.ordered_meaning.specs.Val.TheViews as values
 
 rolled : (v : Val) → v ≡ values.roll-Val (values.out-Val v)
 rolled v = search (rules, values.the_lemmas)

@@ -5,7 +5,7 @@
 use Rattle.std.specs.Prelude.{◌≡◌, ℕ, suc, ◌+◌, ◌-◌, ◌<◌, ◌≤◌, ◌⊎◌, Bool, true, false, List, [], ◌∷◌, ◌++◌, map, length, get_or}
 use Rattle.ordered_meaning.specs.Carried.{Carried, Unfilled}
 use Rattle.ordered_meaning.specs.NodeValues.{Shape}
-use Rattle.if1_graph.specs.declared.op.Simple.{Simple}
+use Rattle.ordered_meaning.specs.Simple.{Simple}
 use Rattle.ordered_meaning.specs.Forms.{Form}
 use Rattle.ordered_meaning.specs.Forms as form
 use Rattle.ordered_meaning.specs.Entered.{IsIn}

@@ -1,14 +1,14 @@
 -- What is collected stands for the multiples: for the nodes that read them, for the copies of record, and for the Rust type of a clause.
 use Rattle.std.specs.Prelude.{◌≡◌, ℕ, ◌<◌, ℤ, true, List, [], ◌∷◌, ◌++◌, length, get_or, Option, Some, None}
-use Rattle.flow_value.specs.Leaves.{leaf_count}
+use Rattle.ordered_meaning.specs.Leaves.{leaf_count}
 use Rattle.ordered_meaning.specs.Clauses.{Cell, first_failure, kept_values, fold_value}
 use Rattle.ordered_meaning.specs.Masks.{keep_of}
 use Rattle.ordered_meaning.specs.Folding.{Folding}
 use Rattle.ordered_meaning.specs.Keep.{Keep}
 use Rattle.ordered_meaning.specs.Keep.TheVariants.{Kept}
 use Rattle.ordered_meaning.specs.Masking.TheVariants as masking
-use Rattle.if1_graph.specs.declared.op.Grouping.{Grouping}
-use Rattle.if1_graph.specs.declared.op.Simple.TheVariants as simple
+use Rattle.ordered_meaning.specs.Grouping.{Grouping}
+use Rattle.ordered_meaning.specs.Simple.TheVariants as simple
 use Rattle.ordered_meaning.specs.Carried.{Carried, Value, Unfilled, val_of}
 use Rattle.ordered_meaning.specs.NodeValues.{Shape, folded, op}
 use Rattle.ordered_meaning.specs.Forms.{columns}

@@ -10,6 +10,8 @@ pub use Rattle.ordered_meaning.specs.Laws
 pub use Rattle.ordered_meaning.specs.Ordered
 pub use Rattle.ordered_meaning.specs.Taking
 pub use Rattle.ordered_meaning.specs.Orders
+pub use Rattle.ordered_meaning.specs.Val
+pub use Rattle.ordered_meaning.specs.Cause
 pub mod Cells
 pub mod Collections
 pub mod Steps

@@ -1,7 +1,7 @@
 -- The returns as another graph, whose inputs are what is collected in place of the multiples. Its nodes are those of the first one,
 -- but a node that reads a multiple there reads one collection here.
 use Rattle.std.specs.Prelude.{◌≡◌, ℕ, zero, suc, ◌+◌, ◌-◌, ◌<◌, ◌⊎◌, List, [], ◌∷◌, ◌++◌, length, get_or, slice_get, Some, None}
-use Rattle.if1_graph.specs.declared.op.Simple.{Simple}
+use Rattle.ordered_meaning.specs.Simple.{Simple}
 use Rattle.ordered_meaning.specs.Carried.{Carried, Unfilled}
 use Rattle.ordered_meaning.specs.NodeValues.{Shape, op}
 use Rattle.ordered_meaning.specs.Forms.{columns}

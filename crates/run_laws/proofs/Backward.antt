@@ -3,7 +3,7 @@
 -- By induction on the steps that are left: what a stretch's first part goes to is known, so by the forward lemma the machine has come through it, and
 -- there are fewer steps left for the next part.
 use Rattle.std.proofs.Common.{◌≡◌, ℕ, zero, suc, ◌+◌, ◌≤◌, Bool, false, List, [], ◌∷◌, length, map, get_or, refl, sym, ap, ◌∙◌, subst, arith}
-use Rattle.flow_value.specs.declared.value.Val.TheViews as values
+use Rattle.run_code.specs.Val.TheViews as values
 use Rattle.run_code.specs.Carried.{Carried, Value, Unfilled, val_of}
 use Rattle.run_code.specs.NodeValues.{op}
 use Rattle.run_code.specs.Entered.{IsIn}

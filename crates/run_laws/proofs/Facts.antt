@@ -1,10 +1,10 @@
 -- What is known of cells stays true.
 use Rattle.std.proofs.Common.{◌≡◌, ℕ, zero, suc, ◌+◌, ◌-◌, ◌<◌, ◌≤◌, ◌⊎◌, inl, inr, Bool, true, false, if◌then◌else◌, List, [], ◌∷◌, ◌++◌, length, map, drop, get_or, slice_get, Option, Some, None, refl, sym, ap, ◌∙◌, subst, arith, ltb, pos, negsuc}
 use Rattle.std.proofs.lemmas.Bool.{ltb-true}
-use Rattle.flow_value.specs.declared.cause.Cause.{Cause}
-use Rattle.flow_value.specs.declared.value.Val.{Val}
-use Rattle.flow_value.specs.declared.value.Val.TheOpen.{Val-F}
-use Rattle.flow_value.specs.declared.value.Val.TheViews as values
+use Rattle.run_code.specs.Cause.{Cause}
+use Rattle.run_code.specs.Val.{Val}
+use Rattle.run_code.specs.Val.TheOpen.{Val-F}
+use Rattle.run_code.specs.Val.TheViews as values
 use Rattle.run_code.specs.Carried.{Carried, Value, Unfilled, val_of}
 use Rattle.run_code.specs.NodeValues.{op}
 use Rattle.run_code.specs.Forms.{errors, first_spoiled, are_as_long, places_of, items, heads}

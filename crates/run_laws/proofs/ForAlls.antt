@@ -1,8 +1,8 @@
 -- Where a ForAll goes to its results, so does the machine.
 use Rattle.std.proofs.Common.{◌≡◌, ℕ, zero, suc, ◌+◌, ◌<◌, ◌≤◌, Bool, true, false, if◌then◌else◌, List, [], ◌∷◌, ◌++◌, length, map, drop, Option, Some, None, refl, sym, ap, ◌∙◌, subst, arith, ltb}
 use Rattle.std.proofs.lemmas.Bool.{lt-ltb, le-ltb}
-use Rattle.flow_value.specs.declared.cause.Cause.{Cause}
-use Rattle.flow_value.specs.declared.cause.Cause.TheVariants as cause
+use Rattle.run_code.specs.Cause.{Cause}
+use Rattle.run_code.specs.Cause.TheVariants as cause
 use Rattle.run_code.specs.Carried.{Carried}
 use Rattle.run_code.specs.Forms.{Form, Next, Enter, Iterate, Leave, Generating, Returning, errors, outputs_of, follow, gather, iterate, spread, columns, first_spoiled, are_as_long, places_of, items, heads, rows_of}
 use Rattle.run_code.specs.Forms as form

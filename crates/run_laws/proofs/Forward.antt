@@ -1,10 +1,10 @@
 -- Where a graph goes to its results, so does the machine, and adds its sum.
 use Rattle.std.proofs.Common.{◌≡◌, ℕ, zero, suc, ◌+◌, ◌≤◌, Bool, false, List, [], ◌∷◌, length, map, get_or, slice_get, Option, Some, None, refl, sym, ap, ◌∙◌, subst, arith, pos, negsuc}
-use Rattle.flow_value.specs.declared.cause.Cause.{Cause}
-use Rattle.flow_value.specs.declared.cause.Cause.TheVariants as cause
-use Rattle.flow_value.specs.declared.value.Val.{Val}
-use Rattle.flow_value.specs.declared.value.Val.TheOpen.{Val-F}
-use Rattle.flow_value.specs.declared.value.Val.TheViews as values
+use Rattle.run_code.specs.Cause.{Cause}
+use Rattle.run_code.specs.Cause.TheVariants as cause
+use Rattle.run_code.specs.Val.{Val}
+use Rattle.run_code.specs.Val.TheOpen.{Val-F}
+use Rattle.run_code.specs.Val.TheViews as values
 use Rattle.run_code.specs.Carried.{Carried, Value, Unfilled, val_of}
 use Rattle.run_code.specs.NodeValues.{Shape, op}
 use Rattle.run_code.specs.Simple.{Simple}

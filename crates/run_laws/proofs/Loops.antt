@@ -1,10 +1,10 @@
 -- Where a loop goes to its results, so does the machine.
 use Rattle.std.proofs.Common.{◌≡◌, ℕ, zero, suc, ◌+◌, ◌<◌, ◌≤◌, Bool, true, false, List, [], ◌∷◌, ◌++◌, length, map, get_or, refl, sym, ap, ◌∙◌, subst, arith}
-use Rattle.flow_value.specs.declared.cause.Cause.{Cause}
-use Rattle.flow_value.specs.declared.cause.Cause.TheVariants as cause
-use Rattle.flow_value.specs.declared.value.Val.{Val}
-use Rattle.flow_value.specs.declared.value.Val.TheOpen.{Val-F}
-use Rattle.flow_value.specs.declared.value.Val.TheViews as values
+use Rattle.run_code.specs.Cause.{Cause}
+use Rattle.run_code.specs.Cause.TheVariants as cause
+use Rattle.run_code.specs.Val.{Val}
+use Rattle.run_code.specs.Val.TheOpen.{Val-F}
+use Rattle.run_code.specs.Val.TheViews as values
 use Rattle.run_code.specs.Carried.{Carried, Unfilled, val_of}
 use Rattle.run_code.specs.Forms.{Form, Next, Begins, Stage, Enter, Leave, Starting, Testing, Turning, Returning, errors, outputs_of, first, follow, loop, tested, turn_columns}
 use Rattle.run_code.specs.Demand.{Source, Vertex}

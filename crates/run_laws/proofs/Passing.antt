@@ -1,6 +1,6 @@
 -- What it is that the machine has come through nodes, and the parts of compound nodes.
 use Rattle.std.proofs.Common.{◌≡◌, ℕ, zero, suc, ◌+◌, ◌<◌, ◌≤◌, Bool, false, List, [], ◌∷◌, length, map, get_or, inl, inr, ◌⊎◌, refl, sym, ap, ◌∙◌, subst, arith}
-use Rattle.flow_value.specs.declared.cause.Cause.{Cause}
+use Rattle.run_code.specs.Cause.{Cause}
 use Rattle.run_code.specs.Carried.{Carried, Unfilled}
 use Rattle.run_code.specs.Forms.{Form, Stage, Enter, Leave, errors, follow}
 use Rattle.run_code.specs.Demand.{Source, Kind, Vertex}

@@ -2,7 +2,7 @@
 use Rattle.std.proofs.Common.{◌≡◌, ℕ, zero, suc, ◌+◌, ◌-◌, ◌<◌, ◌≤◌, ◌&&◌, Bool, true, false, if◌then◌else◌, List, [], ◌∷◌, ◌++◌, length, map, drop, replicate, get_or, nat_eq, refl, sym, ap, ◌∙◌, subst, arith, ltb}
 use Rattle.std.specs.List.{list_all}
 use Rattle.std.proofs.lemmas.Bool.{le-ltb, le-leb}
-use Rattle.flow_value.specs.declared.value.Val.{Val}
+use Rattle.run_code.specs.Val.{Val}
 use Rattle.run_code.specs.Carried.{Carried, Value, Many, Spoiled, Name, Unfilled, val_of}
 use Rattle.run_code.specs.Forms.{before, add_row, columns, turn_columns, items, are_as_long, places_of, heads}
 use Rattle.run_code.proofs.Columns.{get-first, get-second, more-turns}

@@ -1,11 +1,11 @@
 -- Machines whose code stays inside stop: each step leaves less to come, calls and returns too.
 use Rattle.std.proofs.Common.{◌≡◌, ℕ, zero, suc, ◌+◌, ◌*◌, ◌-◌, ◌<◌, ◌≤◌, ◌⊎◌, inl, inr, Bool, true, false, if◌then◌else◌, ltb, leb, List, [], ◌∷◌, ◌++◌, length, map, slice_get, pos, negsuc, Option, Some, None, refl, sym, ap, ◌∙◌, subst, arith}
 use Rattle.std.proofs.lemmas.Bool.{ltb-true, leb-true, leb-false}
-use Rattle.flow_value.specs.declared.cause.Cause.{Cause}
-use Rattle.flow_value.specs.declared.cause.Cause.TheVariants as cause
-use Rattle.flow_value.specs.declared.value.Val.{Val}
-use Rattle.flow_value.specs.declared.value.Val.TheOpen.{Val-F}
-use Rattle.flow_value.specs.declared.value.Val.TheViews as values
+use Rattle.run_code.specs.Cause.{Cause}
+use Rattle.run_code.specs.Cause.TheVariants as cause
+use Rattle.run_code.specs.Val.{Val}
+use Rattle.run_code.specs.Val.TheOpen.{Val-F}
+use Rattle.run_code.specs.Val.TheViews as values
 use Rattle.run_code.specs.Carried.{Carried, Value, val_of}
 use Rattle.run_code.specs.NodeValues.{op}
 use Rattle.run_code.specs.Forms.{errors, first_spoiled, are_as_long, places_of}

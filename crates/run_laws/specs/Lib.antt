@@ -9,6 +9,12 @@ pub use Rattle.run_code.specs.Refolds
 pub use Rattle.run_code.specs.Cells
 pub use Rattle.run_code.specs.Collections
 pub use Rattle.run_code.specs.Steps
+pub use Rattle.run_code.specs.Carried
+pub use Rattle.run_code.specs.Forms
+pub use Rattle.run_code.specs.Demand
+pub use Rattle.run_code.specs.Entered
+pub use Rattle.run_code.specs.Plain
+pub use Rattle.run_code.specs.Storage
 pub mod Inside
 pub mod Laws
 pub mod Stopping

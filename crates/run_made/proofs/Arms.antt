@@ -1,9 +1,9 @@
 -- The parts of Selects and TagCases that are made do them.
 use Rattle.std.proofs.Common.{◌≡◌, ℕ, suc, ◌+◌, ◌≤◌, max, List, [], ◌∷◌, length, refl, sym, ◌∙◌, subst, arith}
 use Rattle.std.proofs.Math.Nat.{le-max_left, le-max_right}
-use Rattle.graph_meaning.specs.Carried.{Carried}
-use Rattle.graph_meaning.specs.Forms as form
-use Rattle.graph_meaning.specs.Demand.{Whole, Vertex, Network}
+use Rattle.run_laws.specs.Carried.{Carried}
+use Rattle.run_laws.specs.Forms as form
+use Rattle.run_laws.specs.Demand.{Whole, Vertex, Network}
 use Rattle.run_laws.specs.Cells.{Operand, At, picked, own_cells}
 use Rattle.run_laws.specs.Coded.{ArmsAre, Hands, Layout, NodeIs, PartIs, Starts, a_select, a_tag_case, an_arm, no_arm}
 use Rattle.run_laws.specs.Machine.{Weigh}

@@ -3,9 +3,9 @@ use Rattle.std.proofs.Common.{◌≡◌, ℕ, zero, suc, ◌+◌, ◌<◌, ◌�
 use Rattle.std.proofs.lemmas.Bool.{ltb-true, ltb-false}
 use Rattle.std.proofs.lemmas.List.{length-map}
 use Rattle.std.proofs.Math.Nat.{le-max_left, le-max_right}
-use Rattle.graph_meaning.specs.Entered.{IsIn}
-use Rattle.graph_meaning.specs.Forms as form
-use Rattle.graph_meaning.specs.Demand.{Kind, Plain, Whole, Vertex, Network, EachNode}
+use Rattle.run_laws.specs.Entered.{IsIn}
+use Rattle.run_laws.specs.Forms as form
+use Rattle.run_laws.specs.Demand.{Kind, Plain, Whole, Vertex, Network, EachNode}
 use Rattle.run_laws.specs.Cells.{Operand, cells_at, picked, own_cells}
 use Rattle.run_laws.specs.Coded.{Layout, Places, operand}
 use Rattle.run_laws.specs.Machine.{Weigh}

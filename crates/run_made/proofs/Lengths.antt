@@ -1,8 +1,8 @@
 -- As many lines are made as the tables say.
 use Rattle.std.proofs.Common.{◌≡◌, ℕ, zero, suc, ◌+◌, true, false, List, [], ◌∷◌, ◌++◌, length, map, drop, refl, sym, ap, ◌∙◌, arith}
 use Rattle.std.proofs.lemmas.List.{length-append}
-use Rattle.graph_meaning.specs.Forms as form
-use Rattle.graph_meaning.specs.Demand.{Kind, Plain, Whole, Vertex, Network, EachNode}
+use Rattle.run_laws.specs.Forms as form
+use Rattle.run_laws.specs.Demand.{Kind, Plain, Whole, Vertex, Network, EachNode}
 use Rattle.run_laws.specs.Cells.{Operand, At, cells_at, picked, own_cells}
 use Rattle.run_laws.specs.Coded.{Places, operand}
 use Rattle.run_laws.specs.Collections.{sifts_in}

@@ -2,8 +2,8 @@
 use Rattle.std.proofs.Common.{◌≡◌, ◌≢◌, ℕ, zero, suc, ◌+◌, ◌-◌, ◌<◌, ◌≤◌, eqb, ltb, T, if◌then◌else◌, Bool, true, false, List, [], ◌∷◌, ◌++◌, length, map, get_or, inl, inr, refl, sym, ap, ◌∙◌, subst, arith}
 use Rattle.std.proofs.lemmas.Bool.{eq-eqb, lt-ltb}
 use Rattle.std.proofs.Math.Facts.{eqb_yes}
-use Rattle.graph_meaning.specs.Carried.{Unfilled}
-use Rattle.graph_meaning.specs.Demand.{Source, Vertex, IsLabel, LabelsOnce, EachNode}
+use Rattle.run_laws.specs.Carried.{Unfilled}
+use Rattle.run_laws.specs.Demand.{Source, Vertex, IsLabel, LabelsOnce, EachNode}
 use Rattle.run_laws.specs.Cells.{Operand, At, Lit, cells_at, picked, own_cells}
 use Rattle.run_laws.specs.Coded.{Places, Puts, operand, AreOf, AreAt}
 use Rattle.run_laws.specs.Collections.{Collect, Sifts, Final}

@@ -3,10 +3,10 @@ use Rattle.std.proofs.Common.{◌≡◌, ℕ, zero, suc, ◌+◌, ◌-◌, ◌�
 use Rattle.std.proofs.lemmas.Bool.{eq-eqb}
 use Rattle.std.proofs.lemmas.List.{length-append, length-map}
 use Rattle.std.proofs.Math.Nat.{le-max_left, le-max_right}
-use Rattle.graph_meaning.specs.Carried.{Carried}
-use Rattle.graph_meaning.specs.Entered.{IsIn}
-use Rattle.graph_meaning.specs.Forms as form
-use Rattle.graph_meaning.specs.Demand.{Kind, Plain, Whole, Vertex, Network, EachNode}
+use Rattle.run_laws.specs.Carried.{Carried}
+use Rattle.run_laws.specs.Entered.{IsIn}
+use Rattle.run_laws.specs.Forms as form
+use Rattle.run_laws.specs.Demand.{Kind, Plain, Whole, Vertex, Network, EachNode}
 use Rattle.run_laws.specs.Cells.{Operand, At, cells_at, picked, own_cells}
 use Rattle.run_laws.specs.Coded.{FunctionIs, Layout, NodeIs, NodesAre, Places, a_call, a_for_all, a_loop, a_node, a_part, no_node, operand, scalar}
 use Rattle.run_laws.specs.Known.{AreReadable}

@@ -1,7 +1,7 @@
 -- In an order along data edges nodes read what was given before.
 use Rattle.std.proofs.Common.{◌≡◌, ◌≢◌, ℕ, zero, suc, ◌≤◌, ◌⊎◌, inl, inr, List, [], ◌∷◌, Some, refl, ap, ◌∙◌, subst, arith}
-use Rattle.graph_meaning.specs.Demand.{EachNode, Fixed, IsLabel, LabelsOnce, Net, Port, Source, Vertex, at_label, data_labels}
-use Rattle.graph_meaning.specs.Entered.{IsIn}
+use Rattle.run_laws.specs.Demand.{EachNode, Fixed, IsLabel, LabelsOnce, Net, Port, Source, Vertex, at_label, data_labels}
+use Rattle.run_laws.specs.Entered.{IsIn}
 use Rattle.run_laws.proofs.Bound.{in-left, label-after, labels_after}
 use Rattle.run_laws.specs.Orders.{IsAlong}
 use Rattle.run_laws.specs.Known.{IsReadable, Known, Knows, KnowsAll, known_after}

@@ -3,8 +3,8 @@ use Rattle.std.proofs.Common.{◌≡◌, ℕ, zero, suc, ◌+◌, ◌-◌, ◌<�
 use Rattle.std.proofs.lemmas.Bool.{ltb-true}
 use Rattle.std.proofs.lemmas.List.{length-map}
 use Rattle.std.proofs.Math.Nat.{le-max_left, le-max_right}
-use Rattle.graph_meaning.specs.Carried.{Unfilled}
-use Rattle.graph_meaning.specs.Demand.{Source, Port, Fixed, Vertex}
+use Rattle.run_laws.specs.Carried.{Unfilled}
+use Rattle.run_laws.specs.Demand.{Source, Port, Fixed, Vertex}
 use Rattle.run_laws.proofs.Folding.{sifts-fewer}
 use Rattle.run_laws.specs.Cells.{Operand, At, Lit, cells_at, picked, own_cells}
 use Rattle.run_laws.specs.Coded.{Layout, Places, operand}

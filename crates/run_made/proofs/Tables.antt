@@ -1,7 +1,7 @@
 -- Tables and levels where numbers rise inside.
 use Rattle.std.proofs.Common.{◌≡◌, ℕ, zero, suc, ◌+◌, ◌<◌, ◌≤◌, max, List, [], ◌∷◌, length, refl, sym, ap, ◌∙◌, arith}
-use Rattle.graph_meaning.specs.Forms as form
-use Rattle.graph_meaning.specs.Demand.{EachNode, Kind, Network, Plain, Vertex, Whole}
+use Rattle.run_laws.specs.Forms as form
+use Rattle.run_laws.specs.Demand.{EachNode, Kind, Network, Plain, Vertex, Whole}
 use Rattle.run_laws.specs.Cells.{picked}
 use Rattle.run_laws.specs.Made.{Plan, arms_size, greatest_extent, kind_size, loop_extent, loop_size, nodes_extent, nodes_size, parts_extent}
 use Rattle.run_made.specs.Plans.{All, CanLay, IsInner, IsKindRight, IsLoopRight, Weighing}

@@ -2,8 +2,8 @@
 use Rattle.std.proofs.Common.{◌≡◌, ℕ, suc, ◌+◌, ◌≤◌, max, Bool, true, false, List, [], ◌∷◌, ◌++◌, length, refl, ◌∙◌, subst, arith}
 use Rattle.std.proofs.lemmas.List.{length-map}
 use Rattle.std.proofs.Math.Nat.{le-max_left, le-max_right}
-use Rattle.graph_meaning.specs.Carried.{Carried}
-use Rattle.graph_meaning.specs.Demand.{Vertex, Network}
+use Rattle.run_laws.specs.Carried.{Carried}
+use Rattle.run_laws.specs.Demand.{Vertex, Network}
 use Rattle.run_laws.specs.Cells.{Operand, cells_at, own_cells}
 use Rattle.run_laws.specs.Coded.{ForAllIs, GoesIn, Layout, LoopIs, PartIs, Starts, operand, the_for_all, the_loop}
 use Rattle.run_laws.specs.Machine.{Weigh}

@@ -1,9 +1,9 @@
 -- The laws of code that is made.
 use Rattle.std.specs.Prelude.{◌≡◌, ℕ, ◌≤◌, ◌<◌, ◌⊎◌, List, length}
-use Rattle.graph_meaning.specs.Carried.{Carried}
-use Rattle.graph_meaning.specs.Demand.{Vertex, Network, AreOrderly}
-use Rattle.graph_meaning.specs.Entered.{IsIn}
-use Rattle.graph_meaning.specs.Plain.{Costs}
+use Rattle.run_laws.specs.Carried.{Carried}
+use Rattle.run_laws.specs.Demand.{Vertex, Network, AreOrderly}
+use Rattle.run_laws.specs.Entered.{IsIn}
+use Rattle.run_laws.specs.Plain.{Costs}
 use Rattle.run_laws.specs.Orders.{AreInOrder}
 use Rattle.run_laws.specs.Cells.{Cells}
 use Rattle.run_laws.specs.Coded.{AreCoded}

@@ -1,6 +1,6 @@
 -- An order of a graph is right for a plan where each port that is read is an output of its node.
 use Rattle.std.specs.Prelude.{◌≡◌, ℕ, zero, suc, ◌≤◌, List, [], ◌∷◌, Some}
-use Rattle.graph_meaning.specs.Demand.{EachNode, Fixed, IsOrderly, LabelsOnce, Net, Port, Source, Vertex, at_label}
+use Rattle.run_laws.specs.Demand.{EachNode, Fixed, IsOrderly, LabelsOnce, Net, Port, Source, Vertex, at_label}
 use Rattle.run_laws.specs.Orders.{IsInOrder}
 use Rattle.run_laws.specs.Known.{AreReadable}
 

@@ -1,10 +1,10 @@
 -- Plans that are right: what is asked of a plan, graph by graph, so that the code that is made of it does the graphs.
 use Rattle.std.specs.Prelude.{◌≡◌, ℕ, zero, suc, ◌+◌, ◌≤◌, List, [], ◌∷◌, length, get_or}
-use Rattle.graph_meaning.specs.Carried.{Carried}
-use Rattle.graph_meaning.specs.Entered.{IsIn}
-use Rattle.graph_meaning.specs.Forms as form
-use Rattle.graph_meaning.specs.Demand.{Kind, Plain, Whole, Vertex, Network, LabelsOnce, EachNode}
-use Rattle.graph_meaning.specs.Storage.{Weights}
+use Rattle.run_laws.specs.Carried.{Carried}
+use Rattle.run_laws.specs.Entered.{IsIn}
+use Rattle.run_laws.specs.Forms as form
+use Rattle.run_laws.specs.Demand.{Kind, Plain, Whole, Vertex, Network, LabelsOnce, EachNode}
+use Rattle.run_laws.specs.Storage.{Weights}
 use Rattle.run_laws.specs.Cells.{picked}
 use Rattle.run_laws.specs.Coded.{Layout}
 use Rattle.run_laws.specs.Collections.{AreWithin}

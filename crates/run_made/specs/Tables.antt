@@ -1,7 +1,7 @@
 -- Tables and levels of plans in which the graphs inside a graph have greater numbers.
 use Rattle.std.specs.Prelude.{◌≡◌, ℕ, ◌+◌, ◌<◌, ◌≤◌, List, []}
-use Rattle.graph_meaning.specs.Forms as form
-use Rattle.graph_meaning.specs.Demand.{EachNode, Kind, Network, Plain, Vertex, Whole}
+use Rattle.run_laws.specs.Forms as form
+use Rattle.run_laws.specs.Demand.{EachNode, Kind, Network, Plain, Vertex, Whole}
 use Rattle.run_laws.specs.Made.{IsSized, Plan}
 use Rattle.run_made.specs.Plans.{All, CanLay, IsRight, Weighing}
 

@@ -1,6 +1,6 @@
 -- Each step of the machine whose cells own their values is a step of the machine on values.
 use Rattle.std.proofs.Common.{◌≡◌, ℕ, suc, ◌+◌, ◌<◌, ◌≤◌, ◌⊎◌, inl, inr, Bool, true, false, if◌then◌else◌, List, [], ◌∷◌, ◌++◌, length, map, get_or, refl, sym, ap, ◌∙◌, subst, arith, ltb}
-use Rattle.flow_value.specs.declared.value.Val.TheViews.{out-Val}
+use Rattle.graph_meaning.specs.Val.TheViews.{out-Val}
 use Rattle.graph_meaning.specs.Carried.{Carried, Value, Unfilled, val_of}
 use Rattle.graph_meaning.specs.Forms.{errors, first_spoiled, places_of}
 use Rattle.graph_meaning.specs.NodeValues.{op}

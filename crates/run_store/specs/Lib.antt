@@ -1,6 +1,11 @@
 pub use Rattle.graph_meaning.specs.Carried
 pub use Rattle.graph_meaning.specs.Storage
 pub use Rattle.run_laws.specs.Facts
+pub use Rattle.run_laws.specs.Cells
+pub use Rattle.run_laws.specs.Collections
+pub use Rattle.run_laws.specs.Steps
+pub use Rattle.graph_meaning.specs.NodeValues
+pub use Rattle.run_laws.specs.Machine
 pub mod Effects
 pub mod Stored
 pub mod Refines

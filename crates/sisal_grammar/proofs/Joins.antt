@@ -1,7 +1,7 @@
 -- How the rest of a phrase goes on from what stands before it.
 use Rattle.std.proofs.Common.{◌≡◌, ℕ, List, [], ◌∷◌, ◌++◌, Option, Some, None, refl, sym, ◌∙◌, ap, subst, append_assoc}
-use Rattle.sisal_lex.specs.declared.token.Word.TheVariants as word
-use Rattle.sisal_lex.specs.declared.token.Sign.TheVariants as sign
+use Rattle.sisal_tree.specs.Word.TheVariants as word
+use Rattle.sisal_tree.specs.Sign.TheVariants as sign
 use Rattle.sisal_tree.specs.declared.unit.Field.{Field}
 use Rattle.sisal_tree.specs.declared.expr.Expr.{Expr}
 use Rattle.sisal_tree.specs.declared.expr.ExprKind.TheVariants as tree

@@ -1,8 +1,8 @@
 -- What each production of the table derives, where its tokens are said by their words, signs and names.
 use Rattle.std.proofs.Common.{◌≡◌, ℕ, ℤ, true, false, List, [], ◌∷◌, ◌++◌, Some, ap, subst}
-use Rattle.sisal_lex.specs.declared.token.Kind.TheVariants as kind
-use Rattle.sisal_lex.specs.declared.token.Word.TheVariants as word
-use Rattle.sisal_lex.specs.declared.token.Sign.TheVariants as sign
+use Rattle.sisal_tree.specs.Kind.TheVariants as kind
+use Rattle.sisal_tree.specs.Word.TheVariants as word
+use Rattle.sisal_tree.specs.Sign.TheVariants as sign
 use Rattle.sisal_tree.specs.declared.expr.ExprKind.TheVariants as tree
 use Rattle.sisal_tree.specs.declared.expr.Constant.TheVariants as constant
 use Rattle.sisal_tree.specs.declared.expr.Scalar.TheVariants as scalar

@@ -1,11 +1,11 @@
 -- What the class of a token tells of the token.
 use Rattle.std.proofs.Common.{◌≡◌, ℕ, ℤ, List, [], ◌∷◌, Bool, true, false, not, ◌||◌, nat_eq, refl, sym, ◌∙◌, ap, arith, slice_index_or}
-use Rattle.sisal_lex.specs.declared.token.Kind.{Kind}
-use Rattle.sisal_lex.specs.declared.token.Kind.TheVariants as kind
-use Rattle.sisal_lex.specs.declared.token.Word.{Word}
-use Rattle.sisal_lex.specs.declared.token.Word.TheVariants as word
-use Rattle.sisal_lex.specs.declared.token.Sign.{Sign}
-use Rattle.sisal_lex.specs.declared.token.Sign.TheVariants as sign
+use Rattle.sisal_tree.specs.Kind.{Kind}
+use Rattle.sisal_tree.specs.Kind.TheVariants as kind
+use Rattle.sisal_tree.specs.Word.{Word}
+use Rattle.sisal_tree.specs.Word.TheVariants as word
+use Rattle.sisal_tree.specs.Sign.{Sign}
+use Rattle.sisal_tree.specs.Sign.TheVariants as sign
 use Rattle.sisal_grammar.specs.declared.value.Placed.{Placed}
 use Rattle.sisal_grammar.specs.Classes.{class_of, word_class, sign_class}
 use Rattle.sisal_grammar.specs.Spells.{IsWord, IsSign, IsName}

@@ -1,10 +1,10 @@
 -- What each production makes of the values of its symbols.
 use Rattle.std.specs.Prelude.{ℕ, ◌+◌, Bool, true, false, List, [], ◌∷◌, Option, Some, None, fold}
 use Rattle.pushdown.specs.Meaning.{Vals, Meaning}
-use Rattle.sisal_lex.specs.declared.token.Kind.{Kind}
-use Rattle.sisal_lex.specs.declared.token.Kind.TheVariants as kind
-use Rattle.sisal_lex.specs.declared.token.Word.TheVariants as word
-use Rattle.sisal_lex.specs.declared.token.Sign.TheVariants as sign
+use Rattle.sisal_tree.specs.Kind.{Kind}
+use Rattle.sisal_tree.specs.Kind.TheVariants as kind
+use Rattle.sisal_tree.specs.Word.TheVariants as word
+use Rattle.sisal_tree.specs.Sign.TheVariants as sign
 use Rattle.sisal_tree.specs.declared.unit.Named.{Named}
 use Rattle.sisal_tree.specs.declared.unit.Written.{Written}
 use Rattle.sisal_tree.specs.declared.unit.Item.TheVariants as item

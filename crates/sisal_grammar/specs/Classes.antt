@@ -1,12 +1,12 @@
 -- The classes of tokens, in the order in which the factored grammar first names them. Class 0 stands
 -- for the end of the text.
 use Rattle.std.specs.Prelude.{ℕ}
-use Rattle.sisal_lex.specs.declared.token.Kind.{Kind}
-use Rattle.sisal_lex.specs.declared.token.Kind.TheVariants as kind
-use Rattle.sisal_lex.specs.declared.token.Word.{Word}
-use Rattle.sisal_lex.specs.declared.token.Word.TheVariants as word
-use Rattle.sisal_lex.specs.declared.token.Sign.{Sign}
-use Rattle.sisal_lex.specs.declared.token.Sign.TheVariants as sign
+use Rattle.sisal_tree.specs.Kind.{Kind}
+use Rattle.sisal_tree.specs.Kind.TheVariants as kind
+use Rattle.sisal_tree.specs.Word.{Word}
+use Rattle.sisal_tree.specs.Word.TheVariants as word
+use Rattle.sisal_tree.specs.Sign.{Sign}
+use Rattle.sisal_tree.specs.Sign.TheVariants as sign
 
 abbrev pub word_class : Word → ℕ
 word_class word.WArray = 17

@@ -1,6 +1,6 @@
 -- Tokens with their places in the text.
 use Rattle.std.specs.Prelude.{ℕ, ◌+◌, List, [], ◌∷◌}
-use Rattle.sisal_lex.specs.declared.token.Token.{Token}
+use Rattle.sisal_tree.specs.Token.{Token}
 use Rattle.sisal_grammar.specs.declared.value.Placed.{Placed}
 
 -- these tokens, the first of which is at the place n

@@ -3,11 +3,11 @@
 -- production. Further, `global` gives a function by its header, and a record may be changed by
 -- `replace`.
 use Rattle.std.specs.Prelude.{◌≡◌, ℕ, ℤ, true, false, List, [], ◌∷◌, ◌++◌, Option, Some, None}
-use Rattle.sisal_lex.specs.declared.token.Kind.TheVariants as kind
-use Rattle.sisal_lex.specs.declared.token.Word.{Word}
-use Rattle.sisal_lex.specs.declared.token.Word.TheVariants as word
-use Rattle.sisal_lex.specs.declared.token.Sign.{Sign}
-use Rattle.sisal_lex.specs.declared.token.Sign.TheVariants as sign
+use Rattle.sisal_tree.specs.Kind.TheVariants as kind
+use Rattle.sisal_tree.specs.Word.{Word}
+use Rattle.sisal_tree.specs.Word.TheVariants as word
+use Rattle.sisal_tree.specs.Sign.{Sign}
+use Rattle.sisal_tree.specs.Sign.TheVariants as sign
 use Rattle.sisal_tree.specs.declared.unit.Named.{Named}
 use Rattle.sisal_tree.specs.declared.unit.Written.{Written}
 use Rattle.sisal_tree.specs.declared.unit.Field.{Field}

@@ -1,7 +1,7 @@
 //! Lists that are made from their end.
 ghost use Rattle.std.specs.Prelude.{◌≡◌, ◌∷◌, [], List, OnOk, MatchOption, reverse};
 
-use flow_value::{NoMemory, Seq};
+use sisal_tree::{NoMemory, Seq};
 use std::alloc::Global;
 use std::marker::Model;
 

@@ -3,7 +3,7 @@
 ghost use Rattle.std.specs.Prelude.{◌≡◌};
 ghost use Rattle.sisal_grammar.specs.Classes.{class_of, word_class, sign_class};
 
-use sisal_lex::{Kind, Sign, Word};
+use sisal_tree::{Kind, Sign, Word};
 
 /// The class of a token.
 pub fn class_of(kind: &Kind) -> u8

@@ -1,10 +1,8 @@
 //! The values of symbols.
 use crate::back::Back;
-use flow_value::Seq;
-use sisal_lex::Kind;
 use sisal_tree::{
     Arm, BinaryOperator, Clause, ClauseKind, Def, Elements, Expr, Field, FieldValue, Generator,
-    Header, Item, Loop, Mask, Named, Reduction, Target, Turn, Written,
+    Header, Item, Kind, Loop, Mask, Named, Reduction, Seq, Target, Turn, Written,
 };
 
 /// A token and its place in the text.

@@ -13,6 +13,7 @@ mod token;
 mod words;
 
 pub use fault::LexFault;
+pub use flow_value::{Held, NoMemory, Seq, Text};
 pub use laws::tokens_are_longest;
 pub use lexer::lex;
 pub use token::{Kind, Sign, Token, Tokens, Word};

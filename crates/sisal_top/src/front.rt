@@ -1,6 +1,6 @@
 //! From the bytes of a text to its typed program.
 ghost use Rattle.std.specs.Prelude.{ℕ, List, IfOk, IfErr};
-ghost use Rattle.lowering_meaning.specs.Coverage.{AreCovered};
+ghost use Rattle.text_ready.specs.Coverage.{AreCovered};
 ghost use Rattle.text_ready.specs.LoweredRulesLaws.{rule_forms};
 ghost use Rattle.lowered_units.specs.Fitting.{IsFitting};
 ghost use Rattle.sisal_check.specs.Texts.{IsText};
@@ -9,13 +9,12 @@ ghost use Rattle.sisal_top.specs.Program.{Fits, IsUnitOf};
 ghost use Rattle.sisal_top.specs.Refusals.{IsCause, IsNoProgram};
 
 use crate::status::Status;
-use fitting_texts::programs_of_texts_fit;
 use sisal_check::{check, units_of_texts_are_texts};
 use sisal_lex::lex;
 use sisal_parse::parse;
 use sisal_tree::Unit;
 use std::alloc::Global;
-use text_ready::programs_of_texts_are_covered;
+use text_ready::{programs_of_texts_are_covered, programs_of_texts_fit};
 use typed_tree::Program;
 
 /// The unit that a text is.

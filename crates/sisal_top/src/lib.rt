@@ -11,4 +11,5 @@ mod texts;
 pub use call::sisal;
 pub use compile_call::a_program_has_one_text;
 pub use lines::report;
+pub use run_call::{no_run_passes_the_limit, words_have_one_run};
 pub use status::{CallFault, Status, SyntaxFault, TextFault, UnitFault, UsageFault};

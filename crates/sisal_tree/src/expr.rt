@@ -1,6 +1,6 @@
 //! Expressions.
 use crate::unit::{Named, Written};
-use flow_value::{Held, Seq, Text};
+use sisal_lex::{Held, Seq, Text};
 
 /// An expression and the line on which it begins.
 #[cycle(tree)]

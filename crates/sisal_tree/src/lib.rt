@@ -12,4 +12,5 @@ pub use expr::{
     Arm, BinaryOperator, Clause, ClauseKind, Constant, Def, Direction, Elements, Expr, ExprKind,
     FieldValue, Generator, Loop, Mask, PrefixOperator, Reduction, Scalar, TagCase, Target, Turn,
 };
+pub use sisal_lex::{Kind, NoMemory, Seq, Sign, Word};
 pub use unit::{Field, FunDef, FunKind, Header, Item, Named, TypeDef, Unit, Written};

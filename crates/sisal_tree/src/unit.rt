@@ -1,7 +1,6 @@
 //! Units, types and functions.
 use crate::expr::Expr;
-use flow_value::Seq;
-use sisal_lex::Tokens;
+use sisal_lex::{Seq, Tokens};
 
 /// A name where it stands.
 #[derive(Clone, Copy)]

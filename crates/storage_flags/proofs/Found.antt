@@ -15,8 +15,8 @@ use Rattle.if1_marks.specs.Given.{consumes, is_consuming}
 use Rattle.if1_marks.proofs.Tests.{same-number}
 use Rattle.graph_meaning.proofs.Lists.{found-in}
 use Rattle.graph_meaning.specs.StorageUnits.{carries_aggregate, takes, test_in, storage_of}
-use Rattle.mark_check.specs.Graphs.{lent, unit_graphs}
-use Rattle.unit_plan.proofs.Found.{place-found}
+use Rattle.unit_orders.specs.Graphs.{lent, unit_graphs}
+use Rattle.unit_orders.proofs.Found.{place-found}
 use Rattle.unit_orders.proofs.Numbered.{number-at}
 use Rattle.storage_flags.specs.Flags.{aggregates_of, consumers_of, AreRows, AreFlags, DoConsumersTell, DoConsumerRowsTell, DoMarksTell, DoRowsStand}
 

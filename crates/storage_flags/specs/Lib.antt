@@ -1,1 +1,4 @@
+pub use Rattle.unit_orders.specs.FiringOrderOrders
+pub use Rattle.unit_orders.specs.Orders
+pub use Rattle.unit_orders.specs.Graphs
 pub mod Flags

@@ -15,3 +15,4 @@ pub use laws::{
 pub use rows::Flags;
 pub use tables::{aggregate_edges, consumed_edges};
 pub use types::{has_aggregate_elements, is_aggregate};
+pub use unit_orders::{all_graphs, firing_orders};

@@ -6,10 +6,9 @@ ghost use Rattle.storage_flags.specs.Flags.{aggregates_of, consumers_of, AreRows
 
 use crate::rows::{Flags, aggregate_rows};
 use flow_value::{NoMemory, Seq};
-use if1_sound::Sound;
-use mark_check::all_graphs;
 use may_take::consuming_edges;
 use std::alloc::Global;
+use unit_orders::{Sound, all_graphs};
 
 /// Of each graph of a unit, by its number, and each of its edges, in order, whether it carries an
 /// aggregate. Row 0 is empty, since numbers begin with 1. Takes for each edge the time of two searches

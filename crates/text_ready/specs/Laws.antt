@@ -8,9 +8,9 @@ use Rattle.sisal_tree.specs.Depth.{depth_of}
 use Rattle.typed_tree.specs.declared.program.Program.{Program}
 use Rattle.fitting_texts.specs.Laws.{IsTypedText}
 use Rattle.lowering.specs.TooMany.{too_many}
-use Rattle.lowered_units.specs.Units.{IsTranslated}
+use Rattle.lowered_ready.specs.Units.{IsTranslated}
 use Rattle.lowering_meaning.specs.Coverage.{AreCovered}
-use Rattle.lowered_rules.specs.Laws.{rule_forms}
+use Rattle.lowered_ready.specs.LoweredRulesLaws.{rule_forms}
 
 abbrev pub AreTextsCovered : Type 0
 AreTextsCovered = (bytes : List ℕ) (u : tree.Unit) (p : Program) → IsTypedText bytes u p → AreCovered rule_forms p.functions

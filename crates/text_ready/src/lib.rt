@@ -3,4 +3,5 @@
 
 mod laws;
 
+pub use fitting_texts::programs_of_texts_fit;
 pub use laws::{programs_of_texts_are_covered, units_of_texts_are_ready};

@@ -1,2 +1,9 @@
 pub use Rattle.code_weights.proofs.Adding
+pub use Rattle.unit_plan.proofs.Found
+pub use Rattle.unit_plan.proofs.Right
+pub use Rattle.unit_plan.proofs.Weights
+pub use Rattle.unit_plan.proofs.RightNodes
+pub use Rattle.unit_plan.proofs.Weighed
+pub use Rattle.unit_plan.proofs.Outputs
+pub use Rattle.unit_plan.proofs.TypedEdges
 pub mod Told

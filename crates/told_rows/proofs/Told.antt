@@ -7,19 +7,19 @@ use Rattle.graph_meaning.specs.Networks.{network}
 use Rattle.graph_meaning.specs.Storage.{node_written}
 use Rattle.graph_meaning.specs.StorageUnits.{storage_of}
 use Rattle.run_code.specs.Made.{Plan}
-use Rattle.made_store.specs.Settings.{Shares}
-use Rattle.made_store.specs.Weights.{node_weight}
-use Rattle.step_code.specs.declared.code.Code.{Code}
-use Rattle.step_code.specs.declared.step.Counted.{Counted}
-use Rattle.step_code.specs.declared.step.Written.{Written}
-use Rattle.step_code.specs.Laid.{copied_at, written_at}
+use Rattle.unit_plan.specs.Settings.{Shares}
+use Rattle.unit_plan.specs.Weights.{node_weight}
+use Rattle.code_weights.specs.Code.{Code}
+use Rattle.code_weights.specs.Counted.{Counted}
+use Rattle.code_weights.specs.Written.{Written}
+use Rattle.code_weights.specs.Laid.{copied_at, written_at}
 use Rattle.row_counts.specs.Counts.{IsTold}
 use Rattle.row_counts.proofs.Weighed.{counted-is, written-is}
-use Rattle.plan_data.specs.declared.plan.PlanData.{PlanData}
-use Rattle.plan_data.specs.declared.plan.PlanNode.{PlanNode}
-use Rattle.plan_data.specs.declared.plan.Work.{Work}
-use Rattle.plan_data.specs.declared.plan.Work.TheVariants as work
-use Rattle.plan_data.specs.Parts.{mode_of}
+use Rattle.code_weights.specs.PlanData.{PlanData}
+use Rattle.code_weights.specs.PlanNode.{PlanNode}
+use Rattle.code_weights.specs.Work.{Work}
+use Rattle.code_weights.specs.Work.TheVariants as work
+use Rattle.code_weights.specs.Parts.{mode_of}
 use Rattle.unit_plan.specs.Plans.{Tables, plan_of}
 use Rattle.unit_plan.specs.Shares.{kind_there, shares_of, weighing, writing_of}
 use Rattle.code_weights.specs.Weights.{IsCopiedSo, IsWrittenSo}

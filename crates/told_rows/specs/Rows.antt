@@ -7,14 +7,14 @@ use Rattle.graph_meaning.specs.Carried.{Carried}
 use Rattle.graph_meaning.specs.Demand.{Kind, Plain, Vertex, Whole}
 use Rattle.graph_meaning.specs.Networks.{network}
 use Rattle.graph_meaning.specs.StorageUnits.{storage_of}
-use Rattle.step_code.specs.declared.step.Counted.{Counted}
-use Rattle.step_code.specs.declared.step.Written.{Written}
+use Rattle.code_weights.specs.Counted.{Counted}
+use Rattle.code_weights.specs.Written.{Written}
 use Rattle.row_counts.specs.Counts.{IsFiredSo, IsTold, counted_by_row, written_by_row}
-use Rattle.plan_data.specs.declared.plan.PlanData.{PlanData}
-use Rattle.plan_data.specs.declared.plan.PlanNode.{PlanNode}
-use Rattle.plan_data.specs.declared.plan.Work.{Work}
-use Rattle.plan_data.specs.declared.plan.Work.TheVariants as work
-use Rattle.plan_data.specs.Parts.{graph_nodes, mode_of}
+use Rattle.code_weights.specs.PlanData.{PlanData}
+use Rattle.code_weights.specs.PlanNode.{PlanNode}
+use Rattle.code_weights.specs.Work.{Work}
+use Rattle.code_weights.specs.Work.TheVariants as work
+use Rattle.code_weights.specs.Parts.{graph_nodes, mode_of}
 use Rattle.unit_plan.specs.Plans.{Tables, plan_of}
 use Rattle.unit_plan.specs.Shares.{kind_there, weighing, writing_of}
 use Rattle.code_weights.specs.Grows.{IsPair}

@@ -3,4 +3,5 @@
 
 mod laws;
 
+pub use code_weights::code_of;
 pub use laws::{copies_by_rows_are_of_units, writes_by_rows_are_of_units};

@@ -1,9 +1,9 @@
 -- The depth of each type by those of its parts.
 use Rattle.std.proofs.Common.{ℕ, ◌≡◌, suc, List, map, ap, sym, ◌∙◌}
-use Rattle.flow_value.specs.declared.ty.Ty.{Ty}
-use Rattle.flow_value.specs.declared.ty.Ty.TheOpen.{Ty-F}
-use Rattle.flow_value.specs.declared.ty.Ty.TheFolds.{fold-roll-Ty}
-use Rattle.flow_value.specs.declared.ty.Ty.TheVariants as ty
+use Rattle.loop_folds.specs.Ty.{Ty}
+use Rattle.loop_folds.specs.Ty.TheOpen.{Ty-F}
+use Rattle.loop_folds.specs.Ty.TheFolds.{fold-roll-Ty}
+use Rattle.loop_folds.specs.Ty.TheVariants as ty
 use Rattle.typed_tree.specs.Types.{Member, deepest, depth_step, depth_of}
 
 pub depth_array : (a : Ty) → depth_of (ty.Arr a) ≡ suc (depth_of a)

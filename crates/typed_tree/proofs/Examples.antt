@@ -8,15 +8,15 @@
 --     end function
 use Rattle.std.proofs.Common.{◌≡◌, ℕ, List, [], ◌∷◌, Option, Some, None, false, refl, pos, ap, ◌∙◌, max, zero, suc, ◌≢◌, arith}
 use Rattle.std.specs.Prelude.{codes, Contains}
-use Rattle.flow_value.specs.declared.ty.Ty.{Ty}
-use Rattle.flow_value.specs.declared.ty.Ty.TheVariants as ty
-use Rattle.sisal_lex.specs.declared.token.Token.{Token}
-use Rattle.sisal_lex.specs.declared.token.Kind.{Kind}
-use Rattle.sisal_lex.specs.declared.token.Kind.TheVariants as kind
-use Rattle.sisal_lex.specs.declared.token.Word.{Word}
-use Rattle.sisal_lex.specs.declared.token.Word.TheVariants as word
-use Rattle.sisal_lex.specs.declared.token.Sign.{Sign}
-use Rattle.sisal_lex.specs.declared.token.Sign.TheVariants as sign
+use Rattle.loop_folds.specs.Ty.{Ty}
+use Rattle.loop_folds.specs.Ty.TheVariants as ty
+use Rattle.sisal_tree.specs.Token.{Token}
+use Rattle.sisal_tree.specs.Kind.{Kind}
+use Rattle.sisal_tree.specs.Kind.TheVariants as kind
+use Rattle.sisal_tree.specs.Word.{Word}
+use Rattle.sisal_tree.specs.Word.TheVariants as word
+use Rattle.sisal_tree.specs.Sign.{Sign}
+use Rattle.sisal_tree.specs.Sign.TheVariants as sign
 use Rattle.sisal_tree.specs.declared.unit.Unit as tree_unit
 use Rattle.sisal_tree.specs.declared.unit.FunKind.TheVariants as fun
 use Rattle.sisal_tree.specs.declared.unit.FunDef.{FunDef}
@@ -52,7 +52,7 @@ use Rattle.typed_tree.specs.Units as units
 use Rattle.typed_tree.specs.Breaks.{NoBuiltIn}
 use Rattle.typed_tree.specs.BuiltIns.{built_ins}
 use Rattle.typed_tree.specs.declared.built_in.BuiltIn.{BuiltIn}
-use Rattle.sisal_lex.specs.Words.{beside}
+use Rattle.sisal_tree.specs.Words.{beside}
 use Rattle.std.proofs.lemmas.List.Elements.{All-cons, All-nil}
 use Rattle.typed_tree.specs.Faults.{BreaksUnit}
 use Rattle.typed_tree.specs.Faults as faults

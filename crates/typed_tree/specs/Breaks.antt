@@ -21,8 +21,8 @@
 -- 23  a loop: a test or mask that is not boolean, a reduction of a wrong type, a loop name defined anew with another type
 use Rattle.std.specs.Prelude.{◌≡◌, ◌≢◌, ◌⊎◌, ℕ, List, [], ◌∷◌, ◌++◌, map, flat_map, length, Bool, Option, Some, None, Contains, All}
 use Rattle.name_scope.specs.Newest.{newest}
-use Rattle.flow_value.specs.declared.ty.Ty.{Ty}
-use Rattle.flow_value.specs.declared.ty.Ty.TheVariants as ty
+use Rattle.loop_folds.specs.Ty.{Ty}
+use Rattle.loop_folds.specs.Ty.TheVariants as ty
 use Rattle.sisal_tree.specs.declared.unit.Named.{Named}
 use Rattle.sisal_tree.specs.declared.unit.Written.{Written}
 use Rattle.sisal_tree.specs.declared.expr.Expr.{Expr}

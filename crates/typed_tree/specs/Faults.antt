@@ -8,7 +8,7 @@
 use Rattle.std.specs.Prelude.{◌≡◌, ◌≢◌, ℕ, List, [], ◌∷◌, map, flat_map, Some, None, Contains}
 use Rattle.std.specs.List.{filter}
 use Rattle.name_scope.specs.Newest.{newest}
-use Rattle.flow_value.specs.declared.ty.Ty.{Ty}
+use Rattle.loop_folds.specs.Ty.{Ty}
 use Rattle.type_table.specs.declared.form.Form.{Form}
 use Rattle.sisal_tree.specs.declared.unit.Named.{Named}
 use Rattle.sisal_tree.specs.declared.unit.Written.{Written}

@@ -1,4 +1,15 @@
 pub use Rattle.sisal_tree.specs.declared.expr.Constant
+pub use Rattle.loop_folds.specs.declared.masking.Masking
+pub use Rattle.loop_folds.specs.Clauses
+pub use Rattle.loop_folds.specs.Masks
+pub use Rattle.value_ops.specs.Operations as ValueOpsOperations
+pub use Rattle.loop_folds.specs.Folds
+pub use Rattle.loop_folds.specs.declared.folding.Folding
+pub use Rattle.sisal_tree.specs.declared.expr.Direction
+pub use Rattle.value_ops.specs.declared.operation.Operation
+pub use Rattle.type_table.specs.declared.form.Form
+pub use Rattle.type_table.specs.declared.form.Member
+pub use Rattle.type_table.specs.Tables
 pub mod BuiltIns
 pub mod Scopes
 pub mod Types

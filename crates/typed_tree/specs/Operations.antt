@@ -1,10 +1,10 @@
 -- The operation that an operator, a conversion or a call that is built in stands for (SISAL Language Reference Manual 1.2,
 -- operations), and what a clause makes of its values. On booleans `|` is the sum and `&` the product.
 use Rattle.std.specs.Prelude.{Option, Some, None, if◌then◌else◌}
-use Rattle.flow_value.specs.declared.ty.Ty.{Ty, out-Ty}
-use Rattle.flow_value.specs.declared.ty.Ty.TheOpen.{Ty-F}
-use Rattle.flow_value.specs.declared.operation.Scalar1.TheVariants as unary
-use Rattle.flow_value.specs.declared.operation.Scalar2.TheVariants as two
+use Rattle.loop_folds.specs.Ty.{Ty, out-Ty}
+use Rattle.loop_folds.specs.Ty.TheOpen.{Ty-F}
+use Rattle.loop_folds.specs.Scalar1.TheVariants as unary
+use Rattle.loop_folds.specs.Scalar2.TheVariants as two
 use Rattle.sisal_tree.specs.declared.expr.PrefixOperator.{PrefixOperator}
 use Rattle.sisal_tree.specs.declared.expr.PrefixOperator.TheVariants as prefix
 use Rattle.sisal_tree.specs.declared.expr.BinaryOperator.{BinaryOperator}

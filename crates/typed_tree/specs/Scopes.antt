@@ -1,6 +1,6 @@
 -- The names in force at a place of a function (SISAL Language Reference Manual 1.2, scope): an inner name hides an outer one.
 use Rattle.std.specs.Prelude.{◌≡◌, ℕ, suc, ◌-◌, List, [], ◌∷◌, ◌++◌, map, flat_map, Option, Some, None, Contains}
-use Rattle.flow_value.specs.declared.ty.Ty.{Ty}
+use Rattle.loop_folds.specs.Ty.{Ty}
 use Rattle.name_scope.specs.Newest.{newest}
 use Rattle.sisal_tree.specs.declared.expr.Def.{Def, out-Def}
 

@@ -1,9 +1,9 @@
 -- What operators, calls that are built in, and clauses want and give (SISAL Language Reference Manual 1.2, operations).
 use Rattle.std.specs.Prelude.{◌≡◌, ℕ, zero, suc, ◌≤◌, List, [], ◌∷◌, max, ◌⊎◌, Some, slice_get}
-use Rattle.flow_value.specs.declared.ty.Ty.{Ty}
-use Rattle.flow_value.specs.declared.ty.Ty.TheVariants as ty
-use Rattle.flow_value.specs.declared.ty.Ty.TheOpen.{Ty-F}
-use Rattle.flow_value.specs.declared.ty.Ty.TheFolds.{fold-Ty}
+use Rattle.loop_folds.specs.Ty.{Ty}
+use Rattle.loop_folds.specs.Ty.TheVariants as ty
+use Rattle.loop_folds.specs.Ty.TheOpen.{Ty-F}
+use Rattle.loop_folds.specs.Ty.TheFolds.{fold-Ty}
 use Rattle.type_table.specs.declared.form.Form.{Form}
 use Rattle.type_table.specs.declared.form.Form.TheVariants as form
 use Rattle.type_table.specs.declared.form.Member.{Member as NumberedMember}

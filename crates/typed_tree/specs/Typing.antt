@@ -2,9 +2,9 @@
 -- each production, and the typed tree of each.
 use Rattle.std.specs.Prelude.{◌≡◌, ℕ, suc, List, [], ◌∷◌, ◌++◌, map, flat_map, length, Bool, Option, Some, None, slice_get, Contains, All}
 use Rattle.name_scope.specs.Newest.{newest}
-use Rattle.sisal_lex.specs.Words.{beside}
-use Rattle.flow_value.specs.declared.ty.Ty.{Ty}
-use Rattle.flow_value.specs.declared.ty.Ty.TheVariants as ty
+use Rattle.sisal_tree.specs.Words.{beside}
+use Rattle.loop_folds.specs.Ty.{Ty}
+use Rattle.loop_folds.specs.Ty.TheVariants as ty
 use Rattle.type_table.specs.declared.form.Form.{Form}
 use Rattle.sisal_tree.specs.declared.unit.Named.{Named}
 use Rattle.sisal_tree.specs.declared.unit.Written.{Written}
@@ -27,7 +27,7 @@ use Rattle.sisal_tree.specs.declared.expr.Generator.{Generator, roll-Generator}
 use Rattle.sisal_tree.specs.declared.expr.Turn.{roll-Turn}
 use Rattle.sisal_tree.specs.declared.expr.Clause.{Clause, roll-Clause}
 use Rattle.sisal_tree.specs.declared.expr.Mask.{Mask}
-use Rattle.flow_value.specs.declared.operation.Scalar1.TheVariants as unary
+use Rattle.loop_folds.specs.Scalar1.TheVariants as unary
 use Rattle.value_ops.specs.declared.operation.Operation.TheVariants as operation
 use Rattle.typed_tree.specs.declared.built_in.BuiltIn.{BuiltIn}
 use Rattle.typed_tree.specs.declared.expr.TypedExpr.{TypedExpr}

@@ -3,7 +3,7 @@
 use Rattle.std.specs.Prelude.{◌≡◌, ℕ, List, [], ◌∷◌, ◌++◌, map, Bool, true, false, Option, Some, None, slice_get, slice_range, Contains, All}
 use Rattle.std.specs.List.{filter}
 use Rattle.name_scope.specs.Newest.{newest}
-use Rattle.flow_value.specs.declared.ty.Ty.{Ty}
+use Rattle.loop_folds.specs.Ty.{Ty}
 use Rattle.type_table.specs.declared.form.Form.{Form}
 use Rattle.sisal_tree.specs.declared.unit.Named.{Named}
 use Rattle.sisal_tree.specs.declared.unit.Written.{Written}

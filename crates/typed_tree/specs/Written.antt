@@ -6,10 +6,10 @@
 --  5  a field or a tag stands twice in one type
 use Rattle.std.specs.Prelude.{◌≡◌, ℕ, List, [], ◌∷◌, ◌++◌, Bool, true, false, Option, Some, None, slice_get}
 use Rattle.name_scope.specs.Newest.{newest}
-use Rattle.flow_value.specs.declared.ty.Ty.{Ty}
-use Rattle.flow_value.specs.declared.ty.Ty.TheVariants as ty
-use Rattle.sisal_lex.specs.declared.token.Word.TheVariants as word
-use Rattle.sisal_lex.specs.declared.token.Sign.TheVariants as sign
+use Rattle.loop_folds.specs.Ty.{Ty}
+use Rattle.loop_folds.specs.Ty.TheVariants as ty
+use Rattle.sisal_tree.specs.Word.TheVariants as word
+use Rattle.sisal_tree.specs.Sign.TheVariants as sign
 use Rattle.sisal_tree.specs.declared.unit.Named.{Named}
 use Rattle.sisal_grammar.specs.declared.value.Placed.{Placed}
 use Rattle.sisal_grammar.specs.Acts.{named, name_in}

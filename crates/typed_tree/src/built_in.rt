@@ -1,6 +1,6 @@
 //! Calls that are built in.
 ghost use Rattle.std.specs.Prelude.{◌≡◌, map};
-ghost use Rattle.sisal_lex.specs.Words.{beside, plain_row};
+ghost use Rattle.sisal_tree.specs.Words.{beside, plain_row};
 ghost use Rattle.typed_tree.specs.BuiltIns.{built_ins};
 
 /// A call that is built in: SISAL Language Reference Manual 1.2, operations on numbers, arrays and

@@ -11,3 +11,4 @@ pub use built_in::{BuiltIn, built_in_named};
 pub use expr::{Case, Choice, ClauseForm, Product, Source, Turns, TypedExpr, TypedKind};
 pub use operation::{binary_operation, convert_operation, prefix_operation};
 pub use program::{Function, Program};
+pub use sisal_tree::Constant;

@@ -8,7 +8,7 @@ ghost use Rattle.typed_tree.specs.Operations.{
 };
 
 use crate::built_in::BuiltIn;
-use flow_value::{Scalar1, Scalar2};
+use loop_folds::{Scalar1, Scalar2};
 use sisal_tree::{BinaryOperator, PrefixOperator, Scalar};
 use value_ops::Operation;
 

@@ -3,7 +3,8 @@ ghost use Rattle.std.specs.Prelude.{◌≡◌};
 ghost use Rattle.std.specs.Str.{str_eq_ignore_ascii_case};
 
 use crate::expr::TypedExpr;
-use flow_value::{Name, Numbers, Seq, item_at};
+use loop_folds::{Name, Numbers, item_at};
+use sisal_tree::Seq;
 use type_table::Types;
 
 /// A function. Types are numbers of the program's table, names are numbers of its list.

@@ -11,7 +11,7 @@ use Rattle.typed_tree.specs.Types.{Member}
 use Rattle.meaning.specs.Timed.{given}
 use Rattle.meaning.specs.Words.{failed}
 use Rattle.meaning.specs.Meaning.{Gives, with_content, arm_in, arm_place}
-use Rattle.fitting_trees.specs.Fitting.{TagsFit}
+use Rattle.fitting_units.specs.Fitting.{TagsFit}
 use Rattle.typed_rows.specs.Rows.{Of}
 use Rattle.typed_values.proofs.Texts.{lt-nat}
 

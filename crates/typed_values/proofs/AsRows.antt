@@ -7,8 +7,8 @@ use Rattle.flow_value.specs.declared.operation.Scalar2.TheVariants as two
 use Rattle.value_ops.specs.declared.operation.Operation.{Operation}
 use Rattle.loop_folds.specs.declared.folding.Folding.{Folding}
 use Rattle.typed_tree.specs.Types.{Member}
-use Rattle.fitting_trees.specs.Fitting.{IsArithmetic, AreAll, AreFields, Row, Makes}
-use Rattle.fitting_trees.specs.Fitting as is
+use Rattle.fitting_units.specs.Fitting.{IsArithmetic, AreAll, AreFields, Row, Makes}
+use Rattle.fitting_units.specs.Fitting as is
 use Rattle.typed_rows.specs.Rows.{Row as TypedRow, Makes as TypedMakes, IsArithmetic as IsTypedArithmetic, AreAll as AreAllOne, AreFields as AreFieldsOf}
 use Rattle.typed_rows.specs.Rows as rows
 

@@ -20,8 +20,8 @@ use Rattle.typed_tree.specs.declared.expr.Source.{Source}
 use Rattle.meaning.specs.Words.{value_at}
 use Rattle.meaning.specs.Sources.{number_in, index_in, names_at}
 use Rattle.meaning.specs.Rows.{span, cells_in, with_cells, no_rows, with_row, with_rows, made}
-use Rattle.fitting_trees.specs.Fitting.{Goes, Makes, AreMade}
-use Rattle.fitting_trees.specs.Fitting as is
+use Rattle.fitting_units.specs.Fitting.{Goes, Makes, AreMade}
+use Rattle.fitting_units.specs.Fitting as is
 use Rattle.typed_rows.specs.Rows.{Of, AreOf, CellsOf}
 use Rattle.typed_rows.proofs.ValueKinds.{as_arr, as_stream, of_error}
 use Rattle.typed_rows.proofs.Scalars.{of_fitted}

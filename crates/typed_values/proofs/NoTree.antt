@@ -17,8 +17,8 @@ use Rattle.typed_tree.specs.declared.expr.TypedKind.TheOpen.{TypedKind-F}
 use Rattle.typed_tree.specs.declared.expr.TypedKind.TheViews.{out-TypedKind}
 use Rattle.typed_tree.specs.Typing.{with}
 use Rattle.typed_tree.specs.Types.{constant_type, AreNumbers}
-use Rattle.fitting_trees.specs.Fitting.{IsLiteral, Row, Header, Fits, AllFit}
-use Rattle.fitting_trees.specs.Fitting as is
+use Rattle.fitting_units.specs.Fitting.{IsLiteral, Row, Header, Fits, AllFit}
+use Rattle.fitting_units.specs.Fitting as is
 use Rattle.typed_rows.specs.Rows.{Of, AreOf}
 use Rattle.typed_rows.proofs.ValueKinds.{at_int, at_bool, out_int, out_bool, of_int, of_bool}
 use Rattle.typed_values.specs.Laws.{a_number, a_truth, HasNoTree, HasNoRow}

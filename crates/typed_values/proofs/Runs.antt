@@ -22,8 +22,8 @@ use Rattle.meaning.specs.Timed.{given}
 use Rattle.meaning.specs.Sources.{names_at}
 use Rattle.meaning.specs.Meaning.{with_content, turned, renew, defined, arm_place}
 use Rattle.meaning.specs.Plain.{all_at, plain, depth}
-use Rattle.fitting_trees.specs.Fitting.{Row, Header, Goes, AreMade, Renews, Fits, AllFit, DefsFit, ArmsFit, TagsFit, BodyFits, FunctionFits, FunctionsFit}
-use Rattle.fitting_trees.specs.Fitting as is
+use Rattle.fitting_units.specs.Fitting.{Row, Header, Goes, AreMade, Renews, Fits, AllFit, DefsFit, ArmsFit, TagsFit, BodyFits, FunctionFits, FunctionsFit}
+use Rattle.fitting_units.specs.Fitting as is
 use Rattle.typed_rows.specs.Rows.{Of, AreOf}
 use Rattle.typed_rows.proofs.ValueKinds.{BoolKind, a_bool, no_bool, as_bool, UniKind, a_uni, no_uni, as_uni}
 use Rattle.typed_rows.proofs.Scalars.{with_one}

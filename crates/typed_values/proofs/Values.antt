@@ -36,8 +36,8 @@ use Rattle.meaning.specs.Plain.{Depth, Deep, at, all_at, called, turns_at, membe
 use Rattle.typed_tree.specs.Typing.{with}
 use Rattle.typed_tree.specs.Types.{Member, constant_type, AreNumbers}
 use Rattle.type_table.specs.declared.form.Form.{Form}
-use Rattle.fitting_trees.specs.Fitting.{IsLiteral, Row, Header, Goes, AreMade, Renews, Fits, AllFit, DefsFit, ArmsFit, TagsFit, BodyFits, FunctionFits, FunctionsFit}
-use Rattle.fitting_trees.specs.Fitting as is
+use Rattle.fitting_units.specs.Fitting.{IsLiteral, Row, Header, Goes, AreMade, Renews, Fits, AllFit, DefsFit, ArmsFit, TagsFit, BodyFits, FunctionFits, FunctionsFit}
+use Rattle.fitting_units.specs.Fitting as is
 use Rattle.typed_rows.specs.Rows.{Of, AreOf}
 use Rattle.typed_rows.proofs.ValueKinds.{UniKind, a_uni, no_uni, as_uni, of_error, of_int, of_bool, of_char, of_null, out_err, out_uni}
 use Rattle.typed_values.proofs.Timing.{Only, only_plus, only_then}

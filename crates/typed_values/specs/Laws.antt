@@ -17,7 +17,7 @@ use Rattle.typed_tree.specs.declared.program.Program.{Program}
 use Rattle.typed_tree.specs.Units.{signatures, IsTyped}
 use Rattle.fitting_units.specs.Leaves.{IsWrittenProgram, AreNamesOnce, AreTagsOnce}
 use Rattle.meaning.specs.Plain.{plain_calls, plain_meaning}
-use Rattle.fitting_trees.specs.Fitting.{Header, Fits, IsFittingTree}
+use Rattle.fitting_units.specs.Fitting.{Header, Fits, IsFittingTree}
 use Rattle.typed_rows.specs.Rows.{AreOf}
 use Rattle.typed_values.specs.Meets.{Asked, Meets, Takes, IsRight}
 

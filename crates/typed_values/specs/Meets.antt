@@ -23,7 +23,7 @@ use Rattle.meaning.specs.Words.{test_of}
 use Rattle.meaning.specs.Sources.{places_of, names_at}
 use Rattle.meaning.specs.Meaning.{Gives, all_of, defined, with_content, arm_place, turned}
 use Rattle.meaning.specs.Plain.{at, all_at, plain, depth}
-use Rattle.fitting_trees.specs.Fitting.{Row, Goes, AreMade}
+use Rattle.fitting_units.specs.Fitting.{Row, Goes, AreMade}
 use Rattle.typed_rows.specs.Rows.{AreOf}
 
 -- what a run meets at a place

@@ -28,8 +28,8 @@ use Rattle.if1_valid.specs.Params.{function_of, params_of}
 use Rattle.graph_meaning.specs.Entered.{IsIn}
 use Rattle.graph_meaning.proofs.Lists.{found-in, here}
 use Rattle.unit_laws.proofs.TypedEdges.{bound}
-use Rattle.unit_plan.specs.Plans.{functions_of, inputs_in, place_of}
-use Rattle.unit_plan.proofs.Found.{place-found}
+use Rattle.unit_whole.specs.Plans.{functions_of, inputs_in, place_of}
+use Rattle.unit_whole.proofs.Found.{place-found}
 
 -- ---- types
 

@@ -5,20 +5,20 @@ use Rattle.if1_graph.specs.Ready.{IsReady}
 use Rattle.if1_marks.specs.Sound.{IsSound}
 use Rattle.run_code.specs.Made.{Plan}
 use Rattle.made_store.specs.Settings.{Shares}
-use Rattle.firing_order.specs.Orders.{order_by}
-use Rattle.unit_plan.specs.Plans.{functions_of, levels_of}
+use Rattle.unit_data.specs.FiringOrderOrders.{order_by}
+use Rattle.unit_whole.specs.Plans.{functions_of, levels_of}
 use Rattle.step_code.specs.declared.code.Code.{Code}
-use Rattle.plan_data.specs.declared.plan.PlanData.{PlanData}
-use Rattle.plan_data.specs.Parts.{table_of}
-use Rattle.plan_data.specs.Stands.{Stands}
-use Rattle.code_maker.specs.Makes.{AreKnit, AreTold, IsCodeOf}
-use Rattle.sequential_run.specs.Totals.{CanEnter}
+use Rattle.unit_whole.specs.PlanData.{PlanData}
+use Rattle.unit_whole.specs.Parts.{table_of}
+use Rattle.unit_whole.specs.Stands.{Stands}
+use Rattle.unit_whole.specs.Makes.{AreKnit, AreTold, IsCodeOf}
+use Rattle.unit_whole.specs.Totals.{CanEnter}
 use Rattle.unit_data.specs.Data.{IsDataOf, planned, shared, tables_of}
 use Rattle.unit_counts.specs.Runs.{IsUnitCode}
 use Rattle.unit_counts.specs.Laws.{DoesToldCodeCount, DoesToldCodeWrite}
 use Rattle.unit_counts.proofs.QuickCode.{quick-unit-code}
 use Rattle.unit_counts.proofs.WritesOf.{quick-writes}
-use Rattle.quick_code.specs.Quick.{RunsSame}
+use Rattle.unit_whole.specs.Quick.{RunsSame}
 use Rattle.unit_whole.specs.Laws.{AreUnitCodesEntered, IsMadeOfData}
 use Rattle.unit_code.specs.Codes.{IsCodeOfUnit, IsMadeOf}
 use Rattle.unit_code.proofs.Counted.{places-many}

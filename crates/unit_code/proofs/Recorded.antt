@@ -7,16 +7,16 @@ use Rattle.if1_graph.specs.Ready.{IsReady}
 use Rattle.if1_marks.specs.Sound.{IsSound}
 use Rattle.graph_meaning.specs.Carried.{Carried, Value, val_of}
 use Rattle.run_store.specs.Whole.{IsOfUnit}
-use Rattle.plan_data.specs.Parts.{table_of}
-use Rattle.sequential_run.specs.declared.running.RunFault.{RunFault}
-use Rattle.sequential_run.specs.declared.running.RunFault.TheVariants as fault
-use Rattle.sequential_run.specs.declared.totals.Totalled.{Totalled}
-use Rattle.sequential_run.specs.Runs.{IsFault}
-use Rattle.sequential_run.specs.Totals.{CanEnter, HasTotals, entered_at}
+use Rattle.unit_whole.specs.Parts.{table_of}
+use Rattle.unit_whole.specs.RunFault.{RunFault}
+use Rattle.unit_whole.specs.RunFault.TheVariants as fault
+use Rattle.unit_whole.specs.Totalled.{Totalled}
+use Rattle.unit_whole.specs.Runs.{IsFault}
+use Rattle.unit_whole.specs.Totals.{CanEnter, HasTotals, entered_at}
 use Rattle.unit_counts.proofs.Runs.{runs-recorded}
 use Rattle.unit_counts.proofs.WritesOf.{writes-recorded}
 use Rattle.unit_counts.specs.Runs.{IsRunOf}
-use Rattle.sequential_run.specs.Writes.{EndsWriting}
+use Rattle.unit_whole.specs.Writes.{EndsWriting}
 use Rattle.graph_meaning.specs.Storage.{capped}
 use Rattle.graph_meaning.specs.StorageUnits.{UnitWrites}
 use Rattle.unit_code.specs.declared.code.UnitCode.{UnitCode}

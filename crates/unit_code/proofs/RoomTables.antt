@@ -2,8 +2,8 @@
 use Rattle.std.proofs.Common.{◌≡◌, ℕ, zero, suc, ◌+◌, ◌<◌, ◌≤◌, List, [], ◌∷◌, ◌++◌, length, inl, inr, refl, ap, ◌∙◌, arith}
 use Rattle.std.proofs.lemmas.Bool.{cases_lt}
 use Rattle.std.proofs.lemmas.List.{get_or_append_left, get_or_push, length_push}
-use Rattle.plan_data.specs.declared.plan.PlanData.{PlanData}
-use Rattle.plan_data.specs.Parts.{table_of}
+use Rattle.unit_whole.specs.PlanData.{PlanData}
+use Rattle.unit_whole.specs.Parts.{table_of}
 
 abbrev pub room_in : PlanData → ℕ → ℕ
 room_in D f = table_of D.params f + table_of D.extents f

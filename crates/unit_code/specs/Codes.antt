@@ -5,9 +5,9 @@ use Rattle.graph_meaning.specs.Demand.{Vertex}
 use Rattle.graph_meaning.specs.Entered.{IsIn}
 use Rattle.graph_meaning.specs.Networks.{network}
 use Rattle.ordered_meaning.specs.Orders.{AreInOrder}
-use Rattle.unit_plan.specs.Plans.{AreTables, Tables, functions_of}
-use Rattle.plan_data.specs.Parts.{table_of}
-use Rattle.sequential_run.specs.Totals.{CanEnter}
+use Rattle.unit_whole.specs.Plans.{AreTables, Tables, functions_of}
+use Rattle.unit_whole.specs.Parts.{table_of}
+use Rattle.unit_whole.specs.Totals.{CanEnter}
 use Rattle.unit_counts.specs.Runs.{CountsCopies, IsUnitCode}
 use Rattle.unit_counts.specs.Writes.{CountsWrites}
 use Rattle.unit_code.specs.declared.code.UnitCode.{UnitCode}

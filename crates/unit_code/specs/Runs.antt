@@ -11,9 +11,9 @@ use Rattle.graph_meaning.specs.Plain.{Costs}
 use Rattle.graph_meaning.specs.Storage.{capped}
 use Rattle.graph_meaning.specs.StorageUnits.{UnitWrites}
 use Rattle.unit_whole.specs.Agrees.{owned_all}
-use Rattle.sequential_run.specs.declared.running.RunFault.{RunFault}
-use Rattle.sequential_run.specs.declared.running.RunFault.TheVariants as fault
-use Rattle.sequential_run.specs.declared.totals.Totalled.{Totalled}
+use Rattle.unit_whole.specs.RunFault.{RunFault}
+use Rattle.unit_whole.specs.RunFault.TheVariants as fault
+use Rattle.unit_whole.specs.Totalled.{Totalled}
 use Rattle.unit_code.specs.declared.runs.Totals.{Totals}
 
 -- what a run has left in cells, as values

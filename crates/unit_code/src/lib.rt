@@ -10,3 +10,4 @@ mod values;
 pub use code::UnitCode;
 pub use make::unit_code;
 pub use runs::{Totals, run_unit};
+pub use unit_whole::RunFault;

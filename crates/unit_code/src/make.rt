@@ -5,15 +5,13 @@ ghost use Rattle.unit_code.specs.Codes.{IsCodeOfUnit};
 
 use crate::code::UnitCode;
 use crate::rooms::{count_of, rooms_of};
-use code_maker::code_of;
 use flow_value::{NoMemory, Numbers, Seq};
 use if1_graph::Graph;
 use if1_sound::Sound;
-use quick_code::quicken;
 use std::alloc::Global;
 use unit_counts::{code_of_told_data_counts_copies, code_of_told_data_counts_writes};
 use unit_data::data_of;
-use unit_whole::code_of_units_can_be_entered;
+use unit_whole::{code_of, code_of_units_can_be_entered, quicken};
 
 fn numbers_of(alloc: Global, graphs: &[Graph]) -> Result<Numbers, NoMemory>
     ensures { IfOk result (λ ns. ns ≡ map (λ g. (out-Graph g).number) graphs.now) }

@@ -1,10 +1,10 @@
 //! The cells of functions.
 ghost use Rattle.std.specs.Prelude.{◌≡◌, ◌+◌, ℕ, IfOk};
-ghost use Rattle.plan_data.specs.Parts.{IsFormed, table_of};
+ghost use Rattle.unit_whole.specs.Parts.{IsFormed, table_of};
 
 use flow_value::{NoMemory, Numbers, Seq};
-use plan_data::{PlanData, number_at};
 use std::alloc::Global;
+use unit_whole::{PlanData, number_at};
 
 /// A count of 32 bits; a greater one is want of memory.
 pub fn count_of(many: usize) -> Result<u32, NoMemory>

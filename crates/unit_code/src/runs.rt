@@ -10,11 +10,10 @@ use crate::code::UnitCode;
 use crate::values::{cells_of, values_of};
 use flow_value::Items;
 use if1_sound::Sound;
-use plan_data::number_at;
 use run_cells::Cell;
 use run_gate::Gate;
-use sequential_run::{RunFault, Totalled, run_function};
 use std::alloc::Global;
+use unit_whole::{RunFault, Totalled, number_at, run_function};
 
 /// What a run of a function gives.
 #[derive(Drop)]

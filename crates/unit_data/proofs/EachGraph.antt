@@ -12,17 +12,17 @@ use Rattle.if1_graph.specs.Units.{Place, number_of, places}
 use Rattle.graph_meaning.specs.Carried.{Unfilled}
 use Rattle.graph_meaning.specs.Networks.{sources}
 use Rattle.graph_meaning.specs.StorageUnits.{storage_of}
-use Rattle.run_cells.specs.declared.cell.Cell.{Cell}
-use Rattle.run_cells.specs.declared.cell.Cell.TheVariants as cell
-use Rattle.run_cells.specs.Held.{held}
+use Rattle.step_code.specs.Cell.{Cell}
+use Rattle.step_code.specs.Cell.TheVariants as cell
+use Rattle.step_code.specs.Held.{held}
 use Rattle.run_store.specs.Stored.{owned_in}
 use Rattle.run_code.specs.Made.{Plan}
-use Rattle.made_store.specs.Settings.{Shares}
+use Rattle.plan_data.specs.Settings.{Shares}
 use Rattle.step_code.specs.declared.step.Collect.{Collect}
-use Rattle.unit_orders.specs.FiringOrderOrders.{order_by}
-use Rattle.unit_plan.proofs.Found.{net-is}
-use Rattle.unit_plan.specs.Plans.{Tables, plan_of}
-use Rattle.unit_plan.specs.Shares.{shares_of}
+use Rattle.output_marks.specs.FiringOrderOrders.{order_by}
+use Rattle.plan_nodes.proofs.Found.{net-is}
+use Rattle.plan_nodes.specs.Plans.{Tables, plan_of}
+use Rattle.plan_nodes.specs.Shares.{shares_of}
 use Rattle.plan_data.specs.declared.plan.PlanData.{PlanData}
 use Rattle.plan_data.specs.declared.plan.PlanGraph.{PlanGraph}
 use Rattle.plan_data.specs.declared.plan.PlanNode.{PlanNode}
@@ -30,8 +30,8 @@ use Rattle.plan_data.specs.Parts.{IsBelow, literal_in}
 use Rattle.plan_builder.proofs.Extents.{outputs-inside}
 use Rattle.plan_builder.specs.Feeds.{HasLiterals}
 use Rattle.plan_builder.specs.Outlets.{AreLaid, cells_of}
-use Rattle.port_feeds.specs.declared.filled.Filled.{Filled}
-use Rattle.port_feeds.specs.Filled.{AreFilled, AreTold}
+use Rattle.plan_nodes.specs.Filled.{Filled}
+use Rattle.plan_nodes.specs.PortFeedsFilled.{AreFilled, AreTold}
 use Rattle.plan_nodes.specs.Made.{AreMade}
 use Rattle.plan_nodes.specs.Ports.{port_by}
 use Rattle.unit_data.proofs.Known.{laid}

@@ -8,11 +8,11 @@ use Rattle.if1_graph.specs.Ready.{IsReady}
 use Rattle.if1_graph.specs.Units.{Place, number_of, places}
 use Rattle.graph_meaning.specs.Demand.{Vertex}
 use Rattle.graph_meaning.specs.Networks.{vertex_of}
-use Rattle.run_cells.specs.declared.cell.Cell.{Cell}
+use Rattle.step_code.specs.Cell.{Cell}
 use Rattle.step_code.specs.declared.step.Collect.{Collect}
-use Rattle.unit_orders.specs.FiringOrderOrders.{order_by, vertices_at}
+use Rattle.output_marks.specs.FiringOrderOrders.{order_by, vertices_at}
 use Rattle.unit_laws.proofs.TypedChoices.{got-below}
-use Rattle.unit_plan.specs.Plans.{Tables, plain_of}
+use Rattle.plan_nodes.specs.Plans.{Tables, plain_of}
 use Rattle.plan_data.specs.declared.plan.PlanData.{PlanData}
 use Rattle.plan_data.specs.declared.plan.PlanNode.{PlanNode}
 use Rattle.plan_data.specs.Parts.{IsBelow}

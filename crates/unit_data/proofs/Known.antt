@@ -16,15 +16,15 @@ use Rattle.graph_meaning.specs.NodeValues.{Shape}
 use Rattle.graph_meaning.specs.Networks.{kind_of, sources}
 use Rattle.graph_meaning.specs.Storage.{Storage}
 use Rattle.graph_meaning.specs.StorageUnits.{is_taken_on, storage_of, test_in}
-use Rattle.run_cells.specs.declared.cell.Cell.{Cell}
+use Rattle.step_code.specs.Cell.{Cell}
 use Rattle.run_code.specs.Made.{Plan}
-use Rattle.made_store.specs.Settings.{Shares}
+use Rattle.plan_data.specs.Settings.{Shares}
 use Rattle.may_take.specs.Ports.{has}
-use Rattle.unit_orders.specs.FiringOrderOrders.{order_by}
-use Rattle.unit_plan.proofs.Found.{place-found}
-use Rattle.unit_plan.specs.Plans.{Tables, outputs_in, plan_of}
-use Rattle.unit_plan.specs.Shares.{shares_of}
-use Rattle.row_counts.specs.Counts.{AreOutputsTold}
+use Rattle.output_marks.specs.FiringOrderOrders.{order_by}
+use Rattle.plan_nodes.proofs.Found.{place-found}
+use Rattle.plan_nodes.specs.Plans.{Tables, outputs_in, plan_of}
+use Rattle.plan_nodes.specs.Shares.{shares_of}
+use Rattle.plan_nodes.specs.Counts.{AreOutputsTold}
 use Rattle.plan_data.specs.declared.plan.PlanData.{PlanData}
 use Rattle.plan_data.specs.declared.plan.Work.{Work}
 use Rattle.plan_data.specs.declared.plan.Work.TheVariants as work
@@ -33,9 +33,9 @@ use Rattle.plan_data.specs.Parts as parts
 use Rattle.plan_builder.proofs.Units.{outlets-laid}
 use Rattle.plan_builder.specs.Feeds.{HasLiterals}
 use Rattle.plan_builder.specs.Outlets.{AreLaid}
-use Rattle.port_feeds.specs.Filled.{AreFilled, AreTold}
-use Rattle.node_works.specs.Tasks.{IsCallOrWhole, task_kind}
-use Rattle.node_works.specs.Tables as works
+use Rattle.plan_nodes.specs.PortFeedsFilled.{AreFilled, AreTold}
+use Rattle.plan_nodes.specs.Tasks.{IsCallOrWhole, task_kind}
+use Rattle.plan_nodes.specs.Tables as works
 use Rattle.output_marks.specs.Marks as marks
 use Rattle.plan_nodes.specs.declared.parts.NodeParts.{NodeParts}
 use Rattle.plan_nodes.specs.Made.{AreOutputsMarked, IsOfNode}

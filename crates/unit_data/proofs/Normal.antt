@@ -7,7 +7,7 @@ use Rattle.if1_graph.specs.declared.graph.Graph.TheViews.{out-Graph}
 use Rattle.if1_graph.specs.declared.graph.Unit1.{Unit1}
 use Rattle.if1_graph.specs.Normal.{IsNormal, IsNormalGraph, Precedes}
 use Rattle.if1_graph.specs.Units.{label_of, places}
-use Rattle.node_works.specs.Tables.{IsGraphOf}
+use Rattle.plan_nodes.specs.Tables.{IsGraphOf}
 
 module _ (u : Unit1) (normal : IsNormal u) (g : Graph) (here : IsGraphOf u g) where
   pub labels-rise : IsStrictlyIncreasing (map label_of (out-Graph g).nodes)

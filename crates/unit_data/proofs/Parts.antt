@@ -13,15 +13,15 @@ use Rattle.ordered_meaning.specs.Orders.{AreInOrder}
 use Rattle.run_code.specs.Collections.{AreWithin}
 use Rattle.run_code.specs.Made.{Plan}
 use Rattle.run_made.specs.Plans.{All, IsInner}
-use Rattle.made_store.specs.Settings.{Shares}
+use Rattle.plan_data.specs.Settings.{Shares}
 use Rattle.step_code.specs.declared.step.Collect.{Collect}
 use Rattle.step_code.specs.declared.step.Collect.TheVariants as collect
 use Rattle.step_code.specs.Laid.{collect_in}
-use Rattle.unit_plan.proofs.RightNodes.{LaysIn, RightIn}
-use Rattle.unit_plan.proofs.Right.{right}
-use Rattle.unit_plan.proofs.Weighed.{copies-weighed}
-use Rattle.unit_plan.specs.Plans.{Tables, functions_of, plan_of}
-use Rattle.unit_plan.specs.Shares.{shares_of, weighing}
+use Rattle.plan_nodes.proofs.RightNodes.{LaysIn, RightIn}
+use Rattle.plan_nodes.proofs.Right.{right}
+use Rattle.plan_nodes.proofs.Weighed.{copies-weighed}
+use Rattle.plan_nodes.specs.Plans.{Tables, functions_of, plan_of}
+use Rattle.plan_nodes.specs.Shares.{shares_of, weighing}
 use Rattle.plan_data.specs.declared.plan.LoopParts.{LoopParts}
 use Rattle.plan_data.specs.declared.plan.PlanData.{PlanData}
 use Rattle.plan_data.specs.declared.plan.PlanGraph.{PlanGraph}

@@ -10,16 +10,16 @@ use Rattle.if1_graph.specs.Units.{Place, number_of, places}
 use Rattle.if1_marks.proofs.Tests.{same-number}
 use Rattle.graph_meaning.proofs.Lists.{found-in}
 use Rattle.graph_meaning.specs.Networks.{net_at}
-use Rattle.made_store.specs.Settings.{result_modes}
-use Rattle.unit_orders.specs.FiringOrderOrders.{order_by, vertices_in}
-use Rattle.unit_orders.proofs.Numbered.{number-at}
+use Rattle.plan_data.specs.Settings.{result_modes}
+use Rattle.output_marks.specs.FiringOrderOrders.{order_by, vertices_in}
+use Rattle.output_marks.proofs.Numbered.{number-at}
 use Rattle.unit_laws.proofs.TypedChoices.{got-below}
-use Rattle.unit_plan.proofs.Found.{number-within, place-found}
-use Rattle.unit_plan.specs.Plans.{Tables, place_of, plain_in, plain_of, plan_of}
-use Rattle.mark_check.specs.Graphs.{lent, unit_graphs}
+use Rattle.plan_nodes.proofs.Found.{number-within, place-found}
+use Rattle.plan_nodes.specs.Plans.{Tables, place_of, plain_in, plain_of, plan_of}
+use Rattle.output_marks.specs.Graphs.{lent, unit_graphs}
 use Rattle.graph_inputs.specs.declared.inputs.Inputs.{Inputs}
 use Rattle.graph_inputs.specs.Inputs.{inputs_of}
-use Rattle.unit_plan.specs.Shares.{shares_of}
+use Rattle.plan_nodes.specs.Shares.{shares_of}
 use Rattle.run_store.specs.Ports.{modes_of}
 use Rattle.plan_data.specs.declared.plan.PlanData.{PlanData}
 use Rattle.plan_data.specs.Stands.{AreFed}

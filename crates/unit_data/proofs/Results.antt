@@ -5,16 +5,16 @@ use Rattle.graph_meaning.specs.Demand.{Source, Vertex}
 use Rattle.graph_meaning.specs.Storage.{Storage}
 use Rattle.graph_meaning.specs.StorageUnits.{storage_of}
 use Rattle.run_code.specs.Made.{Plan}
-use Rattle.made_store.specs.Settings.{Shares, result_modes}
-use Rattle.unit_plan.specs.Plans.{Tables, plan_of}
-use Rattle.unit_plan.specs.Shares.{shares_of}
+use Rattle.plan_data.specs.Settings.{Shares, result_modes}
+use Rattle.plan_nodes.specs.Plans.{Tables, plan_of}
+use Rattle.plan_nodes.specs.Shares.{shares_of}
 use Rattle.plan_data.specs.declared.plan.PlanData.{PlanData}
 use Rattle.plan_data.specs.Parts.{AreBelow, IsBelow, mode_of}
 use Rattle.plan_data.specs.Stands.{AreFed}
 use Rattle.plan_builder.proofs.Handling.{modes-are}
 use Rattle.plan_builder.specs.Nodes.{AreHandled, handled_by}
-use Rattle.port_feeds.specs.declared.filled.Filled.{Filled}
-use Rattle.port_feeds.specs.Filled.{AreFilled, AreTold}
+use Rattle.plan_nodes.specs.Filled.{Filled}
+use Rattle.plan_nodes.specs.PortFeedsFilled.{AreFilled, AreTold}
 use Rattle.plan_nodes.specs.Ports.{port_by}
 
 pub ports-fed : (D : PlanData) (P : Plan) (S : Shares) (s : Storage) (g l i : ℕ) (xs : List Filled) (os : List Source) → AreFilled D P S s g l i xs os → AreFed D P S g (map port_by xs) os

@@ -9,8 +9,8 @@ use Rattle.if1_graph.specs.Ready.{IsReady}
 use Rattle.if1_graph.specs.Units.{Place, number_of, places}
 use Rattle.graph_meaning.specs.Demand.{Vertex}
 use Rattle.graph_meaning.specs.Networks.{vertex_of}
-use Rattle.unit_orders.specs.FiringOrderOrders.{order_by, vertex_before, vertices_at, vertices_in}
-use Rattle.unit_plan.proofs.Found.{place-found}
+use Rattle.output_marks.specs.FiringOrderOrders.{order_by, vertex_before, vertices_at, vertices_in}
+use Rattle.plan_nodes.proofs.Found.{place-found}
 use Rattle.plan_data.specs.declared.plan.PlanNode.{PlanNode}
 use Rattle.plan_data.specs.Parts.{AreBelow}
 use Rattle.unit_data.specs.Graphs.{AreAllBelow}

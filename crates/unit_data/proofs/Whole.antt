@@ -16,18 +16,18 @@ use Rattle.graph_meaning.specs.Demand.{EachNode, Vertex}
 use Rattle.graph_meaning.specs.Entered.{IsIn}
 use Rattle.graph_meaning.specs.Networks.{network}
 use Rattle.ordered_meaning.specs.Orders.{AreInOrder}
-use Rattle.run_cells.specs.declared.cell.Cell.{Cell}
+use Rattle.step_code.specs.Cell.{Cell}
 use Rattle.run_code.specs.Made.{Plan}
-use Rattle.made_store.specs.Settings.{Shares}
+use Rattle.plan_data.specs.Settings.{Shares}
 use Rattle.step_code.specs.declared.step.Collect.{Collect}
 use Rattle.step_code.specs.Laid.{puts_of}
-use Rattle.unit_orders.specs.FiringOrderOrders.{order_by}
+use Rattle.output_marks.specs.FiringOrderOrders.{order_by}
 use Rattle.unit_laws.proofs.TypedPlans.{function-place}
-use Rattle.unit_orders.proofs.Numbered.{number-at}
-use Rattle.unit_plan.proofs.Found.{place-found}
-use Rattle.unit_plan.proofs.Weights.{plans-unpicked}
-use Rattle.unit_plan.specs.Plans.{Tables, functions_of, inputs_in, place_of, plan_of}
-use Rattle.unit_plan.specs.Shares.{shares_of}
+use Rattle.output_marks.proofs.Numbered.{number-at}
+use Rattle.plan_nodes.proofs.Found.{place-found}
+use Rattle.plan_nodes.proofs.Weights.{plans-unpicked}
+use Rattle.plan_nodes.specs.Plans.{Tables, functions_of, inputs_in, place_of, plan_of}
+use Rattle.plan_nodes.specs.Shares.{shares_of}
 use Rattle.plan_data.specs.declared.plan.Feed.{Feed}
 use Rattle.plan_data.specs.declared.plan.Feed.TheVariants as feed
 use Rattle.plan_data.specs.declared.plan.Port.{Port}

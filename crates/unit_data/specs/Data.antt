@@ -6,10 +6,10 @@ use Rattle.graph_meaning.specs.Demand.{Vertex}
 use Rattle.graph_meaning.specs.Networks.{network}
 use Rattle.ordered_meaning.specs.Orders.{AreInOrder}
 use Rattle.run_code.specs.Made.{Plan}
-use Rattle.made_store.specs.Settings.{Shares}
-use Rattle.unit_orders.specs.FiringOrderOrders.{order_by}
-use Rattle.unit_plan.specs.Plans.{AreTables, Tables, functions_of, plan_of}
-use Rattle.unit_plan.specs.Shares.{shares_of}
+use Rattle.plan_data.specs.Settings.{Shares}
+use Rattle.output_marks.specs.FiringOrderOrders.{order_by}
+use Rattle.plan_nodes.specs.Plans.{AreTables, Tables, functions_of, plan_of}
+use Rattle.plan_nodes.specs.Shares.{shares_of}
 use Rattle.plan_data.specs.declared.plan.PlanData.{PlanData}
 use Rattle.plan_data.specs.declared.plan.PlanNode.{PlanNode}
 use Rattle.plan_data.specs.Parts.{IsFormed, arms_steps, extent_in, graph_nodes, size_in, table_of}

@@ -6,12 +6,12 @@ use Rattle.if1_graph.specs.declared.graph.Unit1.{Unit1}
 use Rattle.if1_graph.specs.Units.{Place, places}
 use Rattle.graph_meaning.specs.StorageUnits.{is_taken_on, storage_of}
 use Rattle.may_take.specs.Ports.{has}
-use Rattle.storage_flags.specs.Flags.{AreFlags}
+use Rattle.output_marks.specs.Flags.{AreFlags}
 use Rattle.graph_inputs.specs.declared.inputs.Inputs.{Inputs}
 use Rattle.graph_inputs.specs.Inputs.{inputs_of}
 use Rattle.plan_builder.specs.Laws.{AreOfGraph}
 use Rattle.plan_builder.specs.Outlets.{AreOutlets}
-use Rattle.node_works.specs.Tables.{AreTablesOf, output_label}
+use Rattle.plan_nodes.specs.Tables.{AreTablesOf, output_label}
 use Rattle.output_marks.specs.Outputs.{AreAggregates}
 use Rattle.unit_data.specs.declared.facts.Facts.{Facts}
 use Rattle.unit_data.specs.declared.facts.GraphFacts.{GraphFacts}

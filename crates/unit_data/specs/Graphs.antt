@@ -3,11 +3,11 @@ use Rattle.std.specs.Prelude.{◌≡◌, ◌≤◌, ◌+◌, ◌-◌, ◌^◌, �
 use Rattle.if1_graph.specs.declared.graph.Unit1.{Unit1}
 use Rattle.graph_meaning.specs.Carried.{Unfilled}
 use Rattle.graph_meaning.specs.Entered.{IsIn}
-use Rattle.made_store.specs.Settings.{result_modes}
-use Rattle.unit_orders.specs.FiringOrderOrders.{order_by}
-use Rattle.unit_plan.specs.Plans.{Tables, plan_of}
-use Rattle.unit_plan.specs.Shares.{shares_of}
-use Rattle.run_cells.specs.declared.cell.Cell.{Cell}
+use Rattle.plan_data.specs.Settings.{result_modes}
+use Rattle.output_marks.specs.FiringOrderOrders.{order_by}
+use Rattle.plan_nodes.specs.Plans.{Tables, plan_of}
+use Rattle.plan_nodes.specs.Shares.{shares_of}
+use Rattle.step_code.specs.Cell.{Cell}
 use Rattle.plan_data.specs.declared.plan.PlanData.{PlanData}
 use Rattle.plan_data.specs.declared.plan.PlanGraph.{PlanGraph}
 use Rattle.plan_data.specs.declared.plan.PlanNode.{PlanNode}

@@ -1,3 +1,4 @@
+pub use Rattle.output_marks.specs.FiringOrderOrders
 pub mod Data
 pub mod Facts
 pub mod Graphs

@@ -1,11 +1,11 @@
 //! What is known of a unit and of its graphs, for the data of its nodes.
 ghost use Rattle.std.specs.Prelude.{◌≡◌, map, Contains, IfOk};
 ghost use Rattle.if1_graph.specs.Units.{Place, places};
-ghost use Rattle.unit_orders.specs.FiringOrderOrders.{IsFiringOrder};
+ghost use Rattle.output_marks.specs.FiringOrderOrders.{IsFiringOrder};
 ghost use Rattle.plan_builder.specs.Laws.{AreOfGraph};
 ghost use Rattle.plan_builder.specs.Outlets.{AreOutlets};
 ghost use Rattle.graph_inputs.specs.Inputs.{inputs_of};
-ghost use Rattle.node_works.specs.Tables.{AreTablesOf, IsGraphOf};
+ghost use Rattle.plan_nodes.specs.Tables.{AreTablesOf, IsGraphOf};
 ghost use Rattle.unit_data.specs.Facts.{AreFacts, AreFactsAt};
 
 use flow_value::{NoMemory, Seq};
@@ -15,11 +15,12 @@ use if1_order::Places;
 use if1_ports::labels_of;
 use if1_sound::Sound;
 use may_take::PortSet;
-use node_works::{UnitTables, output_types, tables_of, widths_of};
-use output_marks::{OutputSet, aggregate_outputs};
+use output_marks::{
+    Flags, OutputSet, aggregate_edges, aggregate_outputs, consumed_edges, joined_nodes,
+};
 use plan_builder::{Outlets, outlets_of};
+use plan_nodes::{UnitTables, output_types, tables_of, widths_of};
 use std::alloc::Global;
-use storage_flags::{Flags, aggregate_edges, consumed_edges, joined_nodes};
 
 /// What is known of a unit.
 #[derive(Drop)]

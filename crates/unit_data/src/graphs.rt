@@ -1,12 +1,12 @@
 //! The graphs of the data of a unit.
 ghost use Rattle.std.specs.Prelude.{◌≡◌, ◌<◌, ◌≤◌, ℕ, suc, [], List, Some, map, length, slice_get, slice_index_or, Contains, IfOk, OnOk};
 ghost use Rattle.if1_graph.specs.Units.{Place, number_of, places};
-ghost use Rattle.unit_orders.specs.FiringOrderOrders.{IsFiringOrder};
-ghost use Rattle.unit_plan.specs.Plans.{Tables, plain_of};
-ghost use Rattle.unit_orders.specs.Orders.{AreFiringOrders};
-ghost use Rattle.mark_check.specs.Graphs.{lent, unit_graphs};
+ghost use Rattle.output_marks.specs.FiringOrderOrders.{IsFiringOrder};
+ghost use Rattle.plan_nodes.specs.Plans.{Tables, plain_of};
+ghost use Rattle.output_marks.specs.Orders.{AreFiringOrders};
+ghost use Rattle.output_marks.specs.Graphs.{lent, unit_graphs};
 ghost use Rattle.plan_data.specs.declared.plan.PlanData.{PlanData};
-ghost use Rattle.node_works.specs.Tables.{IsGraphOf};
+ghost use Rattle.plan_nodes.specs.Tables.{IsGraphOf};
 ghost use Rattle.plan_nodes.specs.Ports.{port_by};
 ghost use Rattle.unit_data.specs.Facts.{AreFacts, plain_found};
 ghost use Rattle.unit_data.specs.Graphs.{AreGraphsAt, GoesOn, IsBegun, IsGraphAt};
@@ -20,9 +20,9 @@ use if1_order::Places;
 use if1_sound::Sound;
 use plan_builder::port_of;
 use plan_data::{PlanGraph, Port};
-use port_feeds::{Filled, ports_of};
-use run_cells::Cell;
+use plan_nodes::{Filled, ports_of};
 use std::alloc::Global;
+use step_code::Cell;
 
 /// Graphs that were made, with their literals and marks.
 #[derive(Drop)]

@@ -5,13 +5,13 @@ ghost use Rattle.if1_graph.specs.declared.graph.Node.{Node};
 ghost use Rattle.if1_graph.specs.Units.{Place, label_of, number_of, places};
 ghost use Rattle.graph_meaning.specs.Networks.{kind_of};
 ghost use Rattle.graph_meaning.specs.StorageUnits.{storage_of};
-ghost use Rattle.unit_orders.specs.FiringOrderOrders.{order_by};
-ghost use Rattle.unit_plan.specs.Plans.{Tables, plain_of};
+ghost use Rattle.output_marks.specs.FiringOrderOrders.{order_by};
+ghost use Rattle.plan_nodes.specs.Plans.{Tables, plain_of};
 ghost use Rattle.plan_data.specs.declared.plan.PlanData.{PlanData};
 ghost use Rattle.plan_data.specs.Parts.{IsBelow};
 ghost use Rattle.plan_builder.specs.Outlets.{cells_of};
-ghost use Rattle.node_works.specs.Tables.{IsGraphOf};
-ghost use Rattle.node_works.specs.Tasks.{IsTask, task_kind};
+ghost use Rattle.plan_nodes.specs.Tables.{IsGraphOf};
+ghost use Rattle.plan_nodes.specs.Tasks.{IsTask, task_kind};
 ghost use Rattle.plan_nodes.specs.Made.{AreMade, AreOutputsMarked, IsOfNode};
 ghost use Rattle.unit_data.specs.Facts.{AreFacts, AreFactsAt};
 ghost use Rattle.unit_data.specs.Graphs.{AreAllBelow, GoesOn, HasMarks, IsBegun};
@@ -20,14 +20,11 @@ use crate::facts::{Facts, GraphFacts};
 use flow_value::{NoMemory, Seq};
 use if1_graph::Graph;
 use if1_sound::Sound;
-use node_works::{Task, task_of};
 use output_marks::add_marks;
 use plan_data::PlanNode;
-use plan_nodes::{NodeParts, add_node};
-use port_feeds::ports_of;
-use run_cells::Cell;
+use plan_nodes::{NodeParts, Task, add_node, ports_of, task_of};
 use std::alloc::Global;
-use step_code::Collect;
+use step_code::{Cell, Collect};
 
 /// What was made of the nodes of a graph.
 #[derive(Drop)]

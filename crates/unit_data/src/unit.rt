@@ -7,10 +7,9 @@ use crate::graphs::graphs_of;
 use crate::tables::{data_with, functions_of, params_of};
 use flow_value::NoMemory;
 use if1_sound::Sound;
-use mark_check::all_graphs;
+use output_marks::{all_graphs, firing_orders};
 use plan_data::PlanData;
 use std::alloc::Global;
-use unit_orders::firing_orders;
 
 /// The data of the plan of a unit, in an order of the nodes of each graph: what code is made of. More
 /// steps or cells than 32 bits count are want of memory. Near linear in the unit.

@@ -4,5 +4,7 @@
 mod laws;
 mod orders;
 
+pub use if1_sound::Sound;
 pub use laws::graphs_stand_by_their_numbers;
+pub use mark_check::all_graphs;
 pub use orders::firing_orders;

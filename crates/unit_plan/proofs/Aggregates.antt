@@ -10,7 +10,7 @@ use Rattle.if1_graph.specs.declared.kind.TypeKind.TheVariants as kind
 use Rattle.if1_graph.specs.Kinds.{kind_at}
 use Rattle.if1_graph.specs.Tables.{◌>>=◌}
 use Rattle.if1_graph.specs.Types.{Many, Plain, bare_at, entry_at, is_field, is_tag, members, sort_at, sort_of, ty_of, ty_within, without_names}
-use Rattle.if1_marks.specs.Aggregates.{is_aggregate, is_carried_by, is_carrying}
+use Rattle.graph_meaning.specs.Aggregates.{is_aggregate, is_carried_by, is_carrying}
 use Rattle.unit_laws.proofs.TypeLists.{out_arr, out_rec, out_stream, out_uni, some-same}
 use Rattle.unit_laws.proofs.TypedEdges.{bound}
 

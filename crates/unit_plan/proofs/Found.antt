@@ -11,13 +11,13 @@ use Rattle.if1_graph.specs.Formed.{IsFormed}
 use Rattle.if1_graph.specs.Ports.{part_of}
 use Rattle.if1_graph.specs.Ready.{IsReady}
 use Rattle.if1_graph.specs.Units.{Function, Inside, Place, label_of, node_at, number_of, places, sizes}
-use Rattle.if1_marks.proofs.Tests.{no-both, same-number}
+use Rattle.graph_meaning.proofs.Tests.{no-both, same-number}
 use Rattle.graph_meaning.proofs.Lists.{found-in, here-or-there, in-none}
 use Rattle.graph_meaning.proofs.Numbers.{numbers-own, one-place}
 use Rattle.graph_meaning.proofs.Units.{at-node}
 use Rattle.graph_meaning.specs.Demand.{EachNode, Vertex, at_label}
 use Rattle.graph_meaning.specs.Networks.{net_of, network, vertex_of}
-use Rattle.run_code.specs.Orders.{IsInOrder}
+use Rattle.made_store.specs.OrderedMeaningOrders.{IsInOrder}
 use Rattle.unit_laws.proofs.TypedEdges.{graph-formed}
 use Rattle.unit_laws.proofs.TypedNodes.{node-found}
 use Rattle.unit_laws.proofs.TypedPlans.{net-found, part-place}

@@ -1,3 +1,6 @@
+pub use Rattle.unit_laws.proofs.TypedChoices
+pub use Rattle.unit_laws.proofs.TypedEdges
+pub use Rattle.unit_laws.proofs.TypedNodes
 pub mod Ways
 pub mod Found
 pub mod Sources

@@ -30,9 +30,9 @@ use Rattle.graph_meaning.specs.Forms.{Form}
 use Rattle.graph_meaning.specs.NodeValues.{Shape}
 use Rattle.graph_meaning.specs.NodeValues as shape
 use Rattle.graph_meaning.specs.Networks.{callee_number, ins_of, kind_as, kind_of, shape_of, simple_kind, source_at, sources}
-use Rattle.if1_marks.specs.Given.{is_call_as}
-use Rattle.run_code.specs.Taking.{first_port}
-use Rattle.run_code.specs.Refolds.{AllPlain}
+use Rattle.graph_meaning.specs.Given.{is_call_as}
+use Rattle.made_store.specs.Taking.{first_port}
+use Rattle.made_store.specs.Refolds.{AllPlain}
 use Rattle.unit_laws.proofs.TypeLists.{never-many, some-same}
 use Rattle.unit_laws.proofs.TypedEdges.{IsValueWant, edge-formed, edge-there, found-edge, wanted-here}
 use Rattle.unit_laws.proofs.TypedNodes.{want-is, wanted-at}

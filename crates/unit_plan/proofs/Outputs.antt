@@ -24,7 +24,7 @@ use Rattle.if1_graph.specs.Units.{Place, edge_into, label_of, number_of, places,
 use Rattle.graph_meaning.specs.Demand.{EachNode, Fixed, Port, Source, Vertex, at_label}
 use Rattle.graph_meaning.specs.Laws.{outputs_by}
 use Rattle.graph_meaning.specs.Networks.{fields_shape, kind_as, kind_of, network, simple_kind, source_at, sources, vertex_of}
-use Rattle.run_code.specs.Orders.{IsInOrder}
+use Rattle.made_store.specs.OrderedMeaningOrders.{IsInOrder}
 use Rattle.made_store.specs.Orders.{AreOutputs}
 use Rattle.unit_laws.proofs.TypeLists.{out_rec}
 use Rattle.unit_laws.proofs.TypedCalls.{called, callee-net, callee-there}

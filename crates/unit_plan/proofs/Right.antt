@@ -5,9 +5,9 @@ use Rattle.if1_graph.specs.declared.graph.Graph.TheViews.{out-Graph}
 use Rattle.if1_graph.specs.declared.graph.Unit1.{Unit1}
 use Rattle.if1_graph.specs.Ready.{IsReady}
 use Rattle.if1_graph.specs.Units.{Function, Place, number_of, places, sizes}
-use Rattle.if1_marks.proofs.Taken.{sound-in-order}
-use Rattle.if1_marks.proofs.Tests.{same-number}
-use Rattle.if1_marks.specs.Orders.{AreOrdersRight}
+use Rattle.graph_meaning.proofs.Taken.{sound-in-order}
+use Rattle.graph_meaning.proofs.Tests.{same-number}
+use Rattle.graph_meaning.specs.Orders.{AreOrdersRight}
 use Rattle.graph_meaning.proofs.Lists.{found-in}
 use Rattle.graph_meaning.proofs.Units.{units-orderly}
 use Rattle.if1_graph.specs.declared.op.Simple.{Simple}
@@ -17,9 +17,9 @@ use Rattle.graph_meaning.specs.Entered.{IsIn}
 use Rattle.graph_meaning.specs.Networks.{net_at, network, nothing}
 use Rattle.graph_meaning.specs.Storage.{copied_by, is_left, written_by}
 use Rattle.graph_meaning.specs.StorageUnits.{storage_of}
-use Rattle.run_code.specs.Orders.{AreInOrder, IsInOrder}
-use Rattle.run_code.specs.Known.{AreReadable, KnowsAll}
-use Rattle.run_code.specs.Made.{Plan}
+use Rattle.made_store.specs.OrderedMeaningOrders.{AreInOrder, IsInOrder}
+use Rattle.made_store.specs.Known.{AreReadable, KnowsAll}
+use Rattle.made_store.specs.Made.{Plan}
 use Rattle.made_store.proofs.Orders.{orders-readable}
 use Rattle.made_store.proofs.Tables.{levels-enough}
 use Rattle.made_store.specs.Plans.{CanLay, IsPlanned, IsRight, IsRightPlan, Weighing}

@@ -25,7 +25,7 @@ use Rattle.if1_graph.specs.Types.{Member, Sort, sort_at}
 use Rattle.if1_graph.specs.Types as types
 use Rattle.if1_graph.specs.Typing.{FitsResult}
 use Rattle.if1_graph.specs.Units.{Function, Inside, Place, edge_into, label_of, number_of, places, ports_into, results, sizes, width}
-use Rattle.if1_marks.specs.Given.{is_call_as}
+use Rattle.graph_meaning.specs.Given.{is_call_as}
 use Rattle.graph_meaning.proofs.StorageUnits.{plain-kind}
 use Rattle.graph_meaning.specs.Carried.{Carried}
 use Rattle.graph_meaning.specs.Demand.{EachNode, Kind, Plain, Source, Vertex, Whole, at_label}
@@ -34,10 +34,10 @@ use Rattle.graph_meaning.specs.Forms as form
 use Rattle.graph_meaning.specs.Networks.{callee_number, form_of, ins_of, kind_as, kind_of, network, part as part_number, number_or_zero, simple_kind, sources, vertex_of}
 use Rattle.graph_meaning.specs.Storage.{is_left}
 use Rattle.graph_meaning.specs.StorageUnits.{carries_aggregate, storage_of, test_in}
-use Rattle.run_code.specs.Orders.{AreInOrder}
-use Rattle.run_code.specs.Collections.{AreWithin, Collect}
-use Rattle.run_code.specs.Made.{Plan}
-use Rattle.run_code.specs.Refolds.{AllPlain, AreRefolded, Refolds}
+use Rattle.made_store.specs.OrderedMeaningOrders.{AreInOrder}
+use Rattle.made_store.specs.Collections.{AreWithin, Collect}
+use Rattle.made_store.specs.Made.{Plan}
+use Rattle.made_store.specs.Refolds.{AllPlain, AreRefolded, Refolds}
 use Rattle.made_store.specs.Plans.{All, ArePicked, IsChoice, IsInner, IsKindRight, IsLoopRight, IsPlanned, IsRefolded, Weighing}
 use Rattle.unit_laws.proofs.TypeLists.{out_bool, out_int}
 use Rattle.unit_laws.proofs.TypedCalls.{called, callee-there}

@@ -11,7 +11,7 @@ use Rattle.graph_meaning.specs.Carried.{Carried, Unfilled}
 use Rattle.graph_meaning.specs.Demand.{Source, Port, Fixed, Kind, Plain, Whole}
 use Rattle.graph_meaning.specs.Forms as form
 use Rattle.graph_meaning.specs.Networks.{fixed, ins_of, source_at, source_by, source_from, sources}
-use Rattle.run_code.specs.Taking.{first_port}
+use Rattle.made_store.specs.Taking.{first_port}
 
 -- what holds of nothing and of sources one by one holds of all
 module _ (R : List Source → Type 0) (none : R []) (more : (o : Source) (os : List Source) → R (o ∷ []) → R os → R (o ∷ os)) (u : Unit1) (g : Graph) (l : ℕ) where

@@ -3,9 +3,9 @@ use Rattle.std.proofs.Common.{◌≡◌, ◌==◌, ℕ, suc, ◌+◌, ◌<◌, �
 use Rattle.if1_graph.specs.declared.graph.Unit1.{Unit1}
 use Rattle.if1_graph.specs.Ready.{IsReady}
 use Rattle.if1_graph.specs.Units.{Place, number_of, places, sizes}
-use Rattle.if1_marks.proofs.Taken.{sound-in-order}
-use Rattle.if1_marks.proofs.Tests.{same-number}
-use Rattle.if1_marks.specs.Orders.{AreOrdersRight}
+use Rattle.graph_meaning.proofs.Taken.{sound-in-order}
+use Rattle.graph_meaning.proofs.Tests.{same-number}
+use Rattle.graph_meaning.specs.Orders.{AreOrdersRight}
 use Rattle.graph_meaning.proofs.Lists.{found-in}
 use Rattle.if1_graph.specs.declared.op.Simple.{Simple}
 use Rattle.graph_meaning.specs.Carried.{Carried}
@@ -15,9 +15,9 @@ use Rattle.made_store.specs.Plans.{Weighing}
 use Rattle.graph_meaning.specs.Demand.{EachNode, Kind, Plain, Vertex, Whole}
 use Rattle.graph_meaning.specs.Forms as form
 use Rattle.graph_meaning.specs.Networks.{net_at, network}
-use Rattle.run_code.specs.Orders.{AreInOrder, IsInOrder}
-use Rattle.run_code.specs.Cells.{picked}
-use Rattle.run_code.specs.Made.{IsSized, Plan, arms_size, entry_from, greatest_extent, kind_size, nodes_extent, nodes_size, parts_extent}
+use Rattle.made_store.specs.OrderedMeaningOrders.{AreInOrder, IsInOrder}
+use Rattle.made_store.specs.Cells.{picked}
+use Rattle.made_store.specs.Made.{IsSized, Plan, arms_size, entry_from, greatest_extent, kind_size, nodes_extent, nodes_size, parts_extent}
 use Rattle.made_store.proofs.Tables as made
 use Rattle.made_store.specs.Plans.{All, IsInner}
 use Rattle.made_store.specs.Tables.{InnersAre}

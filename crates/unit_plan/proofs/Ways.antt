@@ -10,11 +10,11 @@ use Rattle.graph_meaning.specs.Forms.{columns}
 use Rattle.graph_meaning.specs.Laws.{outputs_by}
 use Rattle.graph_meaning.specs.NodeValues.{Shape}
 use Rattle.graph_meaning.specs.Storage.{Weights}
-use Rattle.run_code.proofs.Collecting.{lasts, nodes-same}
-use Rattle.run_code.proofs.Refolding.{sum-none}
-use Rattle.run_code.specs.Collections.{AreWithin, Collect, Final, IsWithin, Sifts, made}
-use Rattle.run_code.specs.Known.{AreReadable, IsReadable, Known, Knows, KnowsAll, known_after}
-use Rattle.run_code.specs.Refolds.{AllPlain, AreRefolded, AreWhole, Refolded, a_fold, a_whole, none_refolded, one_refolded, ports_of, reads, rows_sum, unchanged}
+use Rattle.made_store.proofs.Collecting.{lasts, nodes-same}
+use Rattle.made_store.proofs.Refolding.{sum-none}
+use Rattle.made_store.specs.Collections.{AreWithin, Collect, Final, IsWithin, Sifts, made}
+use Rattle.made_store.specs.Known.{AreReadable, IsReadable, Known, Knows, KnowsAll, known_after}
+use Rattle.made_store.specs.Refolds.{AllPlain, AreRefolded, AreWhole, Refolded, a_fold, a_whole, none_refolded, one_refolded, ports_of, reads, rows_sum, unchanged}
 use Rattle.unit_plan.specs.Returns.{Keeping, Lasts, Way, Wholly, behind_way, collected_port, collects_by, ins_by, keeping_way, last_way, multiple, node_collects, nodes_collects, refolded_node, refolded_nodes, row_by, way_of, whole_in, whole_ins, whole_of, wholes}
 
 -- ---- the ways of nodes

@@ -14,8 +14,8 @@ use Rattle.graph_meaning.specs.Networks.{form_of, network}
 use Rattle.graph_meaning.specs.NodeValues.{Shape}
 use Rattle.graph_meaning.specs.Storage.{Storage, copied_by, is_left, node_written, written_by}
 use Rattle.graph_meaning.specs.StorageUnits.{storage_of}
-use Rattle.run_code.specs.Cells.{picked}
-use Rattle.run_code.specs.Made.{Plan}
+use Rattle.made_store.specs.Cells.{picked}
+use Rattle.made_store.specs.Made.{Plan}
 use Rattle.made_store.specs.Plans.{Weighing}
 use Rattle.made_store.specs.Ports.{mode_of, modes_of}
 use Rattle.made_store.specs.Stored.{copied}

@@ -2,8 +2,8 @@
 use Rattle.std.proofs.Common.{◌≡◌, ℕ, zero, suc, ◌&&◌, not, Bool, true, false, List, [], ◌∷◌, Option, Some, None, inl, refl, ap, ◌∙◌}
 use Rattle.if1_graph.specs.declared.graph.Unit1.{Unit1}
 use Rattle.if1_graph.specs.Ready.{IsReady}
-use Rattle.if1_marks.proofs.Taken.{sound-in-order}
-use Rattle.if1_marks.specs.Orders.{AreOrdersRight}
+use Rattle.graph_meaning.proofs.Taken.{sound-in-order}
+use Rattle.graph_meaning.specs.Orders.{AreOrdersRight}
 use Rattle.graph_meaning.proofs.Finding.{all-found}
 use Rattle.graph_meaning.proofs.Units.{units-orderly}
 use Rattle.graph_meaning.specs.Carried.{Carried}
@@ -12,7 +12,7 @@ use Rattle.graph_meaning.specs.Forms as form
 use Rattle.graph_meaning.specs.Networks.{network}
 use Rattle.graph_meaning.specs.Storage.{Storage, copying, is_left, node_written, writing}
 use Rattle.graph_meaning.specs.StorageUnits.{storage_of}
-use Rattle.run_code.specs.Made.{Plan}
+use Rattle.made_store.specs.Made.{Plan}
 use Rattle.made_store.specs.Weighing.{AreAlike}
 use Rattle.made_store.proofs.UnitWeights.{unit-weights}
 use Rattle.made_store.proofs.Units.{made-unit-decided, made-writes}

@@ -2,13 +2,13 @@
 use Rattle.std.specs.Prelude.{◌≡◌, ◌<◌, ◌≤◌, ◌⊎◌, ℕ, List, length}
 use Rattle.if1_graph.specs.declared.graph.Unit1.{Unit1}
 use Rattle.if1_graph.specs.Ready.{IsReady}
-use Rattle.if1_marks.specs.Sound.{IsSound}
+use Rattle.graph_meaning.specs.Sound.{IsSound}
 use Rattle.graph_meaning.specs.Carried.{Carried}
 use Rattle.graph_meaning.specs.Demand.{Vertex}
 use Rattle.graph_meaning.specs.Entered.{IsIn}
 use Rattle.graph_meaning.specs.Networks.{network}
 use Rattle.graph_meaning.specs.Plain.{Costs}
-use Rattle.run_code.specs.Orders.{AreInOrder}
+use Rattle.made_store.specs.OrderedMeaningOrders.{AreInOrder}
 use Rattle.graph_meaning.specs.Storage.{capped}
 use Rattle.graph_meaning.specs.StorageUnits.{UnitWrites}
 use Rattle.made_store.specs.Plans.{IsRightPlan, laid, lines_of, weigh_at}

@@ -21,8 +21,8 @@ use Rattle.graph_meaning.specs.Laws.{outputs_by}
 use Rattle.graph_meaning.specs.Networks.{network}
 use Rattle.graph_meaning.specs.Storage.{Storage, is_left}
 use Rattle.graph_meaning.specs.StorageUnits.{storage_of}
-use Rattle.run_code.specs.Collections.{Collect}
-use Rattle.run_code.specs.Made.{IsSized, Plan, entry_from}
+use Rattle.made_store.specs.Collections.{Collect}
+use Rattle.made_store.specs.Made.{IsSized, Plan, entry_from}
 use Rattle.made_store.specs.Ports.{picks_of}
 use Rattle.unit_plan.specs.Returns.{nodes_collects, refolded_nodes}
 

@@ -4,7 +4,7 @@ use Rattle.std.specs.Prelude.{ℕ, zero, suc, ◌+◌, ◌-◌, ltb, if◌then�
 use Rattle.if1_graph.specs.declared.op.Simple.{Simple}
 use Rattle.if1_graph.specs.declared.op.Simple.TheVariants as simple
 use Rattle.graph_meaning.specs.Demand.{Source, Port, Fixed, Kind, Plain, Whole, Vertex}
-use Rattle.run_code.specs.Collections.{Collect, Sifts, Final}
+use Rattle.made_store.specs.Collections.{Collect, Sifts, Final}
 
 -- which multiple a source reads, counted from 0 behind the plain inputs
 abbrev pub multiple : (plain : ℕ) → Source → Option ℕ

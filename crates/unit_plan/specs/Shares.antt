@@ -8,14 +8,14 @@ use Rattle.if1_graph.specs.declared.op.Part.{Part}
 use Rattle.if1_graph.specs.declared.op.Part.TheVariants as part
 use Rattle.if1_graph.specs.Ports.{part_of}
 use Rattle.if1_graph.specs.Units.{Home, Function, Inside, Place, label_of, width}
-use Rattle.if1_marks.specs.Given.{is_consumed_by}
+use Rattle.graph_meaning.specs.Given.{is_consumed_by}
 use Rattle.graph_meaning.specs.Carried.{Unfilled}
 use Rattle.graph_meaning.specs.Demand.{Fixed, Kind, Plain, Whole, Vertex, Net, at_label}
 use Rattle.graph_meaning.specs.Networks.{network}
 use Rattle.graph_meaning.specs.Storage.{is_left, node_written}
 use Rattle.graph_meaning.specs.StorageUnits.{storage_of}
-use Rattle.run_code.specs.Collections.{Collect, Sifts, Final}
-use Rattle.run_code.specs.Made.{Plan}
+use Rattle.made_store.specs.Collections.{Collect, Sifts, Final}
+use Rattle.made_store.specs.Made.{Plan}
 use Rattle.made_store.specs.Plans.{Weighing}
 use Rattle.made_store.specs.Ports.{copies_of}
 use Rattle.made_store.specs.Stored.{copied}

@@ -21,7 +21,7 @@ use Rattle.plan_data.specs.declared.plan.PlanNode.{PlanNode}
 use Rattle.plan_data.specs.declared.plan.Work.TheVariants as work
 use Rattle.plan_data.specs.Parts.{graph_nodes}
 use Rattle.plan_data.specs.Stands.{Stands}
-use Rattle.code_maker.specs.Grows.{IsPair}
+use Rattle.told_rows.specs.Grows.{IsPair}
 use Rattle.even_code.specs.Blocks.{function_at}
 use Rattle.even_code.specs.Even.{IsEven}
 use Rattle.sequential_run.specs.Whole.{AreAhead, Blocks, IsAhead, IsCalled, IsNext, Leads}

@@ -1,3 +1,4 @@
+pub use Rattle.told_rows.proofs.Found
 pub mod Named
 pub mod Seen
 pub mod Taking

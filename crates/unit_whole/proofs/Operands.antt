@@ -15,8 +15,8 @@ use Rattle.step_code.specs.declared.code.Code.{Code}
 use Rattle.step_code.specs.declared.code.Operand.{Operand}
 use Rattle.step_code.specs.declared.code.Operand.TheVariants as operand
 use Rattle.step_code.specs.Reading.{gapped, listed, mode_in, modes_in, operand_in, operands_in, so_many}
-use Rattle.code_maker.specs.Grows.{AreNamed, AreNamedApart, ArePlain, IsPlain}
-use Rattle.code_maker.specs.Seats.{looked_at}
+use Rattle.told_rows.specs.Grows.{AreNamed, AreNamedApart, ArePlain, IsPlain}
+use Rattle.told_rows.specs.Seats.{looked_at}
 use Rattle.sequential.specs.Inside.{IsInside, IsUncopied}
 use Rattle.sequential.specs.Loading.{AllApart, AreApart, AreInside, IsApart, IsNotIn}
 use Rattle.sequential_run.specs.Iterating.{AllUncopied}

@@ -39,8 +39,8 @@ use Rattle.plan_data.specs.declared.plan.PlanNode.{PlanNode}
 use Rattle.plan_data.specs.declared.plan.Work.TheVariants as work
 use Rattle.plan_data.specs.Parts.{extent_in, graph_nodes, kind_of, table_of}
 use Rattle.plan_data.specs.Stands.{AreNodes, IsNode, Stands}
-use Rattle.code_maker.specs.Grows.{AreNamed, IsKnit, IsPair, IsPlain, IsRoomOf, IsTold, IsToldOf, read_as}
-use Rattle.code_maker.specs.Seats.{looked_at}
+use Rattle.told_rows.specs.Grows.{AreNamed, IsKnit, IsPair, IsPlain, IsRoomOf, IsTold, IsToldOf, read_as}
+use Rattle.told_rows.specs.Seats.{looked_at}
 use Rattle.even_code.specs.Even.{IsCalledFor, IsEven, IsFiredFor, IsKindEven, IsStepEven}
 use Rattle.sequential.specs.Inside.{IsInside, IsUncopied}
 use Rattle.sequential.specs.Loading.{AreApart, AreInside}

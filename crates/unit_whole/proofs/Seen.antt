@@ -16,15 +16,15 @@ use Rattle.ordered_meaning.specs.Orders.{AreInOrder}
 use Rattle.run_code.specs.Made.{Plan}
 use Rattle.step_code.specs.declared.step.Written.{Written}
 use Rattle.step_code.specs.declared.step.Written.TheVariants as written
-use Rattle.row_counts.specs.Counts.{written_by_row}
+use Rattle.told_rows.specs.Counts.{written_by_row}
 use Rattle.plan_data.specs.declared.plan.PlanData.{PlanData}
 use Rattle.plan_data.specs.declared.plan.PlanNode.{PlanNode}
 use Rattle.plan_data.specs.Parts.{graph_nodes}
-use Rattle.code_maker.specs.Grows.{IsPair}
+use Rattle.told_rows.specs.Grows.{IsPair}
 use Rattle.told_rows.specs.Rows.{IsWrittenByRow, IsWrittenOf}
-use Rattle.unit_plan.specs.Plans.{Tables, nodes_by, outputs_in, plain_of, plan_of}
-use Rattle.unit_plan.specs.Returns.{Keeping, Lasts, Way, Wholly, ins_by, keeping_way, multiple, refolded_node, row_by, way_of}
-use Rattle.unit_plan.specs.Shares.{kind_or, kind_there}
+use Rattle.told_rows.specs.Plans.{Tables, nodes_by, outputs_in, plain_of, plan_of}
+use Rattle.told_rows.specs.Returns.{Keeping, Lasts, Way, Wholly, ins_by, keeping_way, multiple, refolded_node, row_by, way_of}
+use Rattle.told_rows.specs.Shares.{kind_or, kind_there}
 use Rattle.plan_shares.proofs.Graphs.{IsAt, each-of, each-refolded, in-order, kind-at}
 use Rattle.unit_whole.proofs.Named.{IsNamedAs, nodes-named}
 use Rattle.unit_whole.specs.Seen.{AreNodesSeen, AreWrittenByRows, IsFixedFirst, IsSeenOf}

@@ -6,7 +6,7 @@ use Rattle.run_code.specs.Cells.{At, Lit, Operand, cells_at}
 use Rattle.run_store.specs.Refines.{IsTaken}
 use Rattle.run_store.specs.Stored.{Copies, CopiesOf, Looks, LooksAt, Mode, Takes, mode_at, tail}
 use Rattle.made_store.specs.Last.{AreTakenLast, IsLast, IsNoneOf}
-use Rattle.code_maker.specs.Grows.{read_as}
+use Rattle.told_rows.specs.Grows.{read_as}
 
 last-lit : (m : Mode) (k : Carried) (os : List Operand) → IsLast m (Lit k) os
 last-lit Looks k os = tt

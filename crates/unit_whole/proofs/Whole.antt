@@ -22,10 +22,10 @@ use Rattle.made_store.proofs.Units.{made-last, made-stored}
 use Rattle.made_store.specs.Last.{AreTakenLast}
 use Rattle.made_store.specs.Settings.{Shares}
 use Rattle.made_store.specs.Settled.{functions_settings, handling_of}
-use Rattle.unit_plan.proofs.Right.{plans-right}
-use Rattle.unit_plan.proofs.Weights.{weights-alike}
-use Rattle.unit_plan.specs.Plans.{Tables, functions_of, levels_of, plan_of}
-use Rattle.unit_plan.specs.Shares.{shares_of, weighing}
+use Rattle.told_rows.proofs.Right.{plans-right}
+use Rattle.told_rows.proofs.Weights.{weights-alike}
+use Rattle.told_rows.specs.Plans.{Tables, functions_of, levels_of, plan_of}
+use Rattle.told_rows.specs.Shares.{shares_of, weighing}
 use Rattle.plan_shares.proofs.Right.{shares-right}
 use Rattle.step_code.specs.declared.code.Code.{Code}
 use Rattle.step_code.specs.declared.step.Step.{Step}

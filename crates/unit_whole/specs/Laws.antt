@@ -8,13 +8,13 @@ use Rattle.graph_meaning.specs.Entered.{IsIn}
 use Rattle.graph_meaning.specs.Networks.{network}
 use Rattle.ordered_meaning.specs.Orders.{AreInOrder}
 use Rattle.run_code.specs.Made.{Plan, room_of}
-use Rattle.unit_plan.specs.Plans.{AreTables, Tables, functions_of, levels_of, plan_of}
-use Rattle.unit_plan.specs.Shares.{shares_of}
+use Rattle.told_rows.specs.Plans.{AreTables, Tables, functions_of, levels_of, plan_of}
+use Rattle.told_rows.specs.Shares.{shares_of}
 use Rattle.step_code.specs.declared.code.Code.{Code}
 use Rattle.plan_data.specs.declared.plan.PlanData.{PlanData}
 use Rattle.plan_data.specs.Parts.{arms_steps}
 use Rattle.plan_data.specs.Stands.{Stands}
-use Rattle.code_maker.specs.Makes.{AreKnit, AreTold, IsCodeOf}
+use Rattle.told_rows.specs.Makes.{AreKnit, AreTold, IsCodeOf}
 use Rattle.quick_code.specs.Quick.{RunsSame}
 use Rattle.sequential_run.specs.Totals.{CanEnter}
 use Rattle.sequential_run.specs.Whole.{Blocks, IsWhole}

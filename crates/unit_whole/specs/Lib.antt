@@ -1,3 +1,14 @@
 pub use Rattle.sequential.specs.Agrees
+pub use Rattle.sequential_run.specs.Totals
+pub use Rattle.sequential_run.specs.declared.running.RunFault
+pub use Rattle.sequential_run.specs.declared.totals.Totalled
+pub use Rattle.sequential_run.specs.Runs
+pub use Rattle.sequential_run.specs.Writes
+pub use Rattle.told_rows.specs.Makes
+pub use Rattle.quick_code.specs.Quick
+pub use Rattle.plan_data.specs.declared.plan.PlanData
+pub use Rattle.plan_data.specs.Parts
+pub use Rattle.plan_data.specs.Stands
+pub use Rattle.told_rows.specs.Plans
 pub mod Seen
 pub mod Laws

@@ -14,9 +14,9 @@ use Rattle.plan_data.specs.declared.plan.PlanData.{PlanData}
 use Rattle.plan_data.specs.declared.plan.PlanNode.{PlanNode}
 use Rattle.plan_data.specs.declared.plan.Work.TheVariants as work
 use Rattle.plan_data.specs.Parts.{graph_nodes}
-use Rattle.code_maker.specs.Grows.{IsPair}
+use Rattle.told_rows.specs.Grows.{IsPair}
 use Rattle.told_rows.specs.Rows.{IsWrittenByRow}
-use Rattle.unit_plan.specs.Plans.{Tables, plan_of}
+use Rattle.told_rows.specs.Plans.{Tables, plan_of}
 
 -- a literal fills the first port
 abbrev pub IsFixedFirst : List Source → Type 0

@@ -8,3 +8,7 @@ pub use laws::{
     code_of_units_can_be_entered, code_of_units_is_whole, nodes_of_units_are_seen,
     quick_code_is_whole,
 };
+pub use plan_data::{PlanData, number_at};
+pub use quick_code::quicken;
+pub use sequential_run::{RunFault, Totalled, run_function};
+pub use told_rows::code_of;

@@ -1,6 +1,6 @@
 use Rattle.std.proofs.Common.{ap, ◌∙◌}
 use Rattle.if1_graph.specs.declared.graph.Unit1.{Unit1}
-use Rattle.mark_check.specs.Graphs.{lent, unit_graphs}
+use Rattle.unit_orders.specs.Graphs.{lent, unit_graphs}
 use Rattle.storage_flags.proofs.Found.{aggregate-flags, rows-told}
 use Rattle.storage_flags.proofs.tables.aggregate_edges.Goals as goal
 

@@ -1,5 +1,5 @@
 use Rattle.std.proofs.Common.{◌≡◌, map, drop}
-use Rattle.sisal_lex.specs.Words.{beside, plain_row}
+use Rattle.sisal_tree.specs.Words.{beside, plain_row}
 use Rattle.typed_tree.proofs.built_in.named_in.Given as goal
 
 -- the rows that are left decide

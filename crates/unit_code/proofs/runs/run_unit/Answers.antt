@@ -1,9 +1,9 @@
 use Rattle.std.proofs.Common.{◌∙◌, ap, map, sym, subst}
 use Rattle.std.proofs.lemmas.Result.{MatchResult-weaker, err_from_is_err_and}
 use Rattle.graph_meaning.specs.Carried.{Value}
-use Rattle.plan_data.specs.Parts.{table_of}
-use Rattle.sequential_run.specs.Runs.{IsDecided, IsFault, LendsBelow}
-use Rattle.sequential_run.specs.Totals.{CanEnter, HasTotals, entered_at}
+use Rattle.unit_whole.specs.Parts.{table_of}
+use Rattle.unit_whole.specs.Runs.{IsDecided, IsFault, LendsBelow}
+use Rattle.unit_whole.specs.Totals.{CanEnter, HasTotals, entered_at}
 use Rattle.unit_code.specs.Runs.{IsFaultOf}
 use Rattle.unit_code.proofs.Recorded.{can-enter, fault-is, run-is, totals-are}
 use Rattle.unit_code.proofs.runs.run_unit.Goals as goal

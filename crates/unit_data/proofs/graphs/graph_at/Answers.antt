@@ -1,8 +1,8 @@
 use Rattle.std.proofs.Common.{◌≡◌, ◌∙◌, ◌-◌, ◌<◌, length, Some, sym, ap, subst, arith}
 use Rattle.if1_graph.specs.declared.graph.Graph.{Graph}
 use Rattle.if1_graph.specs.Units.{number_of}
-use Rattle.unit_orders.specs.FiringOrderOrders.{IsFiringOrder}
-use Rattle.unit_plan.specs.Plans.{place_of}
+use Rattle.output_marks.specs.FiringOrderOrders.{IsFiringOrder}
+use Rattle.plan_nodes.specs.Plans.{place_of}
 use Rattle.plan_data.specs.declared.plan.PlanGraph.{PlanGraph}
 use Rattle.unit_data.proofs.Places.{empty-there, graph-there-at, none-first, plain-is}
 use Rattle.unit_data.specs.Graphs.{IsGraphAt}

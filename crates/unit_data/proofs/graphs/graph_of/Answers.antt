@@ -2,7 +2,7 @@ use Rattle.std.proofs.Common.{◌≡◌, ◌∙◌, ◌&&◌, Bool, List, Some, 
 use Rattle.if1_graph.specs.declared.graph.Graph.TheViews.{out-Graph}
 use Rattle.if1_graph.specs.Units.{number_of}
 use Rattle.graph_meaning.specs.StorageUnits.{storage_of}
-use Rattle.storage_flags.specs.Flags.{AreFlags}
+use Rattle.output_marks.specs.Flags.{AreFlags}
 use Rattle.plan_data.specs.declared.plan.PlanGraph.{PlanGraph}
 use Rattle.plan_data.specs.declared.plan.Port.{Port}
 use Rattle.plan_nodes.specs.Ports.{port_by}

@@ -4,9 +4,9 @@ use Rattle.std.proofs.lemmas.Iterator.Consumers.{YieldsList-end, YieldsList-turn
 use Rattle.std.proofs.lemmas.List.{get_or_default, length-map, length_push}
 use Rattle.if1_graph.specs.declared.graph.Graph.{Graph}
 use Rattle.if1_graph.specs.Units.{Place, number_of, places}
-use Rattle.unit_orders.specs.FiringOrderOrders.{IsFiringOrder}
-use Rattle.run_cells.specs.declared.cell.Cell.{Cell}
-use Rattle.run_cells.specs.declared.cell.Cell.TheVariants as cell
+use Rattle.output_marks.specs.FiringOrderOrders.{IsFiringOrder}
+use Rattle.step_code.specs.Cell.{Cell}
+use Rattle.step_code.specs.Cell.TheVariants as cell
 use Rattle.unit_data.proofs.EachGraph.{AreGraphsDone, goes-on, graph-done, none-done}
 use Rattle.unit_data.specs.Graphs.{IsGraphAt}
 use Rattle.unit_data.proofs.graphs.graphs_of.Goals as goal

@@ -1,7 +1,7 @@
 use Rattle.std.proofs.Common.{◌∙◌, ap, subst}
 use Rattle.if1_graph.specs.declared.graph.Unit1.{Unit1}
 use Rattle.node_ops.specs.Operands.{shape_of}
-use Rattle.node_works.specs.Tasks.{task_kind}
+use Rattle.plan_nodes.specs.Tasks.{task_kind}
 use Rattle.output_marks.specs.Marks.{AreTold}
 use Rattle.unit_data.proofs.Known.{plain-marked}
 use Rattle.unit_data.proofs.Normal.{edges-follow}

@@ -1,6 +1,6 @@
 use Rattle.std.proofs.Common.{◌&&◌, Bool, List, slice_index, sym, ap, subst}
 use Rattle.graph_meaning.specs.StorageUnits.{storage_of}
-use Rattle.storage_flags.specs.Flags.{AreFlags}
+use Rattle.output_marks.specs.Flags.{AreFlags}
 use Rattle.plan_nodes.specs.declared.parts.NodeParts.{NodeParts}
 use Rattle.unit_data.proofs.Known.{IsFound, node-known}
 use Rattle.unit_data.proofs.nodes.parts_of.Goals as goal

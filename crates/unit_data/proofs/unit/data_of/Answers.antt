@@ -3,7 +3,7 @@ use Rattle.if1_graph.specs.declared.graph.Graph.{Graph}
 use Rattle.if1_graph.specs.declared.graph.Graph.TheViews.{out-Graph}
 use Rattle.graph_meaning.specs.Entered.{IsIn}
 use Rattle.graph_inputs.specs.declared.inputs.Inputs.{Inputs}
-use Rattle.mark_check.specs.Graphs.{lent, unit_graphs}
+use Rattle.output_marks.specs.Graphs.{lent, unit_graphs}
 use Rattle.unit_data.proofs.Whole.{functions-inside, params-long, parts-of-unit, unit-data}
 use Rattle.unit_data.proofs.unit.data_of.Goals as goal
 
