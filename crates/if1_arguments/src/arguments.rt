@@ -7,7 +7,7 @@ ghost use Rattle.if1_valid.specs.Params.{function_in, function_of};
 ghost use Rattle.if1_arguments.specs.Arguments.{AreArgumentsOf};
 ghost use Rattle.if1_arguments.specs.Numbered.{numbered};
 
-use flow_value::{NoMemory, Numbers, Seq};
+use flow_value::{NoMemory, Seq};
 use if1_graph::{Graph, Unit1};
 use if1_types::{Parameter, Sorts, parameters_of};
 use std::alloc::Global;
@@ -24,12 +24,12 @@ fn label_of(graphs: &[Graph], number: u32) -> Option<u32>
     None
 }
 
-fn numbers_of(alloc: Global, parameters: &[Parameter]) -> Result<Numbers, NoMemory>
+fn numbers_of(alloc: Global, parameters: &[Parameter]) -> Result<Seq<usize>, NoMemory>
     ensures { IfOk result (λ ns. ns ≡ map (λ p. p.ty) parameters.now) }
 {
     let mut numbers = Seq::with_room(alloc, parameters.len())?;
     for parameter in parameters {
-        numbers.add(parameter.ty)?;
+        numbers.add(parameter.ty as usize)?;
     }
     Ok(numbers)
 }
@@ -41,7 +41,7 @@ pub fn arguments_of(
     unit: &Unit1,
     sorts: &Sorts,
     function: u32,
-) -> Result<Numbers, NoMemory>
+) -> Result<Seq<usize>, NoMemory>
     requires ready { IsReady unit.now }
     requires numbers { IsNumbering unit.now.types sorts.now }
     requires there { IsSome (function_of unit.now function) }

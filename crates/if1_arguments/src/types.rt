@@ -21,8 +21,8 @@ fn form_of(form: TyForm) -> TypeForm
         TyForm::Character => TypeForm::Character,
         TyForm::Integer => TypeForm::Integer,
         TyForm::Null => TypeForm::Null,
-        TyForm::Array(element) => TypeForm::Array(element),
-        TyForm::Stream(element) => TypeForm::Stream(element),
+        TyForm::Array(element) => TypeForm::Array(element as usize),
+        TyForm::Stream(element) => TypeForm::Stream(element as usize),
         TyForm::Record(_) => TypeForm::Record,
         TyForm::Union(_) => TypeForm::Union,
     }
@@ -41,19 +41,22 @@ fn list_of(form: TyForm) -> u32
 impl<'a> NumberedTypes for UnitTypes<'a> {
     ghost seen = { λ s. numbered s.sorts.now.shapes };
 
-    fn form_of(&self, number: u32) -> TypeForm {
+    fn form_of(&self, number: usize) -> TypeForm {
         form_of(self.sorts.ty(number))
     }
 
-    fn count_of(&self, number: u32) -> usize {
+    fn count_of(&self, number: usize) -> usize {
         self.sorts.length(list_of(self.sorts.ty(number))) as usize
     }
 
-    fn member_of(&self, number: u32, place: usize) -> Option<u32> {
+    fn member_of(&self, number: usize, place: usize) -> Option<usize> {
         let list = list_of(self.sorts.ty(number));
         if place >= self.sorts.length(list) as usize {
             return None;
         }
-        self.sorts.member(list, place as u32)
+        match self.sorts.member(list, place as u32) {
+            Some(member) => Some(member as usize),
+            None => None,
+        }
     }
 }

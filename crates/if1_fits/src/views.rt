@@ -35,7 +35,7 @@ pub fn many_of(sorts: &Sorts, number: u32) -> Option<u32>
 pub fn array_of(sorts: &Sorts, ty: u32) -> Option<u32>
     ensures { result ≡ spec.array_of sorts.now.shapes ty }
 {
-    match sorts.ty(ty) {
+    match sorts.ty(ty as usize) {
         TyForm::Array(element) => Some(element),
         _ => None,
     }
@@ -45,7 +45,7 @@ pub fn array_of(sorts: &Sorts, ty: u32) -> Option<u32>
 pub fn sequence_of(sorts: &Sorts, ty: u32) -> Option<u32>
     ensures { result ≡ spec.sequence_of sorts.now.shapes ty }
 {
-    match sorts.ty(ty) {
+    match sorts.ty(ty as usize) {
         TyForm::Array(element) | TyForm::Stream(element) => Some(element),
         _ => None,
     }
@@ -55,7 +55,7 @@ pub fn sequence_of(sorts: &Sorts, ty: u32) -> Option<u32>
 pub fn tags_of(sorts: &Sorts, ty: u32) -> Option<u32>
     ensures { result ≡ spec.tags_of sorts.now.shapes ty }
 {
-    match sorts.ty(ty) {
+    match sorts.ty(ty as usize) {
         TyForm::Union(tags) => Some(tags),
         _ => None,
     }
@@ -65,7 +65,7 @@ pub fn tags_of(sorts: &Sorts, ty: u32) -> Option<u32>
 pub fn fields_of(sorts: &Sorts, ty: u32) -> Option<u32>
     ensures { result ≡ spec.fields_of sorts.now.shapes ty }
 {
-    match sorts.ty(ty) {
+    match sorts.ty(ty as usize) {
         TyForm::Record(fields) => Some(fields),
         _ => None,
     }
@@ -112,7 +112,7 @@ pub fn kind_or(sorts: &Sorts, ty: Option<u32>) -> Kind
     ensures { result ≡ spec.kind_or sorts.now.shapes ty }
 {
     match ty {
-        Some(ty) => kind_in(sorts.ty(ty)),
+        Some(ty) => kind_in(sorts.ty(ty as usize)),
         None => Kind::Nothing,
     }
 }

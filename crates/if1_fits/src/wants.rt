@@ -102,7 +102,7 @@ fn is_built_value(sorts: &Sorts, edges: &[Edge], ty: Option<u32>) -> bool
     ensures { result ≡ spec.is_built_value sorts.now.shapes (at_port sorts.now.labels sorts.now.numbers edges.now) ty }
 {
     match ty {
-        Some(ty) => is_built(sorts, edges, sorts.ty(ty)),
+        Some(ty) => is_built(sorts, edges, sorts.ty(ty as usize)),
         None => false,
     }
 }

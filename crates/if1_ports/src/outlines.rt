@@ -58,7 +58,7 @@ fn sort_outline(sorts: &Sorts, form: SortForm) -> Outline
     ensures { (s : Sort) → IsSortForm sorts.now.shapes s form → result ≡ outline_of (Some s) }
 {
     match form {
-        SortForm::Value(ty) => type_outline(sorts, sorts.ty(ty)),
+        SortForm::Value(ty) => type_outline(sorts, sorts.ty(ty as usize)),
         SortForm::Function(arguments, results) => {
             Outline::Function(sorts.length(arguments), sorts.length(results))
         }

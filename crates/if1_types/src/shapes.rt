@@ -112,14 +112,14 @@ impl Shapes {
     }
 
     /// The kind of the tree of a number and the numbers of its parts; none where it has none.
-    pub fn key(&self, number: u32) -> Option<(u32, u32, u32)>
+    pub fn key(&self, number: usize) -> Option<(u32, u32, u32)>
         ensures is { result ≡ key_at self.now number }
         ensures of { IsKeyOf self.now number result }
     {
         if number == 0 {
             return None;
         }
-        let (key, _) = self.keys.get_index(number as usize - 1)?;
+        let (key, _) = self.keys.get_index(number - 1)?;
         Some(*key)
     }
 

@@ -21,7 +21,7 @@ fn rest_in(kind: Option<Kind>, rest: u32) -> u32
 fn rest_at(shapes: &Shapes, list: u32) -> u32
     ensures { result ≡ behind (list_form_at shapes.now list) }
 {
-    match shapes.key(list) {
+    match shapes.key(list as usize) {
         Some(key) => rest_in(kind_by(key.0), key.2),
         None => 0,
     }

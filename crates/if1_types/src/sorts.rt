@@ -56,14 +56,14 @@ impl Sorts {
         ensures form { result ≡ sort_form_at self.now.shapes number }
         ensures of { (s : Sort) → IsSort self.now.shapes number s → IsSortForm self.now.shapes s result }
     {
-        match self.shapes.key(number) {
+        match self.shapes.key(number as usize) {
             Some(key) => sort_form_of(kind_by(key.0), key.1, key.2),
             None => SortForm::Nothing,
         }
     }
 
     /// What the number of a type stands for.
-    pub fn ty(&self, number: u32) -> TyForm
+    pub fn ty(&self, number: usize) -> TyForm
         ensures form { result ≡ ty_form_at self.now.shapes number }
         ensures of { (t : Ty) → IsTy self.now.shapes number t → IsTyForm self.now.shapes t result }
     {
@@ -78,7 +78,7 @@ impl Sorts {
         ensures form { result ≡ list_form_at self.now.shapes number }
         ensures of { (ts : List Ty) → IsList self.now.shapes number ts → IsListForm self.now.shapes ts result }
     {
-        match self.shapes.key(number) {
+        match self.shapes.key(number as usize) {
             Some(key) => list_form_of(kind_by(key.0), key.1, key.2),
             None => ListForm::End,
         }

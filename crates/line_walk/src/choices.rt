@@ -12,7 +12,7 @@ use type_table::{Form, Member, Types};
 use typed_tree::Case;
 
 /// The type of the elements of an array or a stream.
-pub fn element_of(types: &Types, ty: u32) -> u32
+pub fn element_of(types: &Types, ty: usize) -> usize
     ensures { result ≡ element_of types.now ty }
 {
     match types.form(ty) {
@@ -23,7 +23,7 @@ pub fn element_of(types: &Types, ty: u32) -> u32
 }
 
 /// Whether a type is an array.
-pub fn is_array(types: &Types, ty: u32) -> bool
+pub fn is_array(types: &Types, ty: usize) -> bool
     ensures { result ≡ is_array types.now ty }
 {
     match types.form(ty) {
@@ -33,7 +33,7 @@ pub fn is_array(types: &Types, ty: u32) -> bool
 }
 
 /// The fields of a record, or the tags of a union.
-fn members_of(types: &Types, ty: u32) -> &[Member]
+fn members_of(types: &Types, ty: usize) -> &[Member]
     ensures { result.now ≡ members_at types.now ty }
 {
     match types.form(ty) {
@@ -44,7 +44,7 @@ fn members_of(types: &Types, ty: u32) -> &[Member]
 }
 
 /// The type of the content of a union at a tag.
-fn content_of(types: &Types, ty: u32, tag: u32) -> u32
+fn content_of(types: &Types, ty: usize, tag: u32) -> usize
     ensures { result ≡ content_of types.now ty tag }
 {
     match item_at(members_of(types, ty), tag as usize) {
@@ -66,7 +66,7 @@ fn number_at(numbers: &[u32], place: usize) -> u32
 
 /// What the name of the content of a union carries in an arm that has one, by the first tags of the
 /// arms.
-pub fn arm_name(types: &Types, case: &Case, tags: &[u32], ty: u32, arm: usize) -> Option<Carried>
+pub fn arm_name(types: &Types, case: &Case, tags: &[u32], ty: usize, arm: usize) -> Option<Carried>
     requires { get_or tags.now arm 0 ≡ first_tag case.now arm }
     ensures { (env : List Carried) → with_name result env ≡ arm_names types.now case.now ty arm env }
 {

@@ -15,7 +15,7 @@ use type_table::Types;
 use typed_tree::{Function, TypedExpr};
 
 /// Values of these types.
-fn values_of(alloc: Global, tys: &[u32]) -> Result<Seq<Carried>, NoMemory>
+fn values_of(alloc: Global, tys: &[usize]) -> Result<Seq<Carried>, NoMemory>
     ensures { IfOk result (λ values. values ≡ ones tys.now) }
 {
     let mut values = Seq::new(alloc);

@@ -251,7 +251,7 @@ pub fn add_returns(
     bound: Bound,
     clauses: &[ClauseForm],
     multiples: &[Carried],
-    types: &[u32],
+    types: &[usize],
 ) -> Result<(), NoMemory>
     ensures { OnOk result (needs.new ≡ added needs.old (returns_traced (plain bound) clauses.now multiples.now types.now).lines) }
 {
@@ -267,7 +267,7 @@ pub fn add_returns(
 }
 
 /// The first so many numbers, or all.
-fn first_numbers(numbers: &[u32], count: usize) -> &[u32]
+fn first_numbers(numbers: &[usize], count: usize) -> &[usize]
     ensures { result.now ≡ take count numbers.now }
 {
     if count < numbers.len() {
@@ -285,7 +285,7 @@ pub fn add_part(
     bound: Bound,
     clauses: &[ClauseForm],
     multiples: &[Carried],
-    types: &[u32],
+    types: &[usize],
 ) -> Result<(), NoMemory>
     ensures { OnOk result (needs.new ≡ added needs.old (graph_lines (returns_traced (plain bound) clauses.now multiples.now types.now ∷ []))) }
 {

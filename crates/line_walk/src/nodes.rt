@@ -26,7 +26,7 @@ pub fn carried_at(names: &[Carried], level: usize) -> Carried
 }
 
 /// The type of a value or of the values of a multiple.
-pub fn type_of(carried: Carried) -> u32
+pub fn type_of(carried: Carried) -> usize
     ensures { result ≡ type_of carried }
 {
     match carried {
@@ -36,7 +36,7 @@ pub fn type_of(carried: Carried) -> u32
 }
 
 /// Adds values of these types.
-pub fn add_ones(values: &mut Seq<Carried>, tys: &[u32]) -> Result<(), NoMemory>
+pub fn add_ones(values: &mut Seq<Carried>, tys: &[usize]) -> Result<(), NoMemory>
     ensures { OnOk result (values.new ≡ values.old ++ ones tys.now) }
 {
     for ty in tys {
@@ -46,7 +46,7 @@ pub fn add_ones(values: &mut Seq<Carried>, tys: &[u32]) -> Result<(), NoMemory>
 }
 
 /// What the lines of a constant carry.
-pub fn add_constant(needs: &mut Needs, constant: &Constant, tys: &[u32]) -> Result<(), NoMemory>
+pub fn add_constant(needs: &mut Needs, constant: &Constant, tys: &[usize]) -> Result<(), NoMemory>
     ensures { OnOk result (needs.new ≡ added needs.old (constant_traced constant.now tys.now).lines) }
 {
     let _ = tys;

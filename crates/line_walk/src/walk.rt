@@ -57,7 +57,7 @@ impl Walk {
         &mut self,
         types: &Types,
         kind: &TypedKind,
-        tys: &[u32],
+        tys: &[usize],
         values: &mut Seq<Carried>,
     ) -> Result<(), NoMemory>
         ensures needs { OnOk result (self.new.needs ≡ added self.old.needs (kind_met types.now kind.now tys.now self.old.names).lines) }
@@ -164,7 +164,7 @@ impl Walk {
         types: &Types,
         function: u32,
         es: &[TypedExpr],
-        tys: &[u32],
+        tys: &[usize],
         values: &mut Seq<Carried>,
     ) -> Result<(), NoMemory>
         ensures needs { OnOk result (self.new.needs ≡ added self.old.needs (call_met types.now function es.now tys.now self.old.names).lines) }
@@ -186,7 +186,7 @@ impl Walk {
         types: &Types,
         operation: &Operation,
         es: &[TypedExpr],
-        tys: &[u32],
+        tys: &[usize],
         values: &mut Seq<Carried>,
     ) -> Result<(), NoMemory>
         ensures needs { OnOk result (self.new.needs ≡ added self.old.needs (apply_met types.now operation.now es.now tys.now self.old.names).lines) }
@@ -285,7 +285,7 @@ impl Walk {
         types: &Types,
         case: &Case,
         tags: &[u32],
-        ty: u32,
+        ty: usize,
         arms: &[Seq<TypedExpr>],
     ) -> Result<(), NoMemory>
         requires { tags.now ≡ tags_named 0 (length arms.now) case.now.choices }
@@ -415,7 +415,7 @@ impl Walk {
         product: &Product,
         bounds: &[Carried],
         body: &[Carried],
-        tys: &[u32],
+        tys: &[usize],
     ) -> Result<(), NoMemory>
         ensures needs { OnOk result (self.new.needs ≡ added (added self.old.needs body.now) (graph_lines (returns_traced (bound_of types.now product.now.sources bounds.now) product.now.clauses (map many body.now) tys.now ∷ []))) }
         ensures names { OnOk result (self.new.names ≡ self.old.names) }
@@ -576,7 +576,7 @@ impl Walk {
         masks: &[bool],
         es: &[TypedExpr],
         row: &[Carried],
-        tys: &[u32],
+        tys: &[usize],
     ) -> Result<(), NoMemory>
         ensures needs { OnOk result (self.new.needs ≡ added self.old.needs (graph_lines (returns_traced (Wired (Carried.One integer)) clauses.now (map (carried_at (map many row.now)) (collected (loop_name around count) count masks.now (map (phrase types.now) es.now))) tys.now ∷ []))) }
         ensures names { OnOk result (self.new.names ≡ self.old.names) }

@@ -28,7 +28,7 @@ pub fn forall_node(
     bounds: &[Wire],
     first: &Placed,
     second: &Placed,
-    types: &[u32],
+    types: &[usize],
 ) -> Result<Seq<Wire>, NoMemory>
     requires { BothStand made.old first.now.place second.now.place }
     ensures { (before b : Made) (body : Lowers) (ws env : List Wire) → bounds.now ≡ map into ws → IsPlaced (generators_lowered forms.now product.now.sources (map into ws)) before b first.now → IsPlaced (body (map into env ++ own_inputs 1 (map single first.now.carried))) b made.old second.now → IfOk result (λ us. IsMade (forall_lowered forms.now product.now.sources product.now.clauses body types.now ws env) before made.new us) }

@@ -194,7 +194,7 @@ pub fn loop_node(
     test: &Placed,
     turn: &Placed,
     places: &[usize],
-    types: &[u32],
+    types: &[usize],
 ) -> Result<Seq<Wire>, NoMemory>
     requires { StandIn made.old first.now.place test.now.place turn.now.place }
     ensures { (before b d : Made) (f g h : Lowers) (tys : List Carried) (env : List Wire) → IsPlaced (f (map into env)) before b first.now → IsPlaced (g (map into env ++ own_inputs 1 tys)) b d test.now → IsPlaced (h (map into env ++ own_inputs 1 tys)) d made.old turn.now → IfOk result (λ ws. IsMade (loop_lowered (loop_kind turns.now.is_first) f g h tys places.now turns.now.clauses types.now env) before made.new ws) }

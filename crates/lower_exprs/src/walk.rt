@@ -77,7 +77,7 @@ fn kind(
     names: &mut Names,
     made: &mut Made,
     kind: &TypedKind,
-    types: &[u32],
+    types: &[usize],
 ) -> Result<Seq<Wire>, NoMemory>
     ensures made { IfOk result (λ ws. IsMade (kind_of forms.now kind.now types.now names.old.here) made.old made.new ws) }
     ensures names { OnOk result (names.new ≡ names.old) }
@@ -127,7 +127,7 @@ fn call(
     made: &mut Made,
     function: u32,
     parts: &[TypedExpr],
-    types: &[u32],
+    types: &[usize],
 ) -> Result<Seq<Wire>, NoMemory>
     ensures made { IfOk result (λ ws. IsMade (call_of forms.now function parts.now types.now names.old.here) made.old made.new ws) }
     ensures names { OnOk result (names.new ≡ names.old) }
@@ -145,7 +145,7 @@ fn apply(
     made: &mut Made,
     op: &Operation,
     parts: &[TypedExpr],
-    types: &[u32],
+    types: &[usize],
 ) -> Result<Seq<Wire>, NoMemory>
     ensures made { IfOk result (λ ws. IsMade (apply_of forms.now op.now parts.now types.now names.old.here) made.old made.new ws) }
     ensures names { OnOk result (names.new ≡ names.old) }
@@ -181,7 +181,7 @@ fn let_in(
     names: &mut Names,
     made: &mut Made,
     kind: &TypedKind,
-    types: &[u32],
+    types: &[usize],
 ) -> Result<Seq<Wire>, NoMemory>
     requires { IsLet kind.now }
     ensures made { IfOk result (λ ws. IsMade (kind_of forms.now kind.now types.now names.old.here) made.old made.new ws) }
@@ -246,7 +246,7 @@ fn if_else(
     names: &mut Names,
     made: &mut Made,
     kind: &TypedKind,
-    types: &[u32],
+    types: &[usize],
 ) -> Result<Seq<Wire>, NoMemory>
     requires { IsIf kind.now }
     ensures made { IfOk result (λ ws. IsMade (kind_of forms.now kind.now types.now names.old.here) made.old made.new ws) }
@@ -276,7 +276,7 @@ fn arm(
     forms: &Types,
     names: &mut Names,
     made: &mut Made,
-    content: Option<u32>,
+    content: Option<usize>,
     parts: &[TypedExpr],
 ) -> Result<usize, NoMemory>
     ensures part { OnOk result (IsPart (alls forms.now parts.now (with_content content (map into names.old.here))) made.old made.new) }
@@ -292,7 +292,7 @@ fn arm(
 }
 
 /// The content of a union comes into force, where it has a name.
-fn define_content(alloc: Global, names: &mut Names, content: Option<u32>) -> Result<(), NoMemory>
+fn define_content(alloc: Global, names: &mut Names, content: Option<usize>) -> Result<(), NoMemory>
     ensures { OnOk result (names.new ≡ scopes (with_content content names.old.here) names.old.marks) }
 {
     match content {
@@ -302,7 +302,7 @@ fn define_content(alloc: Global, names: &mut Names, content: Option<u32>) -> Res
 }
 
 /// The type of the content that an arm sees.
-fn content_at(forms: &Types, ty: u32, named: u32, tags: &Numbers, arm: usize) -> Option<u32>
+fn content_at(forms: &Types, ty: usize, named: u32, tags: &Numbers, arm: usize) -> Option<usize>
     requires { arm < length tags.now }
     ensures { result ≡ content_at forms.now ty named (slice_index tags.now arm) arm }
 {
@@ -323,7 +323,7 @@ fn arms(
     names: &mut Names,
     made: &mut Made,
     case: &Case,
-    ty: u32,
+    ty: usize,
     parts: &[Seq<TypedExpr>],
 ) -> Result<Seq<usize>, NoMemory>
     ensures parts { OnOk result (AreParts (arms_in forms.now case.now ty 0 parts.now names.old.here) made.old made.new) }
@@ -350,7 +350,7 @@ fn tag_case(
     names: &mut Names,
     made: &mut Made,
     kind: &TypedKind,
-    types: &[u32],
+    types: &[usize],
 ) -> Result<Seq<Wire>, NoMemory>
     requires { IsCase kind.now }
     ensures made { IfOk result (λ ws. IsMade (kind_of forms.now kind.now types.now names.old.here) made.old made.new ws) }
@@ -421,7 +421,7 @@ fn product(
     names: &mut Names,
     made: &mut Made,
     kind: &TypedKind,
-    types: &[u32],
+    types: &[usize],
 ) -> Result<Seq<Wire>, NoMemory>
     requires { IsProduct kind.now }
     ensures made { IfOk result (λ ws. IsMade (kind_of forms.now kind.now types.now names.old.here) made.old made.new ws) }
@@ -572,7 +572,7 @@ fn initial(
     names: &mut Names,
     made: &mut Made,
     kind: &TypedKind,
-    types: &[u32],
+    types: &[usize],
 ) -> Result<Seq<Wire>, NoMemory>
     requires { IsInitial kind.now }
     ensures made { IfOk result (λ ws. IsMade (kind_of forms.now kind.now types.now names.old.here) made.old made.new ws) }

@@ -12,7 +12,7 @@ use type_table::{Form, Member, Types};
 use typed_tree::{Case, Choice};
 
 /// The type of the elements of an array or a stream.
-pub fn element_of(forms: &Types, ty: u32) -> u32
+pub fn element_of(forms: &Types, ty: usize) -> usize
     ensures { result ≡ element_of forms.now ty }
 {
     match forms.form(ty) {
@@ -23,7 +23,7 @@ pub fn element_of(forms: &Types, ty: u32) -> u32
 }
 
 /// Whether a type is an array.
-pub fn is_array(forms: &Types, ty: u32) -> bool
+pub fn is_array(forms: &Types, ty: usize) -> bool
     ensures { result ≡ is_array forms.now ty }
 {
     match forms.form(ty) {
@@ -33,7 +33,7 @@ pub fn is_array(forms: &Types, ty: u32) -> bool
 }
 
 /// The fields of a record, or the tags of a union.
-fn members_of(forms: &Types, ty: u32) -> &[Member]
+fn members_of(forms: &Types, ty: usize) -> &[Member]
     ensures { result.now ≡ members_at forms.now ty }
 {
     match forms.form(ty) {
@@ -44,14 +44,14 @@ fn members_of(forms: &Types, ty: u32) -> &[Member]
 }
 
 /// How many tags a union has.
-pub fn tag_count(forms: &Types, ty: u32) -> usize
+pub fn tag_count(forms: &Types, ty: usize) -> usize
     ensures { result ≡ tag_count forms.now ty }
 {
     members_of(forms, ty).len()
 }
 
 /// The type of the content of a union at a tag.
-pub fn content_of(forms: &Types, ty: u32, tag: u32) -> u32
+pub fn content_of(forms: &Types, ty: usize, tag: u32) -> usize
     ensures { result ≡ content_of forms.now ty tag }
 {
     match item_at(members_of(forms, ty), tag as usize) {
@@ -61,7 +61,7 @@ pub fn content_of(forms: &Types, ty: u32, tag: u32) -> u32
 }
 
 /// The type of a value, or of the values of a multiple.
-pub fn type_of(ty: Carried) -> u32
+pub fn type_of(ty: Carried) -> usize
     ensures { result ≡ type_of ty }
 {
     match ty {

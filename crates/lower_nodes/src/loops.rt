@@ -305,7 +305,7 @@ fn gather(
     made: &mut Made,
     bound: &Bound,
     multiples: Seq<Wire>,
-    ty: u32,
+    ty: usize,
 ) -> Result<Seq<Wire>, NoMemory>
     ensures { IfOk result (λ ws. IsMade (gathered (plain bound.now) multiples ty) made.old made.new ws) }
 {
@@ -329,7 +329,7 @@ fn reduce(
     made: &mut Made,
     clause: ClauseForm,
     multiples: Seq<Wire>,
-    ty: u32,
+    ty: usize,
 ) -> Result<Seq<Wire>, NoMemory>
     ensures { IfOk result (λ ws. IsMade (reduced clause.folding clause.direction multiples ty) made.old made.new ws) }
 {
@@ -349,7 +349,7 @@ fn fold(
     bound: &Bound,
     clause: ClauseForm,
     multiples: Seq<Wire>,
-    ty: u32,
+    ty: usize,
 ) -> Result<Seq<Wire>, NoMemory>
     ensures { IfOk result (λ ws. IsMade (fold_lowered (plain bound.now) clause.folding clause.direction multiples ty) made.old made.new ws) }
 {
@@ -371,7 +371,7 @@ fn returns(
     bound: &Bound,
     clauses: &[ClauseForm],
     multiples: &[Wire],
-    types: &[u32],
+    types: &[usize],
 ) -> Result<Seq<Wire>, NoMemory>
     ensures { IfOk result (λ ws. IsMade (returns_lowered (plain bound.now) clauses.now multiples.now types.now) made.old made.new ws) }
 {
@@ -452,7 +452,7 @@ pub fn returns_part(
     bound: &Bound,
     clauses: &[ClauseForm],
     multiples: &[Wire],
-    types: &[u32],
+    types: &[usize],
 ) -> Result<Placed, NoMemory>
     ensures { IfOk result (λ p. IsPlaced (returns_lowered (plain bound.now) clauses.now multiples.now types.now) made.old made.new p) }
 {

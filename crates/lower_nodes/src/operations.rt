@@ -23,7 +23,7 @@ pub fn row(
     made: &mut Made,
     op: Simple,
     ins: Seq<Wire>,
-    types: &[u32],
+    types: &[usize],
 ) -> Result<Seq<Wire>, NoMemory>
     ensures { IfOk result (λ ws. IsMade (row_lowered op ins types.now) made.old made.new ws) }
 {
@@ -32,7 +32,7 @@ pub fn row(
 
 /// A constant at each value.
 #[tactic(auto, using(crate::proofs::Lists::map_snoc))]
-fn literals(alloc: Global, constant: &Constant, types: &[u32]) -> Result<Seq<Wire>, NoMemory>
+fn literals(alloc: Global, constant: &Constant, types: &[usize]) -> Result<Seq<Wire>, NoMemory>
     ensures { IfOk result (λ ws. ws ≡ map (λ t. wire (Feed.Literal constant.now) (Carried.One t)) types.now) }
 {
     let mut wires = Seq::with_room(alloc, types.len())?;
@@ -51,7 +51,7 @@ pub fn constant(
     alloc: Global,
     made: &mut Made,
     constant: &Constant,
-    types: &[u32],
+    types: &[usize],
 ) -> Result<Seq<Wire>, NoMemory>
     ensures { IfOk result (λ ws. IsMade (constant_lowered constant.now types.now) made.old made.new ws) }
 {
@@ -101,7 +101,7 @@ fn is_tag(
     made: &mut Made,
     tag: u32,
     wires: &[Wire],
-    types: &[u32],
+    types: &[usize],
 ) -> Result<Seq<Wire>, NoMemory>
     ensures { IfOk result (λ ws. IsMade (is_tag_lowered forms.now tag wires.now types.now) made.old made.new ws) }
 {
@@ -134,7 +134,7 @@ fn special(
     made: &mut Made,
     op: &Operation,
     wires: Seq<Wire>,
-    types: &[u32],
+    types: &[usize],
 ) -> Result<Seq<Wire>, NoMemory>
     requires { plain_row op.now ≡ None }
     ensures { IfOk result (λ ws. IsMade (applied forms.now op.now wires types.now) made.old made.new ws) }
@@ -180,7 +180,7 @@ pub fn applied(
     made: &mut Made,
     op: &Operation,
     wires: Seq<Wire>,
-    types: &[u32],
+    types: &[usize],
 ) -> Result<Seq<Wire>, NoMemory>
     ensures { IfOk result (λ ws. IsMade (applied forms.now op.now wires types.now) made.old made.new ws) }
 {

@@ -11,16 +11,16 @@ use sisal_tree::Constant;
 use std::alloc::Global;
 
 /// The number of the type of truth values.
-pub const BOOLEAN: u32 = 0;
+pub const BOOLEAN: usize = 0;
 
 /// The number of the type of characters.
-const CHARACTER: u32 = 1;
+const CHARACTER: usize = 1;
 
 /// The number of the type of integers.
-pub const INTEGER: u32 = 2;
+pub const INTEGER: usize = 2;
 
 /// The number of the type of `nil`.
-const NULL: u32 = 3;
+const NULL: usize = 3;
 
 /// The lower bound 1.
 pub fn one() -> Wire
@@ -43,7 +43,7 @@ fn absent() -> Wire
 }
 
 /// A literal.
-fn literal(constant: Constant, ty: u32) -> Wire
+fn literal(constant: Constant, ty: usize) -> Wire
     ensures { result ≡ wire (Feed.Literal constant) (Carried.One ty) }
 {
     Wire {

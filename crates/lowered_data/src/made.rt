@@ -102,7 +102,7 @@ impl Made {
         action: Action,
         ins: Seq<Wire>,
         port: usize,
-        types: &[u32],
+        types: &[usize],
     ) -> Result<Seq<Wire>, NoMemory>
         requires { port < 2 ^ 33 }
         ensures { IfOk result (λ ws. IsMade (a_node action ins port (map Carried.One types.now)) self.old self.new ws) }
@@ -204,7 +204,7 @@ impl Made {
         places: &[usize],
         arms: Numbers,
         given: usize,
-        types: &[u32],
+        types: &[usize],
     ) -> Result<Seq<Wire>, NoMemory>
         requires { All (λ p. p < length self.old.graphs) places.now }
         ensures { (before : Made) (fs : List Lowering) → AreParts fs before self.old → places.now ≡ places_in before fs → IfOk result (λ ws. IsMade (whole compound (new_parts before fs) arms given types.now) before self.new ws) }
@@ -221,7 +221,7 @@ impl Made {
         union: Wire,
         places: &[usize],
         arms: Numbers,
-        types: &[u32],
+        types: &[usize],
     ) -> Result<Seq<Wire>, NoMemory>
         requires { All (λ p. p < length self.old.graphs) places.now }
         ensures { (before : Made) (fs : List Lowering) → AreParts fs before self.old → places.now ≡ places_in before fs → IfOk result (λ ws. IsMade (tag_case union fs arms types.now) before self.new ws) }

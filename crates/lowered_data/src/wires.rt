@@ -63,7 +63,12 @@ pub fn one_wire(alloc: Global, w: Wire) -> Result<Seq<Wire>, NoMemory>
 
 /// The ports of a node from one on, which carry values of these types.
 #[tactic(auto, using(crate::proofs::Lists::ports_more))]
-pub fn ports(alloc: Global, node: usize, port: usize, types: &[u32]) -> Result<Seq<Wire>, NoMemory>
+pub fn ports(
+    alloc: Global,
+    node: usize,
+    port: usize,
+    types: &[usize],
+) -> Result<Seq<Wire>, NoMemory>
     requires { port < 2 ^ 33 }
     ensures { IfOk result (λ ws. ws ≡ ports node port (map Carried.One types.now)) }
 {

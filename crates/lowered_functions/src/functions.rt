@@ -19,7 +19,7 @@ use type_table::Types;
 use typed_tree::{Function, Program};
 
 /// An error of each of these types.
-fn stubs(alloc: Global, made: &mut Made, types: &[u32]) -> Result<Seq<Wire>, NoMemory>
+fn stubs(alloc: Global, made: &mut Made, types: &[usize]) -> Result<Seq<Wire>, NoMemory>
     ensures { (env : List Wire) → IfOk result (λ ws. IsMade (all_lowered (map stub types.now) env) made.old made.new ws) }
 {
     let mut values = Seq::new(alloc);

@@ -22,9 +22,9 @@ pub enum Feed {
 #[derive(Clone, Copy, PartialEq, Eq, Hash)]
 pub enum Carried {
     /// A value of a type, by its number in the table of the program.
-    One(u32),
+    One(usize),
     /// A multiple of a type, by its number in the table of the program.
-    Many(u32),
+    Many(usize),
     /// The name of a function, by its number in the list of the program.
     Callee(u32),
 }

@@ -28,7 +28,7 @@ fn argument<T: NumberedTypes>(
     alloc: Global,
     word: &[u8],
     types: &T,
-    number: u32,
+    number: usize,
     place: usize,
 ) -> Result<Val, Refusal>
     ensures read { (ty : Ty) → StandsFor (T.seen types.now) number ty → IfOk result (λ v. reads_value word.now ty v) }
@@ -40,7 +40,7 @@ fn argument<T: NumberedTypes>(
     }
 }
 
-fn number_at(numbers: &[u32], place: usize) -> u32
+fn number_at(numbers: &[usize], place: usize) -> usize
     requires { place < length numbers.now }
     ensures { (other : ℕ) → result ≡ get_or numbers.now place other }
 {
@@ -52,7 +52,7 @@ fn read_all<T: NumberedTypes>(
     alloc: Global,
     words: &[Text],
     types: &T,
-    numbers: &[u32],
+    numbers: &[usize],
 ) -> Result<Items, Refusal>
     requires { length words.now ≡ length numbers.now }
     ensures read { (tys : List Ty) → StandForAll (T.seen types.now) numbers.now tys → IfOk result (AreRead words.now tys) }
@@ -73,7 +73,7 @@ pub fn values_of_words<T: NumberedTypes>(
     alloc: Global,
     words: &[Text],
     types: &T,
-    numbers: &[u32],
+    numbers: &[usize],
 ) -> Result<Items, Refusal>
     ensures read { (tys : List Ty) → StandForAll (T.seen types.now) numbers.now tys → IfOk result (AreRead words.now tys) }
     ensures refused { (tys : List Ty) → StandForAll (T.seen types.now) numbers.now tys → IfErr result (AreRefused words.now tys) }

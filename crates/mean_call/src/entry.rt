@@ -8,7 +8,7 @@ use std::alloc::Global;
 use typed_tree::Program;
 
 /// The numbers of the types of a function's parameters.
-pub fn params_of(program: &Program, function: u32) -> &[u32]
+pub fn params_of(program: &Program, function: u32) -> &[usize]
     ensures { result.now ≡ params_of program.now function }
 {
     match item_at(program.functions.as_slice(), function as usize) {

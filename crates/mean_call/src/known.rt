@@ -7,10 +7,10 @@ use flow_value::{NoMemory, Seq};
 use std::alloc::Global;
 use type_table::{Form, Member, Types};
 
-fn is_known(known: &[bool], number: u32) -> bool
+fn is_known(known: &[bool], number: usize) -> bool
     ensures { result ≡ is_known known.now number }
 {
-    match known.get(number as usize) {
+    match known.get(number) {
         Some(known) => *known,
         None => false,
     }
@@ -61,7 +61,7 @@ pub fn known_types(alloc: Global, types: &Types, names: usize) -> Result<Seq<boo
 }
 
 /// Whether all numbers stand for types that are known.
-pub fn are_known(known: &[bool], numbers: &[u32]) -> bool
+pub fn are_known(known: &[bool], numbers: &[usize]) -> bool
     ensures { result ≡ list_all (is_known known.now) numbers.now }
 {
     for number in numbers {

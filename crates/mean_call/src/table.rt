@@ -32,7 +32,7 @@ fn form_of(form: Option<&Form>) -> TypeForm
 }
 
 /// The members of the type of a number.
-fn members_at(types: &Types, number: u32) -> &[Member]
+fn members_at(types: &Types, number: usize) -> &[Member]
     ensures { result.now ≡ members_at types.now number }
 {
     match types.form(number) {
@@ -44,15 +44,15 @@ fn members_at(types: &Types, number: u32) -> &[Member]
 impl<'a> NumberedTypes for ProgramTypes<'a> {
     ghost seen = { λ s. numbered s.table.now };
 
-    fn form_of(&self, number: u32) -> TypeForm {
+    fn form_of(&self, number: usize) -> TypeForm {
         form_of(self.table.form(number))
     }
 
-    fn count_of(&self, number: u32) -> usize {
+    fn count_of(&self, number: usize) -> usize {
         members_at(self.table, number).len()
     }
 
-    fn member_of(&self, number: u32, place: usize) -> Option<u32> {
+    fn member_of(&self, number: usize, place: usize) -> Option<usize> {
         match item_at(members_at(self.table, number), place) {
             Some(member) => Some(member.ty),
             None => None,

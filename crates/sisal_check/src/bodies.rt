@@ -167,7 +167,7 @@ fn body(
 }
 
 /// Brings the parameters into force.
-fn parameters(xs: &[u32], types: &[u32], names: &mut InForce) -> Result<(), NoMemory>
+fn parameters(xs: &[u32], types: &[usize], names: &mut InForce) -> Result<(), NoMemory>
     requires { names.old.height + length xs.now ≤ 4294967295 }
     ensures { OnOk result (names.new ≡ define_params xs.now types.now names.old) }
 {

@@ -14,11 +14,11 @@ ghost use Rattle.text_trees.specs.Spelled.{IsArm, IsSpelled, IsTagCase, content_
 
 use crate::lists::{all, only};
 use crate::state::{Given, Parts, Walk};
-use flow_value::{Numbers, Seq};
+use flow_value::Seq;
 use sisal_tree::{Arm, Expr, Named, TagCase};
 use std::alloc::Global;
 use type_rules::{Choices, TypeFault};
-use type_table::Types;
+use type_table::{TypeNumbers, Types};
 use typed_tree::{Case, TypedExpr, TypedKind};
 
 /// The arms so far.
@@ -31,7 +31,7 @@ struct Arms {
     /// Their results.
     results: Seq<Seq<TypedExpr>>,
     /// The types of the results of the first arm.
-    types: Option<Numbers>,
+    types: Option<TypeNumbers>,
     /// Whether each arm has results of these types.
     is_even: bool,
 }
@@ -195,7 +195,7 @@ fn keep(results: Parts, done: &mut Arms) -> Result<(), TypeFault>
 }
 
 /// Whether the types are those of the first arm; those of the first one are kept.
-fn suit(types: Numbers, done: &mut Arms)
+fn suit(types: TypeNumbers, done: &mut Arms)
     ensures suits { Suits types (arms_of done.old) (arms_of done.new) }
     ensures uneven { Differs types (arms_of done.old) (arms_of done.new) }
 {

@@ -11,10 +11,10 @@ ghost use Rattle.text_trees.specs.Spelled.{IsClause};
 
 use crate::lists::one;
 use crate::state::{Given, Parts, Walk};
-use flow_value::{NoMemory, Numbers, Seq};
+use flow_value::{NoMemory, Seq};
 use sisal_tree::Clause;
 use type_rules::{Made, Refused, TypeFault, clause};
-use type_table::BOOLEAN;
+use type_table::{BOOLEAN, TypeNumbers};
 use typed_tree::ClauseForm;
 
 // The rule of types that are too deep.
@@ -26,7 +26,7 @@ pub(crate) struct Folds {
     /// Their forms.
     pub forms: Seq<ClauseForm>,
     /// The types that they make.
-    pub types: Numbers,
+    pub types: TypeNumbers,
     /// Whether one of these would be too deep.
     is_deep: bool,
 }
@@ -104,7 +104,7 @@ fn end_mask(values: &mut Parts, line: u32) -> Result<(), TypeFault>
 pub(crate) fn made_of(
     line: u32,
     cs: &[Clause],
-    values: &[u32],
+    values: &[usize],
     is_masked: bool,
     given: &Given<'_>,
     walk: &mut Walk,
@@ -134,7 +134,7 @@ pub(crate) fn made_of(
 /// Adds what a clause makes of values of a type.
 fn fold(
     c: &Clause,
-    value: u32,
+    value: usize,
     is_masked: bool,
     made: &mut Folds,
     walk: &mut Walk,

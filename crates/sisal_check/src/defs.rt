@@ -14,10 +14,11 @@ ghost use Rattle.text_trees.specs.Spelled.{AreDefs, IsDef, IsTarget, IsTypeIf, d
 
 use crate::lists::all;
 use crate::state::{Given, Parts, Walk};
-use flow_value::{NoMemory, Numbers, Seq};
+use flow_value::{NoMemory, Seq};
 use sisal_tree::{Def, Named, Target};
 use std::alloc::Global;
 use type_rules::TypeFault;
+use type_table::TypeNumbers;
 use typed_tree::TypedExpr;
 use unit_types::denoted;
 
@@ -29,7 +30,7 @@ pub(crate) struct Defined {
     /// What is defined, in order.
     pub targets: Seq<Named>,
     /// The types of all that is defined.
-    pub types: Numbers,
+    pub types: TypeNumbers,
 }
 
 /// Types definitions in order, each of which sees the earlier ones, and brings their names into
@@ -163,7 +164,7 @@ fn line_of(targets: &[Target]) -> u32
 /// Tests that each target may have a value of its type.
 fn suit(
     targets: &[Target],
-    types: &[u32],
+    types: &[usize],
     line: u32,
     turn: Option<u32>,
     given: &Given<'_>,
@@ -188,7 +189,7 @@ fn suit(
 /// Tests that the type that is declared for a target is that of its value.
 fn has_type(
     target: Target,
-    ty: u32,
+    ty: usize,
     line: u32,
     given: &Given<'_>,
     walk: &mut Walk,
@@ -221,7 +222,7 @@ fn has_type(
 /// Tests that a target that is a loop name keeps its type in a turn.
 fn keeps_type(
     target: Target,
-    ty: u32,
+    ty: usize,
     line: u32,
     turn: Option<u32>,
     walk: &Walk,
@@ -239,7 +240,7 @@ fn keeps_type(
     }
 }
 
-fn is_kept(before: u32, ty: u32, line: u32) -> Result<(), TypeFault>
+fn is_kept(before: usize, ty: usize, line: u32) -> Result<(), TypeFault>
     ensures kept { OnOk result (ty ≡ before) }
     ensures breaks { IfErr result (IsRule (λ rule at_line. (rule ≡ 23) × (at_line ≡ line) × (before ≢ ty))) }
 {

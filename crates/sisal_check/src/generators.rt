@@ -13,11 +13,11 @@ ghost use Rattle.text_trees.specs.Spelled.{AreGroups, IsGenerator, group_levels,
 use crate::defs::distinct;
 use crate::lists::one;
 use crate::state::{Given, Parts, Walk};
-use flow_value::{NoMemory, Numbers, Seq};
+use flow_value::{NoMemory, Seq};
 use sisal_tree::{Generator, Named};
 use std::alloc::Global;
 use type_rules::{TypeFault, element_of};
-use type_table::{INTEGER, Types};
+use type_table::{INTEGER, TypeNumbers, Types};
 use typed_tree::{Source, TypedExpr};
 
 /// A group of generators that go on together.
@@ -30,7 +30,7 @@ pub(crate) struct Group {
     /// Their names, an index behind its element.
     names: Seq<Named>,
     /// The types of these.
-    types: Numbers,
+    types: TypeNumbers,
 }
 
 /// Types groups of generators, each of which sees the names of those before it, and brings their
@@ -193,11 +193,11 @@ fn keep_index(at: Option<u32>, line: u32, made: &mut Group) -> Result<(), NoMemo
 
 /// What a generator with bounds of these types goes over, and the type of its name.
 fn goes_over(
-    bounds: &[u32],
+    bounds: &[usize],
     has_index: bool,
     line: u32,
     types: &Types,
-) -> Result<(Source, u32), TypeFault>
+) -> Result<(Source, usize), TypeFault>
     ensures over { IfOk result (λ r. GoesOver types.now bounds.now has_index r.0 r.1) }
     ensures breaks { IfErr result (IsRule (λ rule at_line. HasNoSource types.now bounds.now has_index line rule at_line)) }
 {
@@ -209,7 +209,12 @@ fn goes_over(
 }
 
 /// What a generator over an array or a stream goes over, and the type of its elements.
-fn elements(ty: u32, has_index: bool, line: u32, types: &Types) -> Result<(Source, u32), TypeFault>
+fn elements(
+    ty: usize,
+    has_index: bool,
+    line: u32,
+    types: &Types,
+) -> Result<(Source, usize), TypeFault>
     ensures element { IfOk result (λ r. IsElement types.now ty has_index r.0 r.1) }
     ensures breaks { IfErr result (IsRule (λ rule at_line. (rule ≡ 22) × (at_line ≡ line) × (sequence_at types.now ty ≡ None))) }
 {

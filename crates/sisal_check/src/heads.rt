@@ -3,7 +3,7 @@ ghost use Rattle.breaking_laws.specs.Broken.{Broken, Misnamed};
 ghost use Rattle.breaking_laws.specs.Refusals.{IsUnnamed};
 ghost use Rattle.name_scope.specs.Newest.{newest};
 ghost use Rattle.sisal_check.specs.Walked.{IsArrayHead, IsErrorHead, IsHeadSpelled, given_of};
-ghost use Rattle.std.specs.Prelude.{All, IfErr, IfOk, List, OnOk, Some, length, ℕ, ◌<◌, ◌≡◌, ◌≤◌};
+ghost use Rattle.std.specs.Prelude.{All, IfErr, IfOk, List, OnOk, Some, length, ℕ, ◌<◌, ◌≡◌, ◌≤◌, ◌^◌};
 ghost use Rattle.sisal_tree.specs.declared.expr.ExprKind.TheViews.{out-ExprKind};
 ghost use Rattle.type_rules.specs.Faults.{IsRule};
 ghost use Rattle.type_rules.specs.Heads.{IsForm};
@@ -108,7 +108,7 @@ fn array_of(
 }
 
 /// The type of a constructor's name, where it has one.
-fn type_of(name: Option<u32>, line: u32, given: &Given<'_>) -> Result<Option<u32>, TypeFault>
+fn type_of(name: Option<u32>, line: u32, given: &Given<'_>) -> Result<Option<usize>, TypeFault>
     ensures found { IfOk result (λ n. AreFound (given_of given.now).named name n) }
     ensures breaks { IfErr result (IsRule (λ rule at_line. IsUnnamed (given_of given.now).named name line rule at_line)) }
 {
@@ -119,7 +119,7 @@ fn type_of(name: Option<u32>, line: u32, given: &Given<'_>) -> Result<Option<u32
 }
 
 /// The type of a name: rule 2 where it is not known.
-fn type_named(name: u32, line: u32, given: &Given<'_>) -> Result<u32, TypeFault>
+fn type_named(name: u32, line: u32, given: &Given<'_>) -> Result<usize, TypeFault>
     ensures found { IfOk result (λ n. newest name (given_of given.now).named ≡ Some n) }
     ensures breaks { IfErr result (IsRule (λ rule at_line. IsUnnamed (given_of given.now).named (Some name) line rule at_line)) }
 {
@@ -129,13 +129,22 @@ fn type_named(name: u32, line: u32, given: &Given<'_>) -> Result<u32, TypeFault>
     }
 }
 
+/// The name of a field.
+fn name_of(v: &FieldValue) -> u32
+    ensures is { result ≡ v.now.field.name }
+    ensures small { result < 2 ^ 32 }
+{
+    v.field.name
+}
+
 /// The names of fields, in order.
 fn names_of(alloc: Global, vs: &[FieldValue]) -> Result<Numbers, NoMemory>
-    ensures { IfOk result (λ names. names ≡ fields_of vs.now) }
+    ensures names { IfOk result (λ names. names ≡ fields_of vs.now) }
+    ensures small { IfOk result (λ names. All (λ x. x < 2 ^ 32) names) }
 {
     let mut names = Seq::new(alloc);
     for v in vs {
-        names.add(v.field.name)?;
+        names.add(name_of(v))?;
     }
     Ok(names)
 }

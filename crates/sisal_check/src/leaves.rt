@@ -10,16 +10,16 @@ ghost use Rattle.typing_laws.specs.Judged.{Typed};
 ghost use Rattle.sisal_tree.specs.declared.expr.ExprKind.TheVariants as tree;
 
 use crate::state::{Given, Walk};
-use flow_value::{NoMemory, Numbers, Seq};
+use flow_value::{NoMemory, Seq};
 use sisal_tree::Constant;
 use std::alloc::Global;
 use type_rules::TypeFault;
-use type_table::{BOOLEAN, CHARACTER, INTEGER, NULL, TEXT};
+use type_table::{BOOLEAN, CHARACTER, INTEGER, NULL, TEXT, TypeNumbers};
 use typed_tree::{TypedExpr, TypedKind};
 use value_names::Value;
 
 /// The list of one number.
-pub(crate) fn single(alloc: Global, number: u32) -> Result<Numbers, NoMemory>
+pub(crate) fn single(alloc: Global, number: usize) -> Result<TypeNumbers, NoMemory>
     ensures { IfOk result (λ numbers. numbers ≡ number ∷ []) }
 {
     let mut numbers = Seq::new(alloc);
@@ -97,7 +97,7 @@ fn level(line: u32, found: Value, given: &Given<'_>) -> Result<TypedExpr, TypeFa
     })
 }
 
-fn constant_type(c: &Constant) -> u32
+fn constant_type(c: &Constant) -> usize
     ensures { result ≡ constant_number c.now }
 {
     match c {

@@ -2,11 +2,11 @@
 ghost use Rattle.sisal_check.specs.Numbered.{AreNumbered};
 ghost use Rattle.std.specs.Prelude.{All, OnOk, Some, [], length, slice_get, ◌++◌, ◌<◌, ◌∷◌, ◌≡◌, ◌≤◌};
 
-use flow_value::{Name, NoMemory, Numbers, Seq};
+use flow_value::{Name, NoMemory, Seq};
 use name_scope::Scope;
 use sisal_lex::Token;
 use std::alloc::Global;
-use type_table::Types;
+use type_table::{TypeNumbers, Types};
 use typed_tree::TypedExpr;
 use unit_types::{Signature, TypeNames};
 use value_names::InForce;
@@ -51,7 +51,7 @@ pub(crate) struct Parts {
     /// The expressions.
     pub exprs: Seq<TypedExpr>,
     /// The types of their values.
-    pub types: Numbers,
+    pub types: TypeNumbers,
 }
 
 impl Parts {

@@ -82,7 +82,7 @@ pub fn returns(is_limit: bool, clauses: &[ClauseForm], multiples: u128, types: u
 }
 
 /// Whether a type is an array.
-fn is_array(types: &Types, ty: u32) -> bool
+fn is_array(types: &Types, ty: usize) -> bool
     ensures { result ≡ is_array types.now ty }
 {
     matches!(types.form(ty), Some(Form::Array(_)))

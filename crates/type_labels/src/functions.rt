@@ -74,8 +74,8 @@ impl Table {
         names: &[Name],
         known: &mut Known,
         depth: u32,
-        params: &[u32],
-        results: &[u32],
+        params: &[usize],
+        results: &[usize],
     ) -> Result<u32, LabelFault>
         requires { AreKnown types.now names.now known.old self.old }
         ensures ok { IfOk result (λ label. function_by (label_within types.now names.now depth) params.now results.now self.old ≡ labelled label self.new) }
@@ -99,7 +99,7 @@ impl Table {
         names: &[Name],
         known: &mut Known,
         depth: u32,
-        tys: &[u32],
+        tys: &[usize],
     ) -> Result<u32, LabelFault>
         requires { AreKnown types.now names.now known.old self.old }
         ensures ok { IfOk result (λ label. tuple_by (label_within types.now names.now depth) tys.now self.old ≡ labelled label self.new) }
@@ -125,7 +125,7 @@ impl Table {
         names: &[Name],
         known: &mut Known,
         depth: u32,
-        ty: u32,
+        ty: usize,
         rest: u32,
     ) -> Result<u32, LabelFault>
         requires { AreKnown types.now names.now known.old self.old }

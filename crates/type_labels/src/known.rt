@@ -10,7 +10,7 @@ use std::alloc::Global;
 #[derive(Drop)]
 pub struct Known {
     /// By depth and type.
-    pub map: IndexMap<(u32, u32), u32>,
+    pub map: IndexMap<(u32, usize), u32>,
 }
 
 impl Known {
@@ -24,7 +24,7 @@ impl Known {
     }
 
     /// The label of a type that is at most so deep, if it was found.
-    pub fn label(&self, depth: u32, ty: u32) -> Option<u32>
+    pub fn label(&self, depth: u32, ty: usize) -> Option<u32>
         ensures { result ≡ known_at self.now depth ty }
     {
         match self.map.get(&(depth, ty)) {
@@ -34,7 +34,7 @@ impl Known {
     }
 
     /// Keeps the label of a type that is at most so deep.
-    pub fn keep(&mut self, depth: u32, ty: u32, label: u32) -> Result<(), NoMemory>
+    pub fn keep(&mut self, depth: u32, ty: usize, label: u32) -> Result<(), NoMemory>
         ensures { OnOk result ((d t l : ℕ) → known_at self.new d t ≡ Some l → (known_at self.old d t ≡ Some l) ⊎ ((d ≡ depth) × (t ≡ ty) × (l ≡ label))) }
     {
         self.map.insert((depth, ty), label)?;

@@ -15,7 +15,7 @@ use type_table::{Form, Member, Types};
 pub(crate) const DEEPEST: u32 = 64;
 
 /// Keeps the label of a type that is at most so deep, and gives it.
-fn kept(known: &mut Known, depth: u32, ty: u32, label: u32) -> Result<u32, LabelFault>
+fn kept(known: &mut Known, depth: u32, ty: usize, label: u32) -> Result<u32, LabelFault>
     ensures is { IfOk result (λ l. l ≡ label) }
     ensures known { OnOk result ((d t l : ℕ) → known_at known.new d t ≡ Some l → (known_at known.old d t ≡ Some l) ⊎ ((d ≡ depth) × (t ≡ ty) × (l ≡ label))) }
     ensures fault { IfErr result (λ e. e ≡ LabelFault.NoMemory) }
@@ -33,7 +33,7 @@ impl Table {
         types: &Types,
         names: &[Name],
         known: &mut Known,
-        ty: u32,
+        ty: usize,
     ) -> Result<u32, LabelFault>
         requires { AreKnown types.now names.now known.old self.old }
         ensures ok { IfOk result (λ label. type_label types.now names.now ty self.old ≡ labelled label self.new) }
@@ -51,7 +51,7 @@ impl Table {
         names: &[Name],
         known: &mut Known,
         depth: u32,
-        ty: u32,
+        ty: usize,
     ) -> Result<u32, LabelFault>
         requires { AreKnown types.now names.now known.old self.old }
         ensures ok { IfOk result (λ label. label_within types.now names.now depth ty self.old ≡ labelled label self.new) }
@@ -115,7 +115,7 @@ impl Table {
         known: &mut Known,
         depth: u32,
         code: u32,
-        ty: u32,
+        ty: usize,
     ) -> Result<u32, LabelFault>
         requires { AreKnown types.now names.now known.old self.old }
         ensures ok { IfOk result (λ label. over types.now names.now code (label_within types.now names.now depth ty self.old) ≡ labelled label self.new) }

@@ -1,5 +1,5 @@
 -- What forms over operands make has a member, where a record has a field.
-use Rattle.std.proofs.Common.{◌≡◌, ◌≤◌, ℕ, Bool, true, false, ◌&&◌, nat_eq, List, [], ◌∷◌, length, Option, Some, None, refl, subst, arith}
+use Rattle.std.proofs.Common.{◌≡◌, ◌<◌, ◌≤◌, ◌^◌, ℕ, suc, All, Bool, true, false, ◌&&◌, nat_eq, List, [], ◌∷◌, length, Option, Some, None, refl, ap, subst, arith}
 use Rattle.std.specs.Option.{is_some, option_map}
 use Rattle.std.specs.Prelude.{if◌then◌else◌}
 use Rattle.std.proofs.lemmas.Bool.{eqb-true}
@@ -10,7 +10,7 @@ use Rattle.value_ops.specs.declared.operation.Operation.{Operation}
 use Rattle.value_ops.specs.declared.operation.Operation.TheVariants as operation
 use Rattle.type_table.specs.declared.form.Form.{Form}
 use Rattle.type_table.specs.declared.form.Form.TheVariants as form
-use Rattle.type_table.specs.Tables.{HasMember}
+use Rattle.type_table.specs.Tables.{HasFew, HasMember}
 use Rattle.typed_tree.specs.declared.built_in.BuiltIn.{BuiltIn}
 use Rattle.typed_tree.specs.declared.built_in.BuiltIn.TheVariants as call
 use Rattle.typed_tree.specs.Operations.{prefix_operation, binary_operation, convert_operation, built_in_operation}
@@ -27,6 +27,13 @@ use Rattle.type_rules.specs.Calls.{integer_pair, integer, filled, grown, shrunk,
 use Rattle.type_rules.specs.Sequences.{all_are, arrays, empties, empty_sort, named_sort, selects, streams, updates}
 use Rattle.type_rules.specs.Records.{all_places, are_distinct, are_fields_at, change_outcome, field_outcome, fields, paired, record_sort, records, replaces, test_outcome, tests, union_outcome, unites}
 use Rattle.type_rules.specs.Applies.{applies, HasField, IsFilled}
+use Rattle.type_rules.specs.declared.folds.Folded.{Folded}
+use Rattle.loop_folds.specs.declared.folding.Folding.{Folding}
+use Rattle.loop_folds.specs.declared.folding.Folding.TheVariants as folding
+use Rattle.sisal_tree.specs.declared.expr.ClauseKind.{ClauseKind}
+use Rattle.sisal_tree.specs.declared.expr.ClauseKind.TheVariants as made
+use Rattle.type_rules.specs.Folds.{kept, makes_of, reduced}
+use Rattle.type_rules.proofs.Few.{names_few}
 
 abbrev Filled : Option Outcome → Type 0
 Filled None = Unit {0}
@@ -41,6 +48,10 @@ FilledSort (Some s) = IsFilled s
 if_filled : (b : Bool) (o : Option Outcome) → Filled o → Filled (if b then o else None)
 if_filled true o h = h
 if_filled false o h = tt
+
+if_filled_by : (b : Bool) (o : Option Outcome) → (b ≡ true → Filled o) → Filled (if b then o else None)
+if_filled_by true o h = h refl
+if_filled_by false o h = tt
 
 of_filled : (op : Operation) (s : Option Sort) → FilledSort s → Filled (outcome_of op s)
 of_filled op None h = tt
@@ -100,9 +111,9 @@ updates_filled forms (a ∷ i ∷ v ∷ []) =
     if_filled (nat_eq i 2) (if is_part (array_at forms a) v then Some there_is else None) (if_filled (is_part (array_at forms a) v) (Some there_is) tt)
 updates_filled forms (a ∷ i ∷ v ∷ d ∷ ns) = tt
 
-formed : (c : Container) (e : ℕ) → HasMember (form_in c e)
-formed container.Array e = tt
-formed container.Stream e = tt
+formed : (c : Container) (e : ℕ) → HasMember (form_in c e) × HasFew (form_in c e)
+formed container.Array e = (tt, omega arith)
+formed container.Stream e = (tt, omega arith)
 
 named_filled : (forms : List Form) (c : Container) (named : Option ℕ) (e : ℕ) → FilledSort (named_sort forms c named e)
 named_filled forms c None e = formed c e
@@ -171,21 +182,28 @@ replaces_filled forms xs (r ∷ vs) =
     by None = tt
     by (Some ps) = tt
 
--- as many names as types, and there is a name
-record_filled : (forms : List Form) (named : Option ℕ) (xs ns : List ℕ) → 1 ≤ length xs → length xs ≡ length ns → FilledSort (record_sort forms named (paired xs ns))
-record_filled forms None (x ∷ xs) (n ∷ ns) h e = omega arith
-record_filled forms None [] ns h e = absurd (omega (arith, h))
-record_filled forms None (x ∷ xs) [] h e = absurd (omega (arith, e))
-record_filled forms (Some n) xs ns h e = there_filled (are_fields_at forms n (paired xs ns)) n
+paired_length : (xs ns : List ℕ) → length xs ≡ length ns → length (paired xs ns) ≡ length xs
+paired_length [] ns e = refl
+paired_length (x ∷ xs) [] e = absurd (omega (arith, e))
+paired_length (x ∷ xs) (n ∷ ns) e = ap suc (paired_length xs ns (omega (arith, e)))
 
-records_filled : (forms : List Form) (named : Option ℕ) (xs ns : List ℕ) → 1 ≤ length xs → Filled (records forms named xs ns)
+-- as many names as types, there is a name, and none of these of 32 bits stands twice
+record_filled : (forms : List Form) (named : Option ℕ) (xs ns : List ℕ) → 1 ≤ length xs → All (λ x. x < 2 ^ 32) xs → are_distinct xs ≡ true → length xs ≡ length ns → FilledSort (record_sort forms named (paired xs ns))
+record_filled forms None xs ns h small once e =
+    let same = paired_length xs ns e in
+    let few = names_few xs once small in
+    (omega (arith, same, h), omega (arith, same, few))
+record_filled forms (Some n) xs ns h small once e = there_filled (are_fields_at forms n (paired xs ns)) n
+
+records_filled : (forms : List Form) (named : Option ℕ) (xs ns : List ℕ) → (1 ≤ length xs) × All (λ x. x < 2 ^ 32) xs → Filled (records forms named xs ns)
 records_filled forms named xs ns h = by (nat_eq (length xs) (length ns)) refl
   where
     one : Option Outcome
     one = outcome_of operation.Record (record_sort forms named (paired xs ns))
 
     by : (b : Bool) → nat_eq (length xs) (length ns) ≡ b → Filled (if b then (if are_distinct xs then one else None) else None)
-    by true e = if_filled (are_distinct xs) one (of_filled operation.Record (record_sort forms named (paired xs ns)) (record_filled forms named xs ns h (eqb-true (length xs) (length ns) e)))
+    by true e = if_filled_by (are_distinct xs) one (λ once.
+        of_filled operation.Record (record_sort forms named (paired xs ns)) (record_filled forms named xs ns h.0 h.1 once (eqb-true (length xs) (length ns) e)))
     by false e = tt
 
 -- ---- calls that are built in
@@ -208,7 +226,7 @@ array_filled (low ∷ high ∷ []) = tt
 array_filled (low ∷ high ∷ v ∷ []) = by (nat_eq low 2 && nat_eq high 2)
   where
     by : (b : Bool) → FilledSort (if b then Some (sort.Made (form.Array v)) else None)
-    by true = tt
+    by true = (tt, omega arith)
     by false = tt
 array_filled (low ∷ high ∷ v ∷ w ∷ ns) = tt
 
@@ -293,3 +311,15 @@ all_filled forms (head.BuiltIn b) ns h = of_filled (built_in_operation b) (gives
 
 pub has_member : (forms : List Form) (h : Head) (ns : List ℕ) (o : Outcome) → HasField h → applies forms h ns ≡ Some o → IsFilled o.sort
 has_member forms h ns o field is = subst Filled is (all_filled forms h ns field)
+
+-- ---- clauses
+
+kept_filled : (o : Option Folding) (n : ℕ) (f : Folded) → kept o n ≡ Some f → IsFilled f.sort
+kept_filled None n f e = cc
+kept_filled (Some g) n f e = let same : sort.There n ≡ f.sort = cc in subst IsFilled same tt
+
+pub clause_filled : (forms : List Form) (kind : ClauseKind) (n : ℕ) (f : Folded) → makes_of forms kind n ≡ Some f → IsFilled f.sort
+clause_filled forms made.Array n f e = let same : sort.Made (form.Array n) ≡ f.sort = cc in subst IsFilled same (tt, omega arith)
+clause_filled forms made.Stream n f e = let same : sort.Made (form.Stream n) ≡ f.sort = cc in subst IsFilled same (tt, omega arith)
+clause_filled forms made.Last n f e = kept_filled (Some folding.Last) n f e
+clause_filled forms (made.Reduce d r) n f e = kept_filled (reduced forms r n) n f e

@@ -11,6 +11,7 @@ pub mod Fielded
 pub mod Forming
 pub mod Clauses
 pub mod Deep
+pub mod Few
 pub mod Filled
 pub mod Chosen
 pub mod Nameless

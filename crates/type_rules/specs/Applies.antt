@@ -1,10 +1,10 @@
 -- What a form of expression makes of operands, each of one type, by the numbers of types, and which rule it breaks where it makes
 -- nothing of them: 15 of operators, conversions and calls that are built in, 19 of arrays and streams, 20 of records, 21 of
 -- unions, and 4 where the type that is made would be deeper than 64.
-use Rattle.std.specs.Prelude.{◌≡◌, ◌⊎◌, ℕ, ◌<◌, ◌≤◌, List, ◌++◌, Option, Some, None, length, slice_get}
+use Rattle.std.specs.Prelude.{◌≡◌, ◌⊎◌, ℕ, ◌<◌, ◌≤◌, ◌^◌, All, List, ◌++◌, Option, Some, None, length, slice_get}
 use Rattle.type_table.specs.declared.form.Form.{Form}
 use Rattle.type_table.specs.Forms.{form_depth}
-use Rattle.type_table.specs.Tables.{depths, AddsAtMost, HasMember, IsOver}
+use Rattle.type_table.specs.Tables.{depths, AddsAtMost, HasFew, HasMember, IsOver}
 use Rattle.type_rules.specs.declared.fault.Refused.{Refused}
 use Rattle.type_rules.specs.declared.fault.Refused.TheVariants as refused
 use Rattle.type_rules.specs.declared.head.Head.{Head}
@@ -36,9 +36,9 @@ applies forms (head.Record named xs) ns = records forms named xs ns
 applies forms (head.Union n x) ns = unites forms n x ns
 applies forms (head.BuiltIn b) ns = called forms b ns
 
--- a record has a field
+-- a record has a field, and its names are of 32 bits
 abbrev pub HasField : Head → Type 0
-HasField (head.Record named xs) = 1 ≤ length xs
+HasField (head.Record named xs) = (1 ≤ length xs) × All (λ x. x < 2 ^ 32) xs
 HasField _ = Unit {0}
 
 abbrev pub rule_of : Head → ℕ
@@ -56,10 +56,10 @@ rule_of _ = 15
 
 -- ---- the numbers of types that are made
 
--- a record or a union that is made has a member
+-- a record or a union that is made has a member, and few enough
 abbrev pub IsFilled : Sort → Type 0
 IsFilled (sort.There n) = Unit {0}
-IsFilled (sort.Made f) = HasMember f
+IsFilled (sort.Made f) = HasMember f × HasFew f
 
 -- the table is as before, with some types more behind
 abbrev pub Grows : List Form → List Form → Type 0

@@ -1,6 +1,6 @@
 //! What a form makes of its operands.
 ghost use Rattle.std.specs.Prelude.{◌≡◌, ◌↔◌, ◌<◌, IfOk, IfErr, OnOk, OnErr, IsTrue, length, All, map};
-ghost use Rattle.type_table.specs.Tables.{HasMember, IsOver};
+ghost use Rattle.type_table.specs.Tables.{HasFew, HasMember, IsOver};
 ghost use Rattle.type_rules.specs.Applies.{applies, rule_of, HasField, IsFilled, Grows, Adds, IsSorted, IsTooDeep, IsApplied, IsRefused};
 
 use crate::calls::called;
@@ -33,7 +33,7 @@ fn applies(
     alloc: Global,
     types: &Types,
     head: Head,
-    operands: &[u32],
+    operands: &[usize],
 ) -> Result<Option<Outcome>, NoMemory>
     ensures { IfOk result (λ o. o ≡ applies types.now head operands.now) }
 {
@@ -62,7 +62,7 @@ fn are_over(types: &Types, members: &[Member]) -> bool
     ensures { IsTrue result ↔ All (λ t. t < length types.now) (map (λ m. m.ty) members.now) }
 {
     for member in members {
-        if member.ty as usize >= types.len() {
+        if member.ty >= types.len() {
             return false;
         }
     }
@@ -74,7 +74,7 @@ fn is_over(types: &Types, form: &Form) -> bool
     ensures { IsTrue result ↔ IsOver (length types.now) form.now }
 {
     match form {
-        Form::Array(ty) | Form::Stream(ty) => (*ty as usize) < types.len(),
+        Form::Array(ty) | Form::Stream(ty) => *ty < types.len(),
         Form::Record(members) | Form::Union(members) => are_over(types, members.as_slice()),
         _ => true,
     }
@@ -82,8 +82,9 @@ fn is_over(types: &Types, form: &Form) -> bool
 
 /// The number of the type of a form: rule 4 where it is deeper than 64, or made of types that are
 /// not in the table.
-fn number_made(types: &mut Types, form: Form) -> Result<u32, Refused>
-    requires { HasMember form }
+fn number_made(types: &mut Types, form: Form) -> Result<usize, Refused>
+    requires members { HasMember form }
+    requires few { HasFew form }
     ensures typed { IfOk result (λ k. IsSorted types.new (Sort.Made form) k) }
     ensures refused { IfErr result (λ e. IsTooDeep types.old (Sort.Made form) e) }
     ensures table { Grows types.old types.new }
@@ -100,7 +101,7 @@ fn number_made(types: &mut Types, form: Form) -> Result<u32, Refused>
 }
 
 /// The number of a type.
-pub fn number_of(types: &mut Types, sort: Sort) -> Result<u32, Refused>
+pub fn number_of(types: &mut Types, sort: Sort) -> Result<usize, Refused>
     requires { IsFilled sort }
     ensures typed { IfOk result (λ k. IsSorted types.new sort k) }
     ensures refused { IfErr result (λ e. IsTooDeep types.old sort e) }
@@ -122,7 +123,7 @@ pub fn apply(
     alloc: Global,
     types: &mut Types,
     head: Head,
-    operands: &[u32],
+    operands: &[usize],
 ) -> Result<Applied, Refused>
     requires { HasField head }
     ensures applied { IfOk result (λ a. IsApplied types.old head operands.now a types.new) }

@@ -20,14 +20,14 @@ const TAGCASE: u8 = 18;
 #[derive(Drop)]
 pub struct Choices {
     /// The type of the union.
-    pub union: u32,
+    pub union: usize,
     /// For each tag that has an arm its place in the union, and that of the arm.
     pub arms: IndexMap<u32, u32>,
 }
 
 impl Choices {
     /// No tag has an arm; none where the type is no union. Takes no memory.
-    pub fn new(alloc: Global, types: &Types, union: u32) -> Option<Choices>
+    pub fn new(alloc: Global, types: &Types, union: usize) -> Option<Choices>
         ensures arms { option_map (λ c. c.arms.entries) result ≡ option_map (λ ms. []) (tags_at types.now union) }
         ensures union { IfSome result (λ c. c.union ≡ union) }
     {
@@ -49,7 +49,7 @@ impl Choices {
         tags: &[Named],
         arm: u32,
         line: u32,
-    ) -> Result<u32, TypeFault>
+    ) -> Result<usize, TypeFault>
         requires { 1 ≤ length tags.now }
         ensures content { IfOk result (λ ty. IsArm types.now self.old arm line tags.now ty self.new.arms.entries) }
         ensures refused { IfErr result (λ e. IsNoArm types.now self.old arm line tags.now e) }
@@ -92,7 +92,7 @@ fn is_free(arms: &IndexMap<u32, u32>, tag: u32) -> bool
 }
 
 /// Whether the first tag of a name has an arm.
-fn has_arm(arms: &IndexMap<u32, u32>, types: &Types, union: u32, name: u32) -> bool
+fn has_arm(arms: &IndexMap<u32, u32>, types: &Types, union: usize, name: u32) -> bool
     ensures { result ≡ has_arm arms.now.entries (tag_at types.now union name) }
 {
     match member_in_union(types, union, name) {
@@ -102,7 +102,7 @@ fn has_arm(arms: &IndexMap<u32, u32>, types: &Types, union: u32, name: u32) -> b
 }
 
 /// Whether these tags of a union have arms.
-fn have_arms(arms: &IndexMap<u32, u32>, types: &Types, union: u32, tags: &[Member]) -> bool
+fn have_arms(arms: &IndexMap<u32, u32>, types: &Types, union: usize, tags: &[Member]) -> bool
     ensures { result ≡ have_arms types.now union arms.now.entries tags.now }
 {
     for tag in tags {
@@ -127,12 +127,12 @@ fn give(arms: &mut IndexMap<u32, u32>, tag: u32, arm: u32) -> Result<bool, NoMem
 
 /// Gives a tag its arm: the type of its content, where the union has the tag and it has no arm yet.
 fn choose(
-    union: u32,
+    union: usize,
     arms: &mut IndexMap<u32, u32>,
     types: &Types,
     tag: u32,
     arm: u32,
-) -> Result<Option<u32>, NoMemory>
+) -> Result<Option<usize>, NoMemory>
     ensures { IfOk result (λ o. option_map (λ ty. (ty, arms.new.entries)) o ≡ chosen types.now union arms.old.entries arm tag) }
 {
     match member_in_union(types, union, tag) {
@@ -145,7 +145,7 @@ fn choose(
 }
 
 /// Whether a content is of the type of those before it, where there is one.
-fn agrees(before: Option<u32>, ty: u32) -> bool
+fn agrees(before: Option<usize>, ty: usize) -> bool
     ensures { result ≡ agrees before ty }
 {
     match before {
@@ -156,13 +156,13 @@ fn agrees(before: Option<u32>, ty: u32) -> bool
 
 /// Gives tags their arm: the type of their contents.
 fn content_of(
-    union: u32,
+    union: usize,
     arms: &mut IndexMap<u32, u32>,
     types: &Types,
     tags: &[Named],
     arm: u32,
     line: u32,
-) -> Result<u32, TypeFault>
+) -> Result<usize, TypeFault>
     requires { 1 ≤ length tags.now }
     ensures content { IfOk result (λ ty. gives_arm types.now union arm line None arms.old.entries tags.now ≡ Ok (Some ty, arms.new.entries)) }
     ensures refused { IfErr result (λ e. IsFaultOf e (gives_arm types.now union arm line None arms.old.entries tags.now)) }

@@ -9,7 +9,7 @@ use type_table::{BOOLEAN, Form, INTEGER, Types};
 use typed_tree::BuiltIn;
 
 /// Of two integers: an integer.
-fn integer_pair(operands: &[u32]) -> Option<Sort>
+fn integer_pair(operands: &[usize]) -> Option<Sort>
     ensures { result ≡ integer_pair operands.now }
 {
     match operands {
@@ -19,7 +19,7 @@ fn integer_pair(operands: &[u32]) -> Option<Sort>
 }
 
 /// Of an integer: an integer.
-fn integer(operands: &[u32]) -> Option<Sort>
+fn integer(operands: &[usize]) -> Option<Sort>
     ensures { result ≡ integer operands.now }
 {
     match operands {
@@ -29,7 +29,7 @@ fn integer(operands: &[u32]) -> Option<Sort>
 }
 
 /// Of two bounds and a value: an array.
-fn filled(operands: &[u32]) -> Option<Sort>
+fn filled(operands: &[usize]) -> Option<Sort>
     ensures { result ≡ filled operands.now }
 {
     let [low, high, value] = operands else {
@@ -43,7 +43,7 @@ fn filled(operands: &[u32]) -> Option<Sort>
 }
 
 /// Of a container and a value for it: the container.
-fn grown(types: &Types, container: Container, operands: &[u32]) -> Option<Sort>
+fn grown(types: &Types, container: Container, operands: &[usize]) -> Option<Sort>
     ensures { result ≡ grown types.now container operands.now }
 {
     match operands {
@@ -53,7 +53,7 @@ fn grown(types: &Types, container: Container, operands: &[u32]) -> Option<Sort>
 }
 
 /// Of a container alone: the container.
-fn shrunk(types: &Types, container: Container, operands: &[u32]) -> Option<Sort>
+fn shrunk(types: &Types, container: Container, operands: &[usize]) -> Option<Sort>
     ensures { result ≡ shrunk types.now container operands.now }
 {
     match operands {
@@ -63,7 +63,7 @@ fn shrunk(types: &Types, container: Container, operands: &[u32]) -> Option<Sort>
 }
 
 /// Of an array and a bound: the array.
-fn based(types: &Types, operands: &[u32]) -> Option<Sort>
+fn based(types: &Types, operands: &[usize]) -> Option<Sort>
     ensures { result ≡ based types.now operands.now }
 {
     match operands {
@@ -76,7 +76,7 @@ fn based(types: &Types, operands: &[u32]) -> Option<Sort>
 }
 
 /// Of an array and two bounds: the array.
-fn adjusted(types: &Types, operands: &[u32]) -> Option<Sort>
+fn adjusted(types: &Types, operands: &[usize]) -> Option<Sort>
     ensures { result ≡ adjusted types.now operands.now }
 {
     match operands {
@@ -91,7 +91,7 @@ fn adjusted(types: &Types, operands: &[u32]) -> Option<Sort>
 }
 
 /// Of a container alone: a basic type.
-fn measured(types: &Types, container: Container, ty: u32, operands: &[u32]) -> Option<Sort>
+fn measured(types: &Types, container: Container, ty: usize, operands: &[usize]) -> Option<Sort>
     ensures { result ≡ measured types.now container ty operands.now }
 {
     match operands {
@@ -101,7 +101,7 @@ fn measured(types: &Types, container: Container, ty: u32, operands: &[u32]) -> O
 }
 
 /// Of a stream alone: the type of its elements.
-fn firsts(types: &Types, operands: &[u32]) -> Option<Sort>
+fn firsts(types: &Types, operands: &[usize]) -> Option<Sort>
     ensures { result ≡ firsts types.now operands.now }
 {
     let [stream] = operands else {
@@ -113,7 +113,7 @@ fn firsts(types: &Types, operands: &[u32]) -> Option<Sort>
     }
 }
 
-fn gives_of(types: &Types, call: BuiltIn, operands: &[u32]) -> Option<Sort>
+fn gives_of(types: &Types, call: BuiltIn, operands: &[usize]) -> Option<Sort>
     ensures { result ≡ gives_of types.now call operands.now }
 {
     match call {
@@ -138,7 +138,7 @@ fn gives_of(types: &Types, call: BuiltIn, operands: &[u32]) -> Option<Sort>
 }
 
 /// A call that is built in.
-pub fn called(types: &Types, call: BuiltIn, operands: &[u32]) -> Option<Outcome>
+pub fn called(types: &Types, call: BuiltIn, operands: &[usize]) -> Option<Outcome>
     ensures { result ≡ called types.now call operands.now }
 {
     outcome_of(call.operation(), gives_of(types, call, operands))

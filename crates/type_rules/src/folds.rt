@@ -18,7 +18,7 @@ pub struct Made {
     /// What it makes of its values.
     pub form: ClauseForm,
     /// The type of what it makes.
-    pub ty: u32,
+    pub ty: usize,
 }
 
 /// What a clause does with values of a type, and the type that it makes.
@@ -58,7 +58,7 @@ fn masking_by(mask: Option<bool>) -> Masking
 }
 
 /// What `catenate` goes over.
-fn catenated(types: &Types, value: u32) -> Option<Folding>
+fn catenated(types: &Types, value: usize) -> Option<Folding>
     ensures { result ≡ catenated types.now value }
 {
     match types.form(value) {
@@ -69,7 +69,7 @@ fn catenated(types: &Types, value: u32) -> Option<Folding>
 }
 
 /// A reduction of integers.
-fn summed(folding: Folding, value: u32) -> Option<Folding>
+fn summed(folding: Folding, value: usize) -> Option<Folding>
     ensures { result ≡ summed folding value }
 {
     if value == INTEGER {
@@ -79,7 +79,7 @@ fn summed(folding: Folding, value: u32) -> Option<Folding>
     }
 }
 
-fn reduced(types: &Types, reduction: Reduction, value: u32) -> Option<Folding>
+fn reduced(types: &Types, reduction: Reduction, value: usize) -> Option<Folding>
     ensures { result ≡ reduced types.now reduction value }
 {
     match reduction {
@@ -92,7 +92,7 @@ fn reduced(types: &Types, reduction: Reduction, value: u32) -> Option<Folding>
 }
 
 /// A reduction has the type of its values.
-fn kept(folding: Option<Folding>, value: u32) -> Option<Folded>
+fn kept(folding: Option<Folding>, value: usize) -> Option<Folded>
     ensures { result ≡ kept folding value }
 {
     match folding {
@@ -104,7 +104,7 @@ fn kept(folding: Option<Folding>, value: u32) -> Option<Folded>
     }
 }
 
-fn makes_of(types: &Types, kind: ClauseKind, value: u32) -> Option<Folded>
+fn makes_of(types: &Types, kind: ClauseKind, value: usize) -> Option<Folded>
     ensures { result ≡ makes_of types.now kind value }
 {
     match kind {
@@ -129,7 +129,7 @@ pub fn clause(
     types: &mut Types,
     kind: ClauseKind,
     mask: Option<bool>,
-    value: u32,
+    value: usize,
 ) -> Result<Made, Refused>
     ensures made { IfOk result (λ m. IsMade types.old kind mask value m types.new) }
     ensures refused { IfErr result (λ e. IsUnmade types.old kind value e) }

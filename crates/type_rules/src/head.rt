@@ -10,7 +10,7 @@ use value_ops::Operation;
 #[derive(Drop)]
 pub enum Head {
     /// `error[t]`, without an operand.
-    ErrorOf(u32),
+    ErrorOf(usize),
     /// `integer(a)`, `boolean(a)`, `character(a)`.
     Convert(Scalar),
     /// `is error(a)`
@@ -30,15 +30,15 @@ pub enum Head {
     /// `r replace [f: v; ..]`, by the names of the fields; the first operand is the record.
     Replace(Numbers),
     /// `array T [lo: v, ..]`, with the type that is named; the first operand is the lower bound.
-    Array(Option<u32>),
+    Array(Option<usize>),
     /// `array T []`, with the type that is named.
-    EmptyArray(Option<u32>),
+    EmptyArray(Option<usize>),
     /// `stream T [v, ..]`, with the type that is named.
-    Stream(Option<u32>),
+    Stream(Option<usize>),
     /// `record T [f: v; ..]`, with the type that is named, and by the names of the fields.
-    Record(Option<u32>, Numbers),
+    Record(Option<usize>, Numbers),
     /// `union T [t: v]`, with the type that is named, and by the name of the tag.
-    Union(u32, u32),
+    Union(usize, u32),
     /// A call that is built in.
     BuiltIn(BuiltIn),
 }
@@ -49,14 +49,14 @@ pub struct Applied {
     /// What it does with the values of its operands.
     pub operation: Operation,
     /// The type of its value.
-    pub ty: u32,
+    pub ty: usize,
 }
 
 /// A type that a form makes.
 #[derive(Drop)]
 pub enum Sort {
     /// The type of this number.
-    There(u32),
+    There(usize),
     /// The type of this form, which may have no number yet.
     Made(Form),
 }

@@ -7,7 +7,7 @@ use crate::head::Container;
 use type_table::{Form, Member, Types};
 
 /// The type of the elements of an array or a stream.
-pub fn element_of(types: &Types, ty: u32) -> Option<u32>
+pub fn element_of(types: &Types, ty: usize) -> Option<usize>
     ensures { result ≡ sequence_at types.now ty }
 {
     match types.form(ty) {
@@ -16,7 +16,7 @@ pub fn element_of(types: &Types, ty: u32) -> Option<u32>
     }
 }
 
-fn sequence_part(form: &Form) -> Option<u32>
+fn sequence_part(form: &Form) -> Option<usize>
     ensures { result ≡ sequence_part form.now }
 {
     match form {
@@ -25,7 +25,7 @@ fn sequence_part(form: &Form) -> Option<u32>
     }
 }
 
-fn array_part(form: &Form) -> Option<u32>
+fn array_part(form: &Form) -> Option<usize>
     ensures { result ≡ array_part form.now }
 {
     match form {
@@ -34,7 +34,7 @@ fn array_part(form: &Form) -> Option<u32>
     }
 }
 
-fn stream_part(form: &Form) -> Option<u32>
+fn stream_part(form: &Form) -> Option<usize>
     ensures { result ≡ stream_part form.now }
 {
     match form {
@@ -44,7 +44,7 @@ fn stream_part(form: &Form) -> Option<u32>
 }
 
 /// The type of the elements of an array.
-pub fn array_at(types: &Types, ty: u32) -> Option<u32>
+pub fn array_at(types: &Types, ty: usize) -> Option<usize>
     ensures { result ≡ array_at types.now ty }
 {
     match types.form(ty) {
@@ -54,7 +54,7 @@ pub fn array_at(types: &Types, ty: u32) -> Option<u32>
 }
 
 /// The type of the elements of a stream.
-pub fn stream_at(types: &Types, ty: u32) -> Option<u32>
+pub fn stream_at(types: &Types, ty: usize) -> Option<usize>
     ensures { result ≡ stream_at types.now ty }
 {
     match types.form(ty) {
@@ -64,7 +64,7 @@ pub fn stream_at(types: &Types, ty: u32) -> Option<u32>
 }
 
 /// The type of the elements of a container of this kind.
-pub fn element_in(types: &Types, container: Container, ty: u32) -> Option<u32>
+pub fn element_in(types: &Types, container: Container, ty: usize) -> Option<usize>
     ensures { result ≡ element_in types.now container ty }
 {
     match container {
@@ -74,7 +74,7 @@ pub fn element_in(types: &Types, container: Container, ty: u32) -> Option<u32>
 }
 
 /// The container of this kind with elements of a type.
-pub fn form_in(container: Container, element: u32) -> Form
+pub fn form_in(container: Container, element: usize) -> Form
     ensures { result ≡ form_in container element }
 {
     match container {
@@ -84,7 +84,7 @@ pub fn form_in(container: Container, element: u32) -> Form
 }
 
 /// Whether there is a part, of this type.
-pub fn is_part(part: Option<u32>, ty: u32) -> bool
+pub fn is_part(part: Option<usize>, ty: usize) -> bool
     ensures { result ≡ is_part part ty }
 {
     match part {
@@ -94,7 +94,7 @@ pub fn is_part(part: Option<u32>, ty: u32) -> bool
 }
 
 /// Whether a type is a record.
-pub fn is_record_at(types: &Types, ty: u32) -> bool
+pub fn is_record_at(types: &Types, ty: usize) -> bool
     ensures { result ≡ is_record_at types.now ty }
 {
     match types.form(ty) {
@@ -105,7 +105,7 @@ pub fn is_record_at(types: &Types, ty: u32) -> bool
 
 /// The place and the type of the first field of a name in a record; none where the type is no
 /// record or has no such field.
-pub fn field_at(types: &Types, ty: u32, name: u32) -> Option<(u32, u32)>
+pub fn field_at(types: &Types, ty: usize, name: u32) -> Option<(u32, usize)>
     ensures { result ≡ field_at types.now ty name }
 {
     match types.form(ty) {
@@ -116,7 +116,7 @@ pub fn field_at(types: &Types, ty: u32, name: u32) -> Option<(u32, u32)>
 
 /// The place, from 0, of a tag in a union, and the type of its content; none where the type is no
 /// union or has no such tag.
-pub fn member_in_union(types: &Types, ty: u32, tag: u32) -> Option<(u32, u32)>
+pub fn member_in_union(types: &Types, ty: usize, tag: u32) -> Option<(u32, usize)>
     ensures { result ≡ tag_at types.now ty tag }
 {
     match types.form(ty) {
@@ -126,7 +126,7 @@ pub fn member_in_union(types: &Types, ty: u32, tag: u32) -> Option<(u32, u32)>
 }
 
 /// The tags of a union in order; none where the type is no union.
-pub fn tags_of(types: &Types, ty: u32) -> Option<&[Member]>
+pub fn tags_of(types: &Types, ty: usize) -> Option<&[Member]>
     ensures { option_map (λ ms. ms.now) result ≡ tags_at types.now ty }
 {
     match types.form(ty) {

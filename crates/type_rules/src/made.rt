@@ -6,7 +6,7 @@ use crate::head::{Outcome, Sort};
 use value_ops::Operation;
 
 /// An operation that gives a type that is there.
-pub fn there(operation: Operation, ty: u32) -> Outcome
+pub fn there(operation: Operation, ty: usize) -> Outcome
     ensures { result ≡ there operation ty }
 {
     Outcome {
@@ -26,7 +26,7 @@ pub fn outcome_of(operation: Operation, sort: Option<Sort>) -> Option<Outcome>
 }
 
 /// The type of a number, where the test holds.
-pub fn sort_if(test: bool, ty: u32) -> Option<Sort>
+pub fn sort_if(test: bool, ty: usize) -> Option<Sort>
     ensures { result ≡ sort_if test ty }
 {
     if test { Some(Sort::There(ty)) } else { None }

@@ -13,7 +13,7 @@ use type_table::{BOOLEAN, Form, Member, Types};
 use value_ops::Operation;
 
 /// `r.f`
-pub fn fields(types: &Types, name: u32, operands: &[u32]) -> Option<Outcome>
+pub fn fields(types: &Types, name: u32, operands: &[usize]) -> Option<Outcome>
     ensures { result ≡ fields types.now name operands.now }
 {
     let [ty] = operands else {
@@ -26,7 +26,7 @@ pub fn fields(types: &Types, name: u32, operands: &[u32]) -> Option<Outcome>
 }
 
 /// `union T [t: v]`
-pub fn unites(types: &Types, ty: u32, tag: u32, operands: &[u32]) -> Option<Outcome>
+pub fn unites(types: &Types, ty: usize, tag: u32, operands: &[usize]) -> Option<Outcome>
     ensures { result ≡ unites types.now ty tag operands.now }
 {
     let [value] = operands else {
@@ -45,7 +45,7 @@ pub fn unites(types: &Types, ty: u32, tag: u32, operands: &[u32]) -> Option<Outc
 }
 
 /// `is t(a)`
-pub fn tests(types: &Types, tag: u32, operands: &[u32]) -> Option<Outcome>
+pub fn tests(types: &Types, tag: u32, operands: &[usize]) -> Option<Outcome>
     ensures { result ≡ tests types.now tag operands.now }
 {
     let [ty] = operands else {
@@ -58,7 +58,7 @@ pub fn tests(types: &Types, tag: u32, operands: &[u32]) -> Option<Outcome>
 }
 
 /// Names and types one by one, as many as there are of both.
-fn paired(alloc: Global, names: &[u32], types: &[u32]) -> Result<Seq<Member>, NoMemory>
+fn paired(alloc: Global, names: &[u32], types: &[usize]) -> Result<Seq<Member>, NoMemory>
     requires { length names.now ≡ length types.now }
     ensures { IfOk result (λ ms. ms ≡ paired names.now types.now) }
 {
@@ -99,7 +99,7 @@ fn are_fields(fields: &[Member], members: &[Member]) -> bool
 }
 
 /// Whether a type is the record of these fields.
-fn are_fields_at(types: &Types, ty: u32, members: &[Member]) -> bool
+fn are_fields_at(types: &Types, ty: usize, members: &[Member]) -> bool
     ensures { result ≡ are_fields_at types.now ty members.now }
 {
     match types.form(ty) {
@@ -109,7 +109,7 @@ fn are_fields_at(types: &Types, ty: u32, members: &[Member]) -> bool
 }
 
 /// The record of these fields, which is the type that is named where one is.
-fn record_sort(types: &Types, named: Option<u32>, members: Seq<Member>) -> Option<Sort>
+fn record_sort(types: &Types, named: Option<usize>, members: Seq<Member>) -> Option<Sort>
     ensures { result ≡ record_sort types.now named members }
 {
     let Some(ty) = named else {
@@ -126,9 +126,9 @@ fn record_sort(types: &Types, named: Option<u32>, members: Seq<Member>) -> Optio
 pub fn records(
     alloc: Global,
     types: &Types,
-    named: Option<u32>,
+    named: Option<usize>,
     names: &[u32],
-    operands: &[u32],
+    operands: &[usize],
 ) -> Result<Option<Outcome>, NoMemory>
     ensures { IfOk result (λ o. o ≡ records types.now named names.now operands.now) }
 {
@@ -143,7 +143,7 @@ pub fn records(
 }
 
 /// The place of a field of this name and type.
-fn field_place(types: &Types, ty: u32, name: u32, value: u32) -> Option<u32>
+fn field_place(types: &Types, ty: usize, name: u32, value: usize) -> Option<u32>
     ensures { result ≡ field_place types.now ty name value }
 {
     let (place, content) = field_at(types, ty, name)?;
@@ -154,9 +154,9 @@ fn field_place(types: &Types, ty: u32, name: u32, value: u32) -> Option<u32>
 fn all_places(
     alloc: Global,
     types: &Types,
-    ty: u32,
+    ty: usize,
     names: &[u32],
-    values: &[u32],
+    values: &[usize],
 ) -> Result<Option<Numbers>, NoMemory>
     requires { length names.now ≡ length values.now }
     ensures { IfOk result (λ o. o ≡ all_places types.now ty names.now values.now) }
@@ -176,7 +176,7 @@ pub fn replaces(
     alloc: Global,
     types: &Types,
     names: &[u32],
-    operands: &[u32],
+    operands: &[usize],
 ) -> Result<Option<Outcome>, NoMemory>
     ensures { IfOk result (λ o. o ≡ replaces types.now names.now operands.now) }
 {

@@ -12,7 +12,7 @@ use typed_tree::{binary_operation, convert_operation, prefix_operation};
 use value_ops::Operation;
 
 /// `error[t]`
-pub fn error_of(ty: u32, operands: &[u32]) -> Option<Outcome>
+pub fn error_of(ty: usize, operands: &[usize]) -> Option<Outcome>
     ensures { result ≡ error_of ty operands.now }
 {
     match operands {
@@ -22,7 +22,7 @@ pub fn error_of(ty: u32, operands: &[u32]) -> Option<Outcome>
 }
 
 /// `is error(a)`
-pub fn errs(operands: &[u32]) -> Option<Outcome>
+pub fn errs(operands: &[usize]) -> Option<Outcome>
     ensures { result ≡ errs operands.now }
 {
     match operands {
@@ -31,7 +31,7 @@ pub fn errs(operands: &[u32]) -> Option<Outcome>
     }
 }
 
-fn scalar_number(to: Scalar) -> u32
+fn scalar_number(to: Scalar) -> usize
     ensures { result ≡ scalar_number to }
 {
     match to {
@@ -41,7 +41,7 @@ fn scalar_number(to: Scalar) -> u32
     }
 }
 
-fn is_converted(to: Scalar, ty: u32) -> bool
+fn is_converted(to: Scalar, ty: usize) -> bool
     ensures { result ≡ is_converted to ty }
 {
     match to {
@@ -52,7 +52,7 @@ fn is_converted(to: Scalar, ty: u32) -> bool
 }
 
 /// `integer(a)` and the other conversions.
-pub fn converts(to: Scalar, operands: &[u32]) -> Option<Outcome>
+pub fn converts(to: Scalar, operands: &[usize]) -> Option<Outcome>
     ensures { result ≡ converts to operands.now }
 {
     let [ty] = operands else {
@@ -65,7 +65,7 @@ pub fn converts(to: Scalar, operands: &[u32]) -> Option<Outcome>
     }
 }
 
-fn prefix_number(operator: PrefixOperator) -> u32
+fn prefix_number(operator: PrefixOperator) -> usize
     ensures { result ≡ prefix_number operator }
 {
     match operator {
@@ -75,7 +75,7 @@ fn prefix_number(operator: PrefixOperator) -> u32
 }
 
 /// An operator before its operand.
-pub fn prefixed(operator: PrefixOperator, operands: &[u32]) -> Option<Outcome>
+pub fn prefixed(operator: PrefixOperator, operands: &[usize]) -> Option<Outcome>
     ensures { result ≡ prefixed operator operands.now }
 {
     let [ty] = operands else {
@@ -88,20 +88,20 @@ pub fn prefixed(operator: PrefixOperator, operands: &[u32]) -> Option<Outcome>
     }
 }
 
-fn is_scalar(ty: u32) -> bool
+fn is_scalar(ty: usize) -> bool
     ensures { result ≡ is_scalar ty }
 {
     ty == INTEGER || ty == BOOLEAN || ty == CHARACTER || ty == NULL
 }
 
-fn is_ordered(ty: u32) -> bool
+fn is_ordered(ty: usize) -> bool
     ensures { result ≡ is_ordered ty }
 {
     ty == INTEGER || ty == CHARACTER
 }
 
 /// Whether both operands of an operator may be of a type.
-fn are_operands(types: &Types, operator: BinaryOperator, ty: u32) -> bool
+fn are_operands(types: &Types, operator: BinaryOperator, ty: usize) -> bool
     ensures { result ≡ are_operands types.now operator ty }
 {
     match operator {
@@ -120,7 +120,7 @@ fn are_operands(types: &Types, operator: BinaryOperator, ty: u32) -> bool
 }
 
 /// The type of the result of an operator, by that of its operands.
-fn binary_number(operator: BinaryOperator, ty: u32) -> u32
+fn binary_number(operator: BinaryOperator, ty: usize) -> usize
     ensures { result ≡ binary_number operator ty }
 {
     match operator {
@@ -134,7 +134,7 @@ fn binary_number(operator: BinaryOperator, ty: u32) -> u32
 }
 
 /// An operator between two operands.
-pub fn combines(types: &Types, operator: BinaryOperator, operands: &[u32]) -> Option<Outcome>
+pub fn combines(types: &Types, operator: BinaryOperator, operands: &[usize]) -> Option<Outcome>
     ensures { result ≡ combines types.now operator operands.now }
 {
     let [left, right] = operands else {

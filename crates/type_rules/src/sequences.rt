@@ -9,7 +9,7 @@ use type_table::{INTEGER, Types};
 use value_ops::Operation;
 
 /// `a[i]`
-pub fn selects(types: &Types, operands: &[u32]) -> Option<Outcome>
+pub fn selects(types: &Types, operands: &[usize]) -> Option<Outcome>
     ensures { result ≡ selects types.now operands.now }
 {
     let [array, index] = operands else {
@@ -25,7 +25,7 @@ pub fn selects(types: &Types, operands: &[u32]) -> Option<Outcome>
 }
 
 /// `a[i: v]`
-pub fn updates(types: &Types, operands: &[u32]) -> Option<Outcome>
+pub fn updates(types: &Types, operands: &[usize]) -> Option<Outcome>
     ensures { result ≡ updates types.now operands.now }
 {
     let [array, index, value] = operands else {
@@ -42,7 +42,7 @@ pub fn updates(types: &Types, operands: &[u32]) -> Option<Outcome>
 }
 
 /// Whether all types are this one.
-fn all_are(ty: u32, others: &[u32]) -> bool
+fn all_are(ty: usize, others: &[usize]) -> bool
     ensures { result ≡ all_are ty others.now }
 {
     for other in others {
@@ -54,7 +54,12 @@ fn all_are(ty: u32, others: &[u32]) -> bool
 }
 
 /// The container with elements of a type, which is the type that is named where one is.
-fn named_sort(types: &Types, container: Container, named: Option<u32>, element: u32) -> Option<Sort>
+fn named_sort(
+    types: &Types,
+    container: Container,
+    named: Option<usize>,
+    element: usize,
+) -> Option<Sort>
     ensures { result ≡ named_sort types.now container named element }
 {
     let Some(ty) = named else {
@@ -68,7 +73,7 @@ fn named_sort(types: &Types, container: Container, named: Option<u32>, element: 
 }
 
 /// The type that is named, where it is a container of this kind.
-fn empty_sort(types: &Types, container: Container, named: Option<u32>) -> Option<Sort>
+fn empty_sort(types: &Types, container: Container, named: Option<usize>) -> Option<Sort>
     ensures { result ≡ empty_sort types.now container named }
 {
     let ty = named?;
@@ -79,7 +84,7 @@ fn empty_sort(types: &Types, container: Container, named: Option<u32>) -> Option
 }
 
 /// `array T [lo: v, ..]`
-pub fn arrays(types: &Types, named: Option<u32>, operands: &[u32]) -> Option<Outcome>
+pub fn arrays(types: &Types, named: Option<usize>, operands: &[usize]) -> Option<Outcome>
     ensures { result ≡ arrays types.now named operands.now }
 {
     let [lower, first, more @ ..] = operands else {
@@ -98,7 +103,7 @@ pub fn arrays(types: &Types, named: Option<u32>, operands: &[u32]) -> Option<Out
 }
 
 /// `array T []`
-pub fn empties(types: &Types, named: Option<u32>, operands: &[u32]) -> Option<Outcome>
+pub fn empties(types: &Types, named: Option<usize>, operands: &[usize]) -> Option<Outcome>
     ensures { result ≡ empties types.now named operands.now }
 {
     match operands {
@@ -111,7 +116,7 @@ pub fn empties(types: &Types, named: Option<u32>, operands: &[u32]) -> Option<Ou
 }
 
 /// `stream T [v, ..]`
-pub fn streams(types: &Types, named: Option<u32>, operands: &[u32]) -> Option<Outcome>
+pub fn streams(types: &Types, named: Option<usize>, operands: &[usize]) -> Option<Outcome>
     ensures { result ≡ streams types.now named operands.now }
 {
     let [first, more @ ..] = operands else {

@@ -1,10 +1,10 @@
 -- What is kept, with one form more.
-use Rattle.std.proofs.Common.{◌≡◌, ℕ, ◌+◌, ◌<◌, ◌≤◌, ◌≢◌, ◌^◌, ◌⊎◌, inl, inr, List, [], ◌∷◌, ◌++◌, All, length, map, slice_get, Option, Some, None, IfSome, refl, sym, ap, ◌∙◌, subst, arith, position, bytes_eq, get_or, max, drop, drop-cons, add-one}
+use Rattle.std.proofs.Common.{◌≡◌, ℕ, ◌+◌, ◌<◌, ◌≤◌, ◌≢◌, ◌⊎◌, inl, inr, List, [], ◌∷◌, ◌++◌, All, length, map, slice_get, Option, Some, None, IfSome, refl, sym, ap, ◌∙◌, subst, arith, position, bytes_eq, get_or, max, drop, drop-cons, add-one}
 use Rattle.std.specs.Option.{option_map}
 use Rattle.std.specs.HashMap.{HashMap}
 use Rattle.std.specs.Map.{keys_of}
 use Rattle.indexmap.specs.IndexMap.{insert_entry}
-use Rattle.std.proofs.lemmas.List.{map-append, length-map, length-append}
+use Rattle.std.proofs.lemmas.List.{map-append, length-map}
 use Rattle.std.proofs.lemmas.Option.{slice_get-map, slice_get_past, same_Some, slice_get_within, get_or_from_slice_get}
 use Rattle.type_table.specs.declared.form.Form.{Form}
 use Rattle.type_table.specs.declared.form.Member.{Member}
@@ -38,11 +38,11 @@ module _ {K S : Type 0} {numbers : K → List ℕ} {es : List (K × Known)} {pla
   -- one form more
   pub kept_more : (key : K) (known : Known) (after : HashMap (ℕ × ℕ) ℕ S)
       → numbers key ≡ key_of known.form → known.depth ≡ form_depth (depths (forms_in es)) known.form → known.depth ≤ 64
-      → position (has_key (key_of known.form)) (forms_in es) ≡ None → IsOver (length (forms_in es)) known.form → HasMember known.form → length es < 2 ^ 32
+      → position (has_key (key_of known.form)) (forms_in es) ≡ None → IsOver (length (forms_in es)) known.form → HasMember known.form
       → ((name : ℕ) → IsNoted (place_of after (length es) name) (first_member name 0 (members_of known.form)))
       → ((k name : ℕ) → k ≢ length es → place_of after k name ≡ place_of places k name)
       → IsKept numbers (es ++ (key, known) ∷ []) after
-  kept_more key known after keyed deep shallow absent over member few here others =
+  kept_more key known after keyed deep shallow absent over member here others =
       let fs = forms_in es in
       let f = known.form in
       let e : K × Known = (key, known) in
@@ -62,7 +62,6 @@ module _ {K S : Type 0} {numbers : K → List ℕ} {es : List (K × Known)} {pla
             ∙ sym (depths_more fs f)
             ∙ ap depths (sym forms);
         placed = λ k name. subst (λ fs. IsNoted (place_of after k name) (member_at fs k name)) (sym forms) (placed k name);
-        few = subst (λ n. n ≤ 2 ^ 32) (sym (length-append es (e ∷ []))) (omega (arith, few));
         well = subst IsWell (sym forms) (well_more fs f kept.well over member absent (subst (λ d. d ≤ 64) deep shallow));
       }
     where
@@ -104,13 +103,13 @@ pub record IsMore {K S : Type 0} (numbers : K → List ℕ) (new : List (K × Kn
   pub forms : forms_in new ≡ fs ++ f ∷ []
 
 pub kept_after : {K S : Type 0} (numbers : K → List ℕ) (es new : List (K × Known)) (places after : HashMap (ℕ × ℕ) ℕ S) (fs : List Form) (n : ℕ) (ms : List Member) (key : K) (known : Known)
-    → IsKept numbers es places → forms_in es ≡ fs → n ≡ length es → n < 2 ^ 32 → ms ≡ members_of known.form
+    → IsKept numbers es places → forms_in es ≡ fs → n ≡ length es → ms ≡ members_of known.form
     → numbers key ≡ key_of known.form → known.depth ≡ form_depth (depths fs) known.form → known.depth ≤ 64
     → position (has_key (key_of known.form)) fs ≡ None → IsOver (length fs) known.form → HasMember known.form
     → ((name : ℕ) → IsNoted (place_of after n name) (first_member name 0 ms))
     → ((k name : ℕ) → k ≢ n → place_of after k name ≡ place_of places k name)
     → new ≡ insert_entry (λ x y. bytes_eq (numbers x) (numbers y)) es key known → IsMore numbers new after fs known.form
-kept_after {K} {S} numbers es new places after fs n ms key known kept view count few members keyed deep shallow absent over member here others entries =
+kept_after {K} {S} numbers es new places after fs n ms key known kept view count members keyed deep shallow absent over member here others entries =
     let f = known.form in
     let absent_here : position (has_key (key_of f)) (forms_in es) ≡ None = ap (position (has_key (key_of f))) view ∙ absent in
     let no_key : position (λ k. bytes_eq (numbers key) (numbers k)) (keys_of es) ≡ None =
@@ -125,7 +124,6 @@ kept_after {K} {S} numbers es new places after fs n ms key known kept view count
           shallow absent_here
           (subst (λ fs. IsOver (length fs) f) (sym view) over)
           member
-          (subst (λ n. n < 2 ^ 32) count few)
           (λ name. subst (λ n. IsNoted (place_of after n name) (first_member name 0 (members_of f))) count (subst (λ ms. IsNoted (place_of after n name) (first_member name 0 ms)) members (here name)))
           (λ k name ne. others k name (λ e. ne (e ∙ count))));
       forms = ap forms_in last ∙ map-append (λ e. e.1.form) es ((key, known) ∷ []) ∙ ap (λ fs. fs ++ f ∷ []) view;

@@ -1,5 +1,5 @@
 -- How the types are kept: each with its depth under its key, and the places of members by type and name.
-use Rattle.std.specs.Prelude.{◌≡◌, ℕ, ◌≤◌, ◌^◌, Bool, ◌&&◌, List, map, length, nat_eq, slice_get, Option, Some, None, IfSome, if◌then◌else◌}
+use Rattle.std.specs.Prelude.{◌≡◌, ℕ, Bool, ◌&&◌, List, map, nat_eq, slice_get, Option, Some, None, IfSome, if◌then◌else◌}
 use Rattle.std.specs.HashMap.{HashMap, get}
 use Rattle.std.specs.Map.{keys_of}
 use Rattle.type_table.specs.declared.form.Form.{Form}
@@ -26,5 +26,4 @@ pub record IsKept {K S : Type 0} (numbers : K → List ℕ) (es : List (K × Kno
   pub keyed : map numbers (keys_of es) ≡ map key_of (forms_in es)
   pub deep : map (λ e. e.1.depth) es ≡ depths (forms_in es)
   pub placed : (k name : ℕ) → IfSome (member_at (forms_in es) k name) (λ m. place_of places k name ≡ Some m.0)
-  pub few : length es ≤ 2 ^ 32
   pub well : IsWell (forms_in es)

@@ -1,5 +1,5 @@
 -- The types of a program, by number: each once, after its parts, at most 64 deep.
-use Rattle.std.specs.Prelude.{◌≡◌, ℕ, ◌<◌, ◌≤◌, List, [], ◌∷◌, ◌++◌, All, length, slice_get, Option, Some, None, ◌⊎◌}
+use Rattle.std.specs.Prelude.{◌≡◌, ℕ, ◌<◌, ◌≤◌, ◌^◌, List, [], ◌∷◌, ◌++◌, All, length, slice_get, Option, Some, None, ◌⊎◌}
 use Rattle.type_table.specs.declared.form.Form.{Form}
 use Rattle.type_table.specs.declared.form.Form.TheVariants.{Boolean, Character, Integer, Null, Array, Record, Union}
 use Rattle.type_table.specs.declared.form.Member.{Member}
@@ -23,6 +23,10 @@ abbrev pub HasMember : Form → Type 0
 HasMember (Record ms) = 1 ≤ length ms
 HasMember (Union ms) = 1 ≤ length ms
 HasMember _ = Unit {0}
+
+-- the places of the members are such as 32 bits count
+abbrev pub HasFew : Form → Type 0
+HasFew f = length (members_of f) ≤ 2 ^ 32
 
 -- Types by number: no form twice, each after its parts, no record or union empty, none deeper than 64.
 pub record IsWell (fs : List Form) : Type 0 where

@@ -11,7 +11,7 @@ pub struct Member {
     /// The name.
     pub name: u32,
     /// The type.
-    pub ty: u32,
+    pub ty: usize,
 }
 
 /// What a type is made of; a part is named by its number in the table.
@@ -25,9 +25,9 @@ pub enum Form {
     /// `null`
     Null,
     /// `array [t]`
-    Array(u32),
+    Array(usize),
     /// `stream [t]`
-    Stream(u32),
+    Stream(usize),
     /// `record [name : t; ..]`, the fields in order.
     Record(Seq<Member>),
     /// `union [name : t; ..]`, the tags in order.

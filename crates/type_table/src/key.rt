@@ -7,7 +7,7 @@ use flow_value::{NoMemory, Seq};
 use std::alloc::Global;
 
 /// The numbers of a form: its kind, and then those of its parts.
-pub fn key_of(alloc: Global, form: &Form) -> Result<Vec<u32>, NoMemory>
+pub fn key_of(alloc: Global, form: &Form) -> Result<Vec<usize>, NoMemory>
     ensures { IfOk result (λ key. key.items ≡ key_of form.now) }
 {
     let mut key = Seq::new(alloc);
@@ -16,7 +16,7 @@ pub fn key_of(alloc: Global, form: &Form) -> Result<Vec<u32>, NoMemory>
     Ok(key.into_vec())
 }
 
-fn kind_of(form: &Form) -> u32
+fn kind_of(form: &Form) -> usize
     ensures { result ≡ kind_of form.now }
 {
     match form {
@@ -31,7 +31,7 @@ fn kind_of(form: &Form) -> u32
     }
 }
 
-fn add_parts(key: &mut Seq<u32>, form: &Form) -> Result<(), NoMemory>
+fn add_parts(key: &mut Seq<usize>, form: &Form) -> Result<(), NoMemory>
     ensures { OnOk result (key.new ≡ key.old ++ parts_key form.now) }
 {
     match form {
@@ -41,11 +41,11 @@ fn add_parts(key: &mut Seq<u32>, form: &Form) -> Result<(), NoMemory>
     }
 }
 
-fn add_members(key: &mut Seq<u32>, members: &[Member]) -> Result<(), NoMemory>
+fn add_members(key: &mut Seq<usize>, members: &[Member]) -> Result<(), NoMemory>
     ensures { OnOk result (key.new ≡ key.old ++ members_key members.now) }
 {
     for member in members {
-        key.add(member.name)?;
+        key.add(member.name as usize)?;
         key.add(member.ty)?;
     }
     Ok(())

@@ -7,4 +7,4 @@ mod store;
 mod types;
 
 pub use form::{Form, Member, members_of};
-pub use types::{BOOLEAN, CHARACTER, INTEGER, NULL, TEXT, Types};
+pub use types::{BOOLEAN, CHARACTER, INTEGER, NULL, TEXT, TypeNumbers, Types};

@@ -2,7 +2,7 @@
 ghost use Rattle.std.specs.Prelude.{◌≡◌, ℕ, ◌+◌, ◌^◌, ◌<◌, ◌≤◌, ◌≢◌, [], ◌∷◌, ◌++◌, length, map, position, slice_get, get_or, Some, None, IfSome, IfOk, OnOk, OnErr, IsNone, ◌↔◌};
 ghost use Rattle.std.specs.Option.{option_copied};
 ghost use Rattle.type_table.specs.Forms.{deepest, form_depth, first_member, members_of};
-ghost use Rattle.type_table.specs.Tables.{depths, member_at, HasMember, IsOver, IsWell};
+ghost use Rattle.type_table.specs.Tables.{depths, member_at, HasFew, HasMember, IsOver, IsWell};
 ghost use Rattle.type_table.specs.Keys.{key_of, has_key, with_form};
 ghost use Rattle.type_table.specs.Kept.{place_of, named_at};
 
@@ -36,8 +36,8 @@ impl Drop for Known {
 /// The forms in the order of their numbers, by their keys, and the places of the members by type
 /// and name. A place may be noted for a type that is not there yet.
 pub struct Store {
-    forms: IndexMap<Vec<u32>, Known>,
-    places: IndexMap<(u32, u32), u32>,
+    forms: IndexMap<Vec<usize>, Known>,
+    places: IndexMap<(usize, u32), u32>,
 }
 
 impl Drop for Store {
@@ -80,10 +80,10 @@ impl Store {
     }
 
     /// The form of a number.
-    pub fn form(&self, number: u32) -> Option<&Form>
+    pub fn form(&self, number: usize) -> Option<&Form>
         ensures { option_copied result ≡ slice_get self.now number }
     {
-        self.form_at(number as usize)
+        self.form_at(number)
     }
 
     /// The form of a place among all forms.
@@ -97,18 +97,18 @@ impl Store {
     }
 
     /// The depth of the type of a number.
-    pub fn depth(&self, number: u32) -> Option<u32>
+    pub fn depth(&self, number: usize) -> Option<u32>
         ensures value { result ≡ slice_get (depths self.now) number }
         ensures small { IfSome result (λ d. d ≤ 64) }
     {
-        match self.forms.get_index(number as usize) {
+        match self.forms.get_index(number) {
             Some((_, known)) => Some(known.depth),
             None => None,
         }
     }
 
     /// The place and the type of the first member of a name.
-    pub fn member(&self, number: u32, name: u32) -> Option<(u32, u32)>
+    pub fn member(&self, number: usize, name: u32) -> Option<(u32, usize)>
         ensures { result ≡ member_at self.now number name }
     {
         let place = *self.places.get(&(number, name))?;
@@ -118,9 +118,10 @@ impl Store {
 
     /// The number of a form, which is a new one where it is not there yet; none where it is too
     /// deep.
-    pub fn number(&mut self, form: Form) -> Result<Option<u32>, NoMemory>
+    pub fn number(&mut self, form: Form) -> Result<Option<usize>, NoMemory>
         requires parts { IsOver (length self.old) form }
         requires members { HasMember form }
+        requires few { HasFew form }
         ensures number { IfOk result (λ o. IfSome o (λ k. slice_get self.new k ≡ Some form)) }
         ensures table { IfOk result (λ o. IfSome o (λ k. self.new ≡ with_form self.old form)) }
         ensures deep { IfOk result (λ o. IsNone o ↔ (64 < form_depth (depths self.old) form)) }
@@ -141,13 +142,10 @@ impl Store {
     }
 
     /// The number of the form with a key.
-    fn place(&self, key: &Vec<u32>) -> Option<u32>
+    fn place(&self, key: &Vec<usize>) -> Option<usize>
         ensures { result ≡ position (has_key key.now.items) self.now }
     {
-        match self.forms.get_index_of(key) {
-            Some(number) => Some(number as u32),
-            None => None,
-        }
+        self.forms.get_index_of(key)
     }
 
     /// The depth of a form over the types that are there.
@@ -163,7 +161,7 @@ impl Store {
     }
 
     /// The depth of the type of a number, 0 where there is none.
-    fn part_depth(&self, ty: u32) -> u32
+    fn part_depth(&self, ty: usize) -> u32
         ensures value { result ≡ get_or (depths self.now) ty 0 }
         ensures small { result ≤ 64 }
     {
@@ -186,9 +184,10 @@ impl Store {
     }
 
     /// Adds a form that is not there yet, and gives its number.
-    fn add(&mut self, key: Vec<u32>, form: Form, depth: u32) -> Result<u32, NoMemory>
+    fn add(&mut self, key: Vec<usize>, form: Form, depth: u32) -> Result<usize, NoMemory>
         requires parts { IsOver (length self.old) form }
         requires members { HasMember form }
+        requires few { HasFew form }
         requires deep { depth ≡ form_depth (depths self.old) form }
         requires shallow { depth ≤ 64 }
         requires keyed { key.items ≡ key_of form }
@@ -197,27 +196,15 @@ impl Store {
         ensures ok { OnOk result (self.new ≡ self.old ++ form ∷ []) }
         ensures err { OnErr result (self.new ≡ self.old) }
     {
-        let number = as_number(self.forms.len())?;
+        let number = self.forms.len();
         note(&mut self.places, number, members_of(&form))?;
         self.forms.insert(key, Known { form, depth })?;
         Ok(number)
     }
 }
 
-/// A count of types as the number of the next one. More than a `u32` counts would want more memory
-/// than there is.
-fn as_number(count: usize) -> Result<u32, NoMemory>
-    ensures count { IfOk result (λ k. k ≡ count) }
-    ensures small { IfOk result (λ k. k < 2 ^ 32) }
-{
-    match u32::try_from(count) {
-        Ok(number) => Ok(number),
-        Err(_) => Err(NoMemory),
-    }
-}
-
 /// The place and the type of the member at a place, where it has the name.
-fn named_at(members: &[Member], place: u32, name: u32) -> Option<(u32, u32)>
+fn named_at(members: &[Member], place: u32, name: u32) -> Option<(u32, usize)>
     ensures { result ≡ named_at members.now place name }
 {
     let member = item_at(members, place as usize)?;
@@ -229,15 +216,19 @@ fn named_at(members: &[Member], place: u32, name: u32) -> Option<(u32, u32)>
 }
 
 /// Notes the place of the first member of each name. Notes on other types stay.
-fn note(places: &mut IndexMap<(u32, u32), u32>, ty: u32, members: &[Member]) -> Result<(), NoMemory>
+fn note(
+    places: &mut IndexMap<(usize, u32), u32>,
+    ty: usize,
+    members: &[Member],
+) -> Result<(), NoMemory>
+    requires { length members.now ≤ 2 ^ 32 }
     ensures here { OnOk result ((name : ℕ) → IfSome (first_member name 0 members.now) (λ m. place_of places.new ty name ≡ Some m.0)) }
     ensures others { (k name : ℕ) → k ≢ ty → place_of places.new k name ≡ place_of places.old k name }
 {
     let mut at = members.len();
     while at > 0 {
         at -= 1;
-        let place = as_number(at)?;
-        places.insert((ty, members[at].name), place)?;
+        places.insert((ty, members[at].name), at as u32)?;
     }
     Ok(())
 }

@@ -2,24 +2,27 @@
 ghost use Rattle.std.specs.Prelude.{◌≡◌, ◌<◌, length, slice_get, Some, IfSome, IfOk, OnErr, IsNone, ◌↔◌};
 ghost use Rattle.std.specs.Option.{option_copied};
 ghost use Rattle.type_table.specs.Forms.{form_depth};
-ghost use Rattle.type_table.specs.Tables.{depths, member_at, basic_forms, AddsAtMost, HasMember, IsOver, IsTable};
+ghost use Rattle.type_table.specs.Tables.{depths, member_at, basic_forms, AddsAtMost, HasFew, HasMember, IsOver, IsTable};
 
 use crate::form::Form;
 use crate::store::Store;
-use flow_value::NoMemory;
+use flow_value::{NoMemory, Seq};
 use std::alloc::Global;
 use std::marker::Model;
 
+/// Types by their numbers.
+pub type TypeNumbers = Seq<usize>;
+
 /// The number of `boolean`.
-pub const BOOLEAN: u32 = 0;
+pub const BOOLEAN: usize = 0;
 /// The number of `character`.
-pub const CHARACTER: u32 = 1;
+pub const CHARACTER: usize = 1;
 /// The number of `integer`.
-pub const INTEGER: u32 = 2;
+pub const INTEGER: usize = 2;
 /// The number of `null`.
-pub const NULL: u32 = 3;
+pub const NULL: usize = 3;
 /// The number of `array [character]`, the type of a text.
-pub const TEXT: u32 = 4;
+pub const TEXT: usize = 4;
 
 /// The types of a program, each once, by number. Two types are equal by structure, the names and
 /// the order of members included, so they are equal where their numbers are. The first five are
@@ -68,7 +71,7 @@ impl Types {
     }
 
     /// What a type is made of.
-    pub fn form(&self, number: u32) -> Option<&Form>
+    pub fn form(&self, number: usize) -> Option<&Form>
         ensures { option_copied result ≡ slice_get self.now number }
     {
         self.store.form(number)
@@ -82,7 +85,7 @@ impl Types {
     }
 
     /// The depth of a type, from 1 to 64.
-    pub fn depth(&self, number: u32) -> Option<u32>
+    pub fn depth(&self, number: usize) -> Option<u32>
         ensures { result ≡ slice_get (depths self.now) number }
     {
         self.store.depth(number)
@@ -90,7 +93,7 @@ impl Types {
 
     /// The place, from 0, and the type of the first member of a name in a record or union, in
     /// constant time.
-    pub fn member(&self, number: u32, name: u32) -> Option<(u32, u32)>
+    pub fn member(&self, number: usize, name: u32) -> Option<(u32, usize)>
         ensures { result ≡ member_at self.now number name }
     {
         self.store.member(number, name)
@@ -98,9 +101,10 @@ impl Types {
 
     /// The number of a form, which is a new one where it is not there yet; none, and the table is
     /// as before, where it is deeper than 64. On want of memory the table is as before.
-    pub fn number(&mut self, form: Form) -> Result<Option<u32>, NoMemory>
+    pub fn number(&mut self, form: Form) -> Result<Option<usize>, NoMemory>
         requires parts { IsOver (length self.old) form }
         requires members { HasMember form }
+        requires few { HasFew form }
         ensures number { IfOk result (λ o. IfSome o (λ k. slice_get self.new k ≡ Some form)) }
         ensures table { AddsAtMost self.old form self.new }
         ensures too_deep { IfOk result (λ o. IsNone o ↔ (64 < form_depth (depths self.old) form)) }

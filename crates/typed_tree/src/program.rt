@@ -5,7 +5,7 @@ ghost use Rattle.std.specs.Str.{str_eq_ignore_ascii_case};
 use crate::expr::TypedExpr;
 use loop_folds::{Name, Numbers, item_at};
 use sisal_tree::Seq;
-use type_table::Types;
+use type_table::{TypeNumbers, Types};
 
 /// A function. Types are numbers of the program's table, names are numbers of its list.
 pub struct Function {
@@ -16,9 +16,9 @@ pub struct Function {
     /// The names of its parameters, in order.
     pub parameters: Numbers,
     /// The types of its parameters, in order.
-    pub params: Numbers,
+    pub params: TypeNumbers,
     /// The types of its results, in order.
-    pub results: Numbers,
+    pub results: TypeNumbers,
     /// Its results, none where another text has them.
     pub body: Option<Seq<TypedExpr>>,
 }

@@ -1,5 +1,5 @@
 -- All tokens of a written type.
-use Rattle.std.proofs.Common.{◌≡◌, ◌<◌, ℕ, zero, suc, ◌+◌, ◌-◌, List, [], ◌∷◌, ◌++◌, length, drop, take, Some, IsSome, refl, sym, ap, subst, ◌∙◌, arith, append_assoc}
+use Rattle.std.proofs.Common.{◌≡◌, ◌<◌, ◌≤◌, ℕ, zero, suc, ◌+◌, ◌-◌, ◌^◌, List, [], ◌∷◌, ◌++◌, length, drop, take, Some, IsSome, refl, sym, ap, subst, ◌∙◌, arith, append_assoc}
 use Rattle.std.specs.Prelude.{slice_range}
 use Rattle.std.proofs.lemmas.List.{append-nil}
 use Rattle.std.proofs.Math.Seq.{drop-nil}
@@ -13,9 +13,10 @@ use Rattle.sisal_grammar.specs.Placed.{placed}
 use Rattle.typed_tree.specs.Types.{IsNumber}
 use Rattle.typed_tree.specs.Written.{Denotes, Misnames}
 use Rattle.unit_types.specs.declared.open.Open.{Open}
+use Rattle.unit_types.specs.declared.open.Open.TheVariants as entry
 use Rattle.unit_types.specs.declared.open.Next.{Next}
 use Rattle.unit_types.specs.declared.open.Next.TheVariants as next
-use Rattle.unit_types.specs.Rests.{at_place, IsLater, IsGrown, AreKnown, IsKindSpelled, AreTokensSpelled, AreStanding, IsUsed, HasNames}
+use Rattle.unit_types.specs.Rests.{at_place, IsLater, IsGrown, AreKnown, IsKindSpelled, AreTokensSpelled, AreSized, AreStanding, IsUsed, HasNames}
 use Rattle.text_trees.specs.Spelled.{IsType}
 use Rattle.unit_types.specs.Accepting.{Accepts, IsThere, a_type, behind, class, goes, kinds_of, place_of, shapes_of}
 use Rattle.unit_types.specs.Reached.{BehindNumber, Stands, Leads, Refuses, Reads, ReadsFault, IsReading}
@@ -29,6 +30,7 @@ begin_reading known old tokens = record {
   grown = record { more = []; is = sym (append-nil old) };
   spelled = λ sp h. tt;
   standing = λ sp h s. s;
+  sized = tt;
   reaches = λ sp tys forms l h k n. let e : n + 0 ≡ n = omega arith in ([], ap (λ p. placed p tokens) (sym e), refl);
 }
 
@@ -63,6 +65,7 @@ go_on_reading known old now new tokens i here later os rest t e r l = record {
   grown = record { more = r.grown.more ++ l.grown.more; is = l.grown.is ∙ ap (λ x. x ++ l.grown.more) r.grown.is ∙ append_assoc old r.grown.more l.grown.more };
   spelled = λ sp h. l.spelled sp (kind_at sp tokens i t (drop (i + 1) tokens) h e) (r.spelled sp h);
   standing = λ sp h s. l.standing sp (r.spelled sp h) (r.standing sp h s);
+  sized = l.sized i r.sized;
   reaches = λ sp tys forms lt h k n.
       let b : (ts : List Placed) × (placed n tokens ≡ ts ++ placed (n + i) (drop i tokens)) × Stands sp tys forms here os ts = r.reaches sp tys forms (later_before now new forms l.grown lt) h k n in
       let p : n + i + 1 ≡ n + (i + 1) = omega arith in (
@@ -85,6 +88,15 @@ end_reading known old now tokens i k later os r e is none there = record {
       let f : BehindNumber sp tys forms [] k b.0 = subst (λ o. Stands sp tys forms (next.After k) o b.0) none (subst (λ x. Stands sp tys forms x os b.0) is b.2) in
       subst (λ l. Denotes sp tys l a) (sym whole) (subst (Denotes sp tys b.0) (one_type forms sp stands f.type f.stands) f.is);
 }
+
+sized_up : (n k : ℕ) (os : List Open) → n ≤ k → AreSized n os → AreSized k os
+sized_up n k [] le h = tt
+sized_up n k (entry.Sequence s ∷ os) le h = sized_up n k os le h
+sized_up n k (entry.Members m ∷ os) le h = let f = h.0 in (omega (arith, f, le), sized_up n k os le h.1)
+
+-- of few tokens few members are open
+pub reading_few : (known : List (ℕ × ℕ)) (old now : List Form) (tokens : List Token) (i k : ℕ) (here : Next) (os : List Open) → IsReading known old now tokens i here os → i < length tokens → length tokens ≤ k → AreSized k os
+reading_few known old now tokens i k here os r within few = sized_up i k os (omega (arith, within, few)) r.sized
 
 -- the next token may stand here
 pub next_accepted : (known : List (ℕ × ℕ)) (old now : List Form) (tokens : List Token) (i : ℕ) (here : Next) (os : List Open) (t : Token) → drop i tokens ≡ t ∷ drop (i + 1) tokens
@@ -113,6 +125,14 @@ stop_reading known old now tokens i here os t rule line e table r f = record {
 }
 
 -- ---- a range of tokens
+
+take_few : (n : ℕ) (ts : List Token) → length (take n ts) ≤ n
+take_few zero ts = omega arith
+take_few (suc n) [] = omega arith
+take_few (suc n) (t ∷ ts) = let h = take_few n ts in omega (arith, h)
+
+pub range_few : (ts : List Token) (from to : ℕ) → to < 2 ^ 32 → length (slice_range ts from to) ≤ 2 ^ 32
+range_few ts from to h = let k = take_few (to - from) (drop from ts) in omega (arith, k, h)
 
 placed_drop : (i n : ℕ) (ts : List Token) → drop i (placed n ts) ≡ placed (n + i) (drop i ts)
 placed_drop zero n ts = let e : n ≡ n + 0 = omega arith in ap (λ k. placed k ts) e

@@ -1,6 +1,6 @@
 -- Each step of the reader of written types: where it stands behind its token.
-use Rattle.std.proofs.Common.{◌≡◌, ◌<◌, ℕ, Bool, true, false, List, [], ◌∷◌, ◌++◌, map, length, Some, slice_get, refl, sym, ap, subst, ◌∙◌, append_assoc}
-use Rattle.std.proofs.lemmas.List.{map-append, append-nil}
+use Rattle.std.proofs.Common.{◌≡◌, ◌<◌, ◌≤◌, ℕ, ◌+◌, ◌^◌, Bool, true, false, List, [], ◌∷◌, ◌++◌, map, length, Some, slice_get, refl, sym, ap, subst, ◌∙◌, append_assoc, arith}
+use Rattle.std.proofs.lemmas.List.{map-append, append-nil, length-append, length-map}
 use Rattle.std.proofs.lemmas.Option.{slice_get_within}
 use Rattle.name_scope.specs.Newest.{newest}
 use Rattle.flow_value.specs.declared.ty.Ty.{Ty}
@@ -8,7 +8,7 @@ use Rattle.flow_value.specs.declared.ty.Ty.TheVariants as ty
 use Rattle.type_table.specs.declared.form.Form.{Form}
 use Rattle.type_table.specs.declared.form.Form.TheVariants as form
 use Rattle.type_table.specs.declared.form.Member.{Member as NumberedMember}
-use Rattle.type_table.specs.Tables.{IsTable, IsOver, AddsAtMost}
+use Rattle.type_table.specs.Tables.{IsTable, IsOver, AddsAtMost, HasFew}
 use Rattle.sisal_lex.specs.declared.token.Kind.TheVariants as kind
 use Rattle.sisal_lex.specs.declared.token.Sign.TheVariants as sign
 use Rattle.sisal_lex.specs.declared.token.Token.{Token}
@@ -31,13 +31,35 @@ use Rattle.unit_types.specs.declared.open.Open.{Open}
 use Rattle.unit_types.specs.declared.open.Open.TheVariants as entry
 use Rattle.unit_types.specs.declared.open.Next.{Next}
 use Rattle.unit_types.specs.declared.open.Next.TheVariants as next
-use Rattle.unit_types.specs.Rests.{at_place, sequence_of, members_of, IsLater, AreKnown, IsSpelled, AreSpelled, IsKindSpelled, AreOpenSpelled, no_members, word_of, begun, opened_by, inside_of, with_name, members_with, with_group, sequence_form, members_form}
+use Rattle.unit_types.specs.Rests.{at_place, sequence_of, members_of, IsLater, AreKnown, IsSpelled, AreSpelled, IsKindSpelled, AreOpenSpelled, AreSized, no_members, word_of, begun, opened_by, inside_of, with_name, members_with, with_group, sequence_form, members_form}
 use Rattle.unit_types.specs.Accepting.{Shape, sequence, members, Place, a_type, bracket, a_name, behind_name, behind, behind_semicolon, Class, begins as begins_at, called, comma as a_comma, semicolon, colon as a_colon, opens as opening, closes as closing, other, class, goes, opened_in, shapes_of, place_of, IsThere}
 use Rattle.unit_types.specs.Reached.{AreNames, MayGoOn, GoesOn, AreAnnounced, Opens, BehindWord, Gathers, AtType, HasGroup, AreSoFar, Stands, Leads}
 use Rattle.unit_types.proofs.Known.{known_newest}
 use Rattle.unit_types.proofs.Depth.{shallow_number}
 use Rattle.unit_types.proofs.Tables.{stays, grown_by, basic, basic_there, later_there, sequence_number, members_number, sequence_stands, members_stand}
 use Rattle.unit_types.proofs.Reached.{members_on, typed, sequence_closed, members_closed, gathered, gathered_group, semicolon_behind}
+
+-- ---- how many members are open
+
+sized_more : (n : ℕ) (os : List Open) → AreSized n os → AreSized (n + 1) os
+sized_more n [] h = tt
+sized_more n (entry.Sequence s ∷ os) h = sized_more n os h
+sized_more n (entry.Members m ∷ os) h = let f = h.0 in (omega (arith, f), sized_more n os h.1)
+
+-- those of a group count already
+pub group_sized : (m : Members) (ty n : ℕ) → length m.members + length m.group ≤ n → length (with_group m ty).members ≤ n
+group_sized m ty n h =
+    let e : length (with_group m ty).members ≡ length m.members + length (members_with m.group ty) = length-append m.members (members_with m.group ty) in
+    let f : length (members_with m.group ty) ≡ length m.group = length-map m.group _ in
+    omega (arith, e, f, h)
+
+pub sequence_few : (is_stream : Bool) (n : ℕ) → HasFew (sequence_form is_stream n)
+sequence_few true n = omega arith
+sequence_few false n = omega arith
+
+pub members_few : (is_union : Bool) (ms : List NumberedMember) → length ms ≤ 2 ^ 32 → HasFew (members_form is_union ms)
+members_few true ms h = h
+members_few false ms h = h
 
 -- ---- the first token of a type
 
@@ -53,6 +75,7 @@ module _ (known : List (ℕ × ℕ)) (forms : List Form) (os : List Open) (t : T
     grown = stays forms;
     spelled = λ sp s h. h;
     standing = λ sp s h. h;
+    sized = λ n h. sized_more n os h;
     reaches = λ sp tys table l s k n ts c. f sp tys table l k n ts c;
   }
 
@@ -145,6 +168,7 @@ module _ (known : List (ℕ × ℕ)) (forms : List Form) (os : List Open) (t : T
     grown = stays forms;
     spelled = λ sp s h. h;
     standing = λ sp s h. h;
+    sized = λ n h. sized_more n os h;
     reaches = λ sp tys table l s k n ts c. enters_sequence sp tys table opener.Array false n ts c c.opens;
   }
   enters opener.Stream = record {
@@ -153,6 +177,7 @@ module _ (known : List (ℕ × ℕ)) (forms : List Form) (os : List Open) (t : T
     grown = stays forms;
     spelled = λ sp s h. h;
     standing = λ sp s h. h;
+    sized = λ n h. sized_more n os h;
     reaches = λ sp tys table l s k n ts c. enters_sequence sp tys table opener.Stream true n ts c c.opens;
   }
   enters opener.Record = record {
@@ -161,6 +186,7 @@ module _ (known : List (ℕ × ℕ)) (forms : List Form) (os : List Open) (t : T
     grown = stays forms;
     spelled = λ sp s h. (tt, tt, refl, h);
     standing = λ sp s h. h;
+    sized = λ n h. (omega arith, sized_more n os h);
     reaches = λ sp tys table l s k n ts c. enters_members sp tys table opener.Record false n ts c c.opens;
   }
   enters opener.Union = record {
@@ -169,6 +195,7 @@ module _ (known : List (ℕ × ℕ)) (forms : List Form) (os : List Open) (t : T
     grown = stays forms;
     spelled = λ sp s h. (tt, tt, refl, h);
     standing = λ sp s h. h;
+    sized = λ n h. (omega arith, sized_more n os h);
     reaches = λ sp tys table l s k n ts c. enters_members sp tys table opener.Union true n ts c c.opens;
   }
 
@@ -190,6 +217,9 @@ module _ (known : List (ℕ × ℕ)) (forms : List Form) (os : List Open) (t : T
       let k : IsSpelled sp x = subst (IsKindSpelled sp) is s in
       (h.0, subst (AreSpelled sp) (sym (map-append (λ n. n.name) m.group (one_name ∷ []))) (more_names sp (names_of m.group) (x ∷ []) h.1 (k, tt)), h.2, h.3)
 
+  sized_name : (n : ℕ) → AreSized n (entry.Members m ∷ os) → AreSized (n + 1) (entry.Members (with_name m one_name) ∷ os)
+  sized_name n h = let e = length-append m.group (one_name ∷ []) in let f = h.0 in (omega (arith, e, f), sized_more n os h.1)
+
   pub names_one : Leads known forms forms next.Name (entry.Members m ∷ os) t next.AfterName (entry.Members (with_name m one_name) ∷ os)
   names_one = record {
     goes_on = ap (λ k. goes a_name (members m.is_union ∷ shapes_of os) (class k)) is;
@@ -197,6 +227,7 @@ module _ (known : List (ℕ × ℕ)) (forms : List Form) (os : List Open) (t : T
     grown = stays forms;
     spelled = spelled_name;
     standing = λ sp s h. h;
+    sized = sized_name;
     reaches = λ sp tys table l s k n ts c.
         members_on sp tys table m.is_union m.line m.members m.names (AtType sp tys table os) (λ done names members inner. GoesOn inner m.group) (λ done names members inner. MayGoOn inner (m.group ++ one_name ∷ [])) ts (at_place n t ∷ [])
         (λ done names members inner h. subst (λ y. MayGoOn (inner ++ at_place n t ∷ []) (m.group ++ y ∷ [])) (named_here t x n is) (h (at_place n t) (record { number = x; is = is }))) c;
@@ -209,6 +240,7 @@ module _ (known : List (ℕ × ℕ)) (forms : List Form) (os : List Open) (t : T
     grown = stays forms;
     spelled = spelled_name;
     standing = λ sp s h. h;
+    sized = sized_name;
     reaches = λ sp tys table l s k n ts c.
         members_on sp tys table m.is_union m.line m.members m.names (AtType sp tys table os) (AreSoFar sp tys table m) (λ done names members inner. MayGoOn inner (m.group ++ one_name ∷ [])) ts (at_place n t ∷ [])
         (λ done names members inner h.
@@ -246,6 +278,7 @@ module _ (known : List (ℕ × ℕ)) (forms : List Form) (t : Token) where
     grown = stays forms;
     spelled = λ sp s h. h;
     standing = λ sp s h. h;
+    sized = λ n h. sized_more n os h;
     reaches = λ sp tys table l s k n ts c. comma_reaches sp tys table os n ts is c;
   }
 
@@ -264,6 +297,7 @@ module _ (known : List (ℕ × ℕ)) (forms : List Form) (t : Token) where
     grown = stays forms;
     spelled = λ sp s h. h;
     standing = λ sp s h. h;
+    sized = λ n h. sized_more n os h;
     reaches = λ sp tys table l s k n ts c. colon_reaches sp tys table os n ts is c;
   }
 
@@ -320,6 +354,7 @@ without_type known old new m os t later rest w l = record {
   grown = l.grown;
   spelled = l.spelled;
   standing = l.standing;
+  sized = l.sized;
   reaches = λ sp tys table later_table s k n ts c.
       l.reaches sp tys table later_table s k n ts (behind_tags sp tys table m os ts w (null (basic table 3 form.Null later_table.table (λ r. refl))) c);
 }
@@ -346,6 +381,7 @@ semicolon_leads known forms m os t number is = record {
   grown = stays forms;
   spelled = λ sp s h. spelled_group sp m os number h;
   standing = λ sp s h. h;
+  sized = λ n h. let g : length (with_group m number).members ≤ n = group_sized m number n h.0 in (omega (arith, g), sized_more n os h.1);
   reaches = λ sp tys table l s k n ts c. semicolon_behind sp tys table os m c.type number ts s.1 c.stands c.is (at_place n t) (record { is = is });
 }
 
@@ -360,6 +396,7 @@ closes_sequence known old new s os t number n is there adds over = record {
   grown = grown_by old new (sequence_form s.is_stream number) adds;
   spelled = λ sp k h. h;
   standing = λ sp k h. sequence_stands sp s.is_stream number old new over adds h;
+  sized = λ n h. sized_more n os h;
   reaches = λ sp tys table l k names p ts c.
       let at : slice_get table n ≡ Some (sequence_form s.is_stream number) = later_there new table n (sequence_form s.is_stream number) l there in
       let q : IsNumber table sp n (sequence_of s.is_stream c.type) = sequence_number table sp s.is_stream n number c.type at c.stands in
@@ -392,6 +429,7 @@ closes_members known old new m os t n is distinct there adds over = record {
   grown = grown_by old new (members_form m.is_union m.members) adds;
   spelled = λ sp k h. h.3;
   standing = λ sp k h. members_stand sp m.is_union m.members m.names old new k.2 k.0 distinct over adds h;
+  sized = λ n h. sized_more n os h.1;
   reaches = λ sp tys table l k names p ts c. closes sp tys new table os m.is_union m.line m.members m.names t p n ts l is distinct there (gathered sp tys table os m ts c);
 }
 
@@ -407,6 +445,7 @@ closes_group known old new m os t number n is distinct there adds over = record 
   standing = λ sp k h.
       let s : AreOpenSpelled sp (entry.Members (with_group m number) ∷ os) = spelled_group sp m os number k in
       members_stand sp m.is_union (with_group m number).members (with_group m number).names old new s.2 s.0 distinct over adds h;
+  sized = λ n h. sized_more n os h.1;
   reaches = λ sp tys table l k names p ts c.
       closes sp tys new table os m.is_union m.line (with_group m number).members (with_group m number).names t p n ts l is distinct there (gathered_group sp tys table os m c.type number ts k.1 c.stands c.is).0;
 }

@@ -24,7 +24,7 @@ use Rattle.unit_types.specs.declared.open.Open.TheVariants as entry
 use Rattle.unit_types.specs.declared.open.Next.{Next}
 use Rattle.unit_types.specs.declared.open.Next.TheVariants as next
 use Rattle.unit_types.specs.Accepting.{Accepts, IsThere, a_type, class, goes, kinds_of, place_of, shapes_of}
-use Rattle.unit_types.specs.Rests.{at_place, sequence_of, members_of, IsLater, IsGrown, AreKnown, IsKindSpelled, AreTokensSpelled, AreOpenSpelled, AreStanding}
+use Rattle.unit_types.specs.Rests.{at_place, sequence_of, members_of, IsLater, IsGrown, AreKnown, IsKindSpelled, AreTokensSpelled, AreOpenSpelled, AreSized, AreStanding}
 
 -- ---- names of members
 
@@ -178,6 +178,7 @@ pub record Leads (known : List (ℕ × ℕ)) (old new : List Form) (now : Next) 
   pub grown : IsGrown old new
   pub spelled : (spellings : List (List ℕ)) → IsKindSpelled spellings t.kind → AreOpenSpelled spellings os → AreOpenSpelled spellings rest
   pub standing : (spellings : List (List ℕ)) → AreOpenSpelled spellings os → AreStanding spellings old → AreStanding spellings new
+  pub sized : (n : ℕ) → AreSized n os → AreSized (n + 1) rest
   pub reaches : (spellings : List (List ℕ)) (types : List (ℕ × Ty)) (forms : List Form) → IsLater new forms → AreOpenSpelled spellings os → AreKnown forms spellings known types
       → (n : ℕ) (ts : List Placed) → Stands spellings types forms now os ts → Stands spellings types forms later rest (ts ++ at_place n t ∷ [])
 
@@ -195,6 +196,7 @@ pub record IsReading (known : List (ℕ × ℕ)) (old now : List Form) (tokens :
   pub grown : IsGrown old now
   pub spelled : (spellings : List (List ℕ)) → AreTokensSpelled spellings tokens → AreOpenSpelled spellings os
   pub standing : (spellings : List (List ℕ)) → AreTokensSpelled spellings tokens → AreStanding spellings old → AreStanding spellings now
+  pub sized : AreSized i os
   pub reaches : (spellings : List (List ℕ)) (types : List (ℕ × Ty)) (forms : List Form) → IsLater now forms → AreTokensSpelled spellings tokens → AreKnown forms spellings known types
       → (n : ℕ) → (ts : List Placed) × (placed n tokens ≡ ts ++ placed (n + i) (drop i tokens)) × Stands spellings types forms later os ts
 

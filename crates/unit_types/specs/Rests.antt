@@ -1,5 +1,5 @@
 -- Types by number while written types are read: tables that grow, names of types, what is open, and what stands for it.
-use Rattle.std.specs.Prelude.{◌≡◌, ◌<◌, ℕ, length, drop, List, [], ◌∷◌, ◌++◌, All, map, Bool, true, false, Option, Some, None, slice_get, slice_range, if◌then◌else◌}
+use Rattle.std.specs.Prelude.{◌≡◌, ◌<◌, ◌≤◌, ℕ, ◌+◌, length, drop, List, [], ◌∷◌, ◌++◌, All, map, Bool, true, false, Option, Some, None, slice_get, slice_range, if◌then◌else◌}
 use Rattle.name_scope.specs.Newest.{newest}
 use Rattle.flow_value.specs.declared.ty.Ty.{Ty}
 use Rattle.flow_value.specs.declared.ty.Ty.TheVariants as ty
@@ -87,6 +87,12 @@ AreOpenSpelled spellings [] = Unit {0}
 AreOpenSpelled spellings (entry.Sequence s ∷ os) = AreOpenSpelled spellings os
 AreOpenSpelled spellings (entry.Members m ∷ os) =
     AreSpelled spellings m.names × AreSpelled spellings (names_of m.group) × (map (λ m. m.name) m.members ≡ m.names) × AreOpenSpelled spellings os
+
+-- nothing that is open has more members, with the names whose type comes next, than n
+abbrev pub AreSized : ℕ → List Open → Type 0
+AreSized n [] = Unit {0}
+AreSized n (entry.Sequence s ∷ os) = AreSized n os
+AreSized n (entry.Members m ∷ os) = (length m.members + length m.group ≤ n) × AreSized n os
 
 -- no field or tag stands twice in a form
 abbrev pub HasEachOnce : Form → Type 0

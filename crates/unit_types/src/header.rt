@@ -22,7 +22,7 @@ use flow_value::{NoMemory, Numbers, Seq};
 use sisal_lex::Token;
 use sisal_tree::{Field, Header, Named, Written};
 use std::alloc::Global;
-use type_table::Types;
+use type_table::{TypeNumbers, Types};
 
 /// What the header of a function says. Types are numbers of the table.
 #[derive(Drop)]
@@ -34,9 +34,9 @@ pub struct Signature {
     /// The names of its parameters, in order.
     pub parameters: Numbers,
     /// The types of its parameters, in order.
-    pub params: Numbers,
+    pub params: TypeNumbers,
     /// The types of its results, in order.
-    pub results: Numbers,
+    pub results: TypeNumbers,
     /// How many type definitions stand before it.
     pub known: usize,
 }
@@ -122,7 +122,7 @@ fn params_in(
     named: &TypeNames,
     known: usize,
     types: &mut Types,
-) -> Result<Numbers, UnitFault>
+) -> Result<TypeNumbers, UnitFault>
     requires { All (λ f. IsType tokens.now f.ty) fields.now }
     ensures used { OnOk result (IsUsed tokens.now types.old types.new) }
     ensures params { IfOk result (λ ns. (u : tree.Unit) (known_types : List (ℕ × Ty)) → u.tokens.list ≡ tokens.now → AreTokensSpelled u.tokens.names tokens.now
@@ -138,7 +138,7 @@ fn params_in(
     Ok(params)
 }
 
-fn add_types(named: &[Named], ty: u32, params: &mut Numbers) -> Result<(), NoMemory>
+fn add_types(named: &[Named], ty: usize, params: &mut TypeNumbers) -> Result<(), NoMemory>
     ensures { OnOk result (params.new ≡ params.old ++ map (λ n. ty) named.now) }
 {
     for _one in named {
@@ -155,7 +155,7 @@ fn results_in(
     named: &TypeNames,
     known: usize,
     types: &mut Types,
-) -> Result<Numbers, UnitFault>
+) -> Result<TypeNumbers, UnitFault>
     requires { All (IsType tokens.now) written.now }
     ensures many { IfOk result (λ ns. length written.now ≤ length ns) }
     ensures used { OnOk result (IsUsed tokens.now types.old types.new) }

@@ -81,7 +81,7 @@ pub enum Next {
     /// What stands behind a name of a member.
     AfterName,
     /// What stands behind a type of this number.
-    After(u32),
+    After(usize),
     /// What stands behind a semicolon: a name of a member, or the closing bracket.
     AfterSemicolon,
 }

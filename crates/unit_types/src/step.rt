@@ -1,6 +1,7 @@
 //! A token of a written type.
-ghost use Rattle.std.specs.Prelude.{◌≡◌, ◌-◌, ◌++◌, ℕ, List, [], ◌∷◌, length, drop, IsSome, IfOk, IfErr, OnOk};
+ghost use Rattle.std.specs.Prelude.{◌≡◌, ◌≤◌, ◌+◌, ◌-◌, ◌^◌, ◌++◌, ℕ, List, [], ◌∷◌, length, drop, IsSome, IfOk, IfErr, OnOk};
 ghost use Rattle.type_table.specs.declared.form.Form.{Form};
+ghost use Rattle.type_table.specs.Tables.{HasFew};
 ghost use Rattle.sisal_lex.specs.declared.token.Token.{Token};
 ghost use Rattle.typed_tree.specs.Scopes.{AreDistinct};
 ghost use Rattle.unit_types.specs.declared.open.Open.{Open};
@@ -8,7 +9,7 @@ ghost use Rattle.unit_types.specs.declared.open.Members.{Members};
 ghost use Rattle.unit_types.specs.Faults.{IsFault, IsReal, IsUnknown, IsDeep, IsMemberTwice};
 ghost use Rattle.unit_types.specs.Accepting.{AreMembers, IsUnion, class, goes, a_name, a_type, behind, behind_name, behind_semicolon, members as within, place_of, shape_of, shapes_of};
 ghost use Rattle.unit_types.specs.Reached.{Leads, Refuses};
-ghost use Rattle.unit_types.specs.Rests.{IsMade, word_of, begun, opened_by, inside_of, no_members, with_name, with_group, members_with, sequence_form, members_form};
+ghost use Rattle.unit_types.specs.Rests.{AreSized, IsMade, word_of, begun, opened_by, inside_of, no_members, with_name, with_group, members_with, sequence_form, members_form};
 
 use crate::fault::UnitFault;
 use crate::form::number;
@@ -32,7 +33,8 @@ pub fn step(
     known: usize,
     types: &mut Types,
 ) -> Result<Next, UnitFault>
-    requires { IsSome (goes (place_of next) (shapes_of stack.old) (class token.now.kind)) }
+    requires goes { IsSome (goes (place_of next) (shapes_of stack.old) (class token.now.kind)) }
+    requires few { AreSized (2 ^ 32) stack.old }
     ensures leads { IfOk result (λ later. Leads (drop (length named.now - known) named.now) types.old types.new next stack.old token.now later stack.new) }
     ensures refuses { IfErr result (IsFault (Refuses (drop (length named.now - known) named.now) types.old next stack.old token.now)) }
 {
@@ -115,7 +117,7 @@ fn begin_by_name(
 {
     match named.find(name, known) {
         Some(ty) => {
-            if (ty as usize) < types.len() {
+            if ty < types.len() {
                 Ok(Next::After(ty))
             } else {
                 Err(UnitFault::UnknownType(line))
@@ -231,7 +233,8 @@ fn innermost(stack: &mut Back<Open>) -> Members
 
 /// What stands behind a name of a member.
 fn after_name(token: &Token, stack: &mut Back<Open>, types: &mut Types) -> Result<Next, UnitFault>
-    requires { IsSome (goes behind_name (shapes_of stack.old) (class token.now.kind)) }
+    requires goes { IsSome (goes behind_name (shapes_of stack.old) (class token.now.kind)) }
+    requires few { AreSized (2 ^ 32) stack.old }
     ensures leads { IfOk result (λ later. (known : List (ℕ × ℕ)) → Leads known types.old types.new Next.AfterName stack.old token.now later stack.new) }
     ensures refuses { IfErr result (IsFault (λ rule line. (known : List (ℕ × ℕ)) → Refuses known types.old Next.AfterName stack.old token.now rule line)) }
 {
@@ -242,7 +245,8 @@ fn after_name(token: &Token, stack: &mut Back<Open>, types: &mut Types) -> Resul
 }
 
 fn end_name(sign: Sign, stack: &mut Back<Open>, types: &mut Types) -> Result<Next, UnitFault>
-    requires { IsSome (goes behind_name (shapes_of stack.old) (class (Kind.Sign sign))) }
+    requires goes { IsSome (goes behind_name (shapes_of stack.old) (class (Kind.Sign sign))) }
+    requires few { AreSized (2 ^ 32) stack.old }
     ensures leads { IfOk result (λ later. (known : List (ℕ × ℕ)) (t : Token) → t.kind ≡ Kind.Sign sign → Leads known types.old types.new Next.AfterName stack.old t later stack.new) }
     ensures refuses { IfErr result (IsFault (λ rule line. (known : List (ℕ × ℕ)) (t : Token) → t.kind ≡ Kind.Sign sign → Refuses known types.old Next.AfterName stack.old t rule line)) }
 {
@@ -257,6 +261,7 @@ fn end_name(sign: Sign, stack: &mut Back<Open>, types: &mut Types) -> Result<Nex
 fn without_type(sign: Sign, stack: &mut Back<Open>, types: &mut Types) -> Result<Next, UnitFault>
     requires union { IsUnion (shapes_of stack.old) }
     requires goes { IsSome (goes behind (shapes_of stack.old) (class (Kind.Sign sign))) }
+    requires few { AreSized (2 ^ 32) stack.old }
     ensures leads { IfOk result (λ later. (known : List (ℕ × ℕ)) (t : Token) → t.kind ≡ Kind.Sign sign → Leads known types.old types.new Next.AfterName stack.old t later stack.new) }
     ensures refuses { IfErr result (IsFault (λ rule line. (known : List (ℕ × ℕ)) (t : Token) → t.kind ≡ Kind.Sign sign → Refuses known types.old Next.AfterName stack.old t rule line)) }
 {
@@ -267,11 +272,12 @@ fn without_type(sign: Sign, stack: &mut Back<Open>, types: &mut Types) -> Result
 /// What stands behind a type.
 fn after_type(
     token: &Token,
-    ty: u32,
+    ty: usize,
     stack: &mut Back<Open>,
     types: &mut Types,
 ) -> Result<Next, UnitFault>
-    requires { IsSome (goes behind (shapes_of stack.old) (class token.now.kind)) }
+    requires goes { IsSome (goes behind (shapes_of stack.old) (class token.now.kind)) }
+    requires few { AreSized (2 ^ 32) stack.old }
     ensures leads { IfOk result (λ later. (known : List (ℕ × ℕ)) → Leads known types.old types.new (Next.After ty) stack.old token.now later stack.new) }
     ensures refuses { IfErr result (IsFault (λ rule line. (known : List (ℕ × ℕ)) → Refuses known types.old (Next.After ty) stack.old token.now rule line)) }
 {
@@ -283,11 +289,12 @@ fn after_type(
 
 fn end_type(
     sign: Sign,
-    ty: u32,
+    ty: usize,
     stack: &mut Back<Open>,
     types: &mut Types,
 ) -> Result<Next, UnitFault>
-    requires { IsSome (goes behind (shapes_of stack.old) (class (Kind.Sign sign))) }
+    requires goes { IsSome (goes behind (shapes_of stack.old) (class (Kind.Sign sign))) }
+    requires few { AreSized (2 ^ 32) stack.old }
     ensures leads { IfOk result (λ later. (known : List (ℕ × ℕ)) (t : Token) → t.kind ≡ Kind.Sign sign → Leads known types.old types.new (Next.After ty) stack.old t later stack.new) }
     ensures refuses { IfErr result (IsFault (λ rule line. (known : List (ℕ × ℕ)) (t : Token) → t.kind ≡ Kind.Sign sign → Refuses known types.old (Next.After ty) stack.old t rule line)) }
 {
@@ -300,12 +307,13 @@ fn end_type(
 /// What stands behind a type in this bracket.
 fn end_type_in(
     sign: Sign,
-    ty: u32,
+    ty: usize,
     innermost: Open,
     stack: &mut Back<Open>,
     types: &mut Types,
 ) -> Result<Next, UnitFault>
-    requires { IsSome (goes behind (shape_of innermost ∷ shapes_of stack.old) (class (Kind.Sign sign))) }
+    requires goes { IsSome (goes behind (shape_of innermost ∷ shapes_of stack.old) (class (Kind.Sign sign))) }
+    requires few { AreSized (2 ^ 32) (innermost ∷ stack.old) }
     ensures leads { IfOk result (λ later. (known : List (ℕ × ℕ)) (t : Token) → t.kind ≡ Kind.Sign sign → Leads known types.old types.new (Next.After ty) (innermost ∷ stack.old) t later stack.new) }
     ensures refuses { IfErr result (IsFault (λ rule line. (known : List (ℕ × ℕ)) (t : Token) → t.kind ≡ Kind.Sign sign → Refuses known types.old (Next.After ty) (innermost ∷ stack.old) t rule line)) }
 {
@@ -315,14 +323,14 @@ fn end_type_in(
     }
 }
 
-fn close_sequence(ty: u32, sequence: Sequence, types: &mut Types) -> Result<Next, UnitFault>
+fn close_sequence(ty: usize, sequence: Sequence, types: &mut Types) -> Result<Next, UnitFault>
     ensures leads { IfOk result (λ later. (known : List (ℕ × ℕ)) (os : List Open) (t : Token) → t.kind ≡ Kind.Sign Sign.SCloseBracket → Leads known types.old types.new (Next.After ty) (Open.Sequence sequence ∷ os) t later os) }
     ensures refuses { IfErr result (IsFault (λ rule line. (known : List (ℕ × ℕ)) (os : List Open) (t : Token) → t.kind ≡ Kind.Sign Sign.SCloseBracket → Refuses known types.old (Next.After ty) (Open.Sequence sequence ∷ os) t rule line)) }
 {
     made(sequence_form(sequence.is_stream, ty), sequence.line, types)
 }
 
-fn sequence_form(is_stream: bool, ty: u32) -> Form
+fn sequence_form(is_stream: bool, ty: usize) -> Form
     ensures { result ≡ sequence_form is_stream ty }
 {
     if is_stream {
@@ -335,12 +343,13 @@ fn sequence_form(is_stream: bool, ty: u32) -> Form
 /// Gives the names of a group their type, and reads the sign behind it.
 fn end_group(
     sign: Sign,
-    ty: u32,
+    ty: usize,
     members: Members,
     stack: &mut Back<Open>,
     types: &mut Types,
 ) -> Result<Next, UnitFault>
-    requires { IsSome (goes behind (within members.is_union ∷ shapes_of stack.old) (class (Kind.Sign sign))) }
+    requires goes { IsSome (goes behind (within members.is_union ∷ shapes_of stack.old) (class (Kind.Sign sign))) }
+    requires few { length members.members + length members.group ≤ 2 ^ 32 }
     ensures leads { IfOk result (λ later. (known : List (ℕ × ℕ)) (t : Token) → t.kind ≡ Kind.Sign sign → Leads known types.old types.new (Next.After ty) (Open.Members members ∷ stack.old) t later stack.new) }
     ensures refuses { IfErr result (IsFault (λ rule line. (known : List (ℕ × ℕ)) (t : Token) → t.kind ≡ Kind.Sign sign → Refuses known types.old (Next.After ty) (Open.Members members ∷ stack.old) t rule line)) }
 {
@@ -362,7 +371,7 @@ fn keep_open(members: Members, stack: &mut Back<Open>) -> Result<Next, UnitFault
 }
 
 /// The members with those of the group, of this type: rule 5 where a name stands twice.
-fn with_group(members: Members, ty: u32) -> Result<Members, UnitFault>
+fn with_group(members: Members, ty: usize) -> Result<Members, UnitFault>
     ensures grouped { IfOk result (λ m. m ≡ with_group members ty) }
     ensures twice { IfErr result (IsFault (IsMemberTwice members)) }
 {
@@ -386,7 +395,7 @@ fn with_group(members: Members, ty: u32) -> Result<Members, UnitFault>
     })
 }
 
-fn add_members(names: &[Named], ty: u32, members: &mut Seq<Member>) -> Result<(), NoMemory>
+fn add_members(names: &[Named], ty: usize, members: &mut Seq<Member>) -> Result<(), NoMemory>
     ensures { OnOk result (members.new ≡ members.old ++ members_with names.now ty) }
 {
     for named in names {
@@ -404,7 +413,8 @@ fn after_semicolon(
     stack: &mut Back<Open>,
     types: &mut Types,
 ) -> Result<Next, UnitFault>
-    requires { IsSome (goes behind_semicolon (shapes_of stack.old) (class token.now.kind)) }
+    requires goes { IsSome (goes behind_semicolon (shapes_of stack.old) (class token.now.kind)) }
+    requires few { AreSized (2 ^ 32) stack.old }
     ensures leads { IfOk result (λ later. (known : List (ℕ × ℕ)) → Leads known types.old types.new Next.AfterSemicolon stack.old token.now later stack.new) }
     ensures refuses { IfErr result (IsFault (λ rule line. (known : List (ℕ × ℕ)) → Refuses known types.old Next.AfterSemicolon stack.old token.now rule line)) }
 {
@@ -419,6 +429,7 @@ fn after_semicolon(
 
 /// The type of a record or a union.
 fn close_members(members: Members, types: &mut Types) -> Result<Next, UnitFault>
+    requires { length members.members ≤ 2 ^ 32 }
     ensures made { IfOk result (λ later. IsMade types.old types.new (members_form members.is_union members.members) later) }
     ensures distinct { AreDistinct members.names }
     ensures deep { IfErr result (IsFault (IsDeep types.old (members_form members.is_union members.members) members.line)) }
@@ -446,6 +457,7 @@ fn members_form(is_union: bool, members: Seq<Member>) -> Form
 
 /// The type of a form: rule 4, on the line of its word, where it is deeper than 64.
 fn made(form: Form, line: u32, types: &mut Types) -> Result<Next, UnitFault>
+    requires { HasFew form }
     ensures made { IfOk result (λ later. IsMade types.old types.new form later) }
     ensures deep { IfErr result (IsFault (IsDeep types.old form line)) }
 {

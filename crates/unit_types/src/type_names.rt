@@ -11,7 +11,7 @@ use std::marker::Model;
 /// A type definition: its type, and how many stand before it.
 #[derive(Clone, Copy)]
 struct Definition {
-    ty: u32,
+    ty: usize,
     place: usize,
 }
 
@@ -52,7 +52,7 @@ impl TypeNames {
     }
 
     /// The type of a name among the first `known` definitions.
-    pub fn find(&self, name: u32, known: usize) -> Option<u32>
+    pub fn find(&self, name: u32, known: usize) -> Option<usize>
         ensures { result ≡ newest name (drop (length self.now - known) self.now) }
     {
         match self.scope.find(name) {
@@ -62,7 +62,7 @@ impl TypeNames {
     }
 
     /// Defines a name; `false`, and all is as it was, where it has a type already.
-    pub(crate) fn define(&mut self, name: u32, ty: u32) -> Result<bool, NoMemory>
+    pub(crate) fn define(&mut self, name: u32, ty: usize) -> Result<bool, NoMemory>
         ensures new { IfOk result (λ b. b ≡ true → (newest name self.old ≡ None) × (self.new ≡ (name, ty) ∷ self.old)) }
         ensures old { IfOk result (λ b. b ≡ false → (newest name self.old ≢ None) × (self.new ≡ self.old)) }
     {
@@ -76,7 +76,7 @@ impl TypeNames {
 }
 
 /// The type of a definition, where it is among the first `known`.
-fn known_type(definition: Definition, known: usize) -> Option<u32>
+fn known_type(definition: Definition, known: usize) -> Option<usize>
     ensures { result ≡ known_type definition known }
 {
     if definition.place < known {

@@ -1,5 +1,5 @@
 //! Written types.
-ghost use Rattle.std.specs.Prelude.{◌≡◌, ◌-◌, ◌<◌, ◌≤◌, ℕ, List, [], length, drop, slice_range, Some, IfErr, IfOk, OnOk};
+ghost use Rattle.std.specs.Prelude.{◌≡◌, ◌-◌, ◌^◌, ◌<◌, ◌≤◌, ℕ, List, [], length, drop, slice_range, Some, IfErr, IfOk, OnOk};
 ghost use Rattle.flow_value.specs.declared.ty.Ty.{Ty};
 ghost use Rattle.type_table.specs.Tables.{IsTable};
 ghost use Rattle.sisal_grammar.specs.Placed.{placed};
@@ -34,7 +34,7 @@ pub fn denoted(
     named: &TypeNames,
     known: usize,
     types: &mut Types,
-) -> Result<u32, TypeFault>
+) -> Result<usize, TypeFault>
     requires { IsType tokens.now written }
     // The table grows, and each of its numbers stands for a type if it did before.
     ensures used { OnOk result (IsUsed tokens.now types.old types.new) }
@@ -64,7 +64,7 @@ pub fn type_of(
     named: &TypeNames,
     known: usize,
     types: &mut Types,
-) -> Result<u32, UnitFault>
+) -> Result<usize, UnitFault>
     requires { IsType tokens.now written }
     // The table grows, and each of its numbers stands for a type if it did before.
     ensures used { OnOk result (IsUsed tokens.now types.old types.new) }
@@ -80,8 +80,17 @@ pub fn type_of(
         → Misnames spellings known_types (slice_range (placed 0 tokens.now) written.from written.to) rule line)) }
 {
     let from = written.from as usize;
+    let _ = end_of(&written);
     let to = written.to as usize;
     read(alloc, &tokens[from..to], named, known, types)
+}
+
+/// The place after the last token.
+fn end_of(written: &Written) -> u32
+    ensures is { result ≡ written.now.to }
+    ensures small { written.now.to < 2 ^ 32 }
+{
+    written.to
 }
 
 /// The type that tokens denote.
@@ -91,8 +100,9 @@ fn read(
     named: &TypeNames,
     known: usize,
     types: &mut Types,
-) -> Result<u32, UnitFault>
-    requires { Accepts (Some (a_type, [])) (kinds_of tokens.now) }
+) -> Result<usize, UnitFault>
+    requires accepted { Accepts (Some (a_type, [])) (kinds_of tokens.now) }
+    requires few { length tokens.now ≤ 2 ^ 32 }
     ensures reads { IfOk result (λ k. Reads (drop (length named.now - known) named.now) types.old types.new tokens.now k) }
     ensures table { OnOk result (IsTable types.new) }
     ensures fault { IfErr result (IsFault (ReadsFault (drop (length named.now - known) named.now) types.old tokens.now)) }
@@ -108,7 +118,7 @@ fn read(
 }
 
 /// The type that was read.
-fn number_of(next: Next) -> u32
+fn number_of(next: Next) -> usize
     requires { place_of next ≡ behind }
     ensures { next ≡ Next.After result }
 {

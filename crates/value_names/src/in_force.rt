@@ -74,7 +74,7 @@ impl InForce {
     }
 
     /// A name comes into force at the next level. On want of memory all is as it was.
-    pub fn define(&mut self, name: u32, ty: u32) -> Result<(), NoMemory>
+    pub fn define(&mut self, name: u32, ty: usize) -> Result<(), NoMemory>
         requires { self.old.height < 4294967295 }
         ensures ok { OnOk result (self.new ≡ define name ty self.old) }
         ensures err { OnErr result (self.new ≡ self.old) }
@@ -86,7 +86,7 @@ impl InForce {
     }
 
     /// Names with these types come into force, one after another.
-    pub fn define_all(&mut self, names: &[Named], types: &[u32]) -> Result<(), NoMemory>
+    pub fn define_all(&mut self, names: &[Named], types: &[usize]) -> Result<(), NoMemory>
         requires { self.old.height + length names.now ≤ 4294967295 }
         ensures { OnOk result (self.new ≡ define_all names.now types.now self.old) }
     {
@@ -123,7 +123,7 @@ impl InForce {
     pub fn begin_turn(
         &mut self,
         loop_names: &[Named],
-        types: &[u32],
+        types: &[usize],
         first: u32,
         targets: &[Named],
     ) -> Result<(), NoMemory>
@@ -138,7 +138,7 @@ impl InForce {
     fn bring_under_old(
         &mut self,
         names: &[Named],
-        types: &[u32],
+        types: &[usize],
         first: u32,
     ) -> Result<(), NoMemory>
         requires { first + min (length names.now) (length types.now) ≤ self.old.height }
@@ -157,7 +157,7 @@ impl InForce {
     }
 
     /// A loop name of this level comes under `old`.
-    fn define_old(&mut self, name: u32, level: u32, ty: u32) -> Result<(), NoMemory>
+    fn define_old(&mut self, name: u32, level: u32, ty: usize) -> Result<(), NoMemory>
         ensures { OnOk result (self.new ≡ old_name level name ty self.old) }
     {
         self.olds.define(name, Value { level, ty })

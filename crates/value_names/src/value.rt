@@ -6,7 +6,7 @@ pub struct Value {
     /// How many values came into force before it and are in force.
     pub level: u32,
     /// The type's number in the table of the program.
-    pub ty: u32,
+    pub ty: usize,
 }
 
 /// What a name stands for.

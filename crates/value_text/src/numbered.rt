@@ -10,14 +10,14 @@ pub trait NumberedTypes {
     ghost seen: { Self → Numbered };
 
     /// What the type of a number is.
-    fn form_of(&self, number: u32) -> TypeForm
+    fn form_of(&self, number: usize) -> TypeForm
         ensures { result ≡ (seen self.now).form number };
 
     /// How many members it has.
-    fn count_of(&self, number: u32) -> usize
+    fn count_of(&self, number: usize) -> usize
         ensures { result ≡ length ((seen self.now).members number) };
 
     /// The type of its member at a place, from 0.
-    fn member_of(&self, number: u32, place: usize) -> Option<u32>
+    fn member_of(&self, number: usize, place: usize) -> Option<usize>
         ensures { result ≡ slice_get ((seen self.now).members number) place };
 }

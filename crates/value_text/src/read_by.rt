@@ -26,7 +26,7 @@ use std::alloc::Global;
 fn value<T: NumberedTypes>(
     alloc: Global,
     types: &T,
-    number: u32,
+    number: usize,
     below: usize,
     text: &[u8],
     at: usize,
@@ -43,7 +43,7 @@ fn value<T: NumberedTypes>(
 fn typed<T: NumberedTypes>(
     alloc: Global,
     types: &T,
-    number: u32,
+    number: usize,
     below: usize,
     text: &[u8],
     at: usize,
@@ -71,7 +71,7 @@ fn typed<T: NumberedTypes>(
 fn part<T: NumberedTypes>(
     alloc: Global,
     types: &T,
-    number: u32,
+    number: usize,
     levels: usize,
     text: &[u8],
     at: usize,
@@ -89,7 +89,7 @@ fn part<T: NumberedTypes>(
 fn parts<T: NumberedTypes>(
     alloc: Global,
     types: &T,
-    element: u32,
+    element: usize,
     levels: usize,
     close: u8,
     most: usize,
@@ -121,7 +121,7 @@ fn parts<T: NumberedTypes>(
 fn members_of<T: NumberedTypes>(
     alloc: Global,
     types: &T,
-    number: u32,
+    number: usize,
     levels: usize,
     text: &[u8],
     from: usize,
@@ -148,7 +148,7 @@ fn members_of<T: NumberedTypes>(
 fn array<T: NumberedTypes>(
     alloc: Global,
     types: &T,
-    element: u32,
+    element: usize,
     below: usize,
     text: &[u8],
     at: usize,
@@ -182,7 +182,7 @@ fn array<T: NumberedTypes>(
 fn stream<T: NumberedTypes>(
     alloc: Global,
     types: &T,
-    element: u32,
+    element: usize,
     below: usize,
     text: &[u8],
     at: usize,
@@ -213,7 +213,7 @@ fn stream<T: NumberedTypes>(
 fn record<T: NumberedTypes>(
     alloc: Global,
     types: &T,
-    number: u32,
+    number: usize,
     below: usize,
     text: &[u8],
     at: usize,
@@ -240,7 +240,7 @@ fn record<T: NumberedTypes>(
 fn union<T: NumberedTypes>(
     alloc: Global,
     types: &T,
-    number: u32,
+    number: usize,
     below: usize,
     text: &[u8],
     at: usize,
@@ -260,7 +260,7 @@ fn union<T: NumberedTypes>(
 fn content<T: NumberedTypes>(
     alloc: Global,
     types: &T,
-    number: u32,
+    number: usize,
     n: u32,
     below: usize,
     text: &[u8],
@@ -301,7 +301,7 @@ fn read<T: NumberedTypes>(
     alloc: Global,
     text: &[u8],
     types: &T,
-    number: u32,
+    number: usize,
 ) -> Result<Option<Val>, NoMemory>
     ensures { IfOk result (λ found. text_value_by text.now (T.seen types.now) number ≡ found) }
 {
@@ -315,7 +315,7 @@ fn read<T: NumberedTypes>(
 }
 
 /// Why a value text is no value of the type of a number.
-fn shape_fault<T: NumberedTypes>(text: &[u8], types: &T, number: u32) -> ValueFault
+fn shape_fault<T: NumberedTypes>(text: &[u8], types: &T, number: usize) -> ValueFault
     requires spelled { IsValueText text.now }
     requires unread { text_value_by text.now (T.seen types.now) number ≡ None }
     ensures { (ty : Ty) → StandsFor (T.seen types.now) number ty → Explains text.now ty result }
@@ -327,7 +327,7 @@ fn shape_fault<T: NumberedTypes>(text: &[u8], types: &T, number: u32) -> ValueFa
 }
 
 /// Why the text is no value of the type of a number.
-fn fault_of<T: NumberedTypes>(alloc: Global, text: &[u8], types: &T, number: u32) -> ValueFault
+fn fault_of<T: NumberedTypes>(alloc: Global, text: &[u8], types: &T, number: usize) -> ValueFault
     requires unread { text_value_by text.now (T.seen types.now) number ≡ None }
     ensures { (ty : Ty) → StandsFor (T.seen types.now) number ty → IsCause text.now ty result }
 {
@@ -344,7 +344,7 @@ pub fn read_value_by<T: NumberedTypes>(
     alloc: Global,
     text: &[u8],
     types: &T,
-    number: u32,
+    number: usize,
 ) -> Result<Val, ValueFault>
     // What is read is in the grammar.
     ensures ok { (ty : Ty) → StandsFor (T.seen types.now) number ty → IfOk result (λ v. reads_value text.now ty v) }

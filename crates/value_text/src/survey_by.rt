@@ -12,7 +12,7 @@ use crate::type_form::TypeForm;
 use flow_value::{MOST_ELEMENTS, array_fits};
 
 /// What a type is, where one is asked for.
-fn form_if<T: NumberedTypes>(types: &T, number: Option<u32>) -> Option<TypeForm>
+fn form_if<T: NumberedTypes>(types: &T, number: Option<usize>) -> Option<TypeForm>
     ensures { result ≡ form_if (T.seen types.now) number }
 {
     match number {
@@ -92,7 +92,7 @@ fn is_stream(form: Option<TypeForm>) -> bool
 }
 
 /// Whether the type, if one is asked for, is a record of so many fields.
-fn is_record<T: NumberedTypes>(types: &T, number: Option<u32>, count: usize) -> bool
+fn is_record<T: NumberedTypes>(types: &T, number: Option<usize>, count: usize) -> bool
     ensures { result ≡ asks_record (T.seen types.now) count number }
 {
     let Some(number) = number else {
@@ -104,7 +104,7 @@ fn is_record<T: NumberedTypes>(types: &T, number: Option<u32>, count: usize) -> 
     }
 }
 
-fn element_of(form: Option<TypeForm>) -> Option<u32>
+fn element_of(form: Option<TypeForm>) -> Option<usize>
     ensures { result ≡ element_if form }
 {
     match form {
@@ -114,7 +114,7 @@ fn element_of(form: Option<TypeForm>) -> Option<u32>
     }
 }
 
-fn item_of(form: Option<TypeForm>) -> Option<u32>
+fn item_of(form: Option<TypeForm>) -> Option<usize>
     ensures { result ≡ item_if form }
 {
     match form {
@@ -125,7 +125,7 @@ fn item_of(form: Option<TypeForm>) -> Option<u32>
 }
 
 /// The type of the member at a place of a record, where one is asked for.
-fn field_at<T: NumberedTypes>(types: &T, number: Option<u32>, place: usize) -> Option<u32>
+fn field_at<T: NumberedTypes>(types: &T, number: Option<usize>, place: usize) -> Option<usize>
     ensures { result ≡ slice_get (fields_if (T.seen types.now) number) place }
 {
     let number = number?;
@@ -138,10 +138,10 @@ fn field_at<T: NumberedTypes>(types: &T, number: Option<u32>, place: usize) -> O
 /// The type of the part at a place: that of all parts, or that of the member of a record.
 fn type_at<T: NumberedTypes>(
     types: &T,
-    each: Option<u32>,
-    of: Option<u32>,
+    each: Option<usize>,
+    of: Option<usize>,
     place: usize,
-) -> Option<u32>
+) -> Option<usize>
     ensures { result ≡ type_by each (fields_if (T.seen types.now) of) place }
 {
     match each {
@@ -150,7 +150,7 @@ fn type_at<T: NumberedTypes>(
     }
 }
 
-fn tag_at<T: NumberedTypes>(types: &T, number: u32, n: u64) -> Option<u32>
+fn tag_at<T: NumberedTypes>(types: &T, number: usize, n: u64) -> Option<usize>
     ensures { result ≡ tag_by ((T.seen types.now).members number) n }
 {
     match small(n) {
@@ -160,7 +160,7 @@ fn tag_at<T: NumberedTypes>(types: &T, number: u32, n: u64) -> Option<u32>
 }
 
 /// The content of a tag, by its number, of a type that is a union.
-fn content_at<T: NumberedTypes>(types: &T, number: u32, n: u64) -> Option<u32>
+fn content_at<T: NumberedTypes>(types: &T, number: usize, n: u64) -> Option<usize>
     ensures { result ≡ content_by_form (T.seen types.now) number n ((T.seen types.now).form number) }
 {
     match types.form_of(number) {
@@ -169,7 +169,7 @@ fn content_at<T: NumberedTypes>(types: &T, number: u32, n: u64) -> Option<u32>
     }
 }
 
-fn content_of<T: NumberedTypes>(types: &T, number: Option<u32>, n: u64) -> Option<u32>
+fn content_of<T: NumberedTypes>(types: &T, number: Option<usize>, n: u64) -> Option<usize>
     ensures { result ≡ content_if (T.seen types.now) n number }
 {
     match number {
@@ -179,7 +179,7 @@ fn content_of<T: NumberedTypes>(types: &T, number: Option<u32>, n: u64) -> Optio
 }
 
 /// Whether the type, if one is asked for, is a union with a tag of this number.
-fn is_union<T: NumberedTypes>(types: &T, number: Option<u32>, n: u64) -> bool
+fn is_union<T: NumberedTypes>(types: &T, number: Option<usize>, n: u64) -> bool
     ensures { result ≡ asks_union (T.seen types.now) n number }
 {
     match number {
@@ -228,7 +228,7 @@ fn quoted<T: NumberedTypes>(
 #[cycle(survey)]
 pub fn survey_by<T: NumberedTypes>(
     types: &T,
-    number: Option<u32>,
+    number: Option<usize>,
     levels: usize,
     text: &[u8],
     at: usize,
@@ -244,7 +244,7 @@ pub fn survey_by<T: NumberedTypes>(
 #[cycle(survey)]
 fn level<T: NumberedTypes>(
     types: &T,
-    number: Option<u32>,
+    number: Option<usize>,
     below: usize,
     text: &[u8],
     at: usize,
@@ -260,7 +260,7 @@ fn level<T: NumberedTypes>(
 #[cycle(survey)]
 fn by_front<T: NumberedTypes>(
     types: &T,
-    number: Option<u32>,
+    number: Option<usize>,
     below: usize,
     text: &[u8],
     at: usize,
@@ -283,8 +283,8 @@ fn by_front<T: NumberedTypes>(
 #[tactic(auto, unfolding(crate::specs::SurveyingBy::parts_look_by))]
 fn parts<T: NumberedTypes>(
     types: &T,
-    each: Option<u32>,
-    of: Option<u32>,
+    each: Option<usize>,
+    of: Option<usize>,
     levels: usize,
     close: u8,
     most: usize,
@@ -364,7 +364,7 @@ fn stream<T: NumberedTypes>(
 #[tactic(auto, unfolding(crate::specs::SurveyingBy::record_look_by))]
 fn record<T: NumberedTypes>(
     types: &T,
-    number: Option<u32>,
+    number: Option<usize>,
     below: usize,
     text: &[u8],
     at: usize,
@@ -392,7 +392,7 @@ fn record<T: NumberedTypes>(
 #[tactic(auto, unfolding(crate::specs::SurveyingBy::union_look_by))]
 fn union<T: NumberedTypes>(
     types: &T,
-    number: Option<u32>,
+    number: Option<usize>,
     below: usize,
     text: &[u8],
     at: usize,

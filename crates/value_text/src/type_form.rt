@@ -14,9 +14,9 @@ pub enum TypeForm {
     /// `null`
     Null,
     /// An array of elements of this type.
-    Array(u32),
+    Array(usize),
     /// A stream of elements of this type.
-    Stream(u32),
+    Stream(usize),
     /// A record, whose fields are the members of its number.
     Record,
     /// A union, whose tags are the members of its number.

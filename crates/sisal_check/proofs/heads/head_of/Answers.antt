@@ -45,7 +45,7 @@ pub returns-in_ok-names_of-in-Replace-clause-head : goal.returns-in_ok-names_of-
 returns-in_ok-names_of-in-Replace-clause-head c =
     let g = given_of c.args.given.now in
     let f = c.args.walk.now.types in
-    same_kind g f c.args.kind.now _ _ c.in-Replace.is (replace_head g f _ c.in-Replace.vs c.in_ok-names_of-in-Replace.field-0 (c.in_ok-names_of-in-Replace.ensures ∙ ap fields_of c.as_slice.ensures))
+    same_kind g f c.args.kind.now _ _ c.in-Replace.is (replace_head g f _ c.in-Replace.vs c.in_ok-names_of-in-Replace.field-0 (c.in_ok-names_of-in-Replace.ensures.names ∙ ap fields_of c.as_slice.ensures))
 
 pub returns-in_ok-type_of-in-Stream-clause-head : goal.returns-in_ok-type_of-in-Stream-clause-head
 returns-in_ok-type_of-in-Stream-clause-head c =

@@ -1,11 +1,15 @@
-use Rattle.std.proofs.Common.{refl, subst}
+use Rattle.std.proofs.Common.{refl, sym, subst}
+use Rattle.type_table.specs.Tables.{HasFew}
 use Rattle.unit_types.specs.Faults.{IsDeep}
 use Rattle.unit_types.specs.Rests.{IsMade, sequence_form}
 use Rattle.unit_types.proofs.Lists.{if_ok_weaker}
 use Rattle.unit_types.proofs.Faults.{faults_weaker}
-use Rattle.unit_types.proofs.Steps.{closes_sequence, leads_as}
+use Rattle.unit_types.proofs.Steps.{closes_sequence, sequence_few, leads_as}
 use Rattle.unit_types.proofs.Refusals.{refuses_sequence}
 use Rattle.unit_types.proofs.step.close_sequence.Goals as goal
+
+pub made-requires : goal.made-requires
+made-requires c = subst HasFew (sym c.sequence_form.ensures) (sequence_few c.args.sequence.is_stream c.args.ty)
 
 pub returns-clause-leads : goal.returns-clause-leads
 returns-clause-leads c = if_ok_weaker c.made.result

@@ -1,4 +1,4 @@
-use Rattle.std.proofs.Common.{ap, refl, subst, ◌∙◌, ◌∷◌}
+use Rattle.std.proofs.Common.{◌≤◌, ◌^◌, length, ap, refl, sym, subst, ◌∙◌, ◌∷◌}
 use Rattle.sisal_lex.specs.declared.token.Kind.TheVariants as kind
 use Rattle.typed_tree.specs.Scopes.{AreDistinct}
 use Rattle.unit_types.specs.declared.open.Open.TheVariants as entry
@@ -6,9 +6,13 @@ use Rattle.unit_types.specs.Faults.{IsDeep}
 use Rattle.unit_types.specs.Rests.{IsMade, with_group, members_form}
 use Rattle.unit_types.proofs.Lists.{if_ok_weaker, if_ok_both}
 use Rattle.unit_types.proofs.Faults.{faults_weaker, no_faults, passed_on}
-use Rattle.unit_types.proofs.Steps.{semicolon_leads, closes_group, leads_as}
+use Rattle.unit_types.proofs.Steps.{semicolon_leads, closes_group, group_sized, leads_as}
 use Rattle.unit_types.proofs.Refusals.{refuses_twice, refuses_group}
 use Rattle.unit_types.proofs.step.end_group.Goals as goal
+
+pub close_members-requires : goal.close_members-requires
+close_members-requires c =
+    subst (λ m. length m.members ≤ 2 ^ 32) (sym c.in_ok-grouped.ensures.grouped) (group_sized c.args.members c.args.ty (2 ^ 32) c.requires.few)
 
 pub returns-in-SSemicolon-clause-leads : goal.returns-in-SSemicolon-clause-leads
 returns-in-SSemicolon-clause-leads c = if_ok_both c.keep_open.result

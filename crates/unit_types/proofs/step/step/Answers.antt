@@ -16,7 +16,7 @@ returns-in-Type-clause-refuses c = faults_weaker c.begin.result (λ rule line f.
 pub returns-in-Bracket-clause-leads : goal.returns-in-Bracket-clause-leads
 returns-in-Bracket-clause-leads c = if_ok_weaker c.enter.result
     (λ later f. leads_from c.in-Bracket.is (f (drop (length c.args.named.now - c.args.known) c.args.named.now) c.args.types.now c.args.token.now
-    (bracket_opens c.args.next c.in-Bracket.opener c.in-Bracket.line (shapes_of c.args.stack.now) c.args.token.now.kind c.in-Bracket.is c.requires))) c.enter.ensures.leads
+    (bracket_opens c.args.next c.in-Bracket.opener c.in-Bracket.line (shapes_of c.args.stack.now) c.args.token.now.kind c.in-Bracket.is c.requires.goes))) c.enter.ensures.leads
 
 pub returns-in-Bracket-clause-refuses : goal.returns-in-Bracket-clause-refuses
 returns-in-Bracket-clause-refuses c = no_faults _ c.enter.result c.enter.ensures.memory

@@ -1,10 +1,14 @@
-use Rattle.std.proofs.Common.{refl}
+use Rattle.std.proofs.Common.{◌^◌, refl, subst}
+use Rattle.unit_types.specs.Rests.{AreSized}
 use Rattle.unit_types.proofs.Lists.{if_ok_weaker}
 use Rattle.unit_types.proofs.Faults.{faults_weaker}
 use Rattle.unit_types.proofs.Accepting.{union_tag}
 use Rattle.unit_types.proofs.Steps.{without_type, leads_as}
 use Rattle.unit_types.proofs.Refusals.{refuses_tags, refuses_at}
 use Rattle.unit_types.proofs.step.without_type.Goals as goal
+
+pub end_group-requires-clause-few : goal.end_group-requires-clause-few
+end_group-requires-clause-few c = (subst (AreSized (2 ^ 32)) c.innermost-members.ensures c.requires.few).0
 
 pub returns-clause-leads : goal.returns-clause-leads
 returns-clause-leads c = if_ok_weaker c.end_group.result

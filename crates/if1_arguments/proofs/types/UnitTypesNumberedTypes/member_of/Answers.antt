@@ -14,9 +14,16 @@ returns-then-place-length c =
     let past : members_at sorts.shapes list ≤ c.args.place = subst (λ n. n ≤ c.args.place) size c.if-place-length.true in
     sym (type_found sorts.shapes sorts.counted list c.args.place ∙ no_member sorts.shapes sorts.counted list c.args.place past)
 
-pub returns : goal.returns
-returns c =
+pub returns-in-Some : goal.returns-in-Some
+returns-in-Some c =
     let sorts = c.args.self.now.sorts.now in
     let list = list_of (ty_form_at sorts.shapes c.args.number) in
-    c.member.ensures.is ∙ (ap (λ l. member_at sorts.shapes l c.args.place) (c.list_of-list.ensures ∙ ap list_of c.ty.ensures.form)
+    c.in-Some.ensures.is ∙ (ap (λ l. member_at sorts.shapes l c.args.place) (c.list_of-list.ensures ∙ ap list_of c.ty.ensures.form)
+    ∙ sym (type_found sorts.shapes sorts.counted list c.args.place))
+
+pub returns-in-None : goal.returns-in-None
+returns-in-None c =
+    let sorts = c.args.self.now.sorts.now in
+    let list = list_of (ty_form_at sorts.shapes c.args.number) in
+    c.in-None.ensures.is ∙ (ap (λ l. member_at sorts.shapes l c.args.place) (c.list_of-list.ensures ∙ ap list_of c.ty.ensures.form)
     ∙ sym (type_found sorts.shapes sorts.counted list c.args.place))

@@ -3,8 +3,5 @@ use Rattle.type_table.specs.Keys.{has_key}
 use Rattle.type_table.proofs.Stores.{key_place}
 use Rattle.type_table.proofs.store.Store.place.Goals as goal
 
-pub returns-in-Some : goal.returns-in-Some
-returns-in-Some c = c.in-Some.ensures.index ∙ key_place c.self.invariant c.args.key.now.items ∙ ap (position (has_key c.args.key.now.items)) c.self.view_is
-
-pub returns-in-None : goal.returns-in-None
-returns-in-None c = c.in-None.ensures.index ∙ key_place c.self.invariant c.args.key.now.items ∙ ap (position (has_key c.args.key.now.items)) c.self.view_is
+pub returns : goal.returns
+returns c = c.get_index_of.ensures.index ∙ key_place c.self.invariant c.args.key.now.items ∙ ap (position (has_key c.args.key.now.items)) c.self.view_is
