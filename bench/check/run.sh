@@ -1,23 +1,23 @@
 #!/bin/bash
-# Times the type checker beside the lexer and parser on the 4 MB text of bench/parse, in turns: the program bench_calls
+# Times the type checker beside the lexer and parser on the 4 MB text of bench/parse, in turns: the program bench_texts
 # lexes and parses it, or checks it too, and the difference is the checker's time. It prints seconds, the least of
 # some rounds, and the memory of both a byte of text. All times are of the whole program without its start. Run it at the
 # top of the repository, on an idle machine; the argument is the rounds.
 source bench/long_text.sh
 
-program=$(bench/built.sh)
+program=$(bench/built.sh texts)
 
 milliseconds() { # parse or check, a text
     local begin end
     begin=$(date +%s%N)
-    "$program" texts "$1" <"$2" >"$build/printed"
+    "$program" "$1" <"$2" >"$build/printed"
     end=$(date +%s%N)
     echo $(((end - begin) / 1000000))
 }
 peak() { # parse or check: the bytes that it takes for the long text
     python3 - "$program" "$1" "$build/long.sis" <<'PY'
 import resource, subprocess, sys
-subprocess.run([sys.argv[1], "texts", sys.argv[2]], stdin=open(sys.argv[3]), stdout=subprocess.DEVNULL, check=True)
+subprocess.run([sys.argv[1], sys.argv[2]], stdin=open(sys.argv[3]), stdout=subprocess.DEVNULL, check=True)
 print(resource.getrusage(resource.RUSAGE_CHILDREN).ru_maxrss * 1024)
 PY
 }

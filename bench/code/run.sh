@@ -8,7 +8,7 @@ set -e
 rounds=${1:-5}
 build=$(mktemp -d)
 trap 'rm -rf "$build"' EXIT
-program=$(bench/built.sh)
+program=$(bench/built.sh units)
 
 # least TEXT: the least times to read the text and to make the code, in nanoseconds, and the bytes of the code
 least() {

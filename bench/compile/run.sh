@@ -1,11 +1,11 @@
 #!/bin/bash
-# Times translating the 4 MB text of bench/parse and printing its graphs beside lexing, parsing and checking it, all by one
-# program in one run (bench_calls), and the making of the marks and of the code apart. It prints seconds, the least of some
-# rounds; beside them the whole command `run` of one of its functions, whose share is small, and its ratio to lexing, parsing
-# and checking; then the memory of `compile` a byte of text, beside that of the check alone; then how long loops
-# nested in the clauses of others are refused in, 21 deep, and 20 deep with a large phrase inside. Run it at the top of the
-# repository, on an idle machine; the argument is the rounds. SISAL and BENCH_CALLS may name programs that are
-# built already.
+# Times translating the 4 MB text of bench/parse and printing its graphs beside lexing, parsing and checking it: the command
+# `compile` beside bench_texts, which checks the text, and bench_units, which makes the marks and the code of what `compile`
+# printed. It prints seconds, the least of some rounds; beside them the whole command `run` of one of its functions, whose share
+# is small, and its ratio to lexing, parsing and checking; then the memory of `compile` a byte of text, beside that of the check
+# alone; then how long loops nested in the clauses of others are refused in, 21 deep, and 20 deep with a large phrase inside.
+# Run it at the top of the repository, on an idle machine; the argument is the rounds. SISAL, BENCH_TEXTS and BENCH_UNITS may
+# name programs that are built already.
 source bench/long_text.sh
 python3 - "$build" <<'PY'
 import sys
@@ -18,7 +18,8 @@ open(sys.argv[1] + "/many.sis", "w").write(nested("array_size(array [1: n" + ", 
 PY
 
 sisal=${SISAL:-./sisal}
-program=$(bench/built.sh)
+program=$(bench/built.sh texts)
+units=$(bench/built.sh units)
 
 milliseconds() { # a text, a program and its words
     local begin end text=$1
@@ -39,25 +40,25 @@ PY
 declare -A least
 keep() { [ -n "${least[$1]}" ] && [ "${least[$1]}" -le "$2" ] || least[$1]=$2; }
 for ((i = 0; i < rounds; i++)); do
-    "$program" compile <"$build/long.sis" >"$build/printed" 2>"$build/times"
-    read -r checked translated marked printed coded <"$build/times"
-    keep checked "$checked"
-    keep translated "$translated"
-    keep marked "$marked"
-    keep printed "$printed"
-    keep coded "$coded"
+    keep checked "$(milliseconds "$build/long.sis" "$program" check)"
+    keep compiled "$(milliseconds "$build/long.sis" "$sisal" compile)"
+    cp "$build/printed" "$build/long.if1"
+    "$units" code <"$build/long.if1" >"$build/printed" 2>"$build/times"
+    read -r _ marked coded <"$build/times"
+    keep marked $((marked / 1000000))
+    keep coded $((coded / 1000000))
     keep whole "$(milliseconds "$build/long.sis" "$sisal" run --entry f1 3 "[1: 100]")"
     cat "$build/refused"
     for size in few many; do
-        keep "checker $size" "$(milliseconds "$build/$size.sis" "$program" texts check)"
+        keep "checker $size" "$(milliseconds "$build/$size.sis" "$program" check)"
         keep "compile $size" "$(milliseconds "$build/$size.sis" "$sisal" compile)"
         cat "$build/refused"
     done
 done
-awk -v t="${least[translated]}" -v m="${least[marked]}" -v p="${least[printed]}" -v c="${least[checked]}" 'BEGIN {
-    printf "translate %.3f s and print %.3f s, lex, parse and check %.3f s, ratio %.2f; mark %.3f s\n", t / 1e9, p / 1e9, c / 1e9, (t + p) / c, m / 1e9 }'
-awk -v t="${least[translated]}" -v m="${least[marked]}" -v k="${least[coded]}" -v w="${least[whole]}" -v c="${least[checked]}" 'BEGIN {
-    printf "run %.3f s, ratio %.2f: lex, parse and check %.3f s, translate %.3f s, mark %.3f s, code %.3f s\n", w / 1e3, w * 1e6 / c, c / 1e9, t / 1e9, m / 1e9, k / 1e9 }'
-awk -v p="$(peak "$sisal" compile)" -v q="$(peak "$program" texts check)" -v n="$(stat -c %s "$build/long.sis")" \
+awk -v w="${least[compiled]}" -v m="${least[marked]}" -v c="${least[checked]}" 'BEGIN {
+    printf "translate and print %.3f s, lex, parse and check %.3f s, ratio %.2f; mark %.3f s\n", (w - m - c) / 1e3, c / 1e3, (w - m - c) / c, m / 1e3 }'
+awk -v m="${least[marked]}" -v k="${least[coded]}" -v w="${least[whole]}" -v c="${least[checked]}" 'BEGIN {
+    printf "run %.3f s, ratio %.2f: lex, parse and check %.3f s, mark %.3f s, code %.3f s\n", w / 1e3, w / c, c / 1e3, m / 1e3, k / 1e3 }'
+awk -v p="$(peak "$sisal" compile)" -v q="$(peak "$program" check)" -v n="$(stat -c %s "$build/long.sis")" \
     'BEGIN { printf "memory %.1f bytes a byte of text, %.1f for the check alone\n", p / n, q / n }'
 echo "nested loops: compile ${least[compile few]} ms, check ${least[checker few]} ms; with a large phrase ${least[compile many]} and ${least[checker many]} ms"

@@ -24,12 +24,13 @@ for side in first last; do
     done
 done
 
-program=$(bench/built.sh)
+texts=$(bench/built.sh texts)
+units=$(bench/built.sh units)
 
 milliseconds() { # a text
     local begin end
     begin=$(date +%s%N)
-    "$program" texts if1 <"$1" >"$build/printed"
+    "$texts" if1 <"$1" >"$build/printed"
     end=$(date +%s%N)
     echo $(((end - begin) / 1000000))
 }
@@ -37,7 +38,7 @@ declare -A least
 keep() { [ -n "${least[$1]}" ] && awk -v a="${least[$1]}" -v b="$2" 'BEGIN { exit !(a <= b) }' || least[$1]=$2; }
 answered() { # a text
     local read found
-    "$program" answers <"$build/$1.if1" 2>"$build/times" >"$build/answers $1"
+    "$units" answers <"$build/$1.if1" 2>"$build/times" >"$build/answers $1"
     read -r read found <"$build/times"
     keep "read $1" "$read"
     keep "answers $1" "$found"

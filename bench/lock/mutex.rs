@@ -1,4 +1,4 @@
-//! The loop of `bench_calls lock` over `std::sync::Mutex`.
+//! The loop of `bench_pool lock` over `std::sync::Mutex`.
 use std::sync::Mutex;
 use std::{env, thread};
 

@@ -6,7 +6,7 @@ rounds=${1:-10}
 build=$(mktemp -d)
 trap 'rm -rf "$build"' EXIT
 rustc -O -o "$build/mutex" bench/lock/mutex.rs
-program=$(bench/built.sh)
+program=$(bench/built.sh pool)
 ours() { "$program" lock "$@"; }
 
 picoseconds() { # the program, the number of workers

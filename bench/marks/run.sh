@@ -9,7 +9,7 @@ set -e
 rounds=${1:-5}
 build=$(mktemp -d)
 trap 'rm -rf "$build"' EXIT
-program=$(bench/built.sh)
+program=$(bench/built.sh units)
 
 # least TEXT: the least times to read the text, to make the marks and to check them, in nanoseconds, and what the program printed
 least() {

@@ -9,14 +9,14 @@ trap 'rm -rf "$build"' EXIT
 python3 bench/parse/texts.py "$build/long.sis" "$build/long.py"
 printf 'define f1\n' >"$build/short.sis"
 printf 'x = 1\n' >"$build/short.py"
-ours=$(bench/built.sh)
+ours=$(bench/built.sh texts)
 cat >"$build/theirs.py" <<'PY'
 import ast, sys
 print(len(ast.parse(open(sys.argv[1]).read()).body))
 PY
 
 . bench/milliseconds.sh
-ours_on() { "$ours" texts parse <"$1"; }
+ours_on() { "$ours" parse <"$1"; }
 
 declare -A least
 keep() { [ -n "${least[$1]}" ] && [ "${least[$1]}" -le "$2" ] || least[$1]=$2; }
@@ -31,7 +31,7 @@ b=$((least[theirs long] - least[theirs short]))
 awk -v a=$a -v b=$b 'BEGIN { printf "lex and parse %.3f s, ast.parse %.3f s, ratio %.2f\n", a / 1000, b / 1000, a / b }'
 peak=$(python3 - "$ours" "$build/long.sis" <<'PY'
 import resource, subprocess, sys
-subprocess.run([sys.argv[1], "texts", "parse"], stdin=open(sys.argv[2]), stdout=subprocess.DEVNULL, check=True)
+subprocess.run([sys.argv[1], "parse"], stdin=open(sys.argv[2]), stdout=subprocess.DEVNULL, check=True)
 print(resource.getrusage(resource.RUSAGE_CHILDREN).ru_maxrss * 1024)
 PY
 )

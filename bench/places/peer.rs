@@ -1,4 +1,4 @@
-//! The work of `bench_calls places` with a `Vec` of an enum of 40 bytes.
+//! The work of `bench_pool places` with a `Vec` of an enum of 40 bytes.
 use std::collections::VecDeque;
 use std::env;
 use std::hint::black_box;

@@ -9,7 +9,7 @@ rounds=${1:-10}
 build=$(mktemp -d)
 trap 'rm -rf "$build"' EXIT
 rustc -O -o "$build/peer" bench/places/peer.rs
-program=$(bench/built.sh)
+program=$(bench/built.sh pool)
 ours() { "$program" places "$@"; }
 
 nanoseconds() { # the program and its words

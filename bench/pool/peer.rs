@@ -1,4 +1,4 @@
-//! The work of `bench_calls pool` with `Box`, `Arc` and `Vec`, and values of 40 bytes.
+//! The work of `bench_pool pool` with `Box`, `Arc` and `Vec`, and values of 40 bytes.
 use std::env;
 use std::hint::black_box;
 use std::sync::Arc;

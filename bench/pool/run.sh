@@ -8,7 +8,7 @@ rounds=${1:-10}
 build=$(mktemp -d)
 trap 'rm -rf "$build"' EXIT
 rustc -O -o "$build/peer" bench/pool/peer.rs
-program=$(bench/built.sh)
+program=$(bench/built.sh pool)
 ours() { "$program" pool "$@"; }
 
 nanoseconds() { # the program, the work, how much

@@ -1,4 +1,4 @@
-"""Times json.loads and json.dumps on the list of `bench_calls texts values-long`: prints what that prints of its
+"""Times json.loads and json.dumps on the list of `bench_pool values-long`: prints what that prints of its
 text, and the nanoseconds on standard error."""
 import json
 import sys

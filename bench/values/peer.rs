@@ -1,4 +1,4 @@
-//! The copy of `bench_calls texts copy-long` with a `Vec` of an enum of 40 bytes that is `Clone` and not `Copy`.
+//! The copy of `bench_pool copy-long` with a `Vec` of an enum of 40 bytes that is `Clone` and not `Copy`.
 use std::hint::black_box;
 use std::time::Instant;
 

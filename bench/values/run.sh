@@ -8,13 +8,13 @@ set -e
 rounds=${1:-5}
 build=$(mktemp -d)
 trap 'rm -rf "$build"' EXIT
-program=$(bench/built.sh)
+program=$(bench/built.sh pool)
 rustc -O -o "$build/peer" bench/values/peer.rs
 
 timed() { # what ours is called, its word, what the peer is called, the peer: both print the same, and their nanoseconds as errors
     local i a b least='' least_peer=''
     for ((i = 0; i < rounds; i++)); do
-        "$program" texts "$2" </dev/null >"$build/printed" 2>"$build/time"
+        "$program" "$2" </dev/null >"$build/printed" 2>"$build/time"
         "${@:4}" >"$build/peer_printed" 2>"$build/peer_time"
         cmp "$build/printed" "$build/peer_printed"
         a=$(<"$build/time") b=$(<"$build/peer_time")

@@ -4,8 +4,8 @@
 //! often. Prints the name, what the call printed and the status. A first word `!read` has the second
 //! read of the text fail, `!write` the second write of results, `!report` the first write of a
 //! refusal, and a number behind such a word names another call, from 0; then few bytes move at once. A
-//! first word `!gate` calls a gate around each item of the run, and behind the status there stands how
-//! often it was called before one and after one. The stored run evaluates the programs of `examples/` and
+//! gate counts its calls around each item of the run: with a first word `!gate` there stands behind the status
+//! how often it was called before one and after one. The stored run evaluates the programs of `examples/` and
 //! small ones for each cause of a refusal, compiles some of them, has rows for words, tokens, syntax,
 //! scalars, folds, arrays, records, streams, value texts and items of runs, and checks IF1 texts: units that
 //! are right, with and without marks, one for each fault, one cut after each byte, and deep ones. What it
@@ -16,7 +16,7 @@ ghost use Rattle.std.specs.Prelude.{◌≡◌, ◌<◌};
 
 use flow_io::{MemSink, MemSource, Plan};
 use flow_value::{NoMemory, Seq};
-use run_gate::{Gate, OpenGate};
+use run_gate::Gate;
 use sisal_top::{Status, sisal};
 use std::alloc::Global;
 use std::io;
@@ -171,18 +171,17 @@ fn call(alloc: Global, planned: Planned<'_>, row: &str) -> Result<Ended, NoMemor
     let mut out = MemSink::new(alloc, planned.most, plan(alloc, planned.write)?);
     let mut err = MemSink::new(alloc, MANY, plan(alloc, planned.report)?);
     let words = words.as_slice();
-    let (status, called) = if planned.gated {
-        let gate = Counting {
-            before: AtomicU64::new(0),
-            after: AtomicU64::new(0),
-        };
-        let status = sisal(alloc, words, &mut from, &mut out, &mut err, &gate);
+    let gate = Counting {
+        before: AtomicU64::new(0),
+        after: AtomicU64::new(0),
+    };
+    let status = sisal(alloc, words, &mut from, &mut out, &mut err, &gate);
+    let called = if planned.gated {
         let before = gate.before.load(Ordering::SeqCst);
         let after = gate.after.load(Ordering::SeqCst);
-        (status, Some((before, after)))
+        Some((before, after))
     } else {
-        let status = sisal(alloc, words, &mut from, &mut out, &mut err, &OpenGate);
-        (status, None)
+        None
     };
     Ok(Ended {
         status,

@@ -21,19 +21,11 @@ pub use sharing::build_by_four;
 #[cfg(test)]
 mod fire_lock_tests;
 #[cfg(test)]
-mod flow_gen_tests;
-#[cfg(test)]
-mod flow_io_tests;
-#[cfg(test)]
 mod forall_slicer_tests;
 #[cfg(test)]
 mod front_list_tests;
 #[cfg(test)]
 mod lease_tests;
-#[cfg(test)]
-mod name_scope_tests;
-#[cfg(test)]
-mod pushdown_tests;
 #[cfg(test)]
 mod segment_tests;
 #[cfg(test)]

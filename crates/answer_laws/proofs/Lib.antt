@@ -1,0 +1,16 @@
+pub mod Firsts
+pub mod Syntaxes
+pub mod Units
+pub mod Marked
+pub mod Runs
+pub mod Graphs
+pub mod Sources
+pub mod Runners
+pub mod Texts
+pub mod Quiet
+pub mod Replies
+pub mod Complete
+pub mod Again
+pub mod Moved
+pub mod Printed
+pub mod Answered

@@ -1,4 +1,0 @@
-mod Emptied
-mod Filled
-mod Lent
-mod Listed

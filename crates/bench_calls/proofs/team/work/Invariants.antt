@@ -1,5 +1,0 @@
-use Rattle.fire_lock.specs.Passes.{Same}
-use Rattle.bench_calls.proofs.team.work.Given as goal
-
-abbrev pub invariant-loop-i : goal.invariant-loop-i
-invariant-loop-i g l = Same l.initial.pass l.pass

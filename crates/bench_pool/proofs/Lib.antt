@@ -1,0 +1,3 @@
+mod Emptied
+mod Filled
+mod Lent

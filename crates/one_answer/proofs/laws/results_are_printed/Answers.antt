@@ -1,5 +1,0 @@
-use Rattle.one_answer.proofs.Complete.{complete}
-use Rattle.one_answer.proofs.laws.results_are_printed.Goals as goal
-
-pub returns : goal.returns
-returns c = complete c.words_and_texts_have_one_answer.ensures
