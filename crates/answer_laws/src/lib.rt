@@ -4,12 +4,12 @@
 #![tactic(auto)]
 
 mod laws;
-mod sources;
+mod source_laws;
 
 pub use laws::{
     a_run_answers_once, graphs_answer_once, results_are_printed, what_if1_prints_stays,
     words_and_texts_have_one_answer,
 };
-pub use sources::{
+pub use source_laws::{
     runs_of_texts_print_what_the_source_gives, sources_within_the_limits_are_printed,
 };

@@ -5,10 +5,10 @@ use Rattle.typed_tree.specs.declared.program.Function.{Function}
 use Rattle.typed_tree.specs.declared.program.Program.{Program}
 use Rattle.typed_tree.specs.Types.{AreNumbers}
 use Rattle.fitting_trees.specs.Fitting.{Header, FunctionFits, FunctionsFit}
-use Rattle.lowered_types.specs.Fitting.{IsFitting}
-use Rattle.lowered_types.specs.Sorts.{bare, types_at, callee_sort, sort_of}
-use Rattle.lowered_types.proofs.Bare.{bare-bool, bare-char, bare-int, bare-null, bare-array, bare-stream, bare-record, bare-union, number-told, numbers-told}
-use Rattle.lowered_types.specs.LoweredRulesSorts.{IsSorting}
+use Rattle.lowered_units.specs.Fitting.{IsFitting}
+use Rattle.lowered_ready.specs.Sorts.{bare, types_at, callee_sort, sort_of}
+use Rattle.lowered_ready.proofs.Bare.{bare-bool, bare-char, bare-int, bare-null, bare-array, bare-stream, bare-record, bare-union, number-told, numbers-told}
+use Rattle.lowered_ready.specs.RuleSorts.{IsSorting}
 
 module _ (p : Program) (fit : IsFitting p) where
   -- the function of a header

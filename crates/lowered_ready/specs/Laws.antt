@@ -4,10 +4,10 @@ use Rattle.typed_tree.specs.declared.program.Program.{Program}
 use Rattle.if1_graph.specs.declared.graph.Unit1.{Unit1}
 use Rattle.if1_graph.specs.Ready.{IsReady}
 use Rattle.lowering.specs.TooMany.{too_many}
-use Rattle.lowered_types.specs.Coverage.{AreCovered}
-use Rattle.lowered_types.specs.Fitting.{IsFitting}
-use Rattle.lowered_types.specs.Units.{IsTranslated}
-use Rattle.lowered_types.specs.LoweredRulesLaws.{rule_forms}
+use Rattle.lowering_meaning.specs.Coverage.{AreCovered}
+use Rattle.lowered_units.specs.Fitting.{IsFitting}
+use Rattle.lowered_units.specs.Units.{IsTranslated}
+use Rattle.lowered_ready.specs.RuleLaws.{rule_forms}
 
 -- the unit of a program within the limits is ready
 abbrev pub AreReady : Type 0

@@ -15,19 +15,19 @@ use Rattle.run_states.specs.Storing.{Cell, Kept, Port, Owned, Store, IsRead, IsA
 use Rattle.run_states.specs.Moving.{IsNotWithin}
 use Rattle.run_states.specs.Paths.{CarriesAt}
 use Rattle.run_states.proofs.Lookups.{put-same, put-other, set-same, set-other, some-same, some-none}
-use Rattle.run_storage.specs.Carrying.{Pool, Tells, ArePortsRight}
-use Rattle.run_storage.specs.Marked.{IsMarkedStore}
-use Rattle.run_storage.specs.Scattering.{Takers, Scatters, lent, of_generator, of_left}
-use Rattle.run_storage.proofs.Carrying.{ports-kept}
-use Rattle.run_storage.proofs.Scattering.{scatters-moved, scatters-left}
-use Rattle.run_hands.specs.Hands.{Hand, Hands, HasInHand, IsTakenOver, IsRegrasped}
-use Rattle.run_hands.proofs.Hands.{hands-kept, none-cell}
-use Rattle.run_entered.specs.There.{IsTaker, WasTaken}
-use Rattle.run_entered.proofs.Handing.{outputs-filled}
-use Rattle.run_entered.proofs.There.{there-kept}
-use Rattle.run_leases.specs.Leases.{Lent, IsKeyIn, IsLent}
-use Rattle.run_leases.specs.Scattered.{takers_of, is_taken_from}
-use Rattle.run_leases.proofs.Scattered.{scatters-kept-on, taken-told}
+use Rattle.run_events.specs.Carrying.{Pool, Tells, ArePortsRight}
+use Rattle.run_events.specs.Marked.{IsMarkedStore}
+use Rattle.run_events.specs.Scattering.{Takers, Scatters, lent, of_generator, of_left}
+use Rattle.run_events.proofs.Carrying.{ports-kept}
+use Rattle.run_events.proofs.Scattering.{scatters-moved, scatters-left}
+use Rattle.run_events.specs.Hands.{Hand, Hands, HasInHand, IsTakenOver, IsRegrasped}
+use Rattle.run_events.proofs.Hands.{hands-kept, none-cell}
+use Rattle.run_events.specs.There.{IsTaker, WasTaken}
+use Rattle.run_events.proofs.Handing.{outputs-filled}
+use Rattle.run_events.proofs.There.{there-kept}
+use Rattle.run_events.specs.Leases.{Lent, IsKeyIn, IsLent}
+use Rattle.run_events.specs.Scattered.{takers_of, is_taken_from}
+use Rattle.run_events.proofs.Scattered.{scatters-kept-on, taken-told}
 use Rattle.run_events.specs.Kept.{Keeping, IsAtHome, KeptStands}
 use Rattle.run_events.specs.Events.{IsEmptied, IsFinished, IsOpened, AreAllEventsKept}
 

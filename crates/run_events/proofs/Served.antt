@@ -18,14 +18,14 @@ use Rattle.run_states.specs.Storing.{Cell, Port}
 use Rattle.run_states.specs.Runs.{RunStands}
 use Rattle.run_states.specs.Waiting.{HasBegun}
 use Rattle.run_states.proofs.Lookups.{put-same, put-other, some-same}
-use Rattle.run_storage.specs.Marked.{IsMarkedStore}
-use Rattle.run_storage.proofs.Carrying.{ports-kept}
-use Rattle.run_storage.proofs.Marked.{takers-alone}
-use Rattle.run_hands.specs.Hands.{HandsStand}
-use Rattle.run_hands.proofs.Hands.{hands-begin}
-use Rattle.run_entered.specs.There.{IsGiven, WasTaken}
-use Rattle.run_entered.proofs.There.{operands-there}
-use Rattle.run_leases.proofs.Scattered.{takers-free}
+use Rattle.run_events.specs.Marked.{IsMarkedStore}
+use Rattle.run_events.proofs.Carrying.{ports-kept}
+use Rattle.run_events.proofs.Marked.{takers-alone}
+use Rattle.run_events.specs.Hands.{HandsStand}
+use Rattle.run_events.proofs.Hands.{hands-begin}
+use Rattle.run_events.specs.There.{IsGiven, WasTaken}
+use Rattle.run_events.proofs.There.{operands-there}
+use Rattle.run_events.proofs.Scattered.{takers-free}
 use Rattle.run_events.specs.Kept.{Keeping, IsAtHome, KeptStands}
 use Rattle.run_events.specs.Served.{DoesKeepingBegin, IsServed, AreClaimsServed, AreAllClaimsServed}
 use Rattle.run_events.proofs.Events.{no-key}

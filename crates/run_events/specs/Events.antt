@@ -10,14 +10,14 @@ use Rattle.run_states.specs.Standing.{Test, State, Waiting, Within, Done, Live, 
 use Rattle.run_states.specs.Storing.{Cell, Kept, Port, Owned, Store, IsAtWork, NoReader}
 use Rattle.run_states.specs.Moving.{IsNotWithin, DifferAt}
 use Rattle.run_states.specs.Paths.{LeadsTo, CarriesAt}
-use Rattle.run_storage.specs.Carrying.{Pool, Tells, HasInputs}
-use Rattle.run_storage.specs.Marked.{IsMarkedStore}
-use Rattle.run_storage.specs.Scattering.{Scatters}
-use Rattle.run_hands.specs.Hands.{Hand, Hands, IsEntered, IsTakenOver, IsRegrasped}
-use Rattle.run_entered.specs.There.{IsTaker}
-use Rattle.run_entered.specs.Handing.{AreOutputsBy}
-use Rattle.run_leases.specs.Leases.{Lent, IsKeyIn}
-use Rattle.run_leases.specs.Scattered.{takers_of}
+use Rattle.run_events.specs.Carrying.{Pool, Tells, HasInputs}
+use Rattle.run_events.specs.Marked.{IsMarkedStore}
+use Rattle.run_events.specs.Scattering.{Scatters}
+use Rattle.run_events.specs.Hands.{Hand, Hands, IsEntered, IsTakenOver, IsRegrasped}
+use Rattle.run_events.specs.There.{IsTaker}
+use Rattle.run_events.specs.Handing.{AreOutputsBy}
+use Rattle.run_events.specs.Leases.{Lent, IsKeyIn}
+use Rattle.run_events.specs.Scattered.{takers_of}
 use Rattle.run_events.specs.Kept.{Keeping, IsAtHome, KeptStands}
 
 -- A port is emptied, and owns what it did.

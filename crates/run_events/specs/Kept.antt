@@ -9,12 +9,12 @@ use Rattle.graph_meaning.specs.Networks.{network}
 use Rattle.run_states.specs.Standing.{Live, Table}
 use Rattle.run_states.specs.Storing.{Port, Store, IsAtWork}
 use Rattle.run_states.specs.Graphs.{IsGraphOf}
-use Rattle.run_storage.specs.Carrying.{Pool, Opened, ArePortsRight}
-use Rattle.run_storage.specs.Marked.{IsMarkedStore}
-use Rattle.run_hands.specs.Hands.{Hands, HandsStand}
-use Rattle.run_entered.specs.There.{ArePortsThere}
-use Rattle.run_leases.specs.Leases.{Lent, IsLent}
-use Rattle.run_leases.specs.Scattered.{takers_of}
+use Rattle.run_events.specs.Carrying.{Pool, Opened, ArePortsRight}
+use Rattle.run_events.specs.Marked.{IsMarkedStore}
+use Rattle.run_events.specs.Hands.{Hands, HandsStand}
+use Rattle.run_events.specs.There.{ArePortsThere}
+use Rattle.run_events.specs.Leases.{Lent, IsLent}
+use Rattle.run_events.specs.Scattered.{takers_of}
 
 -- By the places of live graphs: their ports, what their nodes have in their hands, where they stand in the unit, which ports have a
 -- cell, how many unions are opened to read one, what is lent to slices and kept by AScatters; and what is kept by each key.

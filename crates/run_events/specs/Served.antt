@@ -17,9 +17,9 @@ use Rattle.run_states.specs.Storing.{Cell, Kept, Port, Owned, NoReader}
 use Rattle.run_states.specs.Paths.{CarriesAt}
 use Rattle.run_states.specs.Runs.{RunStands}
 use Rattle.run_states.specs.Waiting.{HasBegun}
-use Rattle.run_storage.specs.Carrying.{Tells, HasInputs}
-use Rattle.run_storage.specs.Marked.{IsMarkedStore}
-use Rattle.run_leases.specs.Leases.{all_leases}
+use Rattle.run_events.specs.Carrying.{Tells, HasInputs}
+use Rattle.run_events.specs.Marked.{IsMarkedStore}
+use Rattle.run_events.specs.Leases.{all_leases}
 use Rattle.run_events.specs.Kept.{Keeping, IsAtHome, KeptStands}
 
 -- ---- the beginning

@@ -3,7 +3,7 @@ use Rattle.std.proofs.Common.{◌≡◌, ℕ, zero, suc, ◌+◌, ◌≤◌, ◌
 use native.Mathlib.Decide.{dec_le}
 use Rattle.graph_meaning.specs.Entered.{Item}
 use Rattle.graph_meaning.specs.Histories.{Run, Exists, Outcome, EndKind, TurnLimit, Claim, Idle, Ended, Finish, History, Legal, Allowed, HasEnded, IsOn, IsSettled, Gives, Claimable, ClaimedBy, IsNeverStuck, early, count, is_claimed, is_finished, Made, OverLimit, NoMemory, OutOfMemory, FinishEnds}
-use Rattle.run_bounds.specs.Bounds.{claims_in}
+use Rattle.run_tables.specs.Bounds.{claims_in}
 use Rattle.run_states.proofs.Ready.{clash}
 use Rattle.run_states.proofs.Items.{or-same, or-more, or-cases}
 use Rattle.run_tables.specs.Followed.{Rounds, none, round, ComesToEnd}

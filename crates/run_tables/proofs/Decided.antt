@@ -9,8 +9,8 @@ use Rattle.graph_meaning.specs.Plain.{Costs}
 use Rattle.graph_meaning.proofs.PlainCosts.{plain-costs}
 use Rattle.graph_meaning.proofs.Ranks.{ranked}
 use Rattle.graph_meaning.proofs.Theorems.{costs-stable, cost-the-sum, runs-never-stuck, runs-confluent}
-use Rattle.run_bounds.specs.Bounds.{claims_in}
-use Rattle.run_bounds.proofs.Bounded.{workers-bounded}
+use Rattle.run_tables.specs.Bounds.{claims_in}
+use Rattle.run_tables.proofs.Bounded.{workers-bounded}
 use Rattle.run_states.specs.Sliced.{sliced}
 use Rattle.run_states.specs.Standing.{Path, plug, IsOuter}
 use Rattle.run_states.specs.Paths.{IsItem, a_node, an_entry, a_slice, a_leaving, LeadsTo}

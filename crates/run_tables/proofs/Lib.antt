@@ -1,3 +1,11 @@
+pub mod Budgets
+pub mod Trees
+pub mod Sums
+pub mod Bounded
+pub mod Once
+pub mod Items
+pub mod Along
+pub mod Each
 pub mod Owned
 pub mod Carried
 pub mod Sliced

@@ -6,7 +6,7 @@ use Rattle.graph_meaning.specs.Demand.{Network, Cut, IsCut, AreOrderly}
 use Rattle.graph_meaning.specs.Histories.{Run, Exists, Outcome, NoMemory, EndKind, TurnLimit, Claim, Ended, Finish, History, Legal, Allowed, HasEnded, IsSettled, IsComplete, Gives}
 use Rattle.graph_meaning.specs.Laws.{run_of}
 use Rattle.graph_meaning.specs.Plain.{Costs}
-use Rattle.run_bounds.specs.Bounds.{claims_in}
+use Rattle.run_tables.specs.Bounds.{claims_in}
 use Rattle.run_states.specs.Sliced.{sliced}
 use Rattle.run_states.specs.Standing.{Table}
 use Rattle.run_states.specs.Runs.{RunStands}

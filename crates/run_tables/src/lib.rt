@@ -2,6 +2,12 @@
 //! without code.
 #![tactic(auto)]
 
-mod laws;
+mod bounds_laws;
+mod sums_laws;
+mod tables_laws;
 
-pub use laws::{costs_are_decided, histories_have_tables, runs_of_one_worker_end};
+pub use bounds_laws::{claims_are_bounded, claims_of_workers_are_bounded, slices_are_few};
+pub use sums_laws::{
+    finished_items_add_up, items_add_once, items_of_whole_runs_add, sums_are_of_items,
+};
+pub use tables_laws::{costs_are_decided, histories_have_tables, runs_of_one_worker_end};

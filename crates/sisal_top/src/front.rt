@@ -1,7 +1,7 @@
 //! From the bytes of a text to its typed program.
 ghost use Rattle.std.specs.Prelude.{ℕ, List, IfOk, IfErr};
 ghost use Rattle.text_ready.specs.Coverage.{AreCovered};
-ghost use Rattle.text_ready.specs.LoweredRulesLaws.{rule_forms};
+ghost use Rattle.text_ready.specs.RuleLaws.{rule_forms};
 ghost use Rattle.lowered_units.specs.Fitting.{IsFitting};
 ghost use Rattle.sisal_check.specs.Texts.{IsText};
 ghost use Rattle.sisal_top.specs.Outputs.{HasProgram};

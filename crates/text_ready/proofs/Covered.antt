@@ -15,7 +15,7 @@ use Rattle.bound_trees.specs.Bound.{IsBound, AreBound, AreDefined, AreArms, IsBo
 use Rattle.fitting_texts.proofs.Names.{names_once}
 use Rattle.lowering_meaning.specs.Coverage.{all_ok, each_ok, counts, all_one, masks_alone, is_plain_operation, kind_covered, verdict, plain_forms}
 use Rattle.lowering_meaning.proofs.Layers.{parts_covered, covered-is, count-is, and-true}
-use Rattle.lowered_ready.specs.LoweredRulesLaws.{has_source, rule_forms}
+use Rattle.lowered_ready.specs.RuleLaws.{has_source, rule_forms}
 use Rattle.bound_trees.specs.Laws.{TextLaw}
 use Rattle.lowering_meaning.specs.Laws.{AreTypedCovered}
 use Rattle.text_ready.specs.Laws.{AreTextsCovered}

@@ -10,7 +10,7 @@ use Rattle.fitting_texts.specs.Laws.{IsTypedText}
 use Rattle.lowering.specs.TooMany.{too_many}
 use Rattle.lowered_ready.specs.Units.{IsTranslated}
 use Rattle.lowering_meaning.specs.Coverage.{AreCovered}
-use Rattle.lowered_ready.specs.LoweredRulesLaws.{rule_forms}
+use Rattle.lowered_ready.specs.RuleLaws.{rule_forms}
 
 abbrev pub AreTextsCovered : Type 0
 AreTextsCovered = (bytes : List ℕ) (u : tree.Unit) (p : Program) → IsTypedText bytes u p → AreCovered rule_forms p.functions

@@ -1,1 +1,1 @@
-pub use Rattle.lowered_ready.specs.LoweredRulesLaws as Laws
+pub use Rattle.lowered_ready.specs.RuleLaws as Laws

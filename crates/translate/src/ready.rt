@@ -3,7 +3,7 @@ ghost use Rattle.std.specs.Prelude.{◌≡◌, None, IfOk};
 ghost use Rattle.lowering.specs.Programs.{functions_lowered};
 ghost use Rattle.lowering.specs.TooMany.{too_many};
 ghost use Rattle.lowered_ready.specs.Coverage.{AreCovered};
-ghost use Rattle.lowered_ready.specs.LoweredRulesLaws.{rule_forms};
+ghost use Rattle.lowered_ready.specs.RuleLaws.{rule_forms};
 ghost use Rattle.lowered_units.specs.Fitting.{IsFitting};
 ghost use Rattle.lowered_units.specs.Units.{IsTranslated};
 ghost use Rattle.unit_build.specs.Labels.{AreLabelsOf};

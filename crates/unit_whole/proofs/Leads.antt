@@ -22,8 +22,8 @@ use Rattle.plan_data.specs.declared.plan.Work.TheVariants as work
 use Rattle.plan_data.specs.Parts.{graph_nodes}
 use Rattle.plan_data.specs.Stands.{Stands}
 use Rattle.told_rows.specs.Grows.{IsPair}
-use Rattle.even_code.specs.Blocks.{function_at}
-use Rattle.even_code.specs.Even.{IsEven}
+use Rattle.unit_whole.specs.Blocks.{function_at}
+use Rattle.unit_whole.specs.Even.{IsEven}
 use Rattle.sequential_run.specs.Whole.{AreAhead, Blocks, IsAhead, IsCalled, IsNext, Leads}
 use Rattle.unit_whole.proofs.Ready.{IsKnown, called-so}
 use Rattle.unit_whole.specs.Laws.{blocks_by}

@@ -1,4 +1,7 @@
 pub use Rattle.told_rows.proofs.Found
+pub mod Lines
+pub mod Blocks
+pub mod Nodes
 pub mod Named
 pub mod Seen
 pub mod Taking

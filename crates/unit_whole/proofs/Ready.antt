@@ -41,7 +41,7 @@ use Rattle.plan_data.specs.Parts.{extent_in, graph_nodes, kind_of, table_of}
 use Rattle.plan_data.specs.Stands.{AreNodes, IsNode, Stands}
 use Rattle.told_rows.specs.Grows.{AreNamed, IsKnit, IsPair, IsPlain, IsRoomOf, IsTold, IsToldOf, read_as}
 use Rattle.told_rows.specs.Seats.{looked_at}
-use Rattle.even_code.specs.Even.{IsCalledFor, IsEven, IsFiredFor, IsKindEven, IsStepEven}
+use Rattle.unit_whole.specs.Even.{IsCalledFor, IsEven, IsFiredFor, IsKindEven, IsStepEven}
 use Rattle.sequential.specs.Inside.{IsInside, IsUncopied}
 use Rattle.sequential.specs.Loading.{AreApart, AreInside}
 use Rattle.sequential_run.specs.Outputs.{IsWide}

@@ -33,10 +33,10 @@ use Rattle.step_code.specs.declared.step.Step.TheVariants as step
 use Rattle.step_code.specs.Laid.{handling_in, step_in}
 use Rattle.plan_data.specs.declared.plan.PlanData.{PlanData}
 use Rattle.plan_data.specs.Parts.{arms_steps, size_in}
-use Rattle.even_code.proofs.Blocks.{places-in-blocks}
-use Rattle.even_code.proofs.Nodes.{plans-even}
-use Rattle.even_code.specs.Blocks.{IsInBlock, function_at}
-use Rattle.even_code.specs.Even.{IsEven, IsStepEven}
+use Rattle.unit_whole.proofs.Blocks.{places-in-blocks}
+use Rattle.unit_whole.proofs.Nodes.{plans-even}
+use Rattle.unit_whole.specs.Blocks.{IsInBlock, function_at}
+use Rattle.unit_whole.specs.Even.{IsEven, IsStepEven}
 use Rattle.sequential_run.specs.Ready.{IsReady as IsStepReady}
 use Rattle.sequential_run.specs.Whole.{IsWhole, Leads}
 use Rattle.unit_whole.proofs.Leads.{leads}

@@ -18,7 +18,7 @@ use Rattle.told_rows.specs.Makes.{AreKnit, AreTold, IsCodeOf}
 use Rattle.quick_code.specs.Quick.{RunsSame}
 use Rattle.sequential_run.specs.Totals.{CanEnter}
 use Rattle.sequential_run.specs.Whole.{Blocks, IsWhole}
-use Rattle.even_code.specs.Blocks.{function_at}
+use Rattle.unit_whole.specs.Blocks.{function_at}
 use Rattle.unit_whole.specs.Seen.{AreWrittenByRows}
 
 -- the block of each place is that of the function that stands there

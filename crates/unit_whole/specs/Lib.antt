@@ -10,5 +10,8 @@ pub use Rattle.plan_data.specs.declared.plan.PlanData
 pub use Rattle.plan_data.specs.Parts
 pub use Rattle.plan_data.specs.Stands
 pub use Rattle.told_rows.specs.Plans
+pub mod Even
+pub mod Blocks
+pub mod Units
 pub mod Seen
 pub mod Laws

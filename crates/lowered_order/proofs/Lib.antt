@@ -1,5 +1,0 @@
-mod Before
-mod Forms
-mod Loops
-mod Trees
-mod Units

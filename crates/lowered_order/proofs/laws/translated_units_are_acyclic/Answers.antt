@@ -1,5 +1,0 @@
-use Rattle.lowered_order.proofs.Units.{acyclic}
-use Rattle.lowered_order.proofs.laws.translated_units_are_acyclic.Goals as goal
-
-pub returns : goal.returns
-returns c = λ p u t. acyclic p u t

@@ -1,5 +1,0 @@
-use Rattle.lowered_order.proofs.Units.{all-in-order}
-use Rattle.lowered_order.proofs.laws.translated_units_are_in_order.Goals as goal
-
-pub returns : goal.returns
-returns c = λ p u t. all-in-order p u t

@@ -1,5 +1,0 @@
-use Rattle.lowered_places.proofs.Places.{all-shaped}
-use Rattle.lowered_places.proofs.laws.places_stand_as_lowered.Goals as goal
-
-pub returns : goal.returns
-returns c = λ p u t. all-shaped p u t

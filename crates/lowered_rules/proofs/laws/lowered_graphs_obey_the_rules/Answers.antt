@@ -1,5 +1,0 @@
-use Rattle.lowered_rules.proofs.Programs.{obey-rules}
-use Rattle.lowered_rules.proofs.laws.lowered_graphs_obey_the_rules.Goals as goal
-
-pub returns : goal.returns
-returns c = obey-rules

@@ -1,7 +1,0 @@
-//! The law of rules.
-ghost use Rattle.lowered_rules.specs.Laws.{ObeyRules};
-
-/// The lowered graphs of a program that fits obey the rules of ports and types.
-pub fn lowered_graphs_obey_the_rules()
-    ensures { ObeyRules }
-{}

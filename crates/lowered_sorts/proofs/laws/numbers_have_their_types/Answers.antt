@@ -1,5 +1,0 @@
-use Rattle.lowered_sorts.proofs.Bare.{number-told}
-use Rattle.lowered_sorts.proofs.laws.numbers_have_their_types.Goals as goal
-
-pub returns : goal.returns
-returns c = λ p n t fit k. number-told p fit.types n t k

@@ -1,4 +1,0 @@
-pub mod Budgets
-pub mod Trees
-pub mod Sums
-pub mod Bounded

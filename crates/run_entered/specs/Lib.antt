@@ -1,6 +1,0 @@
-pub mod Stages
-pub mod Modes
-pub mod Handing
-pub mod There
-pub mod Iterated
-pub mod Placed

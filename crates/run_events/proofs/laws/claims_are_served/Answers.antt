@@ -1,5 +1,0 @@
-use Rattle.run_events.proofs.Served.{claims-served}
-use Rattle.run_events.proofs.laws.claims_are_served.Goals as goal
-
-pub returns : goal.returns
-returns c = claims-served

@@ -1,5 +1,0 @@
-use Rattle.run_events.proofs.Served.{keeping-begins}
-use Rattle.run_events.proofs.laws.what_is_kept_begins.Goals as goal
-
-pub returns : goal.returns
-returns c = keeping-begins

@@ -1,5 +1,0 @@
-use Rattle.run_hands.proofs.Unleased.{unowned-not-leased}
-use Rattle.run_hands.proofs.laws.unowned_keys_are_not_leased.Goals as goal
-
-pub returns : goal.returns
-returns c = unowned-not-leased

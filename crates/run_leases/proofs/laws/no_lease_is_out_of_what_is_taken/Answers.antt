@@ -1,5 +1,0 @@
-use Rattle.run_leases.proofs.Leases.{nothing-out}
-use Rattle.run_leases.proofs.laws.no_lease_is_out_of_what_is_taken.Goals as goal
-
-pub returns : goal.returns
-returns c = nothing-out

@@ -1,4 +1,0 @@
-pub mod Sums
-pub mod Leases
-pub mod Scattered
-pub mod Few

@@ -1,5 +1,0 @@
-use Rattle.run_sums.proofs.Each.{items-add}
-use Rattle.run_sums.proofs.laws.items_of_whole_runs_add.Goals as goal
-
-pub returns : goal.returns
-returns c = items-add

@@ -1,5 +1,0 @@
-use Rattle.run_sums.proofs.Items.{sums-of-items}
-use Rattle.run_sums.proofs.laws.sums_are_of_items.Goals as goal
-
-pub returns : goal.returns
-returns c = sums-of-items

@@ -1,5 +1,0 @@
-use Rattle.run_tables.proofs.Decided.{costs-decided}
-use Rattle.run_tables.proofs.laws.costs_are_decided.Goals as goal
-
-pub returns : goal.returns
-returns c = costs-decided

@@ -1,5 +1,0 @@
-use Rattle.run_tables.proofs.Decided.{runs-end}
-use Rattle.run_tables.proofs.laws.runs_of_one_worker_end.Goals as goal
-
-pub returns : goal.returns
-returns c = runs-end

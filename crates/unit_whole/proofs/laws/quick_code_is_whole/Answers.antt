@@ -1,5 +1,0 @@
-use Rattle.unit_whole.proofs.Quick.{quick-whole}
-use Rattle.unit_whole.proofs.laws.quick_code_is_whole.Goals as goal
-
-pub returns : goal.returns
-returns c = quick-whole
