@@ -15,7 +15,7 @@ use Rattle.sisal_lex.specs.Names.{Lexed, used, used_by, with_names}
 use Rattle.sisal_lex.specs.Sound.{is_folded, is_in_folded, AreFolded}
 use Rattle.sisal_lex.specs.Tokens.{tokens_of, named, lexed}
 use Rattle.fitting_units.specs.Leaves.{AreNamesOnce}
-use Rattle.if1_line.specs.Spelling.{is_visible, is_quotable, IsName, IsQuotable}
+use Rattle.if1_graph.specs.Spelling.{is_visible, is_quotable, IsName, IsQuotable}
 use Rattle.bound_trees.proofs.Told.{SoundLexeme, AreSoundLexemes, lexed_sound}
 
 true_false : true ≡ false → ⊥

@@ -3,7 +3,7 @@ use Rattle.std.proofs.Common.{◌≡◌, ℕ, zero, suc, true, List, [], ◌∷�
 use Rattle.std.proofs.lemmas.List.Elements.{All-head, All-tail}
 use Rattle.type_table.specs.declared.form.Form.{Form}
 use Rattle.type_table.specs.declared.form.Form.TheVariants.{Union}
-use Rattle.if1_line.specs.Spelling.{IsName, IsQuotable}
+use Rattle.if1_graph.specs.Spelling.{IsName, IsQuotable}
 use Rattle.sisal_tree.specs.declared.unit.Unit as tree
 use Rattle.typed_tree.specs.declared.program.Program.{Program}
 use Rattle.typed_tree.specs.Units.{signatures}

@@ -3,9 +3,9 @@ use Rattle.std.proofs.Common.{◌≡◌, ℕ, zero, suc, ◌+◌, ◌<◌, ◌�
 use Rattle.std.specs.Prelude.{◌==◌, is_some, nat_le, if◌then◌else◌}
 use Rattle.std.proofs.lemmas.Bool.{eqb-true, leb-false}
 use Rattle.std.proofs.lemmas.List.{map-append, length-map}
-use Rattle.if1_line.specs.declared.line.Line.{Line}
-use Rattle.if1_line.specs.declared.line.Line.TheVariants as line
-use Rattle.if1_line.specs.Spelling.{IsSpelled}
+use Rattle.if1_graph.specs.declared.line.Line.{Line}
+use Rattle.if1_graph.specs.declared.line.Line.TheVariants as line
+use Rattle.if1_graph.specs.Spelling.{IsSpelled}
 use Rattle.if1_graph.specs.declared.graph.Graph.{Graph}
 use Rattle.if1_graph.specs.declared.graph.Graph.TheViews as views
 use Rattle.if1_graph.specs.declared.graph.Node.{Node}

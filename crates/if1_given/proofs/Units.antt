@@ -2,10 +2,10 @@
 use Rattle.std.proofs.Common.{◌≡◌, ℕ, zero, suc, ◌<◌, ◌≤◌, List, [], ◌∷◌, ◌++◌, map, length, get_or, Option, Some, None, refl, sym, ap, subst, ◌∙◌, arith}
 use Rattle.std.specs.Prelude.{All, Contains, filter}
 use Rattle.std.proofs.lemmas.List.Elements.{All-weaker}
-use Rattle.if1_line.specs.declared.line.Line.{Line}
-use Rattle.if1_line.specs.Lines.{lines_in}
-use Rattle.if1_line.specs.Reading.{line_of}
-use Rattle.if1_line.specs.Spelling.{IsSpelled}
+use Rattle.if1_graph.specs.declared.line.Line.{Line}
+use Rattle.if1_graph.specs.TextLines.{lines_in}
+use Rattle.if1_graph.specs.Reading.{line_of}
+use Rattle.if1_graph.specs.Spelling.{IsSpelled}
 use Rattle.if1_graph.specs.declared.graph.Unit1.{Unit1}
 use Rattle.if1_graph.specs.Units.{places}
 use Rattle.if1_graph.specs.Formed.{IsGraph}

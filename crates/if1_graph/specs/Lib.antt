@@ -1,4 +1,11 @@
-pub use Rattle.if1_line.specs.Spelling
+pub mod LineParts
+pub mod Numbers
+pub mod Pragmas
+pub mod Entries
+pub mod Reading
+pub mod Spelling
+pub mod TextLines
+pub mod Places
 pub mod Tables
 pub mod Ops
 pub mod Rows

@@ -1,8 +1,8 @@
 -- What is kept behind a line with which a graph or a node begins or ends, and which fault is named.
 use Rattle.std.proofs.Common.{◌≡◌, ℕ, suc, Bool, List, [], ◌∷◌, ◌++◌, length, length-append, Option, Some, None, Result, Ok, Err, refl, sym, ap, ◌∙◌, append-nil, append_assoc, arith}
 use Rattle.std.specs.Prelude.{IfOk}
-use Rattle.if1_line.specs.declared.line.Line.{Line}
-use Rattle.if1_line.specs.declared.line.Line.TheVariants as line
+use Rattle.if1_graph.specs.declared.line.Line.{Line}
+use Rattle.if1_graph.specs.declared.line.Line.TheVariants as line
 use Rattle.if1_read.specs.declared.fault.Kind.{Kind}
 use Rattle.if1_read.specs.declared.fault.Kind.TheVariants.{Bad}
 use Rattle.if1_read.specs.declared.fault.Fault.{Fault}

@@ -16,8 +16,8 @@ use Rattle.flow_value.specs.declared.value.Val.TheVariants as val
 use Rattle.flow_value.specs.declared.value.Val.TheOpen.{Val-F}
 use Rattle.flow_value.specs.declared.value.Val.TheViews.{out-Val}
 use Rattle.flow_value.specs.declared.value.Val.TheViews as values
-use Rattle.if1_line.specs.Spelling.{is_quotable, IsQuotable}
-use Rattle.if1_line.proofs.Decimals.{and_true, and_parts, each_so}
+use Rattle.if1_graph.specs.Spelling.{is_quotable, IsQuotable}
+use Rattle.if1_graph.proofs.Decimals.{and_true, and_parts, each_so}
 use Rattle.if1_graph.specs.declared.graph.Graph.{Graph}
 use Rattle.if1_graph.specs.declared.kind.TypeKind.{TypeKind}
 use Rattle.if1_graph.specs.declared.kind.TypeKind.TheVariants as kind

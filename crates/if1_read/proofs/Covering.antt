@@ -5,8 +5,8 @@ use Rattle.std.proofs.lemmas.Bool.{le-leb, lt-ltb}
 use Rattle.std.proofs.lemmas.Bool.Decides.{eqb_tells}
 use Rattle.std.proofs.lemmas.List.{length-map}
 use Rattle.std.proofs.lemmas.List.Elements.{Contains-append_left, Contains-append_right}
-use Rattle.if1_line.specs.declared.line.Line.{Line}
-use Rattle.if1_line.specs.declared.line.Line.TheVariants as line
+use Rattle.if1_graph.specs.declared.line.Line.{Line}
+use Rattle.if1_graph.specs.declared.line.Line.TheVariants as line
 use Rattle.if1_graph.specs.declared.graph.TypeEntry.{TypeEntry}
 use Rattle.if1_graph.specs.Ops.{simple_at, compound_at}
 use Rattle.if1_graph.specs.Types.{entry_at}

@@ -5,12 +5,12 @@ use Rattle.std.proofs.lemmas.Bool.{eqb-false}
 use Rattle.std.proofs.lemmas.Bool.Decides.{eqb_tells}
 use Rattle.std.proofs.lemmas.List.Elements.{All-nil, All-cons, All-head, All-tail}
 use Rattle.std.proofs.lemmas.List.Sorted.{All-permutation, length_permutation}
-use Rattle.if1_line.specs.declared.line.Line.{Line}
-use Rattle.if1_line.specs.declared.line.Line.TheVariants as line
-use Rattle.if1_line.specs.Entries.{entry_form}
-use Rattle.if1_line.specs.Reading.{line_of}
-use Rattle.if1_line.specs.Spelling.{AreEntryNumbers, IsSpelled}
-use Rattle.if1_line.proofs.ReadSpelled.{read_spelled}
+use Rattle.if1_graph.specs.declared.line.Line.{Line}
+use Rattle.if1_graph.specs.declared.line.Line.TheVariants as line
+use Rattle.if1_graph.specs.Entries.{entry_form}
+use Rattle.if1_graph.specs.Reading.{line_of}
+use Rattle.if1_graph.specs.Spelling.{AreEntryNumbers, IsSpelled}
+use Rattle.if1_graph.proofs.ReadSpelled.{read_spelled}
 use Rattle.if1_graph.specs.declared.graph.TypeEntry.{TypeEntry}
 use Rattle.if1_graph.specs.declared.kind.TypeKind.{TypeKind}
 use Rattle.if1_graph.specs.Kinds.{kind_at, basic_at}

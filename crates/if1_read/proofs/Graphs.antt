@@ -1,6 +1,6 @@
 -- Each graph of lines without a fault is right.
 use Rattle.std.proofs.Common.{ℕ, suc, ◌+◌, ◌≤◌, List, [], ◌∷◌, ◌++◌, Some, None, inl, refl, arith}
-use Rattle.if1_line.specs.declared.line.Line.TheVariants as line
+use Rattle.if1_graph.specs.declared.line.Line.TheVariants as line
 use Rattle.if1_graph.specs.declared.graph.TypeEntry.{TypeEntry}
 use Rattle.if1_read.specs.Faults.{Layer}
 use Rattle.if1_read.specs.Pages.{Lit}

@@ -1,7 +1,7 @@
 -- What is kept of the lines so far, with the line that began each graph, and what is true of it.
 use Rattle.std.proofs.Common.{◌≡◌, ℕ, suc, ◌<◌, ◌≤◌, List, [], ◌∷◌, ◌++◌, map, length, Option, Some, None, refl, sym, ap, subst, ◌∙◌, arith, append-nil}
-use Rattle.if1_line.specs.declared.line.Line.{Line}
-use Rattle.if1_line.specs.declared.line.Line.TheVariants as line
+use Rattle.if1_graph.specs.declared.line.Line.{Line}
+use Rattle.if1_graph.specs.declared.line.Line.TheVariants as line
 use Rattle.if1_read.specs.Faults.{Layer, next, layers, layers_from, unit_alone, home, own, node_on, with_some}
 use Rattle.if1_read.specs.Pages.{Lit, lit_on, Page, no_lines, with_node, with_lit, Sheet, sheets_next}
 use Rattle.if1_read.specs.Rows.{by_line}

@@ -1,7 +1,7 @@
 -- What is kept stays true with each line.
 use Rattle.std.proofs.Common.{◌≡◌, ℕ, suc, ◌<◌, ◌≤◌, Bool, true, false, List, [], ◌∷◌, ◌++◌, map, Option, Some, None, if◌then◌else◌, refl, sym, ap, subst, ◌∙◌, arith}
-use Rattle.if1_line.specs.declared.line.Line.{Line}
-use Rattle.if1_line.specs.declared.line.Line.TheVariants as line
+use Rattle.if1_graph.specs.declared.line.Line.{Line}
+use Rattle.if1_graph.specs.declared.line.Line.TheVariants as line
 use Rattle.if1_read.specs.Faults.{Layer, next, layers, layers_from, unit_alone, home, own, node_on, is_line}
 use Rattle.if1_read.specs.Pages.{Lit, lit_on, Page, no_lines, with_node, with_lit}
 use Rattle.if1_read.proofs.Walking.{Lined, layers_append}

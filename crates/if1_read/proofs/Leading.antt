@@ -2,9 +2,9 @@
 use Rattle.std.proofs.Common.{◌≡◌, ℕ, Bool, false, rules, List, [], ◌∷◌, ◌++◌, Some, None, Result, Ok, Err, refl, sym, subst, ◌∙◌}
 use Rattle.std.specs.Prelude.{All, IfOk}
 use Rattle.std.proofs.lemmas.List.Elements.{All-pop}
-use Rattle.if1_line.specs.declared.line.Line.{Line}
-use Rattle.if1_line.specs.declared.line.Line.TheVariants as line
-use Rattle.if1_line.specs.Spelling.{IsSpelled}
+use Rattle.if1_graph.specs.declared.line.Line.{Line}
+use Rattle.if1_graph.specs.declared.line.Line.TheVariants as line
+use Rattle.if1_graph.specs.Spelling.{IsSpelled}
 use Rattle.if1_graph.specs.declared.graph.Graph.{Graph}
 use Rattle.if1_graph.specs.declared.graph.Graph.TheViews.{roll-Node}
 use Rattle.if1_graph.specs.declared.graph.Graph.TheViews as graphs

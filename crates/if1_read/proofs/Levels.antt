@@ -3,8 +3,8 @@ use Rattle.std.proofs.Common.{◌≡◌, ℕ, suc, ◌-◌, ◌≤◌, max, List
 use Rattle.std.specs.Prelude.{All, Contains, filter}
 use Rattle.std.proofs.lemmas.List.{get_or_default}
 use Rattle.std.proofs.lemmas.List.Elements.{All-head, All-tail}
-use Rattle.if1_line.specs.declared.line.Line.{Line}
-use Rattle.if1_line.specs.declared.line.Line.TheVariants as line
+use Rattle.if1_graph.specs.declared.line.Line.{Line}
+use Rattle.if1_graph.specs.declared.line.Line.TheVariants as line
 use Rattle.if1_graph.specs.declared.graph.Graph.{Graph}
 use Rattle.if1_graph.specs.declared.graph.Graph.TheViews.{out-Graph}
 use Rattle.if1_graph.specs.declared.graph.Graph.TheFolds.{fold-Node, fold_out-Graph, fold_out-Node}

@@ -3,7 +3,7 @@ use Rattle.std.proofs.Common.{◌≡◌, ℕ, ◌<◌, ◌≤◌, false, List, [
 use Rattle.std.proofs.lemmas.Bool.{eq-eqb}
 use Rattle.std.proofs.lemmas.Bool.Decides.{eqb_tells}
 use Rattle.std.proofs.lemmas.List.Elements.{All-nil}
-use Rattle.if1_line.specs.declared.line.Line.{Line}
+use Rattle.if1_graph.specs.declared.line.Line.{Line}
 use Rattle.if1_graph.specs.declared.graph.TypeEntry.{TypeEntry}
 use Rattle.if1_read.specs.Faults.{Layer, next, layers_from, home, with_some, told, is_line, own, node_on}
 use Rattle.if1_read.specs.Pages.{Lit, lit_on}

@@ -2,7 +2,7 @@
 use Rattle.std.proofs.Common.{◌≡◌, ℕ, suc, ◌<◌, List, [], ◌∷◌, map, reverse, length, Option, Some, None, Result, Ok, Err, IsErrAnd, IfErr, bytes_eq, refl, sym, ap, subst, ◌∙◌, arith}
 use Rattle.std.specs.List.{list_any}
 use Rattle.std.proofs.lemmas.List.{length-map, length-reverse}
-use Rattle.if1_line.specs.declared.line.Line.{Line}
+use Rattle.if1_graph.specs.declared.line.Line.{Line}
 use Rattle.if1_graph.specs.declared.fault.If1Fault.{If1Fault}
 use Rattle.if1_graph.specs.declared.fault.If1Fault.TheVariants as refusal
 use Rattle.if1_graph.specs.declared.graph.TypeEntry.{TypeEntry}

@@ -2,7 +2,7 @@
 use Rattle.std.proofs.Common.{◌≡◌, ℕ, List, [], ◌∷◌, ◌++◌, Option, Some, None, Result, Ok, Err, refl, sym, ap, subst, ◌∙◌, append_assoc, append-nil}
 use Rattle.std.specs.Prelude.{IfOk}
 use Rattle.std.specs.List.{flat_map}
-use Rattle.if1_line.specs.declared.line.Line.{Line}
+use Rattle.if1_graph.specs.declared.line.Line.{Line}
 use Rattle.if1_read.specs.declared.fault.Fault.{Fault}
 use Rattle.if1_read.specs.declared.judge.Known.{Known}
 use Rattle.if1_read.specs.declared.machine.Machine.{Machine}

@@ -1,8 +1,8 @@
 -- What is kept behind a line that is read, and which fault is named, by what the line says.
 use Rattle.std.proofs.Common.{◌≡◌, ℕ, Bool, rules, List, Option, Result, Ok, Err, refl, sym, ap, subst, ◌∙◌}
 use Rattle.std.specs.Prelude.{IfOk}
-use Rattle.if1_line.specs.declared.line.Line.{Line}
-use Rattle.if1_line.specs.declared.line.Line.TheVariants as line
+use Rattle.if1_graph.specs.declared.line.Line.{Line}
+use Rattle.if1_graph.specs.declared.line.Line.TheVariants as line
 use Rattle.if1_graph.specs.declared.graph.Graph.{Graph}
 use Rattle.if1_graph.specs.declared.graph.Graph.TheViews as graphs
 use Rattle.if1_graph.specs.declared.graph.Node.{Node, out-Node}

@@ -1,7 +1,7 @@
 -- A line opens one compound node at most.
 use Rattle.std.proofs.Common.{ℕ, suc, ◌-◌, ◌≤◌, ◌==◌, Bool, true, false, if◌then◌else◌, arith}
-use Rattle.if1_line.specs.declared.line.Line.{Line}
-use Rattle.if1_line.specs.declared.line.Line.TheVariants as line
+use Rattle.if1_graph.specs.declared.line.Line.{Line}
+use Rattle.if1_graph.specs.declared.line.Line.TheVariants as line
 use Rattle.if1_read.specs.declared.read.Spot.{Spot}
 use Rattle.if1_read.specs.Sorting.{spot_next}
 

@@ -3,9 +3,9 @@ use Rattle.std.proofs.Common.{◌≡◌, ℕ, suc, ◌-◌, ◌<◌, ◌≤◌, 
 use Rattle.std.specs.Prelude.{filter, Contains, All}
 use Rattle.std.proofs.lemmas.List.Elements.{All-head, All-tail}
 use Rattle.std.proofs.lemmas.List.{map-append, length-append}
-use Rattle.if1_line.specs.declared.line.Line.{Line}
-use Rattle.if1_line.specs.declared.line.Line.TheVariants as line
-use Rattle.if1_line.specs.Spelling.{IsSpelled}
+use Rattle.if1_graph.specs.declared.line.Line.{Line}
+use Rattle.if1_graph.specs.declared.line.Line.TheVariants as line
+use Rattle.if1_graph.specs.Spelling.{IsSpelled}
 use Rattle.if1_graph.specs.declared.graph.TypeEntry.{TypeEntry}
 use Rattle.if1_graph.specs.declared.kind.TypeKind.{TypeKind}
 use Rattle.if1_graph.specs.declared.kind.TypeKind.TheVariants as kind

@@ -2,11 +2,11 @@
 -- several in one line that of the least number.
 use Rattle.std.specs.Prelude.{◌≡◌, ℕ, suc, ◌≤◌, ◌<◌, ◌==◌, ◌⊎◌, Bool, true, false, List, [], ◌∷◌, ◌++◌, map, length, Contains, find, bytes_eq, is_some, Option, Some, None, if◌then◌else◌}
 use Rattle.std.specs.List.{list_any}
-use Rattle.if1_line.specs.declared.line.Line.{Line}
-use Rattle.if1_line.specs.declared.line.Line.TheVariants as line
-use Rattle.if1_line.specs.Lines.{lines_in}
-use Rattle.if1_line.specs.Parts.{is_blank}
-use Rattle.if1_line.specs.Reading.{line_of}
+use Rattle.if1_graph.specs.declared.line.Line.{Line}
+use Rattle.if1_graph.specs.declared.line.Line.TheVariants as line
+use Rattle.if1_graph.specs.TextLines.{lines_in}
+use Rattle.if1_graph.specs.LineParts.{is_blank}
+use Rattle.if1_graph.specs.Reading.{line_of}
 use Rattle.if1_graph.specs.declared.graph.TypeEntry.{TypeEntry}
 use Rattle.if1_graph.specs.declared.fault.If1Fault.{If1Fault}
 use Rattle.if1_graph.specs.declared.fault.If1Fault.TheVariants as refusal

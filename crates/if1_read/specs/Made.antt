@@ -1,8 +1,8 @@
 -- What lines of graphs have made, told of all graphs that differ in their numbers alone.
 use Rattle.std.specs.Prelude.{◌≡◌, ℕ, ◌≤◌, ◌<◌, ◌==◌, ◌+◌, ◌*◌, ◌-◌, false, List, [], ◌∷◌, map, length, All, if◌then◌else◌}
 use Rattle.std.specs.List.Sorted.{IsStrictlyIncreasing, IsNonDecreasingBy, IsPermutation}
-use Rattle.if1_line.specs.declared.line.Line.{Line}
-use Rattle.if1_line.specs.Spelling.{IsSpelled, IsLabel, IsName, IsQuotable}
+use Rattle.if1_graph.specs.declared.line.Line.{Line}
+use Rattle.if1_graph.specs.Spelling.{IsSpelled, IsLabel, IsName, IsQuotable}
 use Rattle.if1_graph.specs.declared.graph.Graph.{Graph}
 use Rattle.if1_graph.specs.declared.graph.Graph.TheViews.{out-Graph}
 use Rattle.if1_graph.specs.declared.graph.Node.{Node, out-Node}

@@ -2,8 +2,8 @@
 -- whose lines are read, with its nodes and literals, and how many graphs have begun.
 use Rattle.std.specs.Prelude.{ℕ, suc, ◌==◌, nat_le, nat_lt, Bool, ◌||◌, List, [], ◌∷◌, ◌++◌, map, length, is_some, Option, Some, None, if◌then◌else◌}
 use Rattle.std.specs.List.{list_any, flat_map}
-use Rattle.if1_line.specs.declared.line.Line.{Line}
-use Rattle.if1_line.specs.declared.line.Line.TheVariants as line
+use Rattle.if1_graph.specs.declared.line.Line.{Line}
+use Rattle.if1_graph.specs.declared.line.Line.TheVariants as line
 use Rattle.if1_graph.specs.Ops.{simple_at, compound_at}
 use Rattle.if1_graph.specs.Units.{most_levels}
 use Rattle.if1_graph.specs.Formed.{most}

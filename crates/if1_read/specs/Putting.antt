@@ -1,6 +1,6 @@
 -- A line among those that were sorted out.
 use Rattle.std.specs.Prelude.{◌≡◌, false, All, ℕ, suc, ◌≤◌, List, [], ◌∷◌, ◌++◌, filter, length, map, Option, Some}
-use Rattle.if1_line.specs.declared.line.Line.{Line}
+use Rattle.if1_graph.specs.declared.line.Line.{Line}
 use Rattle.if1_graph.specs.declared.graph.TypeEntry.{TypeEntry}
 use Rattle.if1_graph.specs.Formed.{most}
 use Rattle.if1_graph.specs.Reads.{entries_in, is_of_graph}

@@ -1,13 +1,13 @@
 -- What the lines of graphs so far have given: the unit, and inside it open compound nodes, each inside the one before.
 use Rattle.std.specs.Prelude.{◌≡◌, ℕ, suc, ◌≤◌, ◌<◌, max, Bool, true, map, List, [], ◌∷◌, ◌++◌, length, Option, Some, None, IsSome}
-use Rattle.if1_line.specs.declared.line.Line.{Line}
-use Rattle.if1_line.specs.declared.line.Line.TheVariants as line
+use Rattle.if1_graph.specs.declared.line.Line.{Line}
+use Rattle.if1_graph.specs.declared.line.Line.TheVariants as line
 use Rattle.if1_graph.specs.declared.graph.Graph.{Graph}
 use Rattle.if1_graph.specs.declared.graph.Node.{Node, out-Node}
 use Rattle.if1_graph.specs.declared.graph.Edge.{Edge}
 use Rattle.if1_graph.specs.Formed.{most, IsOpcode}
 use Rattle.if1_graph.specs.Units.{most_levels}
-use Rattle.if1_line.specs.Spelling.{IsSpelled}
+use Rattle.if1_graph.specs.Spelling.{IsSpelled}
 use Rattle.if1_graph.specs.Reads.{deepest, is_of_graph}
 use Rattle.if1_read.specs.declared.judge.Known.{Known}
 use Rattle.if1_read.specs.declared.part.Part.{Part}

@@ -1,10 +1,10 @@
 //! The lines of a text.
 ghost use Rattle.std.specs.Prelude.{◌≡◌, ◌≤◌, length, map, IfOk};
-ghost use Rattle.if1_line.specs.Lines.{lines_in};
+ghost use Rattle.if1_graph.specs.TextLines.{lines_in};
 ghost use Rattle.if1_read.specs.Faults as spec;
 
 use flow_value::{NoMemory, Seq};
-use if1_line::{Line, next_line, read_line};
+use if1_graph::{Line, next_line, read_line};
 use std::alloc::Global;
 
 /// Whether a line begins with `}` behind its blanks.

@@ -1,7 +1,7 @@
 //! The lines of graphs, one after another.
 ghost use Rattle.std.specs.Prelude.{◌≡◌, ◌≢◌, ℕ, suc, List, [], ◌∷◌, ◌++◌, None, Some, IfOk, All};
 ghost use Rattle.std.specs.List.{flat_map};
-ghost use Rattle.if1_line.specs.declared.line.Line.TheVariants.{Function, Subgraph, Import, Open, Close};
+ghost use Rattle.if1_graph.specs.declared.line.Line.TheVariants.{Function, Subgraph, Import, Open, Close};
 ghost use Rattle.if1_graph.specs.Lines.{edge_line};
 ghost use Rattle.if1_read.specs.declared.fault.Kind.TheVariants.{Bad};
 ghost use Rattle.if1_read.specs.declared.judge.Known.{Known};
@@ -18,8 +18,7 @@ use crate::judge::Known;
 use crate::level::{Level, graphs_of, with_edge, with_node};
 use crate::part::Part;
 use flow_value::{Name, NoMemory, Seq};
-use if1_graph::{Edge, GraphList, Imports, Node, Origin};
-use if1_line::Line;
+use if1_graph::{Edge, GraphList, Imports, Line, Node, Origin};
 use std::alloc::Global;
 
 /// What the lines so far have given.

@@ -27,8 +27,7 @@ use crate::names::Names;
 use crate::number::number_parts;
 use crate::table::{LinedEntry, MOST, table_of};
 use flow_value::{NoMemory, Seq};
-use if1_graph::{If1Fault, TypeEntry, Unit1};
-use if1_line::Line;
+use if1_graph::{If1Fault, Line, TypeEntry, Unit1};
 use std::alloc::Global;
 
 /// The lines by what they say: types, and what says something of graphs.

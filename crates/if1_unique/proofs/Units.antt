@@ -1,7 +1,7 @@
 -- A text gives at most one unit.
 use Rattle.std.proofs.Common.{◌≡◌, List, [], ◌∷◌, map, Some, refl, sym, subst, ◌∙◌}
 use Rattle.std.specs.Prelude.{filter}
-use Rattle.if1_line.specs.declared.line.Line.{Line}
+use Rattle.if1_graph.specs.declared.line.Line.{Line}
 use Rattle.if1_graph.specs.declared.graph.TypeEntry.{TypeEntry}
 use Rattle.if1_graph.specs.declared.graph.Unit1.{Unit1}
 use Rattle.if1_graph.specs.Formed.{IsFormed}

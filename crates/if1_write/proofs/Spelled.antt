@@ -7,13 +7,13 @@ use Rattle.std.proofs.lemmas.Bool.{lt-ltb}
 use Rattle.std.proofs.lemmas.Bool.Decides.{eqb_tells}
 use Rattle.std.proofs.lemmas.List.Elements.{All-head, All-tail}
 use Rattle.std.proofs.lemmas.List.Folds.{list_all-append}
-use Rattle.if1_line.specs.declared.line.Line.{Line}
-use Rattle.if1_line.specs.declared.line.Line.TheVariants as line
-use Rattle.if1_line.specs.Entries.{entry_form}
-use Rattle.if1_line.specs.Parts.{is_line_byte}
-use Rattle.if1_line.specs.Spelling.{opening, is_visible, IsNumber, IsLabel, IsName, are_numbers, rises_from, AreBefore, AreEntryNumbers, IsSpelled}
-use Rattle.if1_line.proofs.Decimals.{and_true, each_so, decimal_visible}
-use Rattle.if1_line.proofs.Spelled.{visible_line_byte}
+use Rattle.if1_graph.specs.declared.line.Line.{Line}
+use Rattle.if1_graph.specs.declared.line.Line.TheVariants as line
+use Rattle.if1_graph.specs.Entries.{entry_form}
+use Rattle.if1_graph.specs.LineParts.{is_line_byte}
+use Rattle.if1_graph.specs.Spelling.{opening, is_visible, IsNumber, IsLabel, IsName, are_numbers, rises_from, AreBefore, AreEntryNumbers, IsSpelled}
+use Rattle.if1_graph.proofs.Decimals.{and_true, each_so, decimal_visible}
+use Rattle.if1_graph.proofs.Spelled.{visible_line_byte}
 use Rattle.if1_graph.specs.declared.graph.Graph.{Graph}
 use Rattle.if1_graph.specs.declared.graph.Graph.TheViews.{out-Graph}
 use Rattle.if1_graph.specs.declared.graph.Node.{Node, out-Node}

@@ -7,8 +7,9 @@ ghost use Rattle.if1_write.specs.Texts.{rank_of, entry_text, import_text, edge_t
 
 use crate::order::{are_in_order, edges_near};
 use flow_value::{Name, NoMemory, Numbers, Text};
-use if1_graph::{Edge, Graph, Node, Origin, TypeEntry, Unit1, compound_of};
-use if1_line::{Line, opening, write_line};
+use if1_graph::{
+    Edge, Graph, Line, Node, Origin, TypeEntry, Unit1, compound_of, opening, write_line,
+};
 use std::alloc::Global;
 
 /// The canonical text of a unit: types, functions of other units, and then each function, with its nodes
@@ -160,7 +161,7 @@ fn put_open(alloc: Global, node: &Node, to: &mut Text) -> Result<(), NoMemory>
 fn put_close(node: &Node, to: &mut Text) -> Result<(), NoMemory>
     ensures { OnOk result (to.new ≡ to.old ++ close_text node.now) }
 {
-    if1_line::write_close(
+    if1_graph::write_close(
         node.label,
         node.op,
         node.subs.len(),

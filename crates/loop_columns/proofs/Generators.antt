@@ -12,7 +12,7 @@ use Rattle.flow_value.specs.declared.value.Val.TheOpen.{Val-F}
 use Rattle.flow_value.specs.declared.value.Val.TheViews.{out-Val}
 use Rattle.flow_value.specs.declared.ty.Ty.{Ty}
 use Rattle.flow_value.specs.Well.{is_well}
-use Rattle.flow_reduce.specs.Folds.{elements_in}
+use Rattle.loop_folds.specs.Folds.{elements_in}
 use Rattle.typed_tree.specs.declared.expr.Source.{Source}
 use Rattle.typed_tree.specs.declared.expr.Source.TheVariants as source
 use Rattle.meaning.specs.declared.sources.Places.{Places}

@@ -2,7 +2,7 @@
 use Rattle.std.proofs.Common.{◌≡◌, ◌≤◌, List, [], ◌∷◌, ◌++◌, length, Option, Some, None, refl, sym, ◌∙◌, ap, subst, append-nil, arith}
 use Rattle.flow_value.specs.declared.cause.Cause.{Cause}
 use Rattle.flow_value.specs.declared.value.Val.{Val}
-use Rattle.flow_reduce.specs.Elements.{or_else}
+use Rattle.loop_folds.specs.Elements.{or_else}
 use Rattle.loop_folds.specs.Clauses.{Cell, first_failure, kept_values}
 use Rattle.loop_folds.specs.Makings.{Stands, counted, IsMaking}
 use Rattle.loop_folds.specs.declared.making.Making.{Making}

@@ -1,2 +1,4 @@
+pub mod Joins
+pub mod Values
 pub mod Added
 pub mod Limits

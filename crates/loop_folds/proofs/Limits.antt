@@ -7,7 +7,7 @@ use Rattle.flow_value.specs.Bounds.{is_few}
 use Rattle.flow_value.specs.declared.cause.Cause.TheVariants as cause
 use Rattle.flow_value.specs.declared.value.Val.{Val}
 use Rattle.flow_value.specs.declared.value.Val.TheVariants as val
-use Rattle.flow_reduce.specs.Kept.{kept, take-take-append}
+use Rattle.loop_folds.specs.Kept.{kept, take-take-append}
 
 -- a value of few enough elements, or `error(size)`
 abbrev if_few : (List Val → Val) → List Val → Val

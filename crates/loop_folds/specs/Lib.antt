@@ -1,5 +1,3 @@
-pub use Rattle.flow_reduce.specs.Elements
-pub use Rattle.flow_reduce.specs.Folds
 pub use Rattle.flow_value.specs.Bounds
 pub use Rattle.flow_value.specs.declared.cause.Cause
 pub use Rattle.flow_value.specs.declared.value.Val
@@ -8,6 +6,21 @@ pub use Rattle.flow_value.specs.Scalar
 pub use Rattle.flow_value.specs.declared.operation.Scalar1
 pub use Rattle.flow_value.specs.Leaves
 pub use Rattle.flow_value.specs.declared.ty.Ty
+pub mod CatenateState
+pub mod Clamped
+pub mod ClampedLaws
+pub mod Elements
+pub mod ExtremeState
+pub mod Folds
+pub mod GatherState
+pub mod Kept
+pub mod LastState
+pub mod Laws
+pub mod ProductState
+pub mod Products
+pub mod Seen
+pub mod SeenLaws
+pub mod SumState
 pub mod Clauses
 pub mod Makings
 pub mod Masks

@@ -3,12 +3,12 @@ use Rattle.std.specs.Prelude.{◌≡◌, ℕ, List, [], ◌∷◌, map, Option, 
 use Rattle.std.specs.declared.snapshot.Snapshot.{Snapshot}
 use Rattle.flow_value.specs.declared.cause.Cause.{Cause}
 use Rattle.flow_value.specs.declared.value.Val.{Val}
-use Rattle.flow_reduce.specs.Kept.{kept}
-use Rattle.flow_reduce.specs.SumState as sum
-use Rattle.flow_reduce.specs.ProductState as product
-use Rattle.flow_reduce.specs.ExtremeState as extreme
-use Rattle.flow_reduce.specs.LastState as last
-use Rattle.flow_reduce.specs.CatenateState as catenate
+use Rattle.loop_folds.specs.Kept.{kept}
+use Rattle.loop_folds.specs.SumState as sum
+use Rattle.loop_folds.specs.ProductState as product
+use Rattle.loop_folds.specs.ExtremeState as extreme
+use Rattle.loop_folds.specs.LastState as last
+use Rattle.loop_folds.specs.CatenateState as catenate
 use Rattle.std.specs.Int.{int_max, int_min}
 use Rattle.loop_folds.specs.Clauses.{Cell, first_failure, kept_values}
 use Rattle.loop_folds.specs.declared.folding.Folding.{Folding}

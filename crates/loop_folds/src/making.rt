@@ -1,13 +1,13 @@
 //! What is kept of the values of a clause.
 ghost use Rattle.std.specs.Prelude.{◌≡◌, ℕ, ◌+◌, ◌<◌, ◌^◌, List, [], ◌∷◌, ◌++◌, OnOk, OnErr, None, if◌then◌else◌, is_ok};
 ghost use Rattle.flow_value.specs.declared.value.Val.{Val};
-ghost use Rattle.flow_reduce.specs.Kept.{kept};
-ghost use Rattle.flow_reduce.specs.CatenateState.{state_of};
+ghost use Rattle.loop_folds.specs.Kept.{kept};
+ghost use Rattle.loop_folds.specs.CatenateState.{state_of};
 ghost use Rattle.loop_folds.specs.Clauses.{gathered, streams_fold};
 ghost use Rattle.loop_folds.specs.Makings.{folding_of, none_of, Stands, counted};
 
 use crate::folding::Folding;
-use flow_reduce::{Catenate, Greatest, Last, Least, Product, Reduction, Sum};
+use crate::{Catenate, Greatest, Last, Least, Product, Reduction, Sum};
 use flow_value::{Items, MOST_ELEMENTS, NoMemory, Val, array_of, stream_of};
 use std::alloc::Global;
 

@@ -4,7 +4,7 @@ use Rattle.std.specs.Prelude.{All, IsSome, is_some, bytes_eq, codes, ifâ—Œthenâ—
 use Rattle.std.proofs.lemmas.Slice.Eq.{bytes_eq-Decides}
 use Rattle.std.proofs.lemmas.List.Elements.{All-head, All-tail, All-from_recursion}
 use Rattle.flow_value.specs.declared.value.Val.TheVariants as val
-use Rattle.if1_line.specs.Spelling.{IsQuotable}
+use Rattle.if1_graph.specs.Spelling.{IsQuotable}
 use Rattle.if1_graph.specs.declared.graph.Graph.{Graph}
 use Rattle.if1_graph.specs.declared.graph.TypeEntry.{TypeEntry}
 use Rattle.if1_graph.specs.declared.graph.Unit1.{Unit1}

@@ -14,7 +14,7 @@ use Rattle.std.proofs.Common.{◌≡◌, ℕ, zero, suc, ◌<◌, ◌≤◌, fal
 use Rattle.std.specs.Prelude.{codes}
 use Rattle.std.proofs.lemmas.List.Elements.{All-nil, All-cons, All-from_recursion}
 use Rattle.flow_value.specs.declared.ty.Ty.TheVariants as ty
-use Rattle.if1_line.specs.Spelling.{IsName, IsQuotable}
+use Rattle.if1_graph.specs.Spelling.{IsName, IsQuotable}
 use Rattle.if1_graph.specs.declared.graph.Graph.{Graph}
 use Rattle.if1_graph.specs.declared.graph.Graph.TheFolds.{fold-roll-Graph, fold-roll-Node}
 use Rattle.if1_graph.specs.declared.graph.Graph.TheOpen.{Graph-F, Node-F}

@@ -7,7 +7,7 @@ use Rattle.std.proofs.lemmas.List.{length-map}
 use Rattle.std.proofs.lemmas.List.Elements.{All-nil, All-cons, All-head, All-tail, All-append}
 use Rattle.flow_value.specs.declared.operation.Scalar1.TheVariants as unary
 use Rattle.flow_value.specs.declared.operation.Scalar2.TheVariants as two
-use Rattle.if1_line.specs.Spelling.{IsNumber, IsLabel, IsName}
+use Rattle.if1_graph.specs.Spelling.{IsNumber, IsLabel, IsName}
 use Rattle.if1_graph.specs.declared.graph.Edge.{Edge}
 use Rattle.if1_graph.specs.declared.graph.Graph.{Graph}
 use Rattle.if1_graph.specs.declared.graph.Graph.TheViews.{out-Graph}

@@ -17,8 +17,8 @@ use Rattle.sisal_tree.specs.declared.expr.Constant.TheVariants as constant
 use Rattle.type_table.specs.declared.form.Form.{Form}
 use Rattle.type_table.specs.declared.form.Form.TheVariants as form
 use Rattle.typed_tree.specs.declared.program.Program.{Program}
-use Rattle.if1_line.specs.Spelling.{is_quotable}
-use Rattle.if1_line.proofs.Decimals.{and_true, and_parts, each_so}
+use Rattle.if1_graph.specs.Spelling.{is_quotable}
+use Rattle.if1_graph.proofs.Decimals.{and_true, and_parts, each_so}
 use Rattle.if1_graph.specs.declared.graph.Unit1.{Unit1}
 use Rattle.if1_graph.specs.declared.row.Want.{Want}
 use Rattle.if1_graph.specs.declared.row.Want.TheVariants as want

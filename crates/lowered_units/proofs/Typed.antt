@@ -4,7 +4,7 @@ use Rattle.std.specs.Prelude.{All, is_some}
 use Rattle.std.specs.List.Sorted.{IsStrictlyIncreasing}
 use Rattle.std.proofs.lemmas.List.Elements.{All-nil, All-cons}
 use Rattle.std.proofs.lemmas.Option.{slice_get_within}
-use Rattle.if1_line.specs.Spelling.{IsName}
+use Rattle.if1_graph.specs.Spelling.{IsName}
 use Rattle.if1_graph.specs.declared.graph.TypeEntry.{TypeEntry}
 use Rattle.if1_graph.specs.Formed.{IsType, IsTypeOrEnd, AreNumbers as AreEntryNumbers, IsEntry, IsTable as IsTypeTable}
 use Rattle.if1_graph.specs.Kinds.{kind_at, basic_at}

@@ -1,6 +1,6 @@
 -- What a typed unit's program meets: names are bound, literals are spelled, types stand in place, and no function is named twice.
 use Rattle.std.specs.Prelude.{◌≡◌, ◌≤◌, ◌⊎◌, ℕ, List, All, Some, slice_get, length}
-use Rattle.if1_line.specs.Spelling.{IsName, IsQuotable}
+use Rattle.if1_graph.specs.Spelling.{IsName, IsQuotable}
 use Rattle.bound_trees.specs.Depths.{AreWithin}
 use Rattle.type_table.specs.declared.form.Form.{Form}
 use Rattle.type_table.specs.declared.form.Form.TheVariants.{Record, Union}

@@ -10,7 +10,7 @@ use Rattle.if1_graph.specs.declared.graph.Origin.TheVariants as origin
 use Rattle.if1_graph.specs.declared.graph.Unit1.{Unit1}
 use Rattle.if1_graph.specs.Ready.{IsReady}
 use Rattle.if1_graph.specs.Units.{Place, places}
-use Rattle.if1_line.specs.Spelling.{IsLabel}
+use Rattle.if1_graph.specs.Spelling.{IsLabel}
 use Rattle.if1_marks.specs.Alike.{AreAlike, IsUntakenLiteral, AreMarksSpelled}
 use Rattle.if1_marks.proofs.AlikeUnits.{alike-ready}
 use Rattle.if1_marks.proofs.Lists.{here, there}

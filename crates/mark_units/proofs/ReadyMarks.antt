@@ -16,7 +16,7 @@ use Rattle.if1_graph.specs.Formed.{IsGraph, IsNode}
 use Rattle.if1_graph.specs.Normal.{IsNormal, IsNormalGraph}
 use Rattle.if1_graph.specs.Ready.{IsReady}
 use Rattle.if1_graph.specs.Units.{label_of, Place, places}
-use Rattle.if1_line.specs.Spelling.{IsLabel}
+use Rattle.if1_graph.specs.Spelling.{IsLabel}
 use Rattle.if1_marks.specs.Alike.{IsUntakenLiteral, AreMarksSpelled, DoListsRise}
 use Rattle.if1_marks.specs.Owned.{is_owned}
 use Rattle.if1_marks.specs.Sound.{IsTakerRight, AreMarksRight}

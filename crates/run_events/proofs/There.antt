@@ -13,7 +13,7 @@ use Rattle.if1_graph.specs.Formed.{IsGraph, IsNode}
 use Rattle.if1_graph.specs.Ports.{ArePortsRight}
 use Rattle.if1_graph.specs.Ready.{IsReady}
 use Rattle.if1_graph.specs.Units.{label_of, node_at, Place, places, number_of, ends}
-use Rattle.if1_line.specs.Spelling.{IsLabel}
+use Rattle.if1_graph.specs.Spelling.{IsLabel}
 use Rattle.if1_marks.specs.Orders.{Precedes, fed, listed, between}
 use Rattle.if1_marks.specs.Sound.{IsSound}
 use Rattle.if1_marks.proofs.Taken.{taker-last}

@@ -1,8 +1,8 @@
 //! Sums of integers that were brought.
 ghost use Rattle.std.specs.Prelude.{◌≡◌, ◌+ℤ◌, ◌<◌, ◌∷◌, [], false, slice_get, length, Some, None, IfSome};
 ghost use Rattle.flow_value.specs.declared.value.Val.TheViews.{out-Val};
-ghost use Rattle.flow_reduce.specs.Elements.{error_of, is_no_integer};
-ghost use Rattle.flow_reduce.specs.Folds.{sum_fold, term_of};
+ghost use Rattle.loop_folds.specs.Elements.{error_of, is_no_integer};
+ghost use Rattle.loop_folds.specs.Folds.{sum_fold, term_of};
 ghost use Rattle.if1_graph.specs.declared.op.Reducer.TheVariants as reducer;
 ghost use Rattle.graph_meaning.specs.Carried.{Name};
 ghost use Rattle.graph_meaning.specs.NodeValues.{Shape as Told, reduce_of, reduced};

@@ -1,5 +1,5 @@
 //! Lists that grow and shrink at both ends.
-use front_list::FrontList;
+use flow_value::FrontList;
 use std::test::Fail;
 
 #[test]

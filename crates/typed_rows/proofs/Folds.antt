@@ -11,8 +11,8 @@ use Rattle.flow_value.specs.declared.cause.Cause.TheVariants as cause
 use Rattle.flow_value.specs.declared.ty.Ty.{Ty}
 use Rattle.flow_value.specs.declared.ty.Ty.TheVariants as ty
 use Rattle.flow_value.specs.Well.{is_well}
-use Rattle.flow_reduce.specs.Elements.{checked, first_error}
-use Rattle.flow_reduce.specs.Folds.{later_of, last_of, or_empty, sum_of, product_of, integer_of, one_of, extreme_of, found, elements_in, elements_of, first_bound, lower_bound_of, lower_bound_in, is_stream, stream_in, catenated, catenate_fold}
+use Rattle.loop_folds.specs.Elements.{checked, first_error}
+use Rattle.loop_folds.specs.Folds.{later_of, last_of, or_empty, sum_of, product_of, integer_of, one_of, extreme_of, found, elements_in, elements_of, first_bound, lower_bound_of, lower_bound_in, is_stream, stream_in, catenated, catenate_fold}
 use Rattle.loop_folds.specs.declared.folding.Folding.{Folding}
 use Rattle.loop_folds.specs.declared.masking.Keep.TheVariants.{Kept, Dropped, Failed}
 use Rattle.loop_folds.specs.Clauses.{Cell, first_failure, kept_values, gathered, unless_failed}

@@ -9,7 +9,7 @@ use Rattle.flow_value.specs.declared.cause.Cause.TheVariants as cause
 use Rattle.flow_value.specs.declared.ty.Ty.{Ty}
 use Rattle.flow_value.specs.declared.ty.Ty.TheVariants as ty
 use Rattle.flow_value.specs.Well.{is_well}
-use Rattle.flow_reduce.specs.Folds.{elements_of}
+use Rattle.loop_folds.specs.Folds.{elements_of}
 use Rattle.loop_folds.specs.declared.folding.Folding.{Folding}
 use Rattle.loop_folds.specs.declared.masking.Masking.{Masking}
 use Rattle.loop_folds.specs.declared.masking.Masking.TheVariants as masking

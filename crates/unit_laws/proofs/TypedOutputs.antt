@@ -28,7 +28,7 @@ use Rattle.if1_graph.specs.Tables.{◌>>=◌}
 use Rattle.if1_graph.specs.Types.{Member, Sort, Plain, sort_at}
 use Rattle.if1_graph.specs.Typing.{Known, known, Fits, FitsNode, FitsOutputAs, FitsOutput, IsGiven, AgreesWith}
 use Rattle.if1_graph.specs.Units.{label_of, node_at, edge_into, ports_into, width, Place, places}
-use Rattle.if1_line.specs.Spelling.{IsLabel}
+use Rattle.if1_graph.specs.Spelling.{IsLabel}
 use Rattle.if1_marks.proofs.Lists.{here-or-there, in-none, in-filter}
 use Rattle.graph_meaning.specs.Carried.{Carried, Name, Unfilled}
 use Rattle.graph_meaning.specs.NodeValues.{op}

@@ -1,5 +1,5 @@
 use Rattle.std.proofs.Common.{◌≡◌, ◌≤◌, ◌-◌, ◌++◌, drop, length, map}
-use Rattle.if1_line.specs.Lines.{lines_in}
+use Rattle.if1_graph.specs.TextLines.{lines_in}
 use Rattle.if1_read.specs.Faults.{row_of}
 use Rattle.if1_read.proofs.lines.read_lines.Given as goal
 

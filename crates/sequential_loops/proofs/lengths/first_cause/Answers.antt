@@ -1,5 +1,5 @@
 use Rattle.std.proofs.Common.{◌≡◌, ◌+◌, ◌-◌, ◌≤◌, List, drop, length, ap, ◌∙◌, subst, arith}
-use Rattle.flow_reduce.specs.Elements.{or_else}
+use Rattle.loop_folds.specs.Elements.{or_else}
 use Rattle.graph_meaning.specs.Forms.{first_spoiled}
 use Rattle.run_cells.specs.Held.{heap_of}
 use Rattle.step_code.specs.declared.code.Operand.{Operand}

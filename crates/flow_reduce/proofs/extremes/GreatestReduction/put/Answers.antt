@@ -1,6 +1,0 @@
-use Rattle.std.proofs.Common.{rules}
-use Rattle.flow_reduce.proofs.Joins.{greatest_puts}
-use Rattle.flow_reduce.proofs.extremes.GreatestReduction.put.Goals as goal
-
-pub returns-clause-added : goal.returns-clause-added
-returns-clause-added c = λ xs p. greatest_puts c.args.self.now _ xs c.args.v (search rules) p

@@ -1,7 +1,0 @@
-use denote.RattleType.{RattleType}
-use denote.Param.Send.{IsSend}
-use Rattle.front_list.specs.contracts.block.Block.{the_row}
-use Rattle.front_list.proofs.Crossing.{block_send}
-
-pub send : (T : RattleType) → IsSend T → IsSend (the_row T)
-send T s = block_send T s

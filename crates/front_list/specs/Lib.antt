@@ -1,4 +1,0 @@
-pub mod Ownership
-pub mod Places
-pub mod Rows
-pub mod formers

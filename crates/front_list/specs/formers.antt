@@ -1,2 +1,0 @@
-pub mod block
-pub mod list

@@ -1,0 +1,11 @@
+use Rattle.std.proofs.Common.{◌≡◌, ◌-◌, drop, length}
+use Rattle.if1_graph.specs.LineParts.{parts_of}
+use Rattle.if1_graph.specs.Pragmas.{labels_of}
+use Rattle.if1_graph.specs.Places.{added}
+use Rattle.if1_graph.proofs.pragma.labels.Given as goal
+
+abbrev pub invariant-loop-part : goal.invariant-loop-part
+invariant-loop-part l = labels_of (parts_of (drop l.fn.from l.line)) ≡ added l.all (labels_of (parts_of (drop l.at l.line)))
+
+abbrev pub decreases-loop-part : goal.decreases-loop-part
+decreases-loop-part l = length l.line - l.at
