@@ -1,4 +1,5 @@
-//! Units of IF1 dataflow graphs, the table of their nodes, and what makes a unit valid.
+//! Units of IF1 dataflow graphs, each line of their text as a value, read and written, the table of their nodes,
+//! and what makes a unit valid.
 #![tactic(auto)]
 
 mod fault;

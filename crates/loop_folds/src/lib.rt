@@ -1,4 +1,5 @@
-//! What a clause of a loop makes of its values, with masks.
+//! What a clause of a loop makes of its values, with masks, by reductions: each collects the elements of a list
+//! at its end, and joins with what another has collected of the elements that follow.
 #![tactic(auto)]
 
 mod catenate;

@@ -1,4 +1,6 @@
-//! Translated units are ready: formed, with right ports and types, and no node reaches itself. A law.
+//! Translated units are ready: formed, with right ports and types, and no node reaches itself. The rules are said of
+//! lowered graphs, of which each place of a unit has one, before there are labels and text (IF1 manual M-170).
+//! Definitions and laws.
 #![tactic(auto)]
 
 mod order_laws;

@@ -1,5 +1,5 @@
-//! What a machine keeps of a run in any order stands after each event: its ports, what nodes have in their hands, what is
-//! lent and taken. Laws without code.
+//! What a machine keeps of a run in any order stands after each event: what live graphs keep in their ports and nodes
+//! in their hands, what goes into the graphs that a node enters, and all leases that are out. Laws without code.
 #![tactic(auto)]
 
 mod entered_laws;

@@ -1,5 +1,5 @@
-//! Each legal history has ended or has a table of live graphs that stands for it, and one worker comes to an end. Laws
-//! without code.
+//! Each legal history has ended or has a table of live graphs that stands for it, and one worker comes to an end; a
+//! run has so many claims at most, and what its items add to a sum over its firings is that sum. Laws without code.
 #![tactic(auto)]
 
 mod bounds_laws;

@@ -1,5 +1,5 @@
-//! The code that is made of a unit is whole: each number in it is inside, and each step goes on in its
-//! block. Laws without code.
+//! The code that is made of a unit is whole: each number in it is inside, what its steps name is as long as is
+//! asked, and each step goes on in its block. Laws without code.
 #![tactic(auto)]
 
 mod even_laws;
