@@ -1,7 +1,7 @@
 #!/bin/bash
-# Builds a program that the benches time, bench_pool, bench_units or bench_texts (the argument is what stands behind bench_), and
-# prints its path. Where it is built already, the variable BENCH_POOL, BENCH_UNITS or BENCH_TEXTS may tell the path instead. Run
-# it at the top of the repository.
+# Builds a program that the benches time, bench_pool or bench_units (the argument is what stands behind bench_), and prints its
+# path. Where it is built already, the variable BENCH_POOL or BENCH_UNITS may tell the path instead. Run it at the top of the
+# repository.
 name=bench_$1 folder=crates/bench_$1 told=BENCH_${1^^}
 program=${!told}
 if [ -z "$program" ]; then

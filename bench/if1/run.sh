@@ -4,8 +4,8 @@
 # results, and of 60,000 types in chains 62 deep, with the part of each type before it (first) and behind it (last),
 # each beside half as many. Then the answers that marks and machines ask of a unit, found for the first one and for one of
 # 13,107 Selects with 65,535 nodes in all, beside reading and checking its text. It prints milliseconds, the least of some
-# rounds, without the start of the program. Run it at the top of the repository, on an idle machine; the argument is the
-# rounds.
+# rounds, without the start of the program (`sisal if1`, and bench_units for the answers). Run it at the top of the repository, on
+# an idle machine; the argument is the rounds. SISAL may name a program that is built already.
 set -e
 rounds=${1:-5}
 build=$(mktemp -d)
@@ -24,13 +24,13 @@ for side in first last; do
     done
 done
 
-texts=$(bench/built.sh texts)
+sisal=${SISAL:-./sisal}
 units=$(bench/built.sh units)
 
 milliseconds() { # a text
     local begin end
     begin=$(date +%s%N)
-    "$texts" if1 <"$1" >"$build/printed"
+    "$sisal" if1 <"$1" >"$build/printed"
     end=$(date +%s%N)
     echo $(((end - begin) / 1000000))
 }
@@ -47,14 +47,12 @@ for ((i = 0; i < rounds; i++)); do
     keep xml "$(python3 bench/if1/beside.py "$build/long.xml" 1)"
     keep short "$(milliseconds "$build/short.if1")"
     keep long "$(milliseconds "$build/long.if1")"
-    cp "$build/printed" "$build/first"
     for wide in {record,function,first,last}{30000,60000}; do
         keep "$wide" "$(milliseconds "$build/$wide.if1")"
     done
     answered long
     answered parts
 done
-cat "$build/first"
 awk -v a="${least[long]}" -v s="${least[short]}" -v b="${least[xml]}" \
     'BEGIN { printf "read, check and write %.1f ms, xml.etree %.1f ms, ratio %.2f\n", a - s, b, (a - s) / b }'
 for kind in record function first last; do
